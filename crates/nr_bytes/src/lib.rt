@@ -1,0 +1,32 @@
+//! The lowest crate: lists, bytes and texts that contracts see as lists, reading and writing of
+//! Borsh fields, and what a program reads from and writes to.
+#![tactic(auto)]
+
+mod blob;
+mod compare;
+mod fault;
+mod file_shelf;
+mod list;
+mod memory_shelf;
+mod memory_sink;
+mod reader;
+mod shelf;
+mod sink;
+mod stdout_sink;
+#[cfg(test)]
+mod tests;
+mod text;
+mod writer;
+
+pub use blob::Blob;
+pub use fault::BytesFault;
+pub use file_shelf::FileShelf;
+pub use list::List;
+pub use memory_shelf::MemoryShelf;
+pub use memory_sink::MemorySink;
+pub use reader::Reader;
+pub use shelf::{LoadFault, Shelf};
+pub use sink::{Sink, WriteFailed};
+pub use stdout_sink::StdoutSink;
+pub use text::Text;
+pub use writer::Writer;

@@ -1,0 +1,3 @@
+pub mod Derive
+pub mod Grammar
+pub mod Keys

@@ -1,0 +1,19 @@
+//! Names of accounts, hashes, keys, shards and heights, and the hashes that are derived from one another.
+#![tactic(auto)]
+
+mod account_id;
+mod derivation;
+mod fault;
+mod key;
+mod key_order;
+mod number;
+mod order;
+
+pub use account_id::AccountId;
+pub use derivation::derive;
+pub use fault::IdFault;
+pub use key::{Hash32, PublicKey};
+pub use number::{Height, ShardId};
+
+#[cfg(test)]
+mod tests;

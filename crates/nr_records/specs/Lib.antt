@@ -1,0 +1,11 @@
+pub mod Fault
+pub mod Reading
+pub mod Spelling
+pub mod Laws
+pub mod Ids
+pub mod Options
+pub mod Accounts
+pub mod AccessKeys
+pub mod Actions
+pub mod Transactions
+pub mod Receipts

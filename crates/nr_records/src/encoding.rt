@@ -1,0 +1,21 @@
+ghost use Rattle.std.specs.Prelude.{◌≡◌, IfOk};
+ghost use Rattle.nr_records.specs.Reading.{all_of};
+
+use crate::spelled::Spelled;
+use nr_bytes::{Blob, Writer};
+use std::alloc::{AllocError, Global};
+
+/// The spelling of a value.
+///
+/// # Errors
+///
+/// Where there is no memory for it, or a count in it would be 2^32 or more.
+pub fn encode<T: Spelled>(alloc: Global, value: &T) -> Result<Blob, AllocError>
+    ensures spelled { IfOk result (λ bytes. bytes ≡ T.spelling value.now) }
+    // All of these bytes are read as the value.
+    ensures back { IfOk result (λ bytes. all_of T.reading bytes ≡ Ok value.now) }
+{
+    let mut writer = Writer::new(alloc);
+    value.write(&mut writer)?;
+    Ok(writer.finish())
+}

@@ -1,0 +1,78 @@
+ghost use Rattle.std.specs.Prelude.{◌≡◌, IfOk, OnOk, ◌++◌};
+ghost use Rattle.std.specs.List.{flat_map, AllByRecursion};
+ghost use Rattle.nr_records.specs.Reading.{GivesItems, items_at, list_at};
+ghost use Rattle.nr_records.specs.Spelling.{list, FitsList};
+ghost use Rattle.nr_records.specs.Laws.{list_law};
+
+use crate::fault::RecordFault;
+use crate::fields::u32_of;
+use crate::spelled::Spelled;
+use nr_bytes::{List, Reader, Writer};
+use std::alloc::{AllocError, Global};
+
+fn items_of<T: Spelled>(
+    alloc: Global,
+    count: u32,
+    reader: &mut Reader<'_>,
+) -> Result<Vec<T>, RecordFault>
+    ensures { GivesItems result reader.new (items_at T.reading count reader.old) }
+{
+    let mut items = Vec::new(alloc);
+    for _ in 0..count {
+        let item = T::read(alloc, reader)?;
+        items.push(item)?;
+    }
+    Ok(items)
+}
+
+fn write_items<T: Spelled>(items: &[T], writer: &mut Writer) -> Result<(), AllocError>
+    ensures appends { OnOk result (writer.new ≡ writer.old ++ flat_map T.spelling items.now) }
+    ensures in_range { OnOk result (AllByRecursion T.fits items.now) }
+{
+    for item in items {
+        item.write(writer)?;
+    }
+    Ok(())
+}
+
+fn duplicate_items<T: Spelled>(alloc: Global, items: &[T]) -> Result<Vec<T>, AllocError>
+    ensures { IfOk result (λ others. others.items ≡ items.now) }
+{
+    let mut others = Vec::new(alloc);
+    for item in items {
+        others.push(item.duplicate(alloc)?)?;
+    }
+    Ok(others)
+}
+
+impl<T: Spelled> Spelled for List<T> {
+    ghost spelling = { list T.spelling };
+
+    ghost fits = { FitsList T.fits };
+
+    ghost reading = { list_at T.reading };
+
+    ghost law = { list_law T.reading T.spelling T.fits T.law };
+
+    #[tactic(auto, unfolding(crate::specs::Reading::list_at))]
+    fn read(alloc: Global, reader: &mut Reader<'_>) -> Result<List<T>, RecordFault> {
+        let mut ahead = reader.fork();
+        let count = u32_of(&mut ahead)?;
+        let items = items_of(alloc, count, &mut ahead)?;
+        *reader = ahead;
+        Ok(List::of(items))
+    }
+
+    fn write(&self, writer: &mut Writer) -> Result<(), AllocError> {
+        let items = self.inner();
+        let Ok(count) = u32::try_from(items.len()) else {
+            return Err(AllocError);
+        };
+        writer.put_u32(count)?;
+        write_items(items, writer)
+    }
+
+    fn duplicate(&self, alloc: Global) -> Result<List<T>, AllocError> {
+        Ok(List::of(duplicate_items(alloc, self.inner())?))
+    }
+}
