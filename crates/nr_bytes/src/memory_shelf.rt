@@ -1,5 +1,4 @@
 ghost use Rattle.std.specs.Prelude.{◌≡◌, ◌≤◌, ℕ, List, option_copied, [], OnOk, OnErr, ◌++◌, ◌∷◌};
-ghost use Rattle.std.specs.Global.{Vec as Items};
 ghost use Rattle.nr_bytes.specs.Memory.{held_in, asked_of, found_at, PutsFound, Finds};
 ghost use Rattle.nr_bytes.specs.Outside.{Loads, Fails, Asks};
 

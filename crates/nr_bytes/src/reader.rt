@@ -1,4 +1,4 @@
-ghost use Rattle.std.specs.Prelude.{◌≡◌, length, string_bytes, [], OnErr, OnOk, option_copied, if◌then◌else◌, IfSome, ◌+◌, ◌≤◌, ◌++◌};
+ghost use Rattle.std.specs.Prelude.{◌≡◌, length, [], option_copied, if◌then◌else◌, IfSome, ◌+◌, ◌≤◌};
 ghost use Rattle.std.specs.Str.{is_utf8};
 ghost use Rattle.nr_bytes.specs.Numbers.{IsBytes};
 ghost use Rattle.nr_bytes.specs.Reading.{Reads, ReadsOrFails, fixed_at, number_at, flag_at, counted, bytes_at, text_at, end_at};

@@ -1,5 +1,5 @@
-ghost use Rattle.std.specs.Prelude.{◌≡◌, ◌≤◌, ◌<◌, Err, OnErr};
-ghost use Rattle.nr_bytes.specs.Outside.{Loads, Asks, Rose, Fails};
+ghost use Rattle.std.specs.Prelude.{◌≡◌, ◌≤◌};
+ghost use Rattle.nr_bytes.specs.Outside.{Loads, Asks, Fails};
 
 use std::alloc::Global;
 

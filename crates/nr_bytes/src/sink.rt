@@ -1,4 +1,4 @@
-ghost use Rattle.std.specs.Prelude.{◌≡◌, ◌≤◌, ◌<◌, IfOk, OnErr, length};
+ghost use Rattle.std.specs.Prelude.{◌≤◌, ◌<◌, IfOk, OnErr, length};
 ghost use Rattle.nr_bytes.specs.Outside.{Takes, Rose};
 
 /// A sink took nothing, and its count of faults rose.

@@ -1,4 +1,4 @@
-ghost use Rattle.std.specs.Prelude.{◌≡◌, ◌<◌, ◌^◌, ◌++◌, ◌∷◌, [], length, OnOk, OnErr};
+ghost use Rattle.std.specs.Prelude.{◌≡◌, ◌<◌, ◌^◌, ◌∷◌, [], length};
 ghost use Rattle.nr_bytes.specs.Numbers.{little};
 ghost use Rattle.nr_bytes.specs.Writing.{Puts, counted_bytes};
 
@@ -110,7 +110,8 @@ impl Writer {
         self.put_raw(&field)
     }
 
-    /// Writes the count of some bytes in 4 bytes, and the bytes (Borsh: Dynamic sized array, String).
+    /// Writes the count of some bytes in 4 bytes, and the bytes (Borsh: Dynamic sized array, String). There are at
+    /// most 2^32 - 1 of them.
     ///
     /// # Errors
     ///

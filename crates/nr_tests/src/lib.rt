@@ -1,0 +1,11 @@
+//! Worked examples of whole runs, as tests of the top call.
+#![tactic(auto)]
+
+#[cfg(test)]
+mod refused;
+#[cfg(test)]
+mod rows;
+#[cfg(test)]
+mod setting;
+#[cfg(test)]
+mod worked;

@@ -1,0 +1,56 @@
+//! Runs that end with a report.
+
+use crate::setting::run;
+use crate::worked;
+use nr_top::Status;
+use std::test::Fail;
+
+/// One run with its report.
+struct Row {
+    genesis: &'static str,
+    blocks: &'static str,
+    report: &'static str,
+}
+
+const ROWS: [Row; 6] = [
+    Row {
+        genesis: worked::GENESIS,
+        blocks: worked::TRANSFER,
+        report: worked::ONE_TRANSFER_REPORT,
+    },
+    Row {
+        genesis: worked::NO_GENESIS,
+        blocks: worked::NO_BLOCKS,
+        report: worked::EMPTY_REPORT,
+    },
+    Row {
+        genesis: worked::NO_GENESIS,
+        blocks: worked::ONE_BLOCK,
+        report: worked::ONE_EMPTY_CHUNK_REPORT,
+    },
+    Row {
+        genesis: worked::GENESIS_NONCE_7,
+        blocks: worked::TWO_TRANSFERS,
+        report: worked::NONCES_REPORT,
+    },
+    Row {
+        genesis: worked::GENESIS,
+        blocks: worked::TRANSFER_OF_101,
+        report: worked::BALANCE_REPORT,
+    },
+    Row {
+        genesis: worked::GENESIS,
+        blocks: worked::TRANSFER_TO_HERSELF,
+        report: worked::TO_HERSELF_REPORT,
+    },
+];
+
+#[test]
+fn runs_are_reported(rt: HostRuntime) -> Result<(), Fail> {
+    for row in &ROWS {
+        let (status, sink) = run(rt.alloc(), row.genesis, row.blocks)?;
+        assert_eq!(rt; status, Status::Done);
+        assert_eq!(rt; sink.bytes(), row.report.as_bytes());
+    }
+    Ok(())
+}

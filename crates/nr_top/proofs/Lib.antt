@@ -1,0 +1,21 @@
+-- Lemmas behind the answers.
+pub mod Maps
+pub mod Founding
+pub mod Held
+pub mod Parts
+pub mod Fronts
+pub mod Levels
+pub mod Free
+pub mod Converting
+pub mod Tokens
+pub mod Executing
+pub mod Serving
+pub mod Opening
+pub mod Sealing
+pub mod OneShard
+pub mod Blockwise
+pub mod Ahead
+pub mod Straightened
+pub mod Sums
+pub mod Growth
+pub mod Preparing

@@ -1,0 +1,12 @@
+-- With no boundaries each receipt goes to the only shard.
+use Rattle.std.proofs.Common.{◌≡◌, List, [], ◌∷◌, refl, ap}
+use Rattle.nr_records.specs.declared.receipt.Receipt.{Receipt}
+use Rattle.nr_top.specs.Chunk.{Working, lists_of}
+use Rattle.nr_top.specs.Layout.{out_to}
+
+all_out : (list : List Receipt) → out_to [] 0 list ≡ list
+all_out [] = refl
+all_out (r ∷ rest) = ap (λ list. r ∷ list) (all_out rest)
+
+pub one_list : (k : Working) → lists_of [] 1 k ≡ k.outgoing ∷ []
+one_list k = ap (λ list. list ∷ []) (all_out k.outgoing)

@@ -1,0 +1,8 @@
+use Rattle.std.proofs.Common.{◌≡◌}
+use Rattle.nr_records.specs.AccessKeys.{access_key_bytes}
+use Rattle.nr_top.specs.Flat.{laid, access_key_key}
+use Rattle.nr_top.specs.LedgerWorld.{contents_held}
+use Rattle.nr_top.proofs.contents.lay_keys.Given as goal
+
+abbrev pub invariant-loop-name : goal.invariant-loop-name
+invariant-loop-name l = laid access_key_key access_key_bytes l.name-iterator (contents_held l.contents.entries) ≡ laid access_key_key access_key_bytes l.keys.entries (contents_held l.initial.contents.entries)

@@ -1,0 +1,43 @@
+-- Which blocks are built: few, in order of height, with one chunk each, of transfers between accounts of the genesis. This project's own file.
+use Rattle.std.specs.Prelude.{ℕ, ◌+◌, ◌==◌, ◌&&◌, Bool, true, false, List, [], ◌∷◌, length, Option, Some, None, nat_le, is_some}
+use Rattle.std.specs.FinMap.{get}
+use Rattle.std.specs.List.{list_all}
+use Rattle.nr_records.specs.declared.action.Action.{Action}
+use Rattle.nr_records.specs.declared.action.Action.TheVariants.{Transfer}
+use Rattle.nr_records.specs.declared.transaction.Transaction.{Transaction}
+use Rattle.nr_top.specs.World.{World}
+use Rattle.nr_top.specs.declared.block.Block.{Block}
+
+abbrev pub is_transfer : Action → Bool
+is_transfer (Transfer deposit) = true
+is_transfer action = false
+
+-- one transfer and nothing else
+abbrev pub is_one_transfer : List Action → Bool
+is_one_transfer [] = false
+is_one_transfer (a ∷ []) = is_transfer a
+is_one_transfer (a ∷ b ∷ actions) = false
+
+abbrev pub is_built_transaction : World → Transaction → Bool
+is_built_transaction w tx = is_one_transfer tx.actions && is_some (get w.keys (tx.signer, tx.public_key)) && is_some (get w.accounts tx.receiver)
+
+abbrev pub is_built_chunk : World → Option (List Transaction) → Bool
+is_built_chunk w None = false
+is_built_chunk w (Some txs) = list_all (is_built_transaction w) txs
+
+-- one chunk, which is there
+abbrev pub are_built_chunks : World → List (Option (List Transaction)) → Bool
+are_built_chunks w [] = false
+are_built_chunks w (chunk ∷ []) = is_built_chunk w chunk
+are_built_chunks w (chunk ∷ next ∷ chunks) = false
+
+-- the first block has this height, and each other one the next
+abbrev pub are_built_from : World → ℕ → List Block → Bool
+are_built_from w height [] = true
+are_built_from w height (b ∷ bs) = (b.height.0 == height) && are_built_chunks w b.chunks && are_built_from w (height + 1) bs
+
+abbrev pub most_blocks : ℕ
+most_blocks = 256
+
+unfoldable pub are_built_blocks : World → List Block → Bool
+are_built_blocks w blocks = nat_le (length blocks) most_blocks && are_built_from w 1 blocks

@@ -1,0 +1,116 @@
+-- A run: a configuration, a genesis and blocks; its chunks' phases; its sums; its report.
+use Rattle.std.specs.Prelude.{ℕ, ◌+◌, ◌-◌, ◌==◌, Bool, true, false, List, [], ◌∷◌, ◌++◌, length, map, filter, Option, slice_get, sum_by, count_by, is_some, unwrap_or, option_map, option_and_then, None}
+use Rattle.std.specs.FinMap.{values, len}
+use Rattle.std.specs.List.{flat_map}
+use Rattle.nr_records.specs.declared.chunk_result.ChunkLine.{ChunkLine}
+use Rattle.nr_records.specs.declared.chunk_result.ChunkLine.TheVariants.{Run, Received, Lost, Sent}
+use Rattle.nr_records.specs.declared.receipt.Receipt.{Receipt}
+use Rattle.nr_records.specs.declared.transaction.Transaction.{Transaction}
+use Rattle.nr_top.specs.Chunk.{Working, ChunkReport, open_chunk, take_list, report_of, lists_of}
+use Rattle.nr_top.specs.Config.{Config, gas_price}
+use Rattle.nr_top.specs.Fees.{receipt_tokens}
+use Rattle.nr_top.specs.Genesis.{genesis_world, supply, owner}
+use Rattle.nr_top.specs.Layout.{shard_of}
+use Rattle.nr_top.specs.Lines.{chunk_text, totals_text}
+use Rattle.nr_top.specs.Serial.{Rules, Sealing, sealings, in_flight, finished, shard_numbers}
+use Rattle.nr_top.specs.World.{World, accounts_tokens}
+use Rattle.nr_top.specs.declared.block.Block.{Block}
+use Rattle.nr_top.specs.declared.genesis_entry.GenesisEntry.{GenesisEntry}
+use Rattle.nr_top.specs.declared.place.Place.{Place}
+use Rattle.nr_top.specs.declared.totals.Totals.{Totals}
+
+-- the boundaries between shards, the first world of each shard, and the blocks
+pub record Chain : Type 0 where
+  pub boundaries : List (List ℕ)
+  pub entries : List GenesisEntry
+  pub blocks : List Block
+
+abbrev pub shards : Chain → ℕ
+shards run = length run.boundaries + 1
+
+-- the transactions of a chunk that is there
+abbrev pub chunk_at : Chain → ℕ → ℕ → Option (List Transaction)
+chunk_at run shard height = option_and_then (λ block. unwrap_or (slice_get block.chunks shard) None) (slice_get run.blocks (height - 1))
+
+abbrev pub transactions_at : Chain → ℕ → ℕ → List Transaction
+transactions_at run shard height = unwrap_or (chunk_at run shard height) []
+
+abbrev pub timestamp_at : Chain → ℕ → ℕ
+timestamp_at run height = unwrap_or (option_map (λ block. block.timestamp) (slice_get run.blocks (height - 1))) 0
+
+abbrev pub place_at : Config → Chain → ℕ → Place
+place_at c run height = record { height = record { 0 = height }; timestamp = timestamp_at run height; price = gas_price c }
+
+-- the entries whose accounts live in a shard
+abbrev pub entries_of : Chain → ℕ → List GenesisEntry
+entries_of run shard = filter (λ e. shard_of run.boundaries (owner e) == shard) run.entries
+
+-- ---- the phases of its chunks
+abbrev pub sealing_of : Chain → ℕ → Working → Sealing World (List Receipt) ChunkReport
+sealing_of run shard k =
+    record {
+      world = k.world;
+      report = report_of run.boundaries (record { 0 = shard }) k;
+      lists = lists_of run.boundaries (shards run) k;
+    }
+
+unfoldable pub rules_of : Config → Chain → Rules World Working (List Receipt) ChunkReport
+rules_of c run =
+    record {
+      shards = shards run;
+      heights = length run.blocks;
+      present = λ shard height. is_some (chunk_at run shard height);
+      begins = λ shard. genesis_world (entries_of run shard);
+      opens = λ shard height w. open_chunk c w (place_at c run height) (transactions_at run shard height);
+      takes = take_list c;
+      seals = sealing_of run;
+    }
+
+-- ---- its sums
+abbrev pub is_sent : ChunkLine → Bool
+is_sent (Sent dest id hash) = true
+is_sent line = false
+
+abbrev pub is_execution : ChunkLine → Bool
+is_execution (Run outcome) = true
+is_execution (Received id) = true
+is_execution (Lost id) = true
+is_execution line = false
+
+abbrev pub routed_in : ChunkReport → ℕ
+routed_in r = r.local + count_by is_sent r.result.lines
+
+abbrev pub executed_in : ChunkReport → ℕ
+executed_in r = count_by is_execution r.result.lines
+
+abbrev pub list_tokens : Config → List Receipt → ℕ
+list_tokens c list = sum_by (receipt_tokens c) list
+
+abbrev pub waiting_tokens : Config → World → ℕ
+waiting_tokens c w = list_tokens c (values w.postponed) + list_tokens c w.delayed
+
+abbrev pub totals_from : Config → ℕ → List World → List ChunkReport → List (List Receipt) → Totals
+totals_from c supply worlds reports flight =
+    record {
+      supply = supply;
+      accounts = sum_by accounts_tokens worlds;
+      receipts = sum_by (waiting_tokens c) worlds + sum_by (list_tokens c) flight;
+      burnt = sum_by (λ r. r.result.burnt) reports;
+      places =
+          sum_by routed_in reports ∷ sum_by executed_in reports
+          ∷ sum_by (λ w. len w.postponed) worlds ∷ sum_by (λ w. length w.delayed) worlds
+          ∷ sum_by length flight ∷ [];
+    }
+
+-- ---- the whole of it
+abbrev pub reports : Config → Chain → List ChunkReport
+reports c run = map (λ s. s.report) (sealings (rules_of c run))
+
+abbrev pub last_worlds : Config → Chain → List World
+last_worlds c run = map (finished (rules_of c run)).world (shard_numbers (rules_of c run))
+
+abbrev pub totals : Config → Chain → Totals
+totals c run = totals_from c (supply run.entries) (last_worlds c run) (reports c run) (in_flight (rules_of c run))
+
+unfoldable pub report_text : Config → Chain → List ℕ
+report_text c run = flat_map (λ r. chunk_text r.result) (reports c run) ++ totals_text (totals c run)

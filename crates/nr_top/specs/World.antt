@@ -1,0 +1,66 @@
+-- The world of a shard: its accounts, access keys, contracts and data, and the receipts that wait in it. After the Nomicon, Data Structures (Account, Access Keys) and Runtime Specification (Receipts).
+use Rattle.std.specs.Prelude.{ℕ, ◌+◌, List, [], Option, sum_by}
+use Rattle.std.specs.FinMap.{FinMap, empty, insert, values}
+use Rattle.std.specs.Ordering.{nat_cmp, ordering_then}
+use Rattle.std.specs.declared.cmp.Ordering.{Ordering}
+use Rattle.std.specs.Cmp.Lexicographic.{slice_cmp}
+use Rattle.nr_ids.specs.declared.key.PublicKey.{PublicKey}
+use Rattle.nr_ids.specs.Keys.{key_bytes}
+use Rattle.nr_records.specs.declared.account.Account.{Account}
+use Rattle.nr_records.specs.declared.access_key.AccessKey.{AccessKey}
+use Rattle.nr_records.specs.declared.receipt.Receipt.{Receipt}
+
+abbrev pub bytes_cmp : List ℕ → List ℕ → Ordering
+bytes_cmp = slice_cmp nat_cmp
+
+-- by the owner, and then by the second part
+abbrev pub pair_cmp : List ℕ × List ℕ → List ℕ × List ℕ → Ordering
+pair_cmp a b = ordering_then (bytes_cmp a.0 b.0) (bytes_cmp a.1 b.1)
+
+-- by the owner, and then by the key's spelling
+abbrev pub key_cmp : List ℕ × PublicKey → List ℕ × PublicKey → Ordering
+key_cmp a b = ordering_then (bytes_cmp a.0 b.0) (bytes_cmp (key_bytes a.1) (key_bytes b.1))
+
+pub record World : Type 0 where
+  -- by id
+  pub accounts : FinMap bytes_cmp Account
+  -- by owner and public key
+  pub keys : FinMap key_cmp AccessKey
+  -- by owner
+  pub code : FinMap bytes_cmp (List ℕ)
+  -- by owner and key
+  pub data_of : FinMap pair_cmp (List ℕ)
+  -- by receiver and data id
+  pub received : FinMap pair_cmp (Option (List ℕ))
+  -- by receiver and receipt id
+  pub postponed : FinMap pair_cmp Receipt
+  -- the front first
+  pub delayed : List Receipt
+  -- how many delayed receipts were served
+  pub served : ℕ
+
+abbrev pub no_world : World
+no_world =
+    record {
+      accounts = empty;
+      keys = empty;
+      code = empty;
+      data_of = empty;
+      received = empty;
+      postponed = empty;
+      delayed = [];
+      served = 0;
+    }
+
+abbrev pub with_account : World → List ℕ → Account → World
+with_account w id account = record w { accounts = insert w.accounts id account }
+
+abbrev pub with_key : World → List ℕ → PublicKey → AccessKey → World
+with_key w owner key access = record w { keys = insert w.keys (owner, key) access }
+
+-- the tokens of an account, and of all accounts
+abbrev pub account_tokens : Account → ℕ
+account_tokens a = a.amount + a.locked
+
+abbrev pub accounts_tokens : World → ℕ
+accounts_tokens w = sum_by account_tokens (values w.accounts)

@@ -1,0 +1,243 @@
+//! A chunk of transfers: opening it, taking lists, sealing it.
+
+ghost use Rattle.std.specs.Prelude.{◌≡◌, ◌≢◌, true, false, ◌≤◌, ◌+◌, ◌^◌, [], ◌∷◌, ◌++◌, IfOk, OnOk, fold, length, map};
+ghost use Rattle.std.specs.List.{list_all};
+ghost use Rattle.nr_top.specs.Blocks.{is_built_transaction, is_one_transfer};
+ghost use Rattle.nr_top.specs.Chunk.{open_chunk, take_list, report_of, lists_of, serve, begun, convert_next, routed, with_line, sent};
+ghost use Rattle.nr_top.specs.Config.{free};
+ghost use Rattle.nr_top.specs.Conversion.{is_local};
+ghost use Rattle.nr_top.specs.Fees.{receipt_tokens};
+ghost use Rattle.nr_top.specs.Flat.{flat};
+ghost use Rattle.nr_top.specs.Root.{root_of};
+ghost use Rattle.nr_top.specs.LedgerWorld.{world_of};
+ghost use Rattle.nr_top.specs.Phases.{KeepsSound};
+ghost use Rattle.nr_top.specs.Refusal.{refused};
+ghost use Rattle.nr_top.specs.Run.{list_tokens};
+ghost use Rattle.nr_top.specs.Transfers.{IsTransfer, AreTransfers, IsSound, has_system};
+ghost use Rattle.nr_top.specs.Work.{work_of};
+ghost use Rattle.nr_top.specs.World.{accounts_tokens};
+
+use crate::chunk_work::ChunkWork;
+use crate::conversion::convert;
+use crate::execution::execute;
+use crate::ledger::Ledger;
+use crate::place::Place;
+use crate::refusal::line;
+use crate::root::root;
+use crate::sealed::Sealed;
+use crate::tx_fault::TxFault;
+use nr_bytes::List;
+use nr_ids::{Hash32, ShardId};
+use nr_records::{ChunkLine, ChunkResult, Receipt, Transaction, hash_of};
+use std::alloc::{AllocError, Global};
+
+// ---- receipts
+
+/// Runs a receipt.
+fn serve(work: &mut ChunkWork, alloc: Global, receipt: &Receipt) -> Result<(), AllocError>
+    requires transfer { IsTransfer (world_of work.old.ledger) receipt.now }
+    requires room { accounts_tokens (world_of work.old.ledger) + receipt_tokens free receipt.now ≤ 2 ^ 127 }
+    ensures { OnOk result (work_of work.new ≡ serve free (work_of work.old) receipt.now) }
+{
+    let outcome = execute(&mut work.ledger, alloc, receipt);
+    work.lines.push(ChunkLine::Run(outcome))?;
+    Ok(())
+}
+
+/// Takes one incoming list: runs its receipts in order.
+///
+/// # Errors
+///
+/// Where there is no memory. Nothing is said of the chunk then.
+pub(crate) fn take_list(
+    work: &mut ChunkWork,
+    alloc: Global,
+    list: &[Receipt],
+) -> Result<(), AllocError>
+    requires transfers { AreTransfers (world_of work.old.ledger) list.now }
+    requires room { accounts_tokens (world_of work.old.ledger) + list_tokens free work.old.outgoing.items + list_tokens free list.now ≤ 2 ^ 127 }
+    ensures taken { OnOk result (work_of work.new ≡ take_list free (work_of work.old) list.now) }
+    ensures sound { OnOk result (KeepsSound (work_of work.old) (work_of work.new) list.now) }
+    ensures place { OnOk result (work.new.place ≡ work.old.place) }
+{
+    for receipt in list {
+        serve(work, alloc, receipt)?;
+    }
+    Ok(())
+}
+
+// ---- opening
+
+fn begin(alloc: Global, ledger: Ledger, place: Place) -> ChunkWork
+    ensures { work_of result ≡ begun (world_of ledger) place }
+{
+    ChunkWork {
+        ledger,
+        place,
+        local: 0,
+        outgoing: Vec::new(alloc),
+        lines: Vec::new(alloc),
+    }
+}
+
+/// Puts a receipt to those for its own signer, or to those that go out.
+fn route(
+    work: &mut ChunkWork,
+    is_local: bool,
+    local: &mut Vec<Receipt>,
+    receipt: Receipt,
+) -> Result<(), AllocError>
+    requires { work.old.local ≡ length local.old.items }
+    ensures routed { OnOk result (record { working = work_of work.new; local = local.new.items } ≡ routed is_local (work_of work.old) local.old.items receipt) }
+    ensures count { OnOk result (work.new.local ≡ length local.new.items) }
+{
+    if is_local {
+        local.push(receipt)?;
+        work.local = local.len() as u64;
+    } else {
+        work.outgoing.push(receipt)?;
+    }
+    Ok(())
+}
+
+/// Adds the line of a refused transaction.
+fn refuse(work: &mut ChunkWork, hash: Hash32, fault: TxFault) -> Result<(), AllocError>
+    ensures refused { OnOk result (work_of work.new ≡ with_line (work_of work.old) (refused hash fault)) }
+    ensures fault { OnOk result (fault ≢ TxFault.Memory) }
+{
+    match fault {
+        TxFault::Memory => Err(AllocError),
+        fault => {
+            work.lines.push(line(hash, fault))?;
+            Ok(())
+        }
+    }
+}
+
+/// Converts a transaction.
+fn convert_next(
+    work: &mut ChunkWork,
+    alloc: Global,
+    local: &mut Vec<Receipt>,
+    tx: &Transaction,
+) -> Result<(), AllocError>
+    requires one { is_one_transfer tx.now.actions ≡ true }
+    requires count { work.old.local ≡ length local.old.items }
+    ensures converted { OnOk result (record { working = work_of work.new; local = local.new.items } ≡ convert_next free (record { working = work_of work.old; local = local.old.items }) tx.now) }
+    ensures count { OnOk result (work.new.local ≡ length local.new.items) }
+{
+    let hash = hash_of(alloc, tx)?;
+    match convert(&mut work.ledger, alloc, tx, &work.place) {
+        Ok(made) => {
+            let receipt_id = made.receipt.receipt_id;
+            work.lines.push(ChunkLine::TxOk { hash, receipt_id })?;
+            route(work, tx.signer == tx.receiver, local, made.receipt)?;
+        }
+        Err(fault) => refuse(work, hash, fault)?,
+    }
+    Ok(())
+}
+
+/// Converts the transactions in order, and gives the receipts for their own signers.
+fn convert_all(
+    work: &mut ChunkWork,
+    alloc: Global,
+    txs: &[Transaction],
+) -> Result<Vec<Receipt>, AllocError>
+    requires built { list_all (is_built_transaction (world_of work.old.ledger)) txs.now ≡ true }
+    requires count { work.old.local ≡ 0 }
+    ensures { IfOk result (λ local. record { working = work_of work.new; local = local.items } ≡ fold (convert_next free) (record { working = work_of work.old; local = [] }) txs.now) }
+{
+    let mut local = Vec::new(alloc);
+    for tx in txs {
+        convert_next(work, alloc, &mut local, tx)?;
+    }
+    Ok(local)
+}
+
+/// Opens a chunk: converts its transactions in order, and then runs the receipts for their own
+/// signers.
+///
+/// # Errors
+///
+/// Where there is no memory.
+pub(crate) fn open_chunk(
+    alloc: Global,
+    ledger: Ledger,
+    place: Place,
+    txs: &[Transaction],
+) -> Result<ChunkWork, AllocError>
+    requires price { place.price ≡ 0 }
+    requires built { list_all (is_built_transaction (world_of ledger)) txs.now ≡ true }
+    requires system { has_system (world_of ledger) ≡ false }
+    requires room { accounts_tokens (world_of ledger) ≤ 2 ^ 127 }
+    ensures opened { IfOk result (λ work. work_of work ≡ open_chunk free (world_of ledger) place txs.now) }
+    ensures sound { IfOk result (λ work. IsSound (world_of ledger) (accounts_tokens (world_of ledger)) (work_of work)) }
+{
+    let mut work = begin(alloc, ledger, place);
+    let local = convert_all(&mut work, alloc, txs)?;
+    take_list(&mut work, alloc, &local)?;
+    Ok(work)
+}
+
+// ---- sealing
+
+fn sent_line(alloc: Global, receipt: &Receipt) -> Result<ChunkLine, AllocError>
+    ensures { IfOk result (λ line. line ≡ sent [] receipt.now) }
+{
+    Ok(ChunkLine::Sent {
+        dest: ShardId(0),
+        receipt_id: receipt.receipt_id,
+        hash: hash_of(alloc, receipt)?,
+    })
+}
+
+/// The lines, and then one for each receipt that goes out.
+fn with_sent(
+    alloc: Global,
+    lines: Vec<ChunkLine>,
+    outgoing: &[Receipt],
+) -> Result<Vec<ChunkLine>, AllocError>
+    ensures { IfOk result (λ all. all.items ≡ lines.items ++ map (sent []) outgoing.now) }
+{
+    let mut all = lines;
+    for receipt in outgoing {
+        all.push(sent_line(alloc, receipt)?)?;
+    }
+    Ok(all)
+}
+
+fn root_of(ledger: &Ledger, alloc: Global) -> Result<Hash32, AllocError>
+    ensures { IfOk result (λ hash. hash ≡ root_of (flat (world_of ledger.now))) }
+{
+    let entries = ledger.entries(alloc)?;
+    root(alloc, entries.inner())
+}
+
+/// Seals the chunk of the only shard: computes the root, and sends the receipts that go out.
+///
+/// # Errors
+///
+/// Where there is no memory.
+pub(crate) fn seal_chunk(alloc: Global, work: ChunkWork) -> Result<Sealed, AllocError>
+    ensures result { IfOk result (λ sealed. sealed.result ≡ (report_of [] (record { 0 = 0 }) (work_of work)).result) }
+    ensures local { IfOk result (λ sealed. sealed.local ≡ (report_of [] (record { 0 = 0 }) (work_of work)).local) }
+    ensures world { IfOk result (λ sealed. world_of sealed.ledger ≡ (work_of work).world) }
+    ensures lists { IfOk result (λ sealed. lists_of [] 1 (work_of work) ≡ sealed.outgoing.items ∷ []) }
+{
+    let root = root_of(&work.ledger, alloc)?;
+    let lines = with_sent(alloc, work.lines, &work.outgoing)?;
+    Ok(Sealed {
+        ledger: work.ledger,
+        result: ChunkResult {
+            height: work.place.height,
+            shard: ShardId(0),
+            root,
+            gas: 0,
+            burnt: 0,
+            lines: List::of(lines),
+        },
+        local: work.local,
+        outgoing: work.outgoing,
+    })
+}

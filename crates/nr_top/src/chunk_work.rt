@@ -1,0 +1,15 @@
+use crate::ledger::Ledger;
+use crate::place::Place;
+use nr_records::{ChunkLine, Receipt};
+
+/// A chunk at work: its state, and what it made so far.
+#[derive(Drop)]
+pub(crate) struct ChunkWork {
+    pub(crate) ledger: Ledger,
+    pub(crate) place: Place,
+    /// How many receipts it converted for their own signer.
+    pub(crate) local: u64,
+    /// The receipts that it makes for others, in order.
+    pub(crate) outgoing: Vec<Receipt>,
+    pub(crate) lines: Vec<ChunkLine>,
+}

@@ -1,0 +1,164 @@
+//! How a transaction becomes a receipt.
+
+ghost use Rattle.std.specs.Prelude.{◌≡◌, true, ◌≤◌, [], ◌∷◌, IfOk, IfSome, OnOk, IsSome, option_map, nat_le, nat_lt};
+ghost use Rattle.std.specs.FinMap.{get};
+ghost use Rattle.nr_top.specs.Blocks.{is_one_transfer};
+ghost use Rattle.nr_top.specs.Conversion.{receipt_of, charged, first_refusal};
+ghost use Rattle.nr_top.specs.Fees.{deposits};
+ghost use Rattle.nr_top.specs.LedgerWorld.{world_of};
+ghost use Rattle.nr_top.specs.Phases.{Converts};
+
+use crate::converted::Converted;
+use crate::ledger::Ledger;
+use crate::place::Place;
+use crate::tx_fault::TxFault;
+use nr_bytes::List;
+use nr_ids::derive;
+use nr_records::{Account, Action, ActionReceipt, Body, Receipt, Spelled, Transaction, hash_of};
+use std::alloc::{AllocError, Global};
+
+/// What one transfer gives away.
+pub(crate) fn deposit_of(actions: &[Action]) -> u128
+    requires { is_one_transfer actions.now ≡ true }
+    ensures { result ≡ deposits actions.now }
+{
+    match &actions[0] {
+        Action::Transfer { deposit } => *deposit,
+        _ => 0,
+    }
+}
+
+/// The nonce of the signer's key.
+fn key_nonce(ledger: &Ledger, alloc: Global, tx: &Transaction) -> Result<Option<u64>, AllocError>
+    ensures { IfOk result (λ nonce. nonce ≡ option_map (λ access. access.nonce) (get (world_of ledger.now).keys (tx.now.signer, tx.now.public_key))) }
+{
+    let found = ledger.key(alloc, &tx.signer, &tx.public_key)?;
+    Ok(found.map(|access| access.nonce))
+}
+
+/// The first refusal of a signer who has the key.
+fn refusal(key_nonce: u64, nonce: u64, amount: u128, cost: u128) -> Option<TxFault>
+    ensures { result ≡ first_refusal ((nat_le nonce key_nonce, TxFault.Nonce key_nonce nonce) ∷ (nat_lt amount cost, TxFault.Balance amount cost) ∷ []) }
+{
+    if nonce <= key_nonce {
+        Some(TxFault::Nonce {
+            key: key_nonce,
+            tx: nonce,
+        })
+    } else if amount < cost {
+        Some(TxFault::Balance {
+            has: amount,
+            needs: cost,
+        })
+    } else {
+        None
+    }
+}
+
+/// The body of the receipt that a transaction becomes.
+fn body_of(alloc: Global, tx: &Transaction, place: &Place) -> Result<Body, AllocError>
+    ensures { IfOk result (λ body. body ≡ (receipt_of tx.now place.now).body) }
+{
+    Ok(Body::Act(ActionReceipt {
+        signer: tx.signer.duplicate(alloc)?,
+        signer_key: tx.public_key,
+        gas_price: u128::from(place.price),
+        outputs: List::of(Vec::new(alloc)),
+        inputs: List::of(Vec::new(alloc)),
+        actions: tx.actions.duplicate(alloc)?,
+    }))
+}
+
+/// The receipt that a transaction becomes.
+fn receipt_of(alloc: Global, tx: &Transaction, place: &Place) -> Result<Receipt, AllocError>
+    ensures { IfOk result (λ receipt. receipt ≡ receipt_of tx.now place.now) }
+{
+    let hash = hash_of(alloc, tx)?;
+    let body = body_of(alloc, tx, place)?;
+    Ok(Receipt {
+        predecessor: tx.signer.duplicate(alloc)?,
+        receiver: tx.receiver.duplicate(alloc)?,
+        receipt_id: derive(&hash, place.height, 0),
+        body,
+    })
+}
+
+/// Takes the cost from the signer, and notes the nonce.
+fn charge(
+    ledger: &mut Ledger,
+    alloc: Global,
+    tx: &Transaction,
+    account: Account,
+    cost: u128,
+) -> Result<(), AllocError>
+    requires signer { IsSome (get (world_of ledger.old).accounts tx.now.signer) }
+    requires key { IsSome (get (world_of ledger.old).keys (tx.now.signer, tx.now.public_key)) }
+    requires enough { cost ≤ account.amount }
+    ensures { OnOk result (IfSome (get (world_of ledger.old).keys (tx.now.signer, tx.now.public_key)) (λ access. world_of ledger.new ≡ charged (world_of ledger.old) tx.now cost account access)) }
+{
+    ledger.set_nonce(alloc, &tx.signer, &tx.public_key, tx.nonce)?;
+    let amount = account.amount - cost;
+    ledger.set_account(&tx.signer, Account { amount, ..account });
+    Ok(())
+}
+
+/// Converts a transaction that isn't refused.
+fn accept(
+    ledger: &mut Ledger,
+    alloc: Global,
+    tx: &Transaction,
+    place: &Place,
+    account: Account,
+) -> Result<Converted, AllocError>
+    requires one { is_one_transfer tx.now.actions ≡ true }
+    requires signer { IsSome (get (world_of ledger.old).accounts tx.now.signer) }
+    requires key { IsSome (get (world_of ledger.old).keys (tx.now.signer, tx.now.public_key)) }
+    requires enough { deposits tx.now.actions ≤ account.amount }
+    ensures made { IfOk result (λ made. made ≡ record { receipt = receipt_of tx.now place.now; gas = 0; burnt = 0 }) }
+    ensures world { OnOk result (IfSome (get (world_of ledger.old).keys (tx.now.signer, tx.now.public_key)) (λ access. world_of ledger.new ≡ charged (world_of ledger.old) tx.now (deposits tx.now.actions) account access)) }
+{
+    let receipt = receipt_of(alloc, tx, place)?;
+    let cost = deposit_of(tx.actions.inner());
+    charge(ledger, alloc, tx, account, cost)?;
+    Ok(Converted {
+        receipt,
+        gas: 0,
+        burnt: 0,
+    })
+}
+
+/// Converts a transaction of one transfer into a receipt, for which the signer pays.
+///
+/// # Errors
+///
+/// The first refusal in order, of `NoSigner`, `NoKey`, `Nonce` and `Balance`; nothing is changed
+/// then. Or `Memory`.
+pub(crate) fn convert(
+    ledger: &mut Ledger,
+    alloc: Global,
+    tx: &Transaction,
+    place: &Place,
+) -> Result<Converted, TxFault>
+    requires { is_one_transfer tx.now.actions ≡ true }
+    ensures converted { Converts result (world_of ledger.old) (world_of ledger.new) tx.now place.now }
+    ensures gas { IfOk result (λ made. made.gas ≡ 0) }
+    ensures burnt { IfOk result (λ made. made.burnt ≡ 0) }
+{
+    let Some(account) = ledger.account(&tx.signer) else {
+        return Err(TxFault::NoSigner);
+    };
+    let Ok(nonce) = key_nonce(ledger, alloc, tx) else {
+        return Err(TxFault::Memory);
+    };
+    let Some(nonce) = nonce else {
+        return Err(TxFault::NoKey);
+    };
+    let cost = deposit_of(tx.actions.inner());
+    if let Some(fault) = refusal(nonce, tx.nonce, account.amount, cost) {
+        return Err(fault);
+    }
+    match accept(ledger, alloc, tx, place, account) {
+        Ok(made) => Ok(made),
+        Err(AllocError) => Err(TxFault::Memory),
+    }
+}

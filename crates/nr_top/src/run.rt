@@ -1,0 +1,171 @@
+//! The run of one shard, block after block.
+
+ghost use Rattle.std.specs.Prelude.{◌≡◌, ◌+◌, ◌++◌, ◌≤◌, ◌^◌, IfOk, Some, [], ◌∷◌, true, false, count_by, length};
+ghost use Rattle.nr_top.specs.Blocks.{are_built_from};
+ghost use Rattle.nr_top.specs.Chains.{has_one_chunk};
+ghost use Rattle.nr_top.specs.Config.{free};
+ghost use Rattle.nr_top.specs.LedgerWorld.{world_of};
+ghost use Rattle.nr_top.specs.Run.{is_sent, is_execution};
+ghost use Rattle.nr_top.specs.Transfers.{has_system};
+ghost use Rattle.nr_top.specs.World.{accounts_tokens};
+
+use crate::block::Block;
+use crate::chunk::{open_chunk, seal_chunk, take_list};
+use crate::ledger::Ledger;
+use crate::place::Place;
+use crate::report::{write_chunk, write_totals};
+use crate::sealed::Sealed;
+use crate::tally::{execution_lines, sent_lines, tokens_in};
+use crate::totals::Totals;
+use nr_bytes::{Blob, List};
+use nr_records::{Receipt, Transaction};
+use std::alloc::{AllocError, Global};
+
+/// What a run has made so far.
+#[derive(Drop)]
+pub(crate) struct Progress {
+    ledger: Ledger,
+    /// What the last chunk sent.
+    inbox: Vec<Receipt>,
+    text: Blob,
+    /// How many receipts were routed, and how many executed.
+    routed: u64,
+    executed: u64,
+}
+
+/// The transactions of a block's one chunk.
+fn transactions(block: &Block) -> &List<Transaction>
+    requires { has_one_chunk block.now.chunks ≡ true }
+    ensures { block.now.chunks ≡ Some result.now ∷ [] }
+{
+    match block.chunks.inner() {
+        [Some(txs)] => txs,
+        _ => unreachable!(),
+    }
+}
+
+/// A sum of counts, where it fits.
+fn sum(a: u64, b: usize, c: u64) -> Result<u64, AllocError>
+    ensures { IfOk result (λ n. n ≡ a + (c + b)) }
+{
+    let more = c.checked_add(b as u64).ok_or(AllocError)?;
+    a.checked_add(more).ok_or(AllocError)
+}
+
+impl Progress {
+    ghost use Rattle.nr_top.specs.Straight.{IsReady, IsSeal, IsKept, IsNext, IsAhead, work_at, straight_text, straight_totals, place_of};
+    ghost use Rattle.nr_top.specs.Chains.{IsTransferBody};
+    ghost use Rattle.nr_top.specs.World.{World};
+    ghost use Rattle.nr_top.specs.Run.{list_tokens};
+    ghost use Rattle.std.specs.Prelude.{List as Items};
+    ghost use Rattle.std.specs.List.{AllByRecursion};
+
+    fn place(block: &Block) -> Place
+        ensures { result ≡ place_of block.now }
+    {
+        Place {
+            height: block.height,
+            timestamp: block.timestamp,
+            price: 0,
+        }
+    }
+
+    /// Opens the chunk of a block, lets it take a list, and seals it.
+    fn seal(
+        alloc: Global,
+        ledger: Ledger,
+        inbox: &[Receipt],
+        block: &Block,
+    ) -> Result<Sealed, AllocError>
+        requires { IsReady (world_of ledger) inbox.now block.now }
+        ensures seal { IfOk result (IsSeal (work_at (world_of ledger) inbox.now block.now)) }
+        ensures kept { IfOk result (λ _. IsKept (world_of ledger) inbox.now (work_at (world_of ledger) inbox.now block.now)) }
+    {
+        let txs = transactions(block);
+        let mut work = open_chunk(alloc, ledger, Progress::place(block), txs.inner())?;
+        take_list(&mut work, alloc, inbox)?;
+        let sealed = seal_chunk(alloc, work)?;
+        Ok(sealed)
+    }
+
+    /// Runs one block more.
+    fn next(self, alloc: Global, block: &Block) -> Result<Progress, AllocError>
+        requires { IsReady (world_of self.ledger) self.inbox.items block.now }
+        ensures next { IfOk result (IsNext self (work_at (world_of self.ledger) self.inbox.items block.now)) }
+        ensures kept { IfOk result (λ _. IsKept (world_of self.ledger) self.inbox.items (work_at (world_of self.ledger) self.inbox.items block.now)) }
+    {
+        let Progress {
+            ledger,
+            inbox,
+            mut text,
+            routed,
+            executed,
+        } = self;
+        let sealed = Progress::seal(alloc, ledger, &inbox, block)?;
+        write_chunk(alloc, &sealed.result, &mut text)?;
+        let lines = sealed.result.lines.inner();
+        let routed = sum(routed, sent_lines(lines), sealed.local)?;
+        let executed = sum(executed, execution_lines(lines), 0)?;
+        Ok(Progress {
+            ledger: sealed.ledger,
+            inbox: sealed.outgoing,
+            text,
+            routed,
+            executed,
+        })
+    }
+
+    /// Runs all blocks.
+    fn run(alloc: Global, ledger: Ledger, blocks: &[Block]) -> Result<Progress, AllocError>
+        requires built { are_built_from (world_of ledger) 1 blocks.now ≡ true }
+        requires system { has_system (world_of ledger) ≡ false }
+        requires tokens { accounts_tokens (world_of ledger) ≤ 2 ^ 127 }
+        ensures { IfOk result (IsAhead (world_of ledger) blocks.now (1 + length blocks.now) []) }
+    {
+        let mut progress = Progress {
+            ledger,
+            inbox: Vec::new(alloc),
+            text: Blob::of(Vec::new(alloc)),
+            routed: 0,
+            executed: 0,
+        };
+        for block in blocks {
+            progress = progress.next(alloc, block)?;
+        }
+        Ok(progress)
+    }
+
+    /// The sums over the run, where there was this much at first.
+    fn totals(&self, supply: u128) -> Totals
+        requires transfers { AllByRecursion IsTransferBody self.now.inbox.items }
+        requires few { accounts_tokens (world_of self.now.ledger) + list_tokens free self.now.inbox.items ≤ 2 ^ 127 }
+        ensures { (w : World) (blocks : Items Block) → supply ≡ accounts_tokens w → IsAhead w blocks (1 + length blocks) [] self.now → result ≡ straight_totals w blocks }
+    {
+        Totals {
+            supply,
+            accounts: self.ledger.tokens(),
+            receipts: tokens_in(&self.inbox),
+            burnt: 0,
+            places: [self.routed, self.executed, 0, 0, self.inbox.len() as u64],
+        }
+    }
+
+    /// The report of a chain of one shard.
+    pub(crate) fn report(
+        alloc: Global,
+        ledger: Ledger,
+        blocks: &[Block],
+    ) -> Result<Blob, AllocError>
+        requires built { are_built_from (world_of ledger) 1 blocks.now ≡ true }
+        requires system { has_system (world_of ledger) ≡ false }
+        requires tokens { accounts_tokens (world_of ledger) ≤ 2 ^ 127 }
+        ensures { IfOk result (λ text. text ≡ straight_text (world_of ledger) blocks.now) }
+    {
+        let supply = ledger.tokens();
+        let progress = Progress::run(alloc, ledger, blocks)?;
+        let totals = progress.totals(supply);
+        let mut text = progress.text;
+        write_totals(alloc, &totals, &mut text)?;
+        Ok(text)
+    }
+}

@@ -1,0 +1,13 @@
+use crate::ledger::Ledger;
+use nr_records::{ChunkResult, Receipt};
+
+/// What a seal leaves.
+#[derive(Drop)]
+pub(crate) struct Sealed {
+    pub(crate) ledger: Ledger,
+    pub(crate) result: ChunkResult,
+    /// How many receipts the chunk converted for their own signer.
+    pub(crate) local: u64,
+    /// The receipts that it made for others, in order.
+    pub(crate) outgoing: Vec<Receipt>,
+}
