@@ -8,4 +8,6 @@ mod rows;
 #[cfg(test)]
 mod setting;
 #[cfg(test)]
+mod spellings;
+#[cfg(test)]
 mod worked;
