@@ -1,7 +1,7 @@
 //! Replays the blocks of a file, one after another, and writes the report.
 //!
-//! The words are `run free GENESIS BLOCKS`. The exit status is that of the call; for one above 0 a
-//! line on standard error has it, with its numbers.
+//! The words that are built are `run free GENESIS BLOCKS`. The exit status is that of the call; for
+//! one above 0 a line on standard error has it, with its numbers.
 #![tactic(auto)]
 
 use nr_bytes::{FileShelf, StdoutSink};
@@ -37,7 +37,7 @@ fn refused(error: &io::Error) -> Status {
     if error.kind() == io::ErrorKind::OutOfMemory {
         Status::NoMemory
     } else {
-        Status::NotBuilt { form: 0 }
+        Status::Usage
     }
 }
 

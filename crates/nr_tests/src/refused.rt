@@ -4,24 +4,61 @@ use crate::setting::{ROOM, run, shelf_of, words_of};
 use crate::worked;
 use nr_bytes::MemorySink;
 use nr_top::{Status, serial};
+use std::alloc::Global;
 use std::test::Fail;
 
+// The status of words over the files of one transfer that can't be loaded, and what was written.
+fn answer_to(alloc: Global, row: &[&str]) -> Result<(Status, MemorySink), Fail> {
+    let words = words_of(alloc, row)?;
+    let mut shelf = shelf_of(alloc, worked::GENESIS, worked::TRANSFER, &[1, 2])?;
+    let mut sink = MemorySink::new(alloc, 10, Vec::new(alloc), ROOM)?;
+    let status = serial(alloc, &words, &mut shelf, &mut sink);
+    Ok((status, sink))
+}
+
 #[test]
-fn other_words_are_not_built(rt: HostRuntime) -> Result<(), Fail> {
-    let rows: [&[&str]; 7] = [
+fn words_of_no_command_are_usage(rt: HostRuntime) -> Result<(), Fail> {
+    let rows: [&[&str]; 20] = [
         &[],
         &["run", "free", "G"],
         &["run", "free", "G", "B", "S"],
-        &["run", "config", "G", "B"],
+        &["replay", "free", "G", "B"],
         &["check", "free", "G", "B"],
-        &["run", "free", "-G", "B"],
+        &["check", "free", "G", "B", "-"],
+        &["run", "free", "-x", "B"],
+        &["run", "-x", "G", "B"],
         &["run", "free", "G", ""],
+        &["-x"],
+        &["--help"],
+        &["help"],
+        &["gen", "7", "4"],
+        &["gen", "07", "4", "200"],
+        &["gen", "+7", "4", "200"],
+        &["gen", "7", "0", "200"],
+        &["gen", "7", "17", "200"],
+        &["gen", "7", "4", "0"],
+        &["gen", "7", "4", "257"],
+        &["gen", "18446744073709551616", "4", "200"],
     ];
     for row in rows {
-        let words = words_of(rt.alloc(), row)?;
-        let mut shelf = shelf_of(rt.alloc(), worked::GENESIS, worked::TRANSFER, &[])?;
-        let mut sink = MemorySink::new(rt.alloc(), 10, Vec::new(rt.alloc()), ROOM)?;
-        let status = serial(rt.alloc(), &words, &mut shelf, &mut sink);
+        let (status, sink) = answer_to(rt.alloc(), row)?;
+        assert_eq!(rt; status, Status::Usage);
+        assert_eq!(rt; sink.bytes(), [].as_slice());
+    }
+    Ok(())
+}
+
+#[test]
+fn later_commands_are_not_built(rt: HostRuntime) -> Result<(), Fail> {
+    let rows: [&[&str]; 5] = [
+        &["run", "config", "G", "B"],
+        &["check", "free", "G", "B", "S"],
+        &["gen", "7", "4", "200"],
+        &["gen", "0", "1", "1"],
+        &["gen", "18446744073709551615", "16", "256"],
+    ];
+    for row in rows {
+        let (status, sink) = answer_to(rt.alloc(), row)?;
         assert_eq!(rt; status, Status::NotBuilt { form: 0 });
         assert_eq!(rt; sink.bytes(), [].as_slice());
     }

@@ -14,6 +14,7 @@ pub mod Opening
 pub mod Sealing
 pub mod OneShard
 pub mod Blockwise
+pub mod Commands
 pub mod Ahead
 pub mod Straightened
 pub mod Sums

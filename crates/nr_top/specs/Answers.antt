@@ -17,7 +17,7 @@ GrewInPart old new bytes = (front : List ℕ) × (rest : List ℕ) × (bytes ≡
 abbrev pub GrewSoFar : Option (List ℕ) → Option (List ℕ) → List ℕ → List ℕ → Type 0
 GrewSoFar old new bytes rest = (front : List ℕ) × (bytes ≡ front ++ rest) × Grew old new front
 
--- The answer is right for what was given, and the sink took what belongs to it. No form of words is a refused usage as yet.
+-- The answer is right for what was given, and the sink took what belongs to it.
 abbrev pub Serves : Status → Given → Option (List ℕ) → Option (List ℕ) → Type 0
 Serves Done (Report text) old new = Grew old new text
 Serves Done (Refused status) old new = ⊥

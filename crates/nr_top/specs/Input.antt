@@ -1,11 +1,11 @@
 -- What the words and the files ask for: a report, or the first refusal. This project's own commands and limits.
-use Rattle.std.specs.Prelude.{ℕ, List, [], ◌∷◌, map, Bool, false, cond, not, ◌&&◌, Option, Some, None, Result, Ok, Err, nat_lt, ◌==◌, string_bytes, codes, length}
-use Rattle.std.specs.Str.{bytes_eq}
+use Rattle.std.specs.Prelude.{ℕ, List, [], ◌∷◌, map, Bool, cond, Option, Some, None, Result, Ok, Err, nat_lt, string_bytes, length}
 use Rattle.std.specs.Global.{Global}
 use Rattle.std.specs.declared.string.String.{String}
 use Rattle.nr_records.specs.Reading.{all_of}
 use Rattle.nr_records.specs.declared.fault.RecordFault.{RecordFault}
 use Rattle.nr_top.specs.Blocks.{are_built_blocks}
+use Rattle.nr_top.specs.Command.{Command, command, built_files}
 use Rattle.nr_top.specs.Config.{free}
 use Rattle.nr_top.specs.Files.{genesis_at, blocks_at}
 use Rattle.nr_top.specs.Genesis.{is_built_genesis, genesis_world}
@@ -13,34 +13,19 @@ use Rattle.nr_top.specs.Run.{Chain, report_text}
 use Rattle.nr_top.specs.declared.blocks_file.BlocksFile.{BlocksFile}
 use Rattle.nr_top.specs.declared.genesis_file.GenesisFile.{GenesisFile}
 use Rattle.nr_top.specs.declared.status.Status.{Status}
-use Rattle.nr_top.specs.declared.status.Status.TheVariants.{NotBuilt}
+use Rattle.nr_top.specs.declared.status.Status.TheVariants.{Usage, NotBuilt}
 
 abbrev pub texts : List (String Global) → List (List ℕ)
 texts words = map (λ word. string_bytes word) words
 
--- ---- words
--- a word that isn't empty and doesn't begin with a dash
-abbrev pub is_plain : List ℕ → Bool
-is_plain [] = false
-is_plain (b ∷ bytes) = not (b == 45)
+-- the files that a command loads, in order; one that isn't built loads none
+abbrev pub loads_of : Option (List ℕ × List ℕ) → List (List ℕ)
+loads_of None = []
+loads_of (Some names) = names.0 ∷ names.1 ∷ []
 
--- the genesis and the blocks that `run free GENESIS BLOCKS` names
-abbrev pub command_of : List ℕ → List ℕ → List ℕ → List ℕ → Option (List ℕ × List ℕ)
-command_of verb config genesis blocks =
-    cond (bytes_eq verb (codes "run") && bytes_eq config (codes "free") && is_plain genesis && is_plain blocks) (Some (genesis, blocks)) None
-
-unfoldable pub command : List (List ℕ) → Option (List ℕ × List ℕ)
-command [] = None
-command (a ∷ []) = None
-command (a ∷ b ∷ []) = None
-command (a ∷ b ∷ c ∷ []) = None
-command (a ∷ b ∷ c ∷ d ∷ []) = command_of a b c d
-command (a ∷ b ∷ c ∷ d ∷ e ∷ words) = None
-
--- the files that the words' command loads, in order
-abbrev pub files_of : Option (List ℕ × List ℕ) → List (List ℕ)
+abbrev pub files_of : Option Command → List (List ℕ)
 files_of None = []
-files_of (Some names) = names.0 ∷ names.1 ∷ []
+files_of (Some c) = loads_of (built_files c)
 
 -- ---- files: at most 64 MiB of genesis and 256 MiB of blocks
 abbrev pub genesis_limit : ℕ
@@ -86,9 +71,13 @@ abbrev pub by_files : Option (List ℕ) → Option (List ℕ) → Given
 by_files None blocks = Untold
 by_files (Some bytes) blocks = cond (nat_lt genesis_limit (length bytes)) (Refused (NotBuilt 1)) (by_genesis (genesis_of bytes) blocks)
 
-abbrev pub by_command : Option (List ℕ × List ℕ) → (List ℕ → Option (List ℕ)) → Given
-by_command None held = Refused (NotBuilt 0)
-by_command (Some names) held = by_files (held names.0) (held names.1)
+abbrev pub by_built : Option (List ℕ × List ℕ) → (List ℕ → Option (List ℕ)) → Given
+by_built None held = Refused (NotBuilt 0)
+by_built (Some names) held = by_files (held names.0) (held names.1)
+
+abbrev pub by_command : Option Command → (List ℕ → Option (List ℕ)) → Given
+by_command None held = Refused Usage
+by_command (Some c) held = by_built (built_files c) held
 
 abbrev pub input : List (List ℕ) → (List ℕ → Option (List ℕ)) → Given
 input words held = by_command (command words) held

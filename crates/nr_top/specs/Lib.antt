@@ -12,6 +12,7 @@ pub mod Refusal
 pub mod Actions
 pub mod Execution
 pub mod Chunk
+pub mod Command
 pub mod Serial
 pub mod Genesis
 pub mod Blocks

@@ -1,8 +1,34 @@
 //! The words of the command line.
 
 ghost use Rattle.std.specs.Prelude.{◌≡◌, option_map};
-ghost use Rattle.nr_top.specs.Input.{command, is_plain, texts};
-ghost use Rattle.nr_top.specs.Words.{text_pair};
+ghost use Rattle.std.specs.List.{list_all};
+ghost use Rattle.nr_top.specs.Command.{command, built_files, four_words, five_words, run_of, check_of, generate_of, number_in, is_plain, is_digit, has_no_leading_zero, is_numeral};
+ghost use Rattle.nr_top.specs.Input.{texts};
+ghost use Rattle.nr_top.specs.Words.{text_pair, command_in};
+
+/// The words of a command.
+#[derive(Clone, Copy, Debug)]
+pub(crate) enum Words<'a> {
+    /// `run CONFIG GENESIS BLOCKS`
+    RunFiles {
+        config: &'a str,
+        genesis: &'a str,
+        blocks: &'a str,
+    },
+    /// `check CONFIG GENESIS BLOCKS SCHEDULE`
+    CheckSchedule {
+        config: &'a str,
+        genesis: &'a str,
+        blocks: &'a str,
+        schedule: &'a str,
+    },
+    /// `gen NUMBER SHARDS BLOCKS`
+    GenerateInput {
+        start: u64,
+        shards: u64,
+        blocks: u64,
+    },
+}
 
 /// A word that isn't empty and doesn't begin with a dash.
 fn is_plain(word: &str) -> bool
@@ -14,15 +40,155 @@ fn is_plain(word: &str) -> bool
     }
 }
 
-/// The genesis and the blocks that `run free GENESIS BLOCKS` names.
-#[tactic(auto, unfolding(crate::specs::Input::command))]
-pub(crate) fn command_of(words: &[String]) -> Option<(&str, &str)>
-    ensures { option_map text_pair result ≡ command (texts words.now) }
+fn is_digit(byte: u8) -> bool
+    ensures { result ≡ is_digit byte }
+{
+    48 <= byte && byte <= 57
+}
+
+// Not empty, and no zero before further digits.
+fn has_no_leading_zero(word: &[u8]) -> bool
+    ensures { result ≡ has_no_leading_zero word.now }
+{
+    match word {
+        [] => false,
+        [_] => true,
+        [first, ..] => *first != b'0',
+    }
+}
+
+fn all_digits(word: &[u8]) -> bool
+    ensures { result ≡ list_all is_digit word.now }
+{
+    word.iter().all(|byte| is_digit(*byte))
+}
+
+/// Decimal digits without a leading zero.
+fn is_numeral(word: &[u8]) -> bool
+    ensures { result ≡ is_numeral word.now }
+{
+    has_no_leading_zero(word) && all_digits(word)
+}
+
+/// The number that a word spells, where it is one of these.
+fn number_in(least: u64, most: u64, word: &str) -> Option<u64>
+    ensures { result ≡ number_in least most word.now }
+{
+    if !is_numeral(word.as_bytes()) {
+        return None;
+    }
+    match word.parse::<u64>() {
+        Ok(number) => {
+            if least <= number && number <= most {
+                Some(number)
+            } else {
+                None
+            }
+        }
+        Err(_) => None,
+    }
+}
+
+fn run_of<'a>(config: &'a str, genesis: &'a str, blocks: &'a str) -> Option<Words<'a>>
+    ensures { option_map command_in result ≡ run_of config.now genesis.now blocks.now }
+{
+    if is_plain(config) && is_plain(genesis) && is_plain(blocks) {
+        Some(Words::RunFiles {
+            config,
+            genesis,
+            blocks,
+        })
+    } else {
+        None
+    }
+}
+
+fn check_of<'a>(
+    config: &'a str,
+    genesis: &'a str,
+    blocks: &'a str,
+    schedule: &'a str,
+) -> Option<Words<'a>>
+    ensures { option_map command_in result ≡ check_of config.now genesis.now blocks.now schedule.now }
+{
+    if is_plain(config) && is_plain(genesis) && is_plain(blocks) && is_plain(schedule) {
+        Some(Words::CheckSchedule {
+            config,
+            genesis,
+            blocks,
+            schedule,
+        })
+    } else {
+        None
+    }
+}
+
+fn generate_of<'a>(start: &str, shards: &str, blocks: &str) -> Option<Words<'a>>
+    ensures { option_map command_in result ≡ generate_of start.now shards.now blocks.now }
+{
+    let start = number_in(0, u64::MAX, start)?;
+    let shards = number_in(1, 16, shards)?;
+    let blocks = number_in(1, 256, blocks)?;
+    Some(Words::GenerateInput {
+        start,
+        shards,
+        blocks,
+    })
+}
+
+fn four_words<'a>(verb: &str, a: &'a str, b: &'a str, c: &'a str) -> Option<Words<'a>>
+    ensures { option_map command_in result ≡ four_words verb.now a.now b.now c.now }
+{
+    if verb == "run" {
+        run_of(a, b, c)
+    } else if verb == "gen" {
+        generate_of(a, b, c)
+    } else {
+        None
+    }
+}
+
+fn five_words<'a>(verb: &str, a: &'a str, b: &'a str, c: &'a str, d: &'a str) -> Option<Words<'a>>
+    ensures { option_map command_in result ≡ five_words verb.now a.now b.now c.now d.now }
+{
+    if verb == "check" {
+        check_of(a, b, c, d)
+    } else {
+        None
+    }
+}
+
+/// The command that the words are.
+#[tactic(auto, unfolding(crate::specs::Command::command))]
+pub(crate) fn command_of(words: &[String]) -> Option<Words<'_>>
+    ensures { option_map command_in result ≡ command (texts words.now) }
 {
     match words {
-        [verb, config, genesis, blocks] if verb.as_str() == "run" && config.as_str() == "free" => {
-            if is_plain(genesis.as_str()) && is_plain(blocks.as_str()) {
-                Some((genesis.as_str(), blocks.as_str()))
+        [verb, a, b, c] => four_words(verb.as_str(), a.as_str(), b.as_str(), c.as_str()),
+        [verb, a, b, c, d] => five_words(
+            verb.as_str(),
+            a.as_str(),
+            b.as_str(),
+            c.as_str(),
+            d.as_str(),
+        ),
+        [_, _, _, _, _, _, ..] => None,
+        _ => None,
+    }
+}
+
+/// The genesis and the blocks of a replay under the built-in configuration `free`.
+pub(crate) fn built_files<'a>(words: &Words<'a>) -> Option<(&'a str, &'a str)>
+    ensures { option_map text_pair result ≡ built_files (command_in words.now) }
+{
+    match words {
+        Words::RunFiles {
+            config,
+            genesis,
+            blocks,
+        } => {
+            if *config == "free" {
+                Some((*genesis, *blocks))
             } else {
                 None
             }

@@ -6,12 +6,13 @@ ghost use Rattle.nr_bytes.specs.Outside.{Rose};
 ghost use Rattle.nr_top.specs.Answers.{Serves, Prepares, Loaded, AsksFront, FoundsFrom, Gives};
 ghost use Rattle.nr_top.specs.Files.{genesis_at, blocks_at};
 ghost use Rattle.nr_top.specs.Founding.{IsFounded};
-ghost use Rattle.nr_top.specs.Input.{texts, input, command, by_files, by_blocks, by_blocks_bytes, files_of, blocks_of};
+ghost use Rattle.nr_top.specs.Input.{texts, input, by_files, by_blocks, by_blocks_bytes, files_of, blocks_of};
+ghost use Rattle.nr_top.specs.Command.{command};
 ghost use Rattle.nr_top.specs.declared.status.Status.TheVariants.{ReadFault, WriteFault};
 
 use crate::blocks_file::BlocksFile;
 use crate::built_blocks::are_built;
-use crate::command::command_of;
+use crate::command::{built_files, command_of};
 use crate::files::{read_blocks, read_genesis};
 use crate::genesis::genesis;
 use crate::genesis_file::GenesisFile;
@@ -153,12 +154,16 @@ fn prepare<S: Shelf>(
 /// # Answers
 ///
 /// - `Done`: the report was written whole.
-/// - `NotBuilt`: the words (form 0), the genesis (form 1) or the blocks (form 2) are none that are
-///   built yet. Nothing was written.
+/// - `Usage`: the words are none of `run CONFIG GENESIS BLOCKS`, `check CONFIG GENESIS BLOCKS SCHEDULE`
+///   and `gen NUMBER SHARDS BLOCKS`, where no word is empty or begins with `-` and the numbers are
+///   decimal without leading zeros, up to 2^64 - 1, from 1 to 16 and from 1 to 256. Nothing was
+///   loaded or written.
+/// - `NotBuilt`: the words are a command other than `run free GENESIS BLOCKS` (form 0), or the genesis
+///   (form 1) or the blocks (form 2) are none that are built yet. Nothing was written; with form 0
+///   nothing was loaded.
 /// - `ReadFault`: a file could not be read. Nothing was written.
 /// - `WriteFault`: the sink failed. A front of the report was written.
 /// - `NoMemory`: memory ran out. Nothing was written.
-/// - `Usage` doesn't come yet.
 pub fn serial<S: Shelf, K: Sink>(
     alloc: Global,
     words: &[String],
@@ -173,7 +178,10 @@ pub fn serial<S: Shelf, K: Sink>(
     // Only the files of the command were asked for, in their order.
     ensures asked { AsksFront (S.asked shelf.old) (S.asked shelf.new) (files_of (command (texts words.now))) }
 {
-    let Some((genesis, blocks)) = command_of(words) else {
+    let Some(command) = command_of(words) else {
+        return Status::Usage;
+    };
+    let Some((genesis, blocks)) = built_files(&command) else {
         return Status::NotBuilt { form: 0 };
     };
     let report = match prepare(alloc, genesis, blocks, shelf) {
