@@ -8,10 +8,10 @@ use Rattle.nr_records.specs.declared.receipt.Receipt.{Receipt}
 use Rattle.nr_records.specs.declared.transaction.Transaction.{Transaction}
 use Rattle.nr_top.specs.Blocks.{is_one_transfer, is_built_transaction, is_built_chunk, are_built_chunks, are_built_from}
 use Rattle.nr_top.specs.Chunk.{Working, ChunkReport}
-use Rattle.nr_top.specs.Config.{free}
+use Rattle.nr_config.specs.Config.{free}
 use Rattle.nr_top.specs.Execution.{system as system_id}
 use Rattle.nr_top.specs.LedgerWorld.{world_of}
-use Rattle.nr_top.specs.Lines.{chunk_text}
+use Rattle.nr_report.specs.Lines.{chunk_text}
 use Rattle.nr_top.specs.Run.{list_tokens, routed_in, executed_in}
 use Rattle.nr_top.specs.Straight.{IsReady, IsKept, IsNext, IsAhead, work_at, sent_from, report_at, reports_from, reports_text, left_by}
 use Rattle.nr_top.specs.Transfers.{AreTransfers, IsSettled, has_system}

@@ -4,7 +4,7 @@ use Rattle.std.specs.Prelude.{slice_get, unwrap_or}
 use Rattle.nr_records.specs.declared.receipt.Receipt.{Receipt}
 use Rattle.nr_records.specs.declared.transaction.Transaction.{Transaction}
 use Rattle.nr_top.specs.Chunk.{Working, open_chunk, take_list, report_of, lists_of}
-use Rattle.nr_top.specs.Config.{free}
+use Rattle.nr_config.specs.Config.{free}
 use Rattle.nr_top.specs.Layout.{out_to}
 use Rattle.nr_top.specs.LedgerWorld.{world_of}
 use Rattle.nr_top.specs.Run.{list_tokens}

@@ -8,9 +8,10 @@ use Rattle.nr_records.specs.declared.access_key.AccessKey.{AccessKey}
 use Rattle.nr_records.specs.declared.receipt.Receipt.{Receipt}
 use Rattle.nr_records.specs.declared.transaction.Transaction.{Transaction}
 use Rattle.nr_top.specs.Blocks.{is_one_transfer}
-use Rattle.nr_top.specs.Config.{free}
+use Rattle.nr_config.specs.Config.{free}
 use Rattle.nr_top.specs.Conversion.{is_local, sending_gas, whole_gas, whole_cost, refusals, first_refusal, receipt_of, converted, charged, unless_refused, convert}
-use Rattle.nr_top.specs.Fees.{SendLocal, SendRemote, Execute, deposits}
+use Rattle.nr_fees.specs.Fees.{deposits}
+use Rattle.nr_fees.specs.declared.table.Payment.TheVariants.{SendLocal, SendRemote, Execute}
 use Rattle.nr_top.specs.World.{World}
 use Rattle.nr_top.specs.declared.converted.Converted.{Converted}
 use Rattle.nr_top.specs.declared.place.Place.{Place}

@@ -12,9 +12,10 @@ use Rattle.nr_records.specs.declared.receipt.DataReceipt.{DataReceipt}
 use Rattle.nr_records.specs.declared.receipt.Receipt.{Receipt}
 use Rattle.nr_top.specs.Actions.{act}
 use Rattle.nr_top.specs.Blocks.{is_one_transfer}
-use Rattle.nr_top.specs.Config.{free}
+use Rattle.nr_config.specs.Config.{free}
 use Rattle.nr_top.specs.Execution.{execute}
-use Rattle.nr_top.specs.Fees.{Execute, deposits, act_tokens, body_tokens, receipt_tokens, prepaid_gas}
+use Rattle.nr_fees.specs.Fees.{deposits, act_tokens, body_tokens, receipt_tokens, prepaid_gas}
+use Rattle.nr_fees.specs.declared.table.Payment.TheVariants.{Execute}
 use Rattle.nr_top.specs.Phases.{Executes, settled_outcome}
 use Rattle.nr_top.specs.Transfers.{IsTransfer, is_transfer_act, is_transfer_body}
 use Rattle.nr_top.specs.World.{World, with_account, accounts_tokens}

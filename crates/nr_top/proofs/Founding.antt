@@ -18,7 +18,8 @@ use Rattle.std.proofs.lemmas.Map.Lookups.{exact_bytes}
 use Rattle.std.proofs.lemmas.List.Sums.{sum_by-cons}
 use Rattle.nr_ids.specs.Grammar.{is_system}
 use Rattle.nr_records.specs.declared.account.Account.{Account}
-use Rattle.nr_top.specs.Config.{free, account_bytes_entry, extra_record_bytes}
+use Rattle.nr_config.specs.Config.{free, account_bytes_entry, extra_record_bytes}
+use Rattle.nr_config.specs.Table.{table}
 use Rattle.nr_top.specs.Execution.{system}
 use Rattle.nr_top.specs.Flat.{account_key}
 use Rattle.nr_top.specs.Founding.{plain_world, if_account, entry_tokens, is_sound, IsFounded}
@@ -181,11 +182,11 @@ no_system_in all (kind.Datum id key value ∷ es) h = no_system_in all es (both_
 
 -- ---- the configuration's numbers
 pub account_is_100 : account_bytes_entry free ≡ 100
-unfolding free
+unfolding free table
 account_is_100 = refl
 
 pub record_is_40 : extra_record_bytes free ≡ 40
-unfolding free
+unfolding free table
 record_is_40 = refl
 
 -- ---- one usage written

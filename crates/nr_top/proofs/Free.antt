@@ -3,21 +3,25 @@ use Rattle.std.proofs.Common.{◌≡◌, ℕ, true, List, [], ◌∷◌, refl, a
 use Rattle.nr_records.specs.declared.action.Action.{Action}
 use Rattle.nr_records.specs.declared.action.Action.TheVariants.{Transfer}
 use Rattle.nr_top.specs.Blocks.{is_one_transfer}
-use Rattle.nr_top.specs.Config.{free, chunk_gas_limit}
-use Rattle.nr_top.specs.Fees.{Payment, SendLocal, SendRemote, Execute, fee, action_receipt, transfer, receipt_gas, attached_gas, prepaid_gas}
+use Rattle.nr_config.specs.Config.{free, chunk_gas_limit}
+use Rattle.nr_config.specs.Table.{table}
+use Rattle.nr_fees.specs.Fees.{fee, receipt_gas, attached_gas, prepaid_gas}
+use Rattle.nr_fees.specs.declared.table.Fee.TheVariants.{ActionReceipt as action_receipt, Transfer as transfer}
+use Rattle.nr_fees.specs.declared.table.Payment.{Payment}
+use Rattle.nr_fees.specs.declared.table.Payment.TheVariants.{SendLocal, SendRemote, Execute}
 
 pub limit_free : chunk_gas_limit free ≡ 1000000000000000
-unfolding free
+unfolding free table
 limit_free = refl
 
 pub receipt_free : (p : Payment) → fee free p action_receipt ≡ 0
-unfolding free
+unfolding free table
 receipt_free SendLocal = refl
 receipt_free SendRemote = refl
 receipt_free Execute = refl
 
 pub transfer_free : (p : Payment) → fee free p transfer ≡ 0
-unfolding free
+unfolding free table
 transfer_free SendLocal = refl
 transfer_free SendRemote = refl
 transfer_free Execute = refl

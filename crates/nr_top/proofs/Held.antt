@@ -1,6 +1,6 @@
--- The accounts, keys and contents that ordered maps hold.
-use Rattle.std.proofs.Common.{◌≡◌, ℕ, cond, List, [], Some}
-use Rattle.std.specs.FinMap.{IsAntisymmetric, insert, get, entries}
+-- The accounts and keys that ordered maps hold.
+use Rattle.std.proofs.Common.{◌≡◌, ℕ, cond, List, Some}
+use Rattle.std.specs.FinMap.{IsAntisymmetric, empty, insert, get, entries}
 use Rattle.std.specs.Cmp.{IsTotalOrder, then_total, on_total}
 use Rattle.std.specs.Cmp.Lexicographic.{nat_list_cmp_total}
 use Rattle.std.specs.Map.{lookup, keys_of}
@@ -12,7 +12,7 @@ use Rattle.nr_ids.specs.declared.key.PublicKey.TheVariants.{Ed25519, Secp256k1}
 use Rattle.nr_ids.specs.Keys.{key_bytes}
 use Rattle.nr_records.specs.declared.access_key.AccessKey.{AccessKey}
 use Rattle.nr_records.specs.declared.account.Account.{Account}
-use Rattle.nr_top.specs.LedgerWorld.{accounts_held, keys_held, contents_held}
+use Rattle.nr_top.specs.LedgerWorld.{accounts_held, keys_held}
 use Rattle.nr_records.specs.Accounts.{account_bytes}
 use Rattle.nr_records.specs.AccessKeys.{access_key_bytes}
 use Rattle.nr_top.specs.Flat.{flat, laid, account_key, access_key_key}
@@ -46,9 +46,6 @@ accounts_changed = held-changed nat_list_cmp_total exact_bytes
 pub keys_changed : (es fs : List ((List ℕ × PublicKey) × AccessKey)) (k : List ℕ × PublicKey) (v : AccessKey) → ((q : List ℕ × PublicKey) → lookup (is_at (key_cmp q)) fs ≡ cond (is_at (key_cmp k) q) (Some v) (lookup (is_at (key_cmp q)) es)) → keys_held fs ≡ insert (keys_held es) k v
 keys_changed = held-changed key_total exact_keys
 
-pub contents_changed : (es fs : List (List ℕ × List ℕ)) (k v : List ℕ) → ((q : List ℕ) → lookup (is_at (bytes_cmp q)) fs ≡ cond (is_at (bytes_cmp k) q) (Some v) (lookup (is_at (bytes_cmp q)) es)) → contents_held fs ≡ insert (contents_held es) k v
-contents_changed = held-changed nat_list_cmp_total exact_bytes
-
 -- ---- entries in order
 pub accounts_listed : (es : List (List ℕ × Account)) → IsStrictlySortedBy bytes_cmp (keys_of es) → entries (accounts_held es) ≡ es
 accounts_listed = entries-held nat_list_cmp_total exact_bytes
@@ -56,10 +53,7 @@ accounts_listed = entries-held nat_list_cmp_total exact_bytes
 pub keys_listed : (es : List ((List ℕ × PublicKey) × AccessKey)) → IsStrictlySortedBy key_cmp (keys_of es) → entries (keys_held es) ≡ es
 keys_listed = entries-held key_total exact_keys
 
-pub contents_listed : (es : List (List ℕ × List ℕ)) → IsStrictlySortedBy bytes_cmp (keys_of es) → entries (contents_held es) ≡ es
-contents_listed = entries-held nat_list_cmp_total exact_bytes
-
 -- ---- a world of accounts and keys, laid flat
-pub flat_held : (es : List (List ℕ × Account)) (ks : List ((List ℕ × PublicKey) × AccessKey)) → IsStrictlySortedBy bytes_cmp (keys_of es) → IsStrictlySortedBy key_cmp (keys_of ks) → flat (record no_world { accounts = accounts_held es; keys = keys_held ks }) ≡ laid access_key_key access_key_bytes ks (laid account_key account_bytes es (contents_held []))
+pub flat_held : (es : List (List ℕ × Account)) (ks : List ((List ℕ × PublicKey) × AccessKey)) → IsStrictlySortedBy bytes_cmp (keys_of es) → IsStrictlySortedBy key_cmp (keys_of ks) → flat (record no_world { accounts = accounts_held es; keys = keys_held ks }) ≡ laid access_key_key access_key_bytes ks (laid account_key account_bytes es empty)
 unfolding flat
 flat_held es ks s t = simp (entries_empty, accounts_listed es s, keys_listed ks t)

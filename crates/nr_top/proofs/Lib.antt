@@ -2,9 +2,6 @@
 pub mod Maps
 pub mod Founding
 pub mod Held
-pub mod Parts
-pub mod Fronts
-pub mod Levels
 pub mod Free
 pub mod Converting
 pub mod Tokens

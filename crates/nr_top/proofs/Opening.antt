@@ -19,10 +19,10 @@ use Rattle.nr_records.specs.declared.receipt.Receipt.{Receipt}
 use Rattle.nr_records.specs.declared.transaction.Transaction.{Transaction}
 use Rattle.nr_top.specs.Blocks.{is_one_transfer, is_built_transaction}
 use Rattle.nr_top.specs.Chunk.{Working, Opening, begun, serve, convert_next, by_conversion, routed, with_line, open_chunk, serve_delayed, serve_queue}
-use Rattle.nr_top.specs.Config.{free}
+use Rattle.nr_config.specs.Config.{free}
 use Rattle.nr_top.specs.Conversion.{Conversion, convert, is_local, transaction_hash, receipt_of, charged, by_key, by_signer, unless_refused, first_refusal, fits, whole_cost, converted}
 use Rattle.nr_top.specs.Execution.{system}
-use Rattle.nr_top.specs.Fees.{deposits, receipt_tokens}
+use Rattle.nr_fees.specs.Fees.{deposits, receipt_tokens}
 use Rattle.nr_top.specs.Phases.{Converts}
 use Rattle.nr_top.specs.Refusal.{refused}
 use Rattle.nr_top.specs.Run.{list_tokens}

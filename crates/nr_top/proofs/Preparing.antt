@@ -9,7 +9,7 @@ use Rattle.nr_records.specs.Reading.{all_of}
 use Rattle.nr_records.specs.declared.fault.RecordFault.{RecordFault}
 use Rattle.nr_top.specs.Answers.{Gives, Prepares, Loaded}
 use Rattle.nr_top.specs.Blocks.{are_built_blocks, are_built_from}
-use Rattle.nr_top.specs.Config.{free}
+use Rattle.nr_config.specs.Config.{free}
 use Rattle.nr_top.specs.Files.{genesis_at, blocks_at}
 use Rattle.nr_top.specs.Founding.{IsFounded}
 use Rattle.nr_top.specs.Genesis.{is_built_genesis, is_built_entry, holds_together, has_one_shard, genesis_world, supply}

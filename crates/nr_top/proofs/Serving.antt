@@ -10,9 +10,9 @@ use Rattle.nr_records.specs.declared.receipt.Body.{Body}
 use Rattle.nr_records.specs.declared.receipt.Body.TheVariants.{Act, Datum}
 use Rattle.nr_records.specs.declared.receipt.Receipt.{Receipt}
 use Rattle.nr_top.specs.Chunk.{Working, serve}
-use Rattle.nr_top.specs.Config.{free}
+use Rattle.nr_config.specs.Config.{free}
 use Rattle.nr_top.specs.Execution.{execute}
-use Rattle.nr_top.specs.Fees.{receipt_tokens}
+use Rattle.nr_fees.specs.Fees.{receipt_tokens}
 use Rattle.nr_top.specs.Phases.{Executes, settled_outcome, KeepsSound}
 use Rattle.nr_top.specs.Run.{list_tokens}
 use Rattle.nr_top.specs.Transfers.{IsTransfer, AreTransfers, IsSettled}

@@ -7,9 +7,9 @@ use Rattle.std.proofs.lemmas.List.{nil_from_length, append-nil}
 use Rattle.nr_records.specs.declared.receipt.Receipt.{Receipt}
 use Rattle.nr_top.specs.Chains.{IsTransferBody}
 use Rattle.nr_top.specs.Chunk.{ChunkReport}
-use Rattle.nr_top.specs.Config.{free}
+use Rattle.nr_config.specs.Config.{free}
 use Rattle.nr_top.specs.LedgerWorld.{world_of}
-use Rattle.nr_top.specs.Lines.{totals_text}
+use Rattle.nr_report.specs.Lines.{totals_text}
 use Rattle.nr_top.specs.Run.{list_tokens, waiting_tokens, routed_in, executed_in, totals_from}
 use Rattle.nr_top.specs.Straight.{IsAhead, reports_from, straight_totals, straight_text}
 use Rattle.nr_top.specs.Transfers.{AreTransfers}
@@ -17,7 +17,7 @@ use Rattle.nr_top.specs.World.{World, pair_cmp, accounts_tokens}
 use Rattle.nr_top.specs.declared.block.Block.{Block}
 use Rattle.nr_top.specs.declared.ledger.Ledger.{Ledger}
 use Rattle.nr_top.specs.declared.run.Progress.{Progress}
-use Rattle.nr_top.specs.declared.totals.Totals.{Totals}
+use Rattle.nr_report.specs.declared.totals.Totals.{Totals}
 
 -- nothing waits in a ledger
 none_postponed : len (empty {X = Receipt} {R = pair_cmp}) ≡ 0

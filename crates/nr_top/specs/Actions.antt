@@ -17,7 +17,7 @@ use Rattle.nr_records.specs.declared.action.Action.{Action}
 use Rattle.nr_records.specs.declared.action.Action.TheVariants.{Transfer}
 use Rattle.nr_records.specs.declared.receipt.ActionReceipt.{ActionReceipt}
 use Rattle.nr_records.specs.declared.receipt.Receipt.{Receipt}
-use Rattle.nr_top.specs.Config.{Config, account_bytes_entry, extra_record_bytes}
+use Rattle.nr_config.specs.Config.{Config, account_bytes_entry, extra_record_bytes}
 use Rattle.nr_top.specs.World.{World, with_account, with_key}
 use Rattle.nr_top.specs.declared.place.Place.{Place}
 

@@ -10,14 +10,14 @@ use Rattle.nr_records.specs.declared.receipt.Body.{Body}
 use Rattle.nr_records.specs.declared.receipt.Body.TheVariants.{Act, Datum}
 use Rattle.nr_records.specs.declared.receipt.Receipt.{Receipt}
 use Rattle.nr_records.specs.declared.transaction.Transaction.{Transaction}
-use Rattle.nr_top.specs.Config.{Config, chunk_gas_limit}
+use Rattle.nr_config.specs.Config.{Config, chunk_gas_limit}
 use Rattle.nr_top.specs.Conversion.{Conversion, convert, transaction_hash, is_local}
 use Rattle.nr_top.specs.Execution.{Execution, execute}
 use Rattle.nr_top.specs.Flat.{flat}
 use Rattle.nr_top.specs.Layout.{shard_of, out_to}
-use Rattle.nr_top.specs.Node.{digest}
+use Rattle.nr_triedef.specs.Node.{digest}
 use Rattle.nr_top.specs.Refusal.{refused}
-use Rattle.nr_top.specs.Root.{root_of}
+use Rattle.nr_triedef.specs.Root.{root_of}
 use Rattle.nr_top.specs.World.{World}
 use Rattle.nr_top.specs.declared.converted.Converted.{Converted}
 use Rattle.nr_top.specs.declared.place.Place.{Place}
@@ -129,7 +129,7 @@ result_of boundaries shard k =
     record {
       height = k.place.height;
       shard = shard;
-      root = root_of (flat k.world);
+      root = (root_of (flat k.world)).hash;
       gas = k.gas;
       burnt = k.burnt;
       lines = k.lines ++ map (sent boundaries) k.outgoing;

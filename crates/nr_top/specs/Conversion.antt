@@ -10,9 +10,9 @@ use Rattle.nr_records.specs.declared.transaction.Transaction.{Transaction}
 use Rattle.nr_records.specs.declared.receipt.Receipt.{Receipt}
 use Rattle.nr_records.specs.declared.receipt.Body.TheVariants.{Act}
 use Rattle.nr_records.specs.Transactions.{transaction_bytes}
-use Rattle.nr_top.specs.Config.{Config}
-use Rattle.nr_top.specs.Fees.{send_gas, exec_gas, attached_gas, deposits}
-use Rattle.nr_top.specs.Node.{digest}
+use Rattle.nr_config.specs.Config.{Config}
+use Rattle.nr_fees.specs.Fees.{send_gas, exec_gas, attached_gas, deposits}
+use Rattle.nr_triedef.specs.Node.{digest}
 use Rattle.nr_top.specs.World.{World, with_account, with_key}
 use Rattle.nr_top.specs.declared.place.Place.{Place}
 use Rattle.nr_top.specs.declared.converted.Converted.{Converted}

@@ -14,8 +14,10 @@ use Rattle.nr_records.specs.declared.receipt.ActionReceipt.{ActionReceipt}
 use Rattle.nr_records.specs.declared.receipt.Body.TheVariants.{Act}
 use Rattle.nr_records.specs.declared.receipt.Receipt.{Receipt}
 use Rattle.nr_top.specs.Actions.{Frame, Returned, Value, Promise, Acted, Acts, Fails, act}
-use Rattle.nr_top.specs.Config.{Config}
-use Rattle.nr_top.specs.Fees.{Execute, fee, action_receipt, action_fee, prepaid_gas, deposits}
+use Rattle.nr_config.specs.Config.{Config}
+use Rattle.nr_fees.specs.Fees.{fee, action_fee, prepaid_gas, deposits}
+use Rattle.nr_fees.specs.declared.table.Fee.TheVariants.{ActionReceipt as action_receipt}
+use Rattle.nr_fees.specs.declared.table.Payment.TheVariants.{Execute}
 use Rattle.nr_top.specs.World.{World}
 use Rattle.nr_top.specs.declared.place.Place.{Place}
 

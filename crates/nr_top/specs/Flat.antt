@@ -14,7 +14,7 @@ use Rattle.nr_records.specs.declared.receipt.Receipt.{Receipt}
 use Rattle.nr_records.specs.declared.receipt.ActionReceipt.{ActionReceipt}
 use Rattle.nr_records.specs.declared.receipt.Body.{Body}
 use Rattle.nr_records.specs.declared.receipt.Body.TheVariants.{Act, Datum}
-use Rattle.nr_top.specs.Root.{Contents}
+use Rattle.nr_triedef.specs.Root.{Contents}
 use Rattle.nr_top.specs.World.{World}
 
 -- ---- trie keys

@@ -3,7 +3,7 @@ use Rattle.std.specs.Prelude.{◌≡◌, ℕ, ◌≤◌, ◌^◌, ◌&&◌, Bool
 use Rattle.std.specs.List.{list_all}
 use Rattle.std.specs.FinMap.{from_entries, get}
 use Rattle.nr_records.specs.declared.account.Account.{Account}
-use Rattle.nr_top.specs.Config.{free}
+use Rattle.nr_config.specs.Config.{free}
 use Rattle.nr_top.specs.Execution.{system}
 use Rattle.nr_top.specs.Genesis.{accounts_in, key_in, genesis_world, has_no_code, has_usage, is_built_genesis, is_owned, supply}
 use Rattle.nr_top.specs.LedgerWorld.{world_of}

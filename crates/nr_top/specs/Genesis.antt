@@ -10,7 +10,7 @@ use Rattle.nr_records.specs.declared.access_key.AccessKey.{AccessKey}
 use Rattle.nr_records.specs.declared.access_key.Permission.{Permission}
 use Rattle.nr_records.specs.declared.access_key.Permission.TheVariants as permission
 use Rattle.nr_top.specs.Actions.{key_usage, zero_hash}
-use Rattle.nr_top.specs.Config.{Config, account_bytes_entry, extra_record_bytes}
+use Rattle.nr_config.specs.Config.{Config, account_bytes_entry, extra_record_bytes}
 use Rattle.nr_top.specs.Flat.{account_key, code_key, access_key_key, datum_key}
 use Rattle.nr_top.specs.World.{World, no_world, account_tokens}
 use Rattle.nr_top.specs.declared.genesis_entry.GenesisEntry.{GenesisEntry}

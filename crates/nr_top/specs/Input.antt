@@ -6,7 +6,7 @@ use Rattle.nr_records.specs.Reading.{all_of}
 use Rattle.nr_records.specs.declared.fault.RecordFault.{RecordFault}
 use Rattle.nr_top.specs.Blocks.{are_built_blocks}
 use Rattle.nr_top.specs.Command.{Command, command, built_files}
-use Rattle.nr_top.specs.Config.{free}
+use Rattle.nr_config.specs.Config.{free}
 use Rattle.nr_top.specs.Files.{genesis_at, blocks_at}
 use Rattle.nr_top.specs.Genesis.{is_built_genesis, genesis_world}
 use Rattle.nr_top.specs.Run.{Chain, report_text}

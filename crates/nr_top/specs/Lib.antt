@@ -1,11 +1,5 @@
-pub mod Node
-pub mod Root
-pub mod Entries
-pub mod Lines
 pub mod World
 pub mod Flat
-pub mod Config
-pub mod Fees
 pub mod Layout
 pub mod Conversion
 pub mod Refusal

@@ -7,7 +7,7 @@ use Rattle.nr_records.specs.declared.receipt.Body.TheVariants.{Act, Datum}
 use Rattle.nr_records.specs.declared.receipt.Receipt.{Receipt}
 use Rattle.nr_records.specs.declared.transaction.Transaction.{Transaction}
 use Rattle.nr_top.specs.Chunk.{Working}
-use Rattle.nr_top.specs.Config.{free}
+use Rattle.nr_config.specs.Config.{free}
 use Rattle.nr_top.specs.Conversion.{convert}
 use Rattle.nr_top.specs.Execution.{execute}
 use Rattle.nr_top.specs.Run.{list_tokens}

@@ -10,7 +10,7 @@ use Rattle.nr_records.specs.declared.receipt.Body.TheVariants.{Act, Datum}
 use Rattle.nr_records.specs.declared.receipt.Receipt.{Receipt}
 use Rattle.nr_top.specs.Blocks.{is_one_transfer}
 use Rattle.nr_top.specs.Chunk.{Working}
-use Rattle.nr_top.specs.Config.{free}
+use Rattle.nr_config.specs.Config.{free}
 use Rattle.nr_top.specs.Execution.{system}
 use Rattle.nr_top.specs.Run.{list_tokens}
 use Rattle.nr_top.specs.World.{World, accounts_tokens}

@@ -4,11 +4,9 @@ ghost use Rattle.std.specs.Prelude.{◌≡◌, ◌≢◌, true, false, ◌≤◌
 ghost use Rattle.std.specs.List.{list_all};
 ghost use Rattle.nr_top.specs.Blocks.{is_built_transaction, is_one_transfer};
 ghost use Rattle.nr_top.specs.Chunk.{open_chunk, take_list, report_of, lists_of, serve, begun, convert_next, routed, with_line, sent};
-ghost use Rattle.nr_top.specs.Config.{free};
+ghost use Rattle.nr_config.specs.Config.{free};
 ghost use Rattle.nr_top.specs.Conversion.{is_local};
-ghost use Rattle.nr_top.specs.Fees.{receipt_tokens};
-ghost use Rattle.nr_top.specs.Flat.{flat};
-ghost use Rattle.nr_top.specs.Root.{root_of};
+ghost use Rattle.nr_fees.specs.Fees.{receipt_tokens};
 ghost use Rattle.nr_top.specs.LedgerWorld.{world_of};
 ghost use Rattle.nr_top.specs.Phases.{KeepsSound};
 ghost use Rattle.nr_top.specs.Refusal.{refused};
@@ -23,7 +21,7 @@ use crate::execution::execute;
 use crate::ledger::Ledger;
 use crate::place::Place;
 use crate::refusal::line;
-use crate::root::root;
+use crate::root::root_of;
 use crate::sealed::Sealed;
 use crate::tx_fault::TxFault;
 use nr_bytes::List;
@@ -207,13 +205,6 @@ fn with_sent(
     Ok(all)
 }
 
-fn root_of(ledger: &Ledger, alloc: Global) -> Result<Hash32, AllocError>
-    ensures { IfOk result (λ hash. hash ≡ root_of (flat (world_of ledger.now))) }
-{
-    let entries = ledger.entries(alloc)?;
-    root(alloc, entries.inner())
-}
-
 /// Seals the chunk of the only shard: computes the root, and sends the receipts that go out.
 ///
 /// # Errors
@@ -225,7 +216,7 @@ pub(crate) fn seal_chunk(alloc: Global, work: ChunkWork) -> Result<Sealed, Alloc
     ensures world { IfOk result (λ sealed. world_of sealed.ledger ≡ (work_of work).world) }
     ensures lists { IfOk result (λ sealed. lists_of [] 1 (work_of work) ≡ sealed.outgoing.items ∷ []) }
 {
-    let root = root_of(&work.ledger, alloc)?;
+    let root = root_of(alloc, &work.ledger)?;
     let lines = with_sent(alloc, work.lines, &work.outgoing)?;
     Ok(Sealed {
         ledger: work.ledger,

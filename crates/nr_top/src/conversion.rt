@@ -4,7 +4,7 @@ ghost use Rattle.std.specs.Prelude.{◌≡◌, true, ◌≤◌, [], ◌∷◌, I
 ghost use Rattle.std.specs.FinMap.{get};
 ghost use Rattle.nr_top.specs.Blocks.{is_one_transfer};
 ghost use Rattle.nr_top.specs.Conversion.{receipt_of, charged, first_refusal};
-ghost use Rattle.nr_top.specs.Fees.{deposits};
+ghost use Rattle.nr_fees.specs.Fees.{deposits};
 ghost use Rattle.nr_top.specs.LedgerWorld.{world_of};
 ghost use Rattle.nr_top.specs.Phases.{Converts};
 

@@ -2,8 +2,8 @@
 
 ghost use Rattle.std.specs.Prelude.{◌≡◌, true, ◌≤◌, ◌<◌, ◌+◌, ◌^◌, IfSome, IsSome};
 ghost use Rattle.std.specs.FinMap.{get};
-ghost use Rattle.nr_top.specs.Config.{free};
-ghost use Rattle.nr_top.specs.Fees.{receipt_tokens};
+ghost use Rattle.nr_config.specs.Config.{free};
+ghost use Rattle.nr_fees.specs.Fees.{receipt_tokens};
 ghost use Rattle.nr_top.specs.LedgerWorld.{world_of};
 ghost use Rattle.nr_top.specs.Phases.{Executes, settled_outcome};
 ghost use Rattle.nr_top.specs.Transfers.{IsTransfer, is_transfer_body};

@@ -7,7 +7,7 @@ ghost use Rattle.std.specs.List.{list_all};
 ghost use Rattle.std.specs.Map.{count_at};
 ghost use Rattle.std.specs.Str.{bytes_eq};
 ghost use Rattle.nr_ids.specs.Grammar.{is_system};
-ghost use Rattle.nr_top.specs.Config.{free};
+ghost use Rattle.nr_config.specs.Config.{free};
 ghost use Rattle.nr_top.specs.Founding.{Founds, entry_tokens, if_account, is_sound, with_entry};
 ghost use Rattle.nr_top.specs.Genesis.{accounts_in, entry_usage, genesis_world, has_no_code, has_one_shard, has_repeat, has_usage, is_built_entry, is_full, is_owned, owner, supply, trie_key, usage_in};
 ghost use Rattle.nr_top.specs.LedgerWorld.{world_of};

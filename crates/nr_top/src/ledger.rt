@@ -3,15 +3,14 @@
 ghost use Rattle.std.specs.Prelude.{◌≡◌, ◌<◌, ◌^◌, IsSome, IfOk, IfSome, OnOk, OnErr, sum_by};
 ghost use Rattle.std.specs.BTreeMap.{values};
 ghost use Rattle.std.specs.Option.{option_copied};
-ghost use Rattle.std.specs.FinMap.{get, insert, entries};
+ghost use Rattle.std.specs.FinMap.{empty, get, insert};
 ghost use Rattle.nr_top.specs.LedgerWorld.{keys_held};
 ghost use Rattle.nr_top.specs.World.{account_tokens};
 
-use crate::contents::{lay_accounts, lay_keys, listed};
-use crate::entry::Entry;
-use nr_bytes::List;
+use crate::contents::{lay_accounts, lay_keys};
 use nr_ids::{AccountId, PublicKey};
 use nr_records::{AccessKey, Account};
+use nr_triedef::Store;
 use std::alloc::{AllocError, Global};
 use std::collections::BTreeMap;
 
@@ -48,7 +47,6 @@ pub(crate) struct Ledger {
 }
 
 impl Ledger {
-    ghost use Rattle.nr_top.specs.Entries.{pairs_of};
     ghost use Rattle.nr_top.specs.Flat.{flat};
     ghost use Rattle.nr_top.specs.LedgerWorld.{world_of};
     ghost use Rattle.nr_top.specs.World.{no_world, with_account, with_key, accounts_tokens};
@@ -136,19 +134,17 @@ impl Ledger {
         Ok(())
     }
 
-    /// The trie entries of the state, in the order of their keys.
-    pub(crate) fn entries(&self, alloc: Global) -> Result<List<Entry>, AllocError>
-        ensures { IfOk result (λ list. pairs_of list ≡ entries (flat (world_of self.now))) }
+    /// Lays the trie entries of the state into an empty store.
+    pub(crate) fn lay_into<S: Store>(&self, alloc: Global, store: &mut S) -> Result<(), AllocError>
+        requires { S.contents store.old ≡ empty }
+        ensures { OnOk result (S.contents store.new ≡ flat (world_of self.now)) }
     {
-        let mut contents = BTreeMap::new(alloc);
-        lay_accounts(alloc, &self.accounts, &mut contents)?;
-        lay_keys(alloc, &self.keys, &mut contents)?;
+        lay_accounts(alloc, &self.accounts, store)?;
+        lay_keys(alloc, &self.keys, store)?;
         // `len` says that the keys are in order.
         let _ = self.accounts.len();
         let _ = self.keys.len();
-        let _ = contents.len();
-        let list = listed(alloc, contents)?;
-        Ok(list)
+        Ok(())
     }
 
     /// The tokens of all accounts.

@@ -1,65 +1,58 @@
-//! The root of a store's entries.
+//! The root of a ledger's state.
 
-ghost use Rattle.std.specs.Prelude.{◌≡◌, map, IfOk};
-ghost use Rattle.nr_top.specs.Node.{nibbles};
-ghost use Rattle.nr_top.specs.Entries.{pairs_of};
-ghost use Rattle.nr_top.specs.Root.{paths, depth, root_of_entries};
+ghost use Rattle.std.specs.Prelude.{◌≡◌, ◌<◌, IfOk};
+ghost use Rattle.std.specs.FinMap.{empty};
+ghost use Rattle.nr_top.specs.Flat.{flat};
+ghost use Rattle.nr_top.specs.LedgerWorld.{world_of};
+ghost use Rattle.nr_triedef.specs.Root.{root_of};
 
-use crate::entry::Entry;
-use crate::paths::{Key, Path};
-use crate::trie::trie;
+use crate::ledger::Ledger;
 use nr_ids::Hash32;
+use nr_store::PlainStore;
+use nr_triedef::{Steps, Store, bytes_of};
 use std::alloc::{AllocError, Global};
+use std::marker::Brand;
+use std::sync::ledger::{Blank, Ledger as Counted};
 
-fn keys_of(alloc: Global, entries: &[Entry]) -> Result<Vec<Key>, AllocError>
-    ensures { IfOk result (λ keys. keys.items ≡ map (λ e. nibbles e.key) entries.now) }
-{
-    let mut keys = Vec::new(alloc);
-    for entry in entries {
-        keys.push(Key::of(alloc, entry.key.inner())?)?;
-    }
-    Ok(keys)
-}
-
-fn paths_of<'a>(
+// The root of a ledger, laid into an empty store.
+fn root_in<S: Store, L: Counted>(
     alloc: Global,
-    keys: &'a [Key],
-    entries: &'a [Entry],
-) -> Result<Vec<Path<'a>>, AllocError>
-    requires { keys.now ≡ map (λ e. nibbles e.key) entries.now }
-    ensures { IfOk result (λ list. list.items ≡ paths (pairs_of entries.now)) }
+    ledger: &Ledger,
+    store: &mut S,
+    steps: &mut Steps<L>,
+) -> Result<Hash32, AllocError>
+    requires { S.contents store.old ≡ empty }
+    ensures { IfOk result (λ hash. hash ≡ (root_of (flat (world_of ledger.now))).hash) }
 {
-    let mut list = Vec::new(alloc);
-    for i in 0..entries.len() {
-        list.push(keys[i].path(entries[i].value.inner()))?;
-    }
-    Ok(list)
+    ledger.lay_into(alloc, store)?;
+    let root = store.root(steps)?;
+    Ok(Hash32(bytes_of(&root)))
 }
 
-// More than the nibbles of each key.
-fn depth_of(list: &[Path<'_>]) -> usize
-    ensures { result ≡ depth list.now }
+fn counted_root<L: Counted>(
+    alloc: Global,
+    ledger: &Ledger,
+    blank: Blank,
+) -> Result<Hash32, AllocError>
+    requires name { blank.name ≡ L.name }
+    requires parts { blank.parts ≡ L.parts }
+    requires whole { 0 < blank.parts }
+    ensures { IfOk result (λ hash. hash ≡ (root_of (flat (world_of ledger.now))).hash) }
 {
-    let mut longest = 1;
-    for i in (0..list.len()).rev() {
-        longest = (list[i].key().len() + 1).max(longest);
-    }
-    longest
+    let mut steps = Steps::<L>::new(blank);
+    let mut store = PlainStore::new(alloc);
+    let root = root_in(alloc, ledger, &mut store, &mut steps)?;
+    Ok(root)
 }
 
-/// The root of the trie of entries with distinct keys: 32 zero bytes where there are none.
+/// The root of a ledger's state.
 ///
-/// Besides memory, the refusal is for a value of 2^32 bytes or more, for a key whose part has so
-/// many, and for a usage that passes u64.
-#[tactic(auto, unfolding(crate::specs::Root::root_of_entries))]
-pub(crate) fn root(alloc: Global, entries: &[Entry]) -> Result<Hash32, AllocError>
-    ensures { IfOk result (λ root. root ≡ root_of_entries (pairs_of entries.now)) }
+/// # Errors
+///
+/// Where there is no memory.
+pub(crate) fn root_of(alloc: Global, ledger: &Ledger) -> Result<Hash32, AllocError>
+    ensures { IfOk result (λ hash. hash ≡ (root_of (flat (world_of ledger.now))).hash) }
 {
-    let keys = keys_of(alloc, entries)?;
-    let list = paths_of(alloc, &keys, entries)?;
-    let found = trie(alloc, depth_of(&list), &list)?;
-    match found {
-        None => Ok(Hash32([0; 32])),
-        Some(summary) => Ok(summary.hash),
-    }
+    let root = counted_root::<Brand>(alloc, ledger, Blank::new(1))?;
+    Ok(root)
 }

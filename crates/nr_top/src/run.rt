@@ -3,7 +3,7 @@
 ghost use Rattle.std.specs.Prelude.{◌≡◌, ◌+◌, ◌++◌, ◌≤◌, ◌^◌, IfOk, Some, [], ◌∷◌, true, false, count_by, length};
 ghost use Rattle.nr_top.specs.Blocks.{are_built_from};
 ghost use Rattle.nr_top.specs.Chains.{has_one_chunk};
-ghost use Rattle.nr_top.specs.Config.{free};
+ghost use Rattle.nr_config.specs.Config.{free};
 ghost use Rattle.nr_top.specs.LedgerWorld.{world_of};
 ghost use Rattle.nr_top.specs.Run.{is_sent, is_execution};
 ghost use Rattle.nr_top.specs.Transfers.{has_system};
@@ -13,12 +13,11 @@ use crate::block::Block;
 use crate::chunk::{open_chunk, seal_chunk, take_list};
 use crate::ledger::Ledger;
 use crate::place::Place;
-use crate::report::{write_chunk, write_totals};
 use crate::sealed::Sealed;
 use crate::tally::{execution_lines, sent_lines, tokens_in};
-use crate::totals::Totals;
 use nr_bytes::{Blob, List};
 use nr_records::{Receipt, Transaction};
+use nr_report::{Totals, write_chunk, write_totals};
 use std::alloc::{AllocError, Global};
 
 /// What a run has made so far.

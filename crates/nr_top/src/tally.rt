@@ -2,8 +2,8 @@
 
 ghost use Rattle.std.specs.Prelude.{◌≡◌, ◌+◌, ◌<◌, ◌^◌, IfOk, count_by, true};
 ghost use Rattle.std.specs.List.{AllByRecursion};
-ghost use Rattle.nr_top.specs.Config.{free};
-ghost use Rattle.nr_top.specs.Fees.{receipt_tokens};
+ghost use Rattle.nr_config.specs.Config.{free};
+ghost use Rattle.nr_fees.specs.Fees.{receipt_tokens};
 ghost use Rattle.nr_top.specs.Run.{is_sent, is_execution, list_tokens};
 ghost use Rattle.nr_top.specs.Chains.{IsTransferBody};
 ghost use Rattle.nr_top.specs.Transfers.{is_transfer_body};

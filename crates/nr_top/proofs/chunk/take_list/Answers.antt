@@ -1,6 +1,6 @@
 use Rattle.std.proofs.Common.{◌≡◌, ◌+◌, refl, sym, subst, fold}
 use Rattle.nr_top.specs.Chunk.{Working, serve}
-use Rattle.nr_top.specs.Config.{free}
+use Rattle.nr_config.specs.Config.{free}
 use Rattle.nr_top.specs.Phases.{KeepsSound}
 use Rattle.nr_top.specs.Work.{work_of}
 use Rattle.nr_top.proofs.Serving.{IsUnderway, goes_on, ends, serves_all, kept_sound}

@@ -1,5 +1,5 @@
-use Rattle.std.proofs.Common.{◌≡◌, ◌∙◌, sym, ap, subst, true, arith}
-use Rattle.nr_top.specs.Command.{is_numeral, number_in}
+use Rattle.std.proofs.Common.{◌≡◌, true, arith}
+use Rattle.nr_top.specs.Command.{is_numeral}
 use Rattle.nr_top.proofs.Commands.{too_large}
 use Rattle.nr_top.proofs.command.number_in.Goals as goal
 

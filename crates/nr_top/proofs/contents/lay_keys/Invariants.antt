@@ -1,8 +1,7 @@
 use Rattle.std.proofs.Common.{◌≡◌}
 use Rattle.nr_records.specs.AccessKeys.{access_key_bytes}
 use Rattle.nr_top.specs.Flat.{laid, access_key_key}
-use Rattle.nr_top.specs.LedgerWorld.{contents_held}
 use Rattle.nr_top.proofs.contents.lay_keys.Given as goal
 
 abbrev pub invariant-loop-name : goal.invariant-loop-name
-invariant-loop-name l = laid access_key_key access_key_bytes l.name-iterator (contents_held l.contents.entries) ≡ laid access_key_key access_key_bytes l.keys.entries (contents_held l.initial.contents.entries)
+invariant-loop-name g l = laid access_key_key access_key_bytes l.name-iterator (g.S.Store.contents l.store) ≡ laid access_key_key access_key_bytes l.keys.entries (g.S.Store.contents l.initial.store)

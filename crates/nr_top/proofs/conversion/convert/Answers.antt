@@ -1,6 +1,6 @@
 use Rattle.std.proofs.Common.{◌≡◌, Option, None, refl, sym, ap, ◌∙◌}
 use Rattle.std.specs.FinMap.{get}
-use Rattle.nr_top.specs.Fees.{deposits}
+use Rattle.nr_fees.specs.Fees.{deposits}
 use Rattle.nr_top.specs.LedgerWorld.{world_of}
 use Rattle.nr_top.specs.declared.tx_fault.TxFault.{TxFault}
 use Rattle.nr_top.proofs.Converting.{no_signer, no_key_by, refuses, accepts}

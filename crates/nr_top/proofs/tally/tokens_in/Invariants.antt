@@ -1,6 +1,6 @@
 use Rattle.std.proofs.Common.{◌≡◌, ◌+◌, drop}
 use Rattle.std.specs.List.{AllByRecursion}
-use Rattle.nr_top.specs.Config.{free}
+use Rattle.nr_config.specs.Config.{free}
 use Rattle.nr_top.specs.Run.{list_tokens}
 use Rattle.nr_top.specs.Chains.{IsTransferBody}
 use Rattle.nr_top.proofs.tally.tokens_in.Given as goal

@@ -1,5 +1,5 @@
 use Rattle.std.proofs.Common.{◌≡◌, ◌∙◌, ap, length, rules}
-use Rattle.nr_top.specs.Config.{free}
+use Rattle.nr_config.specs.Config.{free}
 use Rattle.nr_top.specs.Run.{list_tokens}
 use Rattle.nr_top.proofs.Sums.{totals_given}
 use Rattle.nr_top.proofs.run.Progress.totals.Goals as goal

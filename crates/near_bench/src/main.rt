@@ -1,0 +1,151 @@
+//! Does one operation of the plain store many times over a store of a given size.
+//!
+//! The words are OPERATION, KEYS and TURNS: `fill` does nothing more than fill the store, and `get`,
+//! `set`, `remove`, `keep` and `back` are done TURNS times behind that. A script outside measures
+//! the time. It prints how many turns were done; other words end it with status 1, and want of
+//! memory with status 7.
+#![tactic(auto)]
+
+ghost use Rattle.std.specs.Prelude.{◌≡◌, ◌<◌, [], OnOk};
+
+use nr_store::PlainStore;
+use nr_triedef::Store;
+use std::alloc::{AllocError, Global};
+use std::io;
+use std::process::ExitCode;
+use std::rt::Env;
+
+/// What is measured.
+#[derive(Clone, Copy, Debug)]
+enum Operation {
+    /// The filling alone.
+    Fill,
+    /// A look-up.
+    Get,
+    /// Another value at a key that stands.
+    Set,
+    /// A key taken out and put in again.
+    Remove,
+    /// A checkpoint, one change, and the checkpoint dropped.
+    Keep,
+    /// A checkpoint, one change, and the change taken back.
+    Back,
+}
+
+fn operation_of(word: &str) -> Option<Operation> {
+    match word {
+        "fill" => Some(Operation::Fill),
+        "get" => Some(Operation::Get),
+        "set" => Some(Operation::Set),
+        "remove" => Some(Operation::Remove),
+        "keep" => Some(Operation::Keep),
+        "back" => Some(Operation::Back),
+        _ => None,
+    }
+}
+
+/// A key, spread over the order of all keys.
+fn key_of(number: u32) -> [u8; 4] {
+    number.wrapping_mul(2_654_435_769).to_be_bytes()
+}
+
+fn fill<S: Store>(store: &mut S, keys: u32) -> Result<(), AllocError>
+    ensures { S.marks store.new ≡ S.marks store.old }
+{
+    for number in 0..keys {
+        store.set(&key_of(number), b"value")?;
+    }
+    Ok(())
+}
+
+fn turn<S: Store>(store: &mut S, operation: Operation, key: &[u8]) -> Result<(), AllocError>
+    requires { S.marks store.old ≡ [] }
+    ensures { OnOk result (S.marks store.new ≡ []) }
+{
+    match operation {
+        Operation::Fill => {}
+        Operation::Get => {
+            let _ = store.get(key);
+        }
+        Operation::Set => store.set(key, b"other")?,
+        Operation::Remove => {
+            store.remove(key)?;
+            store.set(key, b"value")?;
+        }
+        Operation::Keep => {
+            store.reserve_marks(1)?;
+            store.mark();
+            store.set(key, b"other")?;
+            store.keep();
+        }
+        Operation::Back => {
+            store.reserve_marks(1)?;
+            store.mark();
+            store.set(key, b"other")?;
+            store.back();
+        }
+    }
+    Ok(())
+}
+
+fn turns_of<S: Store>(
+    store: &mut S,
+    operation: Operation,
+    keys: u32,
+    turns: u32,
+) -> Result<(), AllocError>
+    requires empty { S.marks store.old ≡ [] }
+    requires some { 0 < keys }
+{
+    for number in 0..turns {
+        turn(store, operation, &key_of(number % keys))?;
+    }
+    Ok(())
+}
+
+fn run(alloc: Global, operation: Operation, keys: u32, turns: u32) -> Result<(), AllocError>
+    requires { 0 < keys }
+{
+    let mut store = PlainStore::new(alloc);
+    fill(&mut store, keys)?;
+    turns_of(&mut store, operation, keys, turns)
+}
+
+/// The words behind the program's own name.
+fn words_of<R: Env + AllocGlobal>(rt: &R, alloc: Global) -> io::Result<Vec<String>> {
+    let mut words = Vec::new(alloc);
+    for word in std::env::args(rt)?.skip(1) {
+        words.push(word)?;
+    }
+    Ok(words)
+}
+
+/// The operation, the keys and the turns that the words ask for.
+fn task_of(words: &[String]) -> Option<(Operation, u32, u32)> {
+    match words {
+        [operation, keys, turns] => {
+            let operation = operation_of(operation.as_str())?;
+            let keys = keys.parse::<u32>().ok()?;
+            let turns = turns.parse::<u32>().ok()?;
+            Some((operation, keys, turns))
+        }
+        _ => None,
+    }
+}
+
+fn main(rt: HostRuntime) -> ExitCode {
+    let Ok(words) = words_of(&rt, rt.alloc()) else {
+        return ExitCode::from(1);
+    };
+    let Some((operation, keys, turns)) = task_of(&words) else {
+        return ExitCode::from(1);
+    };
+    if keys == 0 {
+        return ExitCode::from(1);
+    }
+    if run(rt.alloc(), operation, keys, turns).is_err() {
+        return ExitCode::from(7);
+    }
+    let _ = println!(rt; "{turns}");
+    ExitCode::from(0)
+}

@@ -1,0 +1,5 @@
+pub mod Valid
+pub mod Built
+pub mod Bounds
+mod Loop
+mod Objects

@@ -1,0 +1,4 @@
+pub mod Table
+pub mod Config
+pub mod Rows
+pub mod Reading

@@ -1,0 +1,12 @@
+//! The configuration of a chain: 75 numbers, read from JSON or one of two that are built in.
+#![tactic(auto)]
+
+mod config;
+mod fault;
+mod reading;
+mod table;
+#[cfg(test)]
+mod tests;
+
+pub use config::Config;
+pub use fault::ConfigFault;

@@ -1,0 +1,312 @@
+use crate::table::rows;
+use crate::{Config, ConfigFault};
+use std::alloc::Global;
+use std::process::Abort;
+use std::test::Fail;
+
+/// The name of each entry, its least and greatest number, and its number in the two built-in
+/// configurations.
+static WRITTEN: [(&str, u64, u64, u64, u64); 75] = [
+    ("gas_price", 0, u64::MAX, 0, 100),
+    ("storage_price", 0, u64::MAX, 0, 1000),
+    (
+        "chunk_gas_limit",
+        1,
+        1_000_000_000_000_000_000,
+        1_000_000_000_000_000,
+        500_000,
+    ),
+    ("regular_op_cost", 1, 1_000_000_000, 1, 1),
+    ("max_actions", 1, 1000, 100, 100),
+    (
+        "max_prepaid_gas",
+        1,
+        1_000_000_000_000_000_000,
+        1_000_000_000_000_000,
+        1_000_000_000_000,
+    ),
+    ("account_bytes", 0, 1_000_000, 100, 100),
+    ("extra_record_bytes", 0, 1_000_000, 40, 40),
+    ("top_level_min_len", 0, 65, 0, 0),
+    ("delete_state_limit", 0, 1_000_000_000, 10_000, 10_000),
+    ("reward_numerator", 0, 1_000_000, 0, 30),
+    ("reward_denominator", 1, 1_000_000, 100, 100),
+    ("max_code", 1, 100_000_000, 4_194_304, 4_194_304),
+    ("max_pages", 1, 2048, 256, 64),
+    ("max_call_depth", 1, 10_000, 1000, 1000),
+    ("max_stack_values", 1, 1_000_000, 100_000, 100_000),
+    ("max_registers", 1, 10_000, 100, 100),
+    ("max_register_bytes", 1, 100_000_000, 4_194_304, 4_194_304),
+    (
+        "max_all_register_bytes",
+        1,
+        100_000_000,
+        16_777_216,
+        16_777_216,
+    ),
+    ("max_logs", 0, 10_000, 100, 100),
+    ("max_log_bytes", 0, 1_000_000, 16_384, 16_384),
+    ("max_key_bytes", 1, 65_536, 2048, 2048),
+    ("max_value_bytes", 1, 100_000_000, 4_194_304, 4_194_304),
+    ("max_return_bytes", 1, 100_000_000, 4_194_304, 4_194_304),
+    ("max_promises", 0, 10_000, 1024, 1024),
+    ("load_base", 0, 1_000_000_000_000, 0, 100),
+    ("load_byte", 0, 1_000_000_000_000, 0, 1),
+    ("host_base", 0, 1_000_000_000_000, 0, 10),
+    ("host_byte", 0, 1_000_000_000_000, 0, 1),
+    ("storage_base", 0, 1_000_000_000_000, 0, 50),
+    ("storage_byte", 0, 1_000_000_000_000, 0, 2),
+    ("sha_base", 0, 1_000_000_000_000, 0, 20),
+    ("sha_byte", 0, 1_000_000_000_000, 0, 1),
+    ("action_receipt_send_local", 0, 1_000_000_000_000_000, 0, 10),
+    (
+        "action_receipt_send_remote",
+        0,
+        1_000_000_000_000_000,
+        0,
+        10,
+    ),
+    ("action_receipt_exec", 0, 1_000_000_000_000_000, 0, 10),
+    ("data_base_send_local", 0, 1_000_000_000_000_000, 0, 10),
+    ("data_base_send_remote", 0, 1_000_000_000_000_000, 0, 10),
+    ("data_base_exec", 0, 1_000_000_000_000_000, 0, 10),
+    ("data_byte_send_local", 0, 1_000_000_000_000_000, 0, 1),
+    ("data_byte_send_remote", 0, 1_000_000_000_000_000, 0, 1),
+    ("data_byte_exec", 0, 1_000_000_000_000_000, 0, 1),
+    ("create_account_send_local", 0, 1_000_000_000_000_000, 0, 10),
+    (
+        "create_account_send_remote",
+        0,
+        1_000_000_000_000_000,
+        0,
+        10,
+    ),
+    ("create_account_exec", 0, 1_000_000_000_000_000, 0, 10),
+    ("deploy_base_send_local", 0, 1_000_000_000_000_000, 0, 10),
+    ("deploy_base_send_remote", 0, 1_000_000_000_000_000, 0, 10),
+    ("deploy_base_exec", 0, 1_000_000_000_000_000, 0, 10),
+    ("deploy_byte_send_local", 0, 1_000_000_000_000_000, 0, 1),
+    ("deploy_byte_send_remote", 0, 1_000_000_000_000_000, 0, 1),
+    ("deploy_byte_exec", 0, 1_000_000_000_000_000, 0, 1),
+    ("call_base_send_local", 0, 1_000_000_000_000_000, 0, 10),
+    ("call_base_send_remote", 0, 1_000_000_000_000_000, 0, 10),
+    ("call_base_exec", 0, 1_000_000_000_000_000, 0, 10),
+    ("call_byte_send_local", 0, 1_000_000_000_000_000, 0, 1),
+    ("call_byte_send_remote", 0, 1_000_000_000_000_000, 0, 1),
+    ("call_byte_exec", 0, 1_000_000_000_000_000, 0, 1),
+    ("transfer_send_local", 0, 1_000_000_000_000_000, 0, 10),
+    ("transfer_send_remote", 0, 1_000_000_000_000_000, 0, 10),
+    ("transfer_exec", 0, 1_000_000_000_000_000, 0, 10),
+    ("add_full_key_send_local", 0, 1_000_000_000_000_000, 0, 10),
+    ("add_full_key_send_remote", 0, 1_000_000_000_000_000, 0, 10),
+    ("add_full_key_exec", 0, 1_000_000_000_000_000, 0, 10),
+    (
+        "add_call_key_base_send_local",
+        0,
+        1_000_000_000_000_000,
+        0,
+        10,
+    ),
+    (
+        "add_call_key_base_send_remote",
+        0,
+        1_000_000_000_000_000,
+        0,
+        10,
+    ),
+    ("add_call_key_base_exec", 0, 1_000_000_000_000_000, 0, 10),
+    (
+        "add_call_key_byte_send_local",
+        0,
+        1_000_000_000_000_000,
+        0,
+        1,
+    ),
+    (
+        "add_call_key_byte_send_remote",
+        0,
+        1_000_000_000_000_000,
+        0,
+        1,
+    ),
+    ("add_call_key_byte_exec", 0, 1_000_000_000_000_000, 0, 1),
+    ("delete_key_send_local", 0, 1_000_000_000_000_000, 0, 10),
+    ("delete_key_send_remote", 0, 1_000_000_000_000_000, 0, 10),
+    ("delete_key_exec", 0, 1_000_000_000_000_000, 0, 10),
+    ("delete_account_send_local", 0, 1_000_000_000_000_000, 0, 10),
+    (
+        "delete_account_send_remote",
+        0,
+        1_000_000_000_000_000,
+        0,
+        10,
+    ),
+    ("delete_account_exec", 0, 1_000_000_000_000_000, 0, 10),
+];
+
+#[test]
+fn entries_are_as_written(rt: HostRuntime) {
+    let (free, generated) = (Config::free(), Config::generated());
+    for (i, (name, least, greatest, of_free, of_generated)) in WRITTEN.iter().enumerate() {
+        let row = &rows()[i];
+        assert_eq!(rt; row.name, *name);
+        assert_eq!(rt; row.least, *least);
+        assert_eq!(rt; row.greatest, *greatest);
+        assert_eq!(rt; free.entry(i as u32 + 1), *of_free);
+        assert_eq!(rt; generated.entry(i as u32 + 1), *of_generated);
+    }
+}
+
+/// The JSON text of a configuration, with some members in place of one entry's.
+fn text(alloc: Global, config: &Config, place: usize, members: &str) -> Result<String, Fail> {
+    let mut text = String::from_str(alloc, "{")?;
+    for (i, (name, ..)) in WRITTEN.iter().enumerate() {
+        if i > 0 {
+            text.push_str(", ")?;
+        }
+        if i + 1 == place {
+            text.push_str(members)?;
+        } else {
+            let number = config.entry(i as u32 + 1);
+            text.push_str(&format!(in alloc; "\"{name}\": {number}")?)?;
+        }
+    }
+    text.push_str("}")?;
+    Ok(text)
+}
+
+/// What is read where some members stand in place of one entry's in the generated configuration.
+fn changed(alloc: Global, place: usize, members: &str) -> Result<Result<u64, ConfigFault>, Fail> {
+    let text = text(alloc, &Config::generated(), place, members)?;
+    Ok(Config::read(alloc, text.as_bytes()).map(|config| config.entry(1)))
+}
+
+#[test]
+fn built_in_configurations_are_read(rt: HostRuntime) -> Result<(), Fail> {
+    for config in [Config::free(), Config::generated()] {
+        let text = text(rt.alloc(), &config, 0, "")?;
+        assert_eq!(rt; Config::read(rt.alloc(), text.as_bytes()), Ok(config));
+    }
+    Ok(())
+}
+
+fn is_refused(
+    rt: &impl Abort,
+    alloc: Global,
+    place: usize,
+    members: &str,
+    fault: ConfigFault,
+) -> Result<(), Fail> {
+    assert_eq!(rt; changed(alloc, place, members)?, Err(fault), "{members}");
+    Ok(())
+}
+
+#[test]
+fn first_faulty_entry_is_told(rt: HostRuntime) -> Result<(), Fail> {
+    let alloc = rt.alloc();
+    for members in [
+        "\"gas_price\": -1",
+        "\"gas_price\": 1.0",
+        "\"gas_price\": 1e5",
+        "\"gas_price\": -0",
+        "\"gas_price\": \"7\"",
+        "\"gas_price\": null",
+        "\"gas_price\": 18446744073709551616",
+    ] {
+        is_refused(&rt, alloc, 1, members, ConfigFault::NotWhole { entry: 1 })?;
+    }
+    for (place, members) in [
+        (4, "\"regular_op_cost\": 0"),
+        (9, "\"top_level_min_len\": 66"),
+        (12, "\"reward_denominator\": 0"),
+        (75, "\"delete_account_exec\": 1000000000000001"),
+    ] {
+        is_refused(
+            &rt,
+            alloc,
+            place,
+            members,
+            ConfigFault::OutOfRange {
+                entry: place as u32,
+            },
+        )?;
+    }
+    is_refused(
+        &rt,
+        alloc,
+        75,
+        "\"Delete_account_exec\": 1",
+        ConfigFault::Missing { entry: 75 },
+    )?;
+    is_refused(
+        &rt,
+        alloc,
+        5,
+        "\"chunk_gas_limit\": 0",
+        ConfigFault::OutOfRange { entry: 3 },
+    )?;
+    is_refused(
+        &rt,
+        alloc,
+        12,
+        "\"reward_denominator\": 29",
+        ConfigFault::OutOfRange { entry: 11 },
+    )?;
+    is_refused(
+        &rt,
+        alloc,
+        75,
+        "\"reward_denominator\": 29",
+        ConfigFault::Missing { entry: 75 },
+    )?;
+    Ok(())
+}
+
+#[test]
+fn last_of_equal_names_counts(rt: HostRuntime) -> Result<(), Fail> {
+    let alloc = rt.alloc();
+    assert_eq!(rt;
+        changed(alloc, 1, "\"gas_price\": -1, \"gas_price\": 7")?,
+        Ok(7)
+    );
+    assert_eq!(rt;
+        changed(alloc, 1, "\"gas_price\": 18446744073709551615")?,
+        Ok(u64::MAX)
+    );
+    assert_eq!(rt;
+        changed(alloc, 1, "\"gas_price\": 5, \"other\": [-1]")?,
+        Ok(5)
+    );
+    assert_eq!(rt; changed(alloc, 12, "\"reward_denominator\": 30")?, Ok(100));
+    Ok(())
+}
+
+#[test]
+fn only_objects_are_read(rt: HostRuntime) {
+    let alloc = rt.alloc();
+    for bytes in ["", "[]", "7", "{", "{\"gas_price\": 1,}", "{} {}"] {
+        assert_eq!(rt;
+            Config::read(alloc, bytes.as_bytes()),
+            Err(ConfigFault::NotJson)
+        );
+    }
+    assert_eq!(rt;
+        Config::read(alloc, b"{\"\xff\": 1}"),
+        Err(ConfigFault::NotJson)
+    );
+    assert_eq!(rt;
+        Config::read(alloc, b"{}"),
+        Err(ConfigFault::Missing { entry: 1 })
+    );
+}
+
+#[test]
+fn faults_are_told(rt: HostRuntime) -> Result<(), Fail> {
+    let told = format!(in rt.alloc();
+        "{}; {}",
+        ConfigFault::Missing { entry: 7 },
+        ConfigFault::NotJson
+    )?;
+    assert_eq!(rt; told.as_str(), "entry 7 is missing; no JSON object");
+    Ok(())
+}

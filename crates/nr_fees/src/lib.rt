@@ -1,0 +1,18 @@
+//! What actions cost, what receipts hold, and the count of the gas that a receipt burns.
+#![tactic(auto)]
+
+#[cfg(test)]
+mod config_tests;
+mod gas;
+mod pricing;
+mod sums;
+mod table;
+#[cfg(test)]
+mod tests;
+mod tokens;
+
+pub use gas::GasCounter;
+pub use pricing::{action_fee, fee_of};
+pub use sums::{attached_gas, deposits, exec_gas, send_gas};
+pub use table::{Fee, Payment};
+pub use tokens::receipt_tokens;

@@ -1,0 +1,14 @@
+//! The report: the text of each chunk's results and of the totals of a run.
+//!
+//! Every line ends with a line feed, and its fields are parted by single spaces. Hashes are 64
+//! lower-case hexadecimal digits; bytes are lower-case hexadecimal, with `-` for none.
+#![tactic(auto)]
+
+mod printed;
+mod report;
+#[cfg(test)]
+mod tests;
+mod totals;
+
+pub use report::{write_chunk, write_totals};
+pub use totals::Totals;

@@ -1,0 +1,4 @@
+pub mod Contents
+pub mod Plain
+pub mod PlainView
+pub mod Tries

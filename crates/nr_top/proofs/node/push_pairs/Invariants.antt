@@ -1,6 +1,0 @@
-use Rattle.std.proofs.Common.{◌≡◌, ◌++◌, ◌*◌, drop}
-use Rattle.nr_top.specs.Node.{paired}
-use Rattle.nr_top.proofs.node.push_pairs.Given as goal
-
-abbrev pub invariant-loop-i : goal.invariant-loop-i
-invariant-loop-i l = l.part.items ++ paired (drop (2 * l.i) l.nibbles) ≡ l.initial.part.items ++ paired l.nibbles

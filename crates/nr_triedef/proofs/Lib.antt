@@ -1,0 +1,4 @@
+pub mod Parts
+mod Each
+mod Fields
+mod Laws

@@ -1,0 +1,10 @@
+use Rattle.std.proofs.Common.{ap, subst, ◌∙◌, arith}
+use Rattle.nr_triedef.specs.Reading.{GivesAll, node_at}
+use Rattle.nr_triedef.proofs.Laws.{is_found, node_again}
+use Rattle.nr_triedef.proofs.read.read_node.Goals as goal
+
+pub returns-clause-found : goal.returns-clause-found
+returns-clause-found c = is_found c.args.text.now c.read_whole.result (λ i. omega (arith, c.type_inv.text i)) c.read_whole.ensures
+
+pub returns-clause-only : goal.returns-clause-only
+returns-clause-only c = λ node is fits e. subst (GivesAll c.read_whole.result) (ap node_at e ∙ node_again node is fits) c.read_whole.ensures

@@ -1,0 +1,4 @@
+pub mod Node
+pub mod Root
+pub mod Stores
+pub mod Reading
