@@ -21,6 +21,10 @@ use std::sync::ledger::Ledger;
 /// notes what each change found. So `mark`, `keep` and `back` take no memory. When the last
 /// checkpoint goes, no place without a value stays.
 ///
+/// A key of more than 70,000,000 bytes, a value of 2^32 bytes or more, and a new key where 2^26 keys
+/// have a place count as want of memory for `set`. So do a part of 2^32 bytes or more and a usage
+/// above u64 for `root`.
+///
 /// With n places, `get`, `set` and `remove` cost what the ordered map does, which is in the order
 /// of log n comparisons of keys, and `set` and `remove` copy the key and the value. `mark` costs the
 /// same however much the store holds, and so does `keep`, save that of the last checkpoint: it goes

@@ -1,8 +1,8 @@
 //! Both files, read, written back and copied.
 
 use crate::worked;
+use nr_blocks::{BlocksFile, GenesisFile};
 use nr_records::{Spelled, decode, encode};
-use nr_top::{BlocksFile, GenesisFile};
 use std::test::Fail;
 
 #[test]

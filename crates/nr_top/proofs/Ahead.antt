@@ -15,8 +15,8 @@ use Rattle.nr_report.specs.Lines.{chunk_text}
 use Rattle.nr_top.specs.Run.{list_tokens, routed_in, executed_in}
 use Rattle.nr_top.specs.Straight.{IsReady, IsKept, IsNext, IsAhead, work_at, sent_from, report_at, reports_from, reports_text, left_by}
 use Rattle.nr_top.specs.Transfers.{AreTransfers, IsSettled, has_system}
-use Rattle.nr_top.specs.World.{World, accounts_tokens}
-use Rattle.nr_top.specs.declared.block.Block.{Block}
+use Rattle.nr_state.specs.World.{World, accounts_tokens}
+use Rattle.nr_blocks.specs.declared.block.Block.{Block}
 use Rattle.nr_top.specs.declared.run.Progress.{Progress}
 
 -- ---- what holds of a world holds of each one with the same accounts and keys

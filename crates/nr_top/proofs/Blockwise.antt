@@ -5,14 +5,14 @@ use Rattle.nr_records.specs.declared.receipt.Receipt.{Receipt}
 use Rattle.nr_records.specs.declared.transaction.Transaction.{Transaction}
 use Rattle.nr_top.specs.Chunk.{Working, open_chunk, take_list, report_of, lists_of}
 use Rattle.nr_config.specs.Config.{free}
-use Rattle.nr_top.specs.Layout.{out_to}
+use Rattle.nr_layout.specs.Layout.{out_to}
 use Rattle.nr_top.specs.LedgerWorld.{world_of}
 use Rattle.nr_top.specs.Run.{list_tokens}
 use Rattle.nr_top.specs.Straight.{IsSeal, IsKept, work_at, place_of, transactions_of, first_shard}
 use Rattle.nr_top.specs.Transfers.{AreTransfers, IsSound}
-use Rattle.nr_top.specs.World.{World, accounts_tokens}
-use Rattle.nr_top.specs.declared.block.Block.{Block}
-use Rattle.nr_top.specs.declared.place.Place.{Place}
+use Rattle.nr_state.specs.World.{World, accounts_tokens}
+use Rattle.nr_blocks.specs.declared.block.Block.{Block}
+use Rattle.nr_state.specs.declared.place.Place.{Place}
 use Rattle.nr_top.specs.declared.sealed.Sealed.{Sealed}
 
 -- with no boundaries all receipts stay here

@@ -12,9 +12,9 @@ use Rattle.nr_config.specs.Config.{free}
 use Rattle.nr_top.specs.Conversion.{is_local, sending_gas, whole_gas, whole_cost, refusals, first_refusal, receipt_of, converted, charged, unless_refused, convert}
 use Rattle.nr_fees.specs.Fees.{deposits}
 use Rattle.nr_fees.specs.declared.table.Payment.TheVariants.{SendLocal, SendRemote, Execute}
-use Rattle.nr_top.specs.World.{World}
+use Rattle.nr_state.specs.World.{World}
 use Rattle.nr_top.specs.declared.converted.Converted.{Converted}
-use Rattle.nr_top.specs.declared.place.Place.{Place}
+use Rattle.nr_state.specs.declared.place.Place.{Place}
 use Rattle.nr_top.specs.declared.tx_fault.TxFault.{TxFault}
 use Rattle.nr_top.specs.declared.tx_fault.TxFault.TheVariants.{NoSigner, NoKey, Nonce, CostOverflow, Balance}
 use Rattle.nr_top.proofs.Free.{gas_free, attached_free}

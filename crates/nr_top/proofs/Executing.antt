@@ -18,8 +18,8 @@ use Rattle.nr_fees.specs.Fees.{deposits, act_tokens, body_tokens, receipt_tokens
 use Rattle.nr_fees.specs.declared.table.Payment.TheVariants.{Execute}
 use Rattle.nr_top.specs.Phases.{Executes, settled_outcome}
 use Rattle.nr_top.specs.Transfers.{IsTransfer, is_transfer_act, is_transfer_body}
-use Rattle.nr_top.specs.World.{World, with_account, accounts_tokens}
-use Rattle.nr_top.specs.declared.place.Place.{Place}
+use Rattle.nr_state.specs.World.{World, with_account, accounts_tokens}
+use Rattle.nr_state.specs.declared.place.Place.{Place}
 use Rattle.nr_top.proofs.Free.{receipt_free, transfer_free, one_action, prepaid_free}
 use Rattle.nr_top.proofs.Tokens.{raised, within}
 

@@ -21,14 +21,15 @@ use Rattle.nr_records.specs.declared.account.Account.{Account}
 use Rattle.nr_config.specs.Config.{free, account_bytes_entry, extra_record_bytes}
 use Rattle.nr_config.specs.Table.{table}
 use Rattle.nr_top.specs.Execution.{system}
-use Rattle.nr_top.specs.Flat.{account_key}
+use Rattle.nr_state.specs.Flat.{account_key}
 use Rattle.nr_top.specs.Founding.{plain_world, if_account, entry_tokens, is_sound, IsFounded}
-use Rattle.nr_top.specs.Genesis.{accounts_in, code_in, datum_in, key_in, genesis_world, has_no_code, has_one_shard, has_repeat, has_usage, holds_together, is_account, is_built_entry, is_built_genesis, is_owned, supply, trie_key}
+use Rattle.nr_blocks.specs.Genesis.{accounts_in, code_in, datum_in, key_in, genesis_world, has_usage, is_account, is_owned, supply, trie_key}
+use Rattle.nr_top.specs.Genesis.{has_no_code, has_one_shard, has_repeat, holds_together, is_built_entry, is_built_genesis}
 use Rattle.nr_top.specs.LedgerWorld.{world_of}
-use Rattle.nr_top.specs.World.{bytes_cmp, no_world, account_tokens, accounts_tokens}
-use Rattle.nr_top.specs.declared.genesis_entry.GenesisEntry.{GenesisEntry}
-use Rattle.nr_top.specs.declared.genesis_entry.GenesisEntry.TheVariants as kind
-use Rattle.nr_top.specs.declared.genesis_file.GenesisFile.{GenesisFile}
+use Rattle.nr_state.specs.World.{bytes_cmp, no_world, account_tokens, accounts_tokens}
+use Rattle.nr_blocks.specs.declared.genesis_entry.GenesisEntry.{GenesisEntry}
+use Rattle.nr_blocks.specs.declared.genesis_entry.GenesisEntry.TheVariants as kind
+use Rattle.nr_blocks.specs.declared.genesis_file.GenesisFile.{GenesisFile}
 use Rattle.nr_top.specs.declared.ledger.Ledger.{Ledger}
 use Rattle.nr_top.proofs.Maps.{entries_empty}
 

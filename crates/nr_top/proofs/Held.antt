@@ -15,8 +15,8 @@ use Rattle.nr_records.specs.declared.account.Account.{Account}
 use Rattle.nr_top.specs.LedgerWorld.{accounts_held, keys_held}
 use Rattle.nr_records.specs.Accounts.{account_bytes}
 use Rattle.nr_records.specs.AccessKeys.{access_key_bytes}
-use Rattle.nr_top.specs.Flat.{flat, laid, account_key, access_key_key}
-use Rattle.nr_top.specs.World.{bytes_cmp, key_cmp, no_world}
+use Rattle.nr_state.specs.Flat.{flat, laid, account_key, access_key_key}
+use Rattle.nr_state.specs.World.{bytes_cmp, key_cmp, no_world}
 use Rattle.nr_top.proofs.Maps.{get-held, held-changed, entries-held, entries_empty}
 
 -- ---- the order of owners with their keys

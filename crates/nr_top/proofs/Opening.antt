@@ -27,9 +27,9 @@ use Rattle.nr_top.specs.Phases.{Converts}
 use Rattle.nr_top.specs.Refusal.{refused}
 use Rattle.nr_top.specs.Run.{list_tokens}
 use Rattle.nr_top.specs.Transfers.{IsTransfer, AreTransfers, IsSettled, IsSound, has_system}
-use Rattle.nr_top.specs.World.{World, accounts_tokens}
+use Rattle.nr_state.specs.World.{World, accounts_tokens}
 use Rattle.nr_top.specs.declared.converted.Converted.{Converted}
-use Rattle.nr_top.specs.declared.place.Place.{Place}
+use Rattle.nr_state.specs.declared.place.Place.{Place}
 use Rattle.nr_top.specs.declared.tx_fault.TxFault.{TxFault}
 use Rattle.nr_top.specs.declared.tx_fault.TxFault.TheVariants.{Nonce, CostOverflow, Balance, Memory}
 use Rattle.nr_top.proofs.Converting.{whole_cost_free, converted_free}

@@ -10,18 +10,19 @@ use Rattle.nr_records.specs.declared.fault.RecordFault.{RecordFault}
 use Rattle.nr_top.specs.Answers.{Gives, Prepares, Loaded}
 use Rattle.nr_top.specs.Blocks.{are_built_blocks, are_built_from}
 use Rattle.nr_config.specs.Config.{free}
-use Rattle.nr_top.specs.Files.{genesis_at, blocks_at}
+use Rattle.nr_blocks.specs.Files.{genesis_at, blocks_at}
 use Rattle.nr_top.specs.Founding.{IsFounded}
-use Rattle.nr_top.specs.Genesis.{is_built_genesis, is_built_entry, holds_together, has_one_shard, genesis_world, supply}
+use Rattle.nr_blocks.specs.Genesis.{genesis_world, supply}
+use Rattle.nr_top.specs.Genesis.{is_built_genesis, is_built_entry, holds_together, has_one_shard}
 use Rattle.nr_top.specs.Input.{genesis_of, blocks_of, Given, Report, Refused, chain, by_blocks, by_blocks_bytes, blocks_limit}
 use Rattle.nr_top.specs.LedgerWorld.{world_of}
 use Rattle.nr_top.specs.Run.{report_text}
 use Rattle.nr_top.specs.Straight.{straight_text}
 use Rattle.nr_top.specs.Transfers.{has_system}
-use Rattle.nr_top.specs.World.{World, accounts_tokens}
-use Rattle.nr_top.specs.declared.block.Block.{Block}
-use Rattle.nr_top.specs.declared.blocks_file.BlocksFile.{BlocksFile}
-use Rattle.nr_top.specs.declared.genesis_file.GenesisFile.{GenesisFile}
+use Rattle.nr_state.specs.World.{World, accounts_tokens}
+use Rattle.nr_blocks.specs.declared.block.Block.{Block}
+use Rattle.nr_blocks.specs.declared.blocks_file.BlocksFile.{BlocksFile}
+use Rattle.nr_blocks.specs.declared.genesis_file.GenesisFile.{GenesisFile}
 use Rattle.nr_top.specs.declared.ledger.Ledger.{Ledger}
 use Rattle.nr_top.specs.declared.status.Status.{Status}
 use Rattle.nr_top.specs.declared.status.Status.TheVariants.{Done, Usage, NotBuilt, ReadFault, WriteFault, NoMemory}

@@ -2,7 +2,7 @@
 use Rattle.std.proofs.Common.{◌≡◌, List, [], ◌∷◌, refl, ap}
 use Rattle.nr_records.specs.declared.receipt.Receipt.{Receipt}
 use Rattle.nr_top.specs.Chunk.{Working, lists_of}
-use Rattle.nr_top.specs.Layout.{out_to}
+use Rattle.nr_layout.specs.Layout.{out_to}
 
 all_out : (list : List Receipt) → out_to [] 0 list ≡ list
 all_out [] = refl

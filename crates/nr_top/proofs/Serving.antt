@@ -16,7 +16,7 @@ use Rattle.nr_fees.specs.Fees.{receipt_tokens}
 use Rattle.nr_top.specs.Phases.{Executes, settled_outcome, KeepsSound}
 use Rattle.nr_top.specs.Run.{list_tokens}
 use Rattle.nr_top.specs.Transfers.{IsTransfer, AreTransfers, IsSettled}
-use Rattle.nr_top.specs.World.{World, accounts_tokens}
+use Rattle.nr_state.specs.World.{World, accounts_tokens}
 use Rattle.nr_top.proofs.Executing.{executes}
 use Rattle.nr_top.proofs.Free.{limit_free}
 use Rattle.nr_top.proofs.Tokens.{raised, raised_tokens, raised_settled, settled_itself, settled_then}

@@ -11,16 +11,16 @@ use Rattle.nr_top.specs.Blocks.{are_built_chunks, are_built_from}
 use Rattle.nr_top.specs.Chunk.{Working, ChunkReport, open_chunk, take_list}
 use Rattle.nr_config.specs.Config.{free, gas_price}
 use Rattle.nr_config.specs.Table.{table}
-use Rattle.nr_top.specs.Genesis.{genesis_world, supply, owner}
-use Rattle.nr_top.specs.Layout.{shard_of}
+use Rattle.nr_blocks.specs.Genesis.{genesis_world, supply, owner}
+use Rattle.nr_layout.specs.Layout.{shard_of}
 use Rattle.nr_report.specs.Lines.{totals_text}
 use Rattle.nr_top.specs.Run.{Chain, transactions_at, timestamp_at, place_at, entries_of, rules_of, list_tokens, waiting_tokens, routed_in, executed_in, totals_from, reports, last_worlds, totals, report_text}
 use Rattle.nr_top.specs.Serial.{Rules, Sealing, in_flight}
 use Rattle.nr_top.specs.Straight.{place_of, transactions_of, work_at, sent_from, report_at, reports_from, left_by, reports_text, straight_totals, straight_text}
-use Rattle.nr_top.specs.World.{World, accounts_tokens}
-use Rattle.nr_top.specs.declared.block.Block.{Block}
-use Rattle.nr_top.specs.declared.genesis_entry.GenesisEntry.{GenesisEntry}
-use Rattle.nr_top.specs.declared.place.Place.{Place}
+use Rattle.nr_state.specs.World.{World, accounts_tokens}
+use Rattle.nr_blocks.specs.declared.block.Block.{Block}
+use Rattle.nr_blocks.specs.declared.genesis_entry.GenesisEntry.{GenesisEntry}
+use Rattle.nr_state.specs.declared.place.Place.{Place}
 use Rattle.nr_report.specs.declared.totals.Totals.{Totals}
 use Rattle.nr_top.proofs.Ahead.{both_left, both_right}
 use Rattle.nr_top.proofs.OneShard.{IsLine, line, work, seal, sealings_are, worlds_are, flight_is}

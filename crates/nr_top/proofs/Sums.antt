@@ -13,8 +13,8 @@ use Rattle.nr_report.specs.Lines.{totals_text}
 use Rattle.nr_top.specs.Run.{list_tokens, waiting_tokens, routed_in, executed_in, totals_from}
 use Rattle.nr_top.specs.Straight.{IsAhead, reports_from, straight_totals, straight_text}
 use Rattle.nr_top.specs.Transfers.{AreTransfers}
-use Rattle.nr_top.specs.World.{World, pair_cmp, accounts_tokens}
-use Rattle.nr_top.specs.declared.block.Block.{Block}
+use Rattle.nr_state.specs.World.{World, pair_cmp, accounts_tokens}
+use Rattle.nr_blocks.specs.declared.block.Block.{Block}
 use Rattle.nr_top.specs.declared.ledger.Ledger.{Ledger}
 use Rattle.nr_top.specs.declared.run.Progress.{Progress}
 use Rattle.nr_report.specs.declared.totals.Totals.{Totals}

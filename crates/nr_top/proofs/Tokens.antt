@@ -13,7 +13,7 @@ use Rattle.nr_records.specs.declared.access_key.AccessKey.{AccessKey}
 use Rattle.nr_records.specs.declared.transaction.Transaction.{Transaction}
 use Rattle.nr_top.specs.Conversion.{charged}
 use Rattle.nr_top.specs.Transfers.{IsSettled}
-use Rattle.nr_top.specs.World.{World, with_account, account_tokens, accounts_tokens}
+use Rattle.nr_state.specs.World.{World, with_account, account_tokens, accounts_tokens}
 use Rattle.nr_top.proofs.Held.{key_total}
 
 second : (a b : Bool) → T (a && b) → T b

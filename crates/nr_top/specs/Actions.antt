@@ -1,14 +1,12 @@
 -- What an action does to the world and to the frame of its receipt. After the Nomicon, Runtime Specification, Actions.
-use Rattle.std.specs.Prelude.{ℕ, ◌+◌, ◌-◌, ◌*◌, ◌^◌, ◌==◌, ◌&&◌, not, min, Bool, cond, List, [], ◌∷◌, length, replicate, Option, Some, None, unwrap_or}
+use Rattle.std.specs.Prelude.{ℕ, ◌+◌, ◌-◌, ◌*◌, ◌^◌, ◌==◌, ◌&&◌, not, min, Bool, cond, List, [], ◌∷◌, length, Option, Some, None, unwrap_or}
 use Rattle.std.specs.FinMap.{get}
 use Rattle.std.specs.Str.{bytes_eq}
 use Rattle.hex.specs.Hex.{hex_digit_value}
 use Rattle.nr_ids.specs.Grammar.{is_system, is_implicit}
-use Rattle.nr_ids.specs.Keys.{key_bytes}
 use Rattle.nr_ids.specs.declared.key.Hash32.{Hash32}
 use Rattle.nr_ids.specs.declared.key.PublicKey.{PublicKey}
 use Rattle.nr_ids.specs.declared.key.PublicKey.TheVariants.{Ed25519}
-use Rattle.nr_records.specs.AccessKeys.{access_key_bytes}
 use Rattle.nr_records.specs.declared.account.Account.{Account}
 use Rattle.nr_records.specs.declared.access_key.AccessKey.{AccessKey}
 use Rattle.nr_records.specs.declared.access_key.Permission.{Permission}
@@ -17,9 +15,10 @@ use Rattle.nr_records.specs.declared.action.Action.{Action}
 use Rattle.nr_records.specs.declared.action.Action.TheVariants.{Transfer}
 use Rattle.nr_records.specs.declared.receipt.ActionReceipt.{ActionReceipt}
 use Rattle.nr_records.specs.declared.receipt.Receipt.{Receipt}
-use Rattle.nr_config.specs.Config.{Config, account_bytes_entry, extra_record_bytes}
-use Rattle.nr_top.specs.World.{World, with_account, with_key}
-use Rattle.nr_top.specs.declared.place.Place.{Place}
+use Rattle.nr_config.specs.Config.{Config, account_bytes_entry}
+use Rattle.nr_state.specs.Usage.{key_usage, zero_hash}
+use Rattle.nr_state.specs.World.{World, with_account, with_key}
+use Rattle.nr_state.specs.declared.place.Place.{Place}
 
 -- what a receipt returns: bytes, or the id of a receipt that will
 pub data Returned : Type 0 where
@@ -51,14 +50,6 @@ pub data Acted : Type 0 where
 
 abbrev pub no_account : ℕ
 no_account = 2
-
--- ---- accounts
-abbrev pub zero_hash : Hash32
-zero_hash = record { 0 = replicate 32 0 }
-
--- the storage that a key costs its owner
-abbrev pub key_usage : Config → PublicKey → AccessKey → ℕ
-key_usage c key access = length (key_bytes key) + length (access_key_bytes access) + extra_record_bytes c
 
 abbrev pub full_key : AccessKey
 full_key = record { nonce = 0; permission = Full }

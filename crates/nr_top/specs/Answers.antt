@@ -5,7 +5,7 @@ use Rattle.std.specs.Global.{Vec}
 use Rattle.nr_top.specs.Founding.{IsFounded}
 use Rattle.nr_top.specs.Input.{Given, Report, Refused, Untold, genesis_of}
 use Rattle.nr_top.specs.declared.ledger.Ledger.{Ledger}
-use Rattle.nr_top.specs.declared.genesis_file.GenesisFile.{GenesisFile}
+use Rattle.nr_blocks.specs.declared.genesis_file.GenesisFile.{GenesisFile}
 use Rattle.nr_top.specs.declared.status.Status.{Status}
 use Rattle.nr_top.specs.declared.status.Status.TheVariants.{Done, Usage, NotBuilt, ReadFault, WriteFault, NoMemory}
 

@@ -5,8 +5,8 @@ use Rattle.std.specs.List.{list_all}
 use Rattle.nr_records.specs.declared.action.Action.{Action}
 use Rattle.nr_records.specs.declared.action.Action.TheVariants.{Transfer}
 use Rattle.nr_records.specs.declared.transaction.Transaction.{Transaction}
-use Rattle.nr_top.specs.World.{World}
-use Rattle.nr_top.specs.declared.block.Block.{Block}
+use Rattle.nr_state.specs.World.{World}
+use Rattle.nr_blocks.specs.declared.block.Block.{Block}
 
 abbrev pub is_transfer : Action → Bool
 is_transfer (Transfer deposit) = true

@@ -13,14 +13,14 @@ use Rattle.nr_records.specs.declared.transaction.Transaction.{Transaction}
 use Rattle.nr_config.specs.Config.{Config, chunk_gas_limit}
 use Rattle.nr_top.specs.Conversion.{Conversion, convert, transaction_hash, is_local}
 use Rattle.nr_top.specs.Execution.{Execution, execute}
-use Rattle.nr_top.specs.Flat.{flat}
-use Rattle.nr_top.specs.Layout.{shard_of, out_to}
+use Rattle.nr_state.specs.Flat.{flat}
+use Rattle.nr_layout.specs.Layout.{shard_of, out_to}
 use Rattle.nr_triedef.specs.Node.{digest}
 use Rattle.nr_top.specs.Refusal.{refused}
 use Rattle.nr_triedef.specs.Root.{root_of}
-use Rattle.nr_top.specs.World.{World}
+use Rattle.nr_state.specs.World.{World}
 use Rattle.nr_top.specs.declared.converted.Converted.{Converted}
-use Rattle.nr_top.specs.declared.place.Place.{Place}
+use Rattle.nr_state.specs.declared.place.Place.{Place}
 
 -- a chunk at work
 pub record Working : Type 0 where

@@ -13,8 +13,8 @@ use Rattle.nr_records.specs.Transactions.{transaction_bytes}
 use Rattle.nr_config.specs.Config.{Config}
 use Rattle.nr_fees.specs.Fees.{send_gas, exec_gas, attached_gas, deposits}
 use Rattle.nr_triedef.specs.Node.{digest}
-use Rattle.nr_top.specs.World.{World, with_account, with_key}
-use Rattle.nr_top.specs.declared.place.Place.{Place}
+use Rattle.nr_state.specs.World.{World, with_account, with_key}
+use Rattle.nr_state.specs.declared.place.Place.{Place}
 use Rattle.nr_top.specs.declared.converted.Converted.{Converted}
 use Rattle.nr_top.specs.declared.tx_fault.TxFault.{TxFault}
 use Rattle.nr_top.specs.declared.tx_fault.TxFault.TheVariants.{NoSigner, NoKey, Nonce, CostOverflow, Balance}

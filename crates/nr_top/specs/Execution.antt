@@ -18,8 +18,8 @@ use Rattle.nr_config.specs.Config.{Config}
 use Rattle.nr_fees.specs.Fees.{fee, action_fee, prepaid_gas, deposits}
 use Rattle.nr_fees.specs.declared.table.Fee.TheVariants.{ActionReceipt as action_receipt}
 use Rattle.nr_fees.specs.declared.table.Payment.TheVariants.{Execute}
-use Rattle.nr_top.specs.World.{World}
-use Rattle.nr_top.specs.declared.place.Place.{Place}
+use Rattle.nr_state.specs.World.{World}
+use Rattle.nr_state.specs.declared.place.Place.{Place}
 
 -- what an execution gives
 pub record Execution : Type 0 where

@@ -5,12 +5,13 @@ use Rattle.std.specs.FinMap.{from_entries, get}
 use Rattle.nr_records.specs.declared.account.Account.{Account}
 use Rattle.nr_config.specs.Config.{free}
 use Rattle.nr_top.specs.Execution.{system}
-use Rattle.nr_top.specs.Genesis.{accounts_in, key_in, genesis_world, has_no_code, has_usage, is_built_genesis, is_owned, supply}
+use Rattle.nr_blocks.specs.Genesis.{accounts_in, key_in, genesis_world, has_usage, is_owned, supply}
+use Rattle.nr_top.specs.Genesis.{has_no_code, is_built_genesis}
 use Rattle.nr_top.specs.LedgerWorld.{world_of}
-use Rattle.nr_top.specs.World.{World, no_world, with_account, with_key, account_tokens, accounts_tokens}
-use Rattle.nr_top.specs.declared.genesis_entry.GenesisEntry.{GenesisEntry}
-use Rattle.nr_top.specs.declared.genesis_entry.GenesisEntry.TheVariants as kind
-use Rattle.nr_top.specs.declared.genesis_file.GenesisFile.{GenesisFile}
+use Rattle.nr_state.specs.World.{World, no_world, with_account, with_key, account_tokens, accounts_tokens}
+use Rattle.nr_blocks.specs.declared.genesis_entry.GenesisEntry.{GenesisEntry}
+use Rattle.nr_blocks.specs.declared.genesis_entry.GenesisEntry.TheVariants as kind
+use Rattle.nr_blocks.specs.declared.genesis_file.GenesisFile.{GenesisFile}
 use Rattle.nr_top.specs.declared.ledger.Ledger.{Ledger}
 
 -- ---- accounts and keys alone

@@ -7,11 +7,12 @@ use Rattle.nr_records.specs.declared.fault.RecordFault.{RecordFault}
 use Rattle.nr_top.specs.Blocks.{are_built_blocks}
 use Rattle.nr_top.specs.Command.{Command, command, built_files}
 use Rattle.nr_config.specs.Config.{free}
-use Rattle.nr_top.specs.Files.{genesis_at, blocks_at}
-use Rattle.nr_top.specs.Genesis.{is_built_genesis, genesis_world}
+use Rattle.nr_blocks.specs.Files.{genesis_at, blocks_at}
+use Rattle.nr_blocks.specs.Genesis.{genesis_world}
+use Rattle.nr_top.specs.Genesis.{is_built_genesis}
 use Rattle.nr_top.specs.Run.{Chain, report_text}
-use Rattle.nr_top.specs.declared.blocks_file.BlocksFile.{BlocksFile}
-use Rattle.nr_top.specs.declared.genesis_file.GenesisFile.{GenesisFile}
+use Rattle.nr_blocks.specs.declared.blocks_file.BlocksFile.{BlocksFile}
+use Rattle.nr_blocks.specs.declared.genesis_file.GenesisFile.{GenesisFile}
 use Rattle.nr_top.specs.declared.status.Status.{Status}
 use Rattle.nr_top.specs.declared.status.Status.TheVariants.{Usage, NotBuilt}
 

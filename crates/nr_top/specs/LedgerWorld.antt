@@ -4,7 +4,7 @@ use Rattle.std.specs.FinMap.{FinMap, from_entries}
 use Rattle.nr_ids.specs.declared.key.PublicKey.{PublicKey}
 use Rattle.nr_records.specs.declared.access_key.AccessKey.{AccessKey}
 use Rattle.nr_records.specs.declared.account.Account.{Account}
-use Rattle.nr_top.specs.World.{World, no_world, bytes_cmp, key_cmp}
+use Rattle.nr_state.specs.World.{World, no_world, bytes_cmp, key_cmp}
 use Rattle.nr_top.specs.declared.ledger.Ledger.{Ledger}
 
 -- the accounts and the keys that a list of entries stands for

@@ -1,6 +1,3 @@
-pub mod World
-pub mod Flat
-pub mod Layout
 pub mod Conversion
 pub mod Refusal
 pub mod Actions
@@ -11,9 +8,6 @@ pub mod Serial
 pub mod Genesis
 pub mod Blocks
 pub mod Run
-pub mod GenesisFiles
-pub mod BlocksFiles
-pub mod Files
 pub mod Input
 pub mod LedgerWorld
 pub mod Transfers

@@ -12,9 +12,9 @@ use Rattle.nr_top.specs.Conversion.{convert}
 use Rattle.nr_top.specs.Execution.{execute}
 use Rattle.nr_top.specs.Run.{list_tokens}
 use Rattle.nr_top.specs.Transfers.{IsSound}
-use Rattle.nr_top.specs.World.{World}
+use Rattle.nr_state.specs.World.{World}
 use Rattle.nr_top.specs.declared.converted.Converted.{Converted}
-use Rattle.nr_top.specs.declared.place.Place.{Place}
+use Rattle.nr_state.specs.declared.place.Place.{Place}
 use Rattle.nr_top.specs.declared.tx_fault.TxFault.{TxFault}
 use Rattle.nr_top.specs.declared.tx_fault.TxFault.TheVariants.{Memory}
 

@@ -9,14 +9,14 @@ use Rattle.nr_records.specs.declared.transaction.Transaction.{Transaction}
 use Rattle.nr_top.specs.Chunk.{Working, ChunkReport, open_chunk, take_list, report_of, lists_of}
 use Rattle.nr_config.specs.Config.{Config, gas_price}
 use Rattle.nr_fees.specs.Fees.{receipt_tokens}
-use Rattle.nr_top.specs.Genesis.{genesis_world, supply, owner}
-use Rattle.nr_top.specs.Layout.{shard_of}
+use Rattle.nr_blocks.specs.Genesis.{genesis_world, supply, owner}
+use Rattle.nr_layout.specs.Layout.{shard_of}
 use Rattle.nr_report.specs.Lines.{chunk_text, totals_text}
 use Rattle.nr_top.specs.Serial.{Rules, Sealing, sealings, in_flight, finished, shard_numbers}
-use Rattle.nr_top.specs.World.{World, accounts_tokens}
-use Rattle.nr_top.specs.declared.block.Block.{Block}
-use Rattle.nr_top.specs.declared.genesis_entry.GenesisEntry.{GenesisEntry}
-use Rattle.nr_top.specs.declared.place.Place.{Place}
+use Rattle.nr_state.specs.World.{World, accounts_tokens}
+use Rattle.nr_blocks.specs.declared.block.Block.{Block}
+use Rattle.nr_blocks.specs.declared.genesis_entry.GenesisEntry.{GenesisEntry}
+use Rattle.nr_state.specs.declared.place.Place.{Place}
 use Rattle.nr_report.specs.declared.totals.Totals.{Totals}
 
 -- the boundaries between shards, the first world of each shard, and the blocks

@@ -7,14 +7,14 @@ use Rattle.nr_records.specs.declared.transaction.Transaction.{Transaction}
 use Rattle.nr_top.specs.Blocks.{are_built_chunks, are_built_from}
 use Rattle.nr_top.specs.Chunk.{Working, ChunkReport, open_chunk, take_list, report_of}
 use Rattle.nr_config.specs.Config.{free}
-use Rattle.nr_top.specs.Layout.{out_to}
+use Rattle.nr_layout.specs.Layout.{out_to}
 use Rattle.nr_top.specs.LedgerWorld.{world_of}
 use Rattle.nr_report.specs.Lines.{chunk_text, totals_text}
 use Rattle.nr_top.specs.Run.{list_tokens, routed_in, executed_in, totals_from}
 use Rattle.nr_top.specs.Transfers.{AreTransfers, IsSettled, has_system}
-use Rattle.nr_top.specs.World.{World, accounts_tokens}
-use Rattle.nr_top.specs.declared.block.Block.{Block}
-use Rattle.nr_top.specs.declared.place.Place.{Place}
+use Rattle.nr_state.specs.World.{World, accounts_tokens}
+use Rattle.nr_blocks.specs.declared.block.Block.{Block}
+use Rattle.nr_state.specs.declared.place.Place.{Place}
 use Rattle.nr_top.specs.declared.run.Progress.{Progress}
 use Rattle.nr_top.specs.declared.sealed.Sealed.{Sealed}
 use Rattle.nr_report.specs.declared.totals.Totals.{Totals}

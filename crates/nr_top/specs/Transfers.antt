@@ -13,7 +13,7 @@ use Rattle.nr_top.specs.Chunk.{Working}
 use Rattle.nr_config.specs.Config.{free}
 use Rattle.nr_top.specs.Execution.{system}
 use Rattle.nr_top.specs.Run.{list_tokens}
-use Rattle.nr_top.specs.World.{World, accounts_tokens}
+use Rattle.nr_state.specs.World.{World, accounts_tokens}
 
 -- one transfer that costs no gas and waits for nothing
 abbrev pub is_transfer_act : ActionReceipt → Bool

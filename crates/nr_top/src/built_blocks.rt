@@ -5,8 +5,8 @@ ghost use Rattle.std.specs.List.{list_all};
 ghost use Rattle.nr_top.specs.Blocks.{is_one_transfer, is_built_transaction, is_built_chunk, are_built_chunks, are_built_from, are_built_blocks, most_blocks};
 ghost use Rattle.nr_top.specs.LedgerWorld.{world_of};
 
-use crate::block::Block;
 use crate::ledger::Ledger;
+use nr_blocks::Block;
 use nr_bytes::List;
 use nr_records::{Action, Transaction};
 use std::alloc::{AllocError, Global};

@@ -13,13 +13,12 @@ ghost use Rattle.nr_top.specs.Refusal.{refused};
 ghost use Rattle.nr_top.specs.Run.{list_tokens};
 ghost use Rattle.nr_top.specs.Transfers.{IsTransfer, AreTransfers, IsSound, has_system};
 ghost use Rattle.nr_top.specs.Work.{work_of};
-ghost use Rattle.nr_top.specs.World.{accounts_tokens};
+ghost use Rattle.nr_state.specs.World.{accounts_tokens};
 
 use crate::chunk_work::ChunkWork;
 use crate::conversion::convert;
 use crate::execution::execute;
 use crate::ledger::Ledger;
-use crate::place::Place;
 use crate::refusal::line;
 use crate::root::root_of;
 use crate::sealed::Sealed;
@@ -27,6 +26,7 @@ use crate::tx_fault::TxFault;
 use nr_bytes::List;
 use nr_ids::{Hash32, ShardId};
 use nr_records::{ChunkLine, ChunkResult, Receipt, Transaction, hash_of};
+use nr_state::Place;
 use std::alloc::{AllocError, Global};
 
 // ---- receipts

@@ -1,6 +1,6 @@
 use crate::ledger::Ledger;
-use crate::place::Place;
 use nr_records::{ChunkLine, Receipt};
+use nr_state::Place;
 
 /// A chunk at work: its state, and what it made so far.
 #[derive(Drop)]

@@ -3,11 +3,11 @@
 ghost use Rattle.std.specs.Prelude.{◌≡◌, OnOk};
 ghost use Rattle.nr_records.specs.Accounts.{account_bytes};
 ghost use Rattle.nr_records.specs.AccessKeys.{access_key_bytes};
-ghost use Rattle.nr_top.specs.Flat.{laid, account_key, access_key_key};
+ghost use Rattle.nr_state.specs.Flat.{laid, account_key, access_key_key};
 
-use crate::trie_key;
 use nr_ids::{AccountId, PublicKey};
 use nr_records::{AccessKey, Account, encode};
+use nr_state::keys;
 use nr_triedef::Store;
 use std::alloc::{AllocError, Global};
 use std::collections::BTreeMap;
@@ -21,7 +21,7 @@ pub(crate) fn lay_accounts<S: Store>(
     ensures { OnOk result (S.contents store.new ≡ laid account_key account_bytes accounts.now.entries (S.contents store.old)) }
 {
     for (id, account) in accounts {
-        let key = trie_key::of_account(alloc, id)?;
+        let key = keys::account_key(alloc, id)?;
         let value = encode(alloc, account)?;
         store.set(key.inner(), value.inner())?;
     }
@@ -37,7 +37,7 @@ pub(crate) fn lay_keys<S: Store>(
     ensures { OnOk result (S.contents store.new ≡ laid access_key_key access_key_bytes keys.now.entries (S.contents store.old)) }
 {
     for (name, access) in keys {
-        let key = trie_key::of_key(alloc, &name.0, &name.1)?;
+        let key = keys::access_key(alloc, &name.0, &name.1)?;
         let value = encode(alloc, access)?;
         store.set(key.inner(), value.inner())?;
     }

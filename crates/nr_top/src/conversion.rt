@@ -10,11 +10,11 @@ ghost use Rattle.nr_top.specs.Phases.{Converts};
 
 use crate::converted::Converted;
 use crate::ledger::Ledger;
-use crate::place::Place;
 use crate::tx_fault::TxFault;
 use nr_bytes::List;
 use nr_ids::derive;
 use nr_records::{Account, Action, ActionReceipt, Body, Receipt, Spelled, Transaction, hash_of};
+use nr_state::Place;
 use std::alloc::{AllocError, Global};
 
 /// What one transfer gives away.

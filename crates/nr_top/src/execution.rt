@@ -7,7 +7,7 @@ ghost use Rattle.nr_fees.specs.Fees.{receipt_tokens};
 ghost use Rattle.nr_top.specs.LedgerWorld.{world_of};
 ghost use Rattle.nr_top.specs.Phases.{Executes, settled_outcome};
 ghost use Rattle.nr_top.specs.Transfers.{IsTransfer, is_transfer_body};
-ghost use Rattle.nr_top.specs.World.{with_account, accounts_tokens};
+ghost use Rattle.nr_state.specs.World.{with_account, accounts_tokens};
 
 use crate::conversion::deposit_of;
 use crate::ledger::Ledger;

@@ -1,9 +1,8 @@
 ghost use Rattle.std.specs.Prelude.{IfOk};
 ghost use Rattle.nr_records.specs.Reading.{all_of};
-ghost use Rattle.nr_top.specs.Files.{genesis_at, blocks_at, Tells};
+ghost use Rattle.nr_blocks.specs.Files.{genesis_at, blocks_at, Tells};
 
-use crate::blocks_file::BlocksFile;
-use crate::genesis_file::GenesisFile;
+use nr_blocks::{BlocksFile, GenesisFile};
 use nr_records::{RecordFault, decode};
 use std::alloc::{AllocError, Global};
 

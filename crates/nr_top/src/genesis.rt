@@ -9,17 +9,17 @@ ghost use Rattle.std.specs.Str.{bytes_eq};
 ghost use Rattle.nr_ids.specs.Grammar.{is_system};
 ghost use Rattle.nr_config.specs.Config.{free};
 ghost use Rattle.nr_top.specs.Founding.{Founds, entry_tokens, if_account, is_sound, with_entry};
-ghost use Rattle.nr_top.specs.Genesis.{accounts_in, entry_usage, genesis_world, has_no_code, has_one_shard, has_repeat, has_usage, is_built_entry, is_full, is_owned, owner, supply, trie_key, usage_in};
+ghost use Rattle.nr_blocks.specs.Genesis.{accounts_in, entry_usage, genesis_world, has_usage, is_owned, owner, supply, trie_key, usage_in};
+ghost use Rattle.nr_top.specs.Genesis.{has_no_code, has_one_shard, has_repeat, is_built_entry, is_full};
 ghost use Rattle.nr_top.specs.LedgerWorld.{world_of};
-ghost use Rattle.nr_top.specs.World.{bytes_cmp};
+ghost use Rattle.nr_state.specs.World.{bytes_cmp};
 
-use crate::genesis_entry::GenesisEntry;
-use crate::genesis_file::GenesisFile;
 use crate::ledger::Ledger;
-use crate::trie_key;
+use nr_blocks::{GenesisEntry, GenesisFile};
 use nr_bytes::Blob;
 use nr_ids::{AccountId, Hash32};
 use nr_records::{AccessKey, Permission, Spelled, encode};
+use nr_state::keys;
 use std::alloc::{AllocError, Global};
 use std::collections::{BTreeMap, BTreeSet};
 
@@ -73,10 +73,10 @@ fn trie_key_of(alloc: Global, entry: &GenesisEntry) -> Result<Blob, AllocError>
     ensures { IfOk result (λ text. text ≡ trie_key entry.now) }
 {
     match entry {
-        GenesisEntry::Account(id, _) => trie_key::of_account(alloc, id),
-        GenesisEntry::Code(id, _) => trie_key::of_code(alloc, id),
-        GenesisEntry::Key(id, key, _) => trie_key::of_key(alloc, id, key),
-        GenesisEntry::Datum(id, key, _) => trie_key::of_datum(alloc, id, key),
+        GenesisEntry::Account(id, _) => keys::account_key(alloc, id),
+        GenesisEntry::Code(id, _) => keys::code_key(alloc, id),
+        GenesisEntry::Key(id, key, _) => keys::access_key(alloc, id, key),
+        GenesisEntry::Datum(id, key, _) => keys::datum_key(alloc, id, key.inner()),
     }
 }
 

@@ -5,7 +5,7 @@ ghost use Rattle.std.specs.BTreeMap.{values};
 ghost use Rattle.std.specs.Option.{option_copied};
 ghost use Rattle.std.specs.FinMap.{empty, get, insert};
 ghost use Rattle.nr_top.specs.LedgerWorld.{keys_held};
-ghost use Rattle.nr_top.specs.World.{account_tokens};
+ghost use Rattle.nr_state.specs.World.{account_tokens};
 
 use crate::contents::{lay_accounts, lay_keys};
 use nr_ids::{AccountId, PublicKey};
@@ -47,9 +47,9 @@ pub(crate) struct Ledger {
 }
 
 impl Ledger {
-    ghost use Rattle.nr_top.specs.Flat.{flat};
+    ghost use Rattle.nr_state.specs.Flat.{flat};
     ghost use Rattle.nr_top.specs.LedgerWorld.{world_of};
-    ghost use Rattle.nr_top.specs.World.{no_world, with_account, with_key, accounts_tokens};
+    ghost use Rattle.nr_state.specs.World.{no_world, with_account, with_key, accounts_tokens};
 
     pub(crate) fn new(alloc: Global) -> Ledger
         ensures { world_of result ≡ no_world }

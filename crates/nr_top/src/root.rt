@@ -2,7 +2,7 @@
 
 ghost use Rattle.std.specs.Prelude.{◌≡◌, ◌<◌, IfOk};
 ghost use Rattle.std.specs.FinMap.{empty};
-ghost use Rattle.nr_top.specs.Flat.{flat};
+ghost use Rattle.nr_state.specs.Flat.{flat};
 ghost use Rattle.nr_top.specs.LedgerWorld.{world_of};
 ghost use Rattle.nr_triedef.specs.Root.{root_of};
 

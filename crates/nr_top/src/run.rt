@@ -7,17 +7,17 @@ ghost use Rattle.nr_config.specs.Config.{free};
 ghost use Rattle.nr_top.specs.LedgerWorld.{world_of};
 ghost use Rattle.nr_top.specs.Run.{is_sent, is_execution};
 ghost use Rattle.nr_top.specs.Transfers.{has_system};
-ghost use Rattle.nr_top.specs.World.{accounts_tokens};
+ghost use Rattle.nr_state.specs.World.{accounts_tokens};
 
-use crate::block::Block;
 use crate::chunk::{open_chunk, seal_chunk, take_list};
 use crate::ledger::Ledger;
-use crate::place::Place;
 use crate::sealed::Sealed;
 use crate::tally::{execution_lines, sent_lines, tokens_in};
+use nr_blocks::Block;
 use nr_bytes::{Blob, List};
 use nr_records::{Receipt, Transaction};
 use nr_report::{Totals, write_chunk, write_totals};
+use nr_state::Place;
 use std::alloc::{AllocError, Global};
 
 /// What a run has made so far.
@@ -54,7 +54,7 @@ fn sum(a: u64, b: usize, c: u64) -> Result<u64, AllocError>
 impl Progress {
     ghost use Rattle.nr_top.specs.Straight.{IsReady, IsSeal, IsKept, IsNext, IsAhead, work_at, straight_text, straight_totals, place_of};
     ghost use Rattle.nr_top.specs.Chains.{IsTransferBody};
-    ghost use Rattle.nr_top.specs.World.{World};
+    ghost use Rattle.nr_state.specs.World.{World};
     ghost use Rattle.nr_top.specs.Run.{list_tokens};
     ghost use Rattle.std.specs.Prelude.{List as Items};
     ghost use Rattle.std.specs.List.{AllByRecursion};

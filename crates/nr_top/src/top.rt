@@ -4,22 +4,21 @@ ghost use Rattle.std.specs.Prelude.{◌≡◌, ◌++◌, ◌∷◌, [], ℕ, Lis
 ghost use Rattle.nr_records.specs.Reading.{all_of};
 ghost use Rattle.nr_bytes.specs.Outside.{Rose};
 ghost use Rattle.nr_top.specs.Answers.{Serves, Prepares, Loaded, AsksFront, FoundsFrom, Gives};
-ghost use Rattle.nr_top.specs.Files.{genesis_at, blocks_at};
+ghost use Rattle.nr_blocks.specs.Files.{genesis_at, blocks_at};
 ghost use Rattle.nr_top.specs.Founding.{IsFounded};
 ghost use Rattle.nr_top.specs.Input.{texts, input, by_files, by_blocks, by_blocks_bytes, files_of, blocks_of};
 ghost use Rattle.nr_top.specs.Command.{command};
 ghost use Rattle.nr_top.specs.declared.status.Status.TheVariants.{ReadFault, WriteFault};
 
-use crate::blocks_file::BlocksFile;
 use crate::built_blocks::are_built;
 use crate::command::{built_files, command_of};
 use crate::files::{read_blocks, read_genesis};
 use crate::genesis::genesis;
-use crate::genesis_file::GenesisFile;
 use crate::ledger::Ledger;
 use crate::run::Progress;
 use crate::status::Status;
 use crate::writing::write_all;
+use nr_blocks::{BlocksFile, GenesisFile};
 use nr_bytes::{Blob, LoadFault, Shelf, Sink};
 use std::alloc::Global;
 

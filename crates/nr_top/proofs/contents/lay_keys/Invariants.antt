@@ -1,6 +1,6 @@
 use Rattle.std.proofs.Common.{◌≡◌}
 use Rattle.nr_records.specs.AccessKeys.{access_key_bytes}
-use Rattle.nr_top.specs.Flat.{laid, access_key_key}
+use Rattle.nr_state.specs.Flat.{laid, access_key_key}
 use Rattle.nr_top.proofs.contents.lay_keys.Given as goal
 
 abbrev pub invariant-loop-name : goal.invariant-loop-name

@@ -2,7 +2,7 @@ use Rattle.std.proofs.Common.{◌≡◌, ℕ, List, ap, ◌∙◌, cond, ◌+◌
 use Rattle.std.specs.Prelude.{min, unwrap_or}
 use Rattle.std.specs.BTreeMap as tree
 use Rattle.std.specs.Str.{bytes_eq}
-use Rattle.nr_top.specs.World.{bytes_cmp}
+use Rattle.nr_state.specs.World.{bytes_cmp}
 use Rattle.nr_top.proofs.Founding.{usage_written}
 use Rattle.nr_top.proofs.genesis.add_usage.Goals as goal
 

@@ -2,7 +2,7 @@ use Rattle.std.proofs.Common.{ap, ◌∙◌, not, ◌&&◌}
 use Rattle.std.specs.Prelude.{is_some}
 use Rattle.std.specs.FinMap.{get}
 use Rattle.nr_ids.specs.Grammar.{is_system}
-use Rattle.nr_top.specs.Genesis.{owner, is_owned}
+use Rattle.nr_blocks.specs.Genesis.{owner, is_owned}
 use Rattle.nr_top.proofs.Founding.{all_alike, account_known}
 use Rattle.nr_top.proofs.genesis.all_owned.Goals as goal
 

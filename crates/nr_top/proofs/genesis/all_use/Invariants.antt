@@ -2,7 +2,7 @@ use Rattle.std.proofs.Common.{◌≡◌, ◌≤◌, length, drop}
 use Rattle.std.specs.List.{list_all}
 use Rattle.nr_config.specs.Config.{free}
 use Rattle.nr_top.specs.Founding.{if_account}
-use Rattle.nr_top.specs.Genesis.{has_usage}
+use Rattle.nr_blocks.specs.Genesis.{has_usage}
 use Rattle.nr_top.proofs.genesis.all_use.Given as goal
 
 abbrev pub invariant-loop-left : goal.invariant-loop-left

@@ -1,6 +1,7 @@
 use Rattle.std.proofs.Common.{map, sym, ap, ◌∙◌}
 use Rattle.nr_top.specs.Founding.{is_sound}
-use Rattle.nr_top.specs.Genesis.{genesis_world, has_repeat, trie_key}
+use Rattle.nr_blocks.specs.Genesis.{genesis_world, trie_key}
+use Rattle.nr_top.specs.Genesis.{has_repeat}
 use Rattle.nr_top.proofs.Founding.{not_plain, not_apart, not_sound, is_founded}
 use Rattle.nr_top.proofs.genesis.genesis.Goals as goal
 

@@ -1,8 +1,9 @@
 use Rattle.std.proofs.Common.{◌≡◌, ◌-◌, ◌∷◌, Bool, ℕ, List, ◌||◌, map, drop, sym, ap, ◌∙◌, arith}
 use Rattle.std.specs.List.{list_any}
 use Rattle.std.specs.Str.{bytes_eq}
-use Rattle.nr_top.specs.Genesis.{has_repeat, trie_key}
-use Rattle.nr_top.specs.declared.genesis_entry.GenesisEntry.{GenesisEntry}
+use Rattle.nr_blocks.specs.Genesis.{trie_key}
+use Rattle.nr_top.specs.Genesis.{has_repeat}
+use Rattle.nr_blocks.specs.declared.genesis_entry.GenesisEntry.{GenesisEntry}
 use Rattle.nr_top.proofs.Founding.{front_of, found_more, seen_more, or_left, or_right}
 use Rattle.nr_top.proofs.genesis.repeats.Goals as goal
 

@@ -2,8 +2,9 @@ use Rattle.std.proofs.Common.{◌≡◌, ◌≤◌, ℕ, List, length, map, drop
 use Rattle.std.specs.BTreeSet.{contains}
 use Rattle.std.specs.List.{list_any}
 use Rattle.std.specs.Str.{bytes_eq}
-use Rattle.nr_top.specs.Genesis.{has_repeat, trie_key}
-use Rattle.nr_top.specs.World.{bytes_cmp}
+use Rattle.nr_blocks.specs.Genesis.{trie_key}
+use Rattle.nr_top.specs.Genesis.{has_repeat}
+use Rattle.nr_state.specs.World.{bytes_cmp}
 use Rattle.nr_top.proofs.genesis.repeats.Given as goal
 
 abbrev pub invariant-loop-left : goal.invariant-loop-left

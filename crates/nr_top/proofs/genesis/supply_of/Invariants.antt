@@ -1,6 +1,6 @@
 use Rattle.std.proofs.Common.{◌≡◌, ◌≤◌, ◌-◌, ◌^◌, length, drop}
 use Rattle.std.specs.Prelude.{min}
-use Rattle.nr_top.specs.Genesis.{supply}
+use Rattle.nr_blocks.specs.Genesis.{supply}
 use Rattle.nr_top.proofs.genesis.supply_of.Given as goal
 
 abbrev pub invariant-loop-left : goal.invariant-loop-left

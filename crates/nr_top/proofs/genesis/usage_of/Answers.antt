@@ -1,6 +1,6 @@
 use Rattle.std.proofs.Common.{sym, ap, ◌∙◌, length, ◌+◌}
 use Rattle.nr_config.specs.Config.{free}
-use Rattle.nr_top.specs.Genesis.{entry_usage}
+use Rattle.nr_blocks.specs.Genesis.{entry_usage}
 use Rattle.nr_top.proofs.Founding.{account_is_100, record_is_40}
 use Rattle.nr_top.proofs.genesis.usage_of.Goals as goal
 

@@ -3,8 +3,8 @@ use Rattle.std.specs.Prelude.{min}
 use Rattle.std.specs.BTreeMap as tree
 use Rattle.std.specs.Map.{count_at}
 use Rattle.nr_config.specs.Config.{free}
-use Rattle.nr_top.specs.Genesis.{usage_in}
-use Rattle.nr_top.specs.World.{bytes_cmp}
+use Rattle.nr_blocks.specs.Genesis.{usage_in}
+use Rattle.nr_state.specs.World.{bytes_cmp}
 use Rattle.nr_top.proofs.genesis.usages_in.Given as goal
 
 abbrev pub invariant-loop-left : goal.invariant-loop-left

@@ -1,6 +1,6 @@
 use Rattle.std.proofs.Common.{ap}
 use Rattle.nr_top.specs.LedgerWorld.{keys_held}
-use Rattle.nr_top.specs.World.{no_world}
+use Rattle.nr_state.specs.World.{no_world}
 use Rattle.nr_top.proofs.Held.{accounts_changed}
 use Rattle.nr_top.proofs.ledger.Ledger.insert_account.Goals as goal
 

@@ -1,6 +1,6 @@
 use Rattle.std.proofs.Common.{ap}
 use Rattle.nr_top.specs.LedgerWorld.{accounts_held}
-use Rattle.nr_top.specs.World.{no_world}
+use Rattle.nr_state.specs.World.{no_world}
 use Rattle.nr_top.proofs.Held.{keys_changed}
 use Rattle.nr_top.proofs.ledger.Ledger.insert_key.Goals as goal
 

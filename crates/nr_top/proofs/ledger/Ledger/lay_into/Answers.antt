@@ -1,7 +1,7 @@
 use Rattle.std.proofs.Common.{sym, ap, ◌∙◌}
 use Rattle.nr_records.specs.Accounts.{account_bytes}
 use Rattle.nr_records.specs.AccessKeys.{access_key_bytes}
-use Rattle.nr_top.specs.Flat.{laid, account_key, access_key_key}
+use Rattle.nr_state.specs.Flat.{laid, account_key, access_key_key}
 use Rattle.nr_top.proofs.Held.{flat_held}
 use Rattle.nr_top.proofs.ledger.Ledger.lay_into.Goals as goal
 

@@ -2,7 +2,7 @@ use Rattle.std.proofs.Common.{sym, ap, ◌∙◌, subst}
 use mathlib.Core.Bool.{false≢true}
 use Rattle.std.specs.Prelude.{IsSome}
 use Rattle.nr_top.specs.LedgerWorld.{keys_held}
-use Rattle.nr_top.specs.World.{no_world}
+use Rattle.nr_state.specs.World.{no_world}
 use Rattle.nr_top.proofs.Held.{get_account, accounts_changed}
 use Rattle.nr_top.proofs.ledger.Ledger.set_account.Goals as goal
 

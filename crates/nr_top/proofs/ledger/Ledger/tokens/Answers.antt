@@ -1,5 +1,5 @@
 use Rattle.std.proofs.Common.{sym, ap, ◌∙◌, subst, map, sum_by, ◌<◌, ◌^◌}
-use Rattle.nr_top.specs.World.{account_tokens}
+use Rattle.nr_state.specs.World.{account_tokens}
 use Rattle.nr_top.proofs.Held.{accounts_listed}
 use Rattle.nr_top.proofs.ledger.Ledger.tokens.Goals as goal
 

@@ -3,7 +3,7 @@ use Rattle.std.proofs.Math.Seq.{drop-cons}
 use Rattle.std.proofs.lemmas.List.{drop_all}
 use Rattle.nr_top.specs.LedgerWorld.{world_of}
 use Rattle.nr_top.specs.Straight.{IsAhead}
-use Rattle.nr_top.specs.declared.block.Block.{Block}
+use Rattle.nr_blocks.specs.declared.block.Block.{Block}
 use Rattle.nr_top.proofs.Ahead.{is_ready, one_more}
 use Rattle.nr_top.proofs.run.Progress.run.Goals as goal
 

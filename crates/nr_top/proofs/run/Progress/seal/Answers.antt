@@ -1,6 +1,6 @@
 use Rattle.std.proofs.Common.{refl}
 use Rattle.nr_top.specs.LedgerWorld.{world_of}
-use Rattle.nr_top.specs.World.{accounts_tokens}
+use Rattle.nr_state.specs.World.{accounts_tokens}
 use Rattle.nr_top.specs.Work.{work_of}
 use Rattle.nr_top.proofs.Blockwise.{work_is, is_seal, is_kept}
 use Rattle.nr_top.proofs.run.Progress.seal.Goals as goal

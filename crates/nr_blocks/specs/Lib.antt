@@ -1,0 +1,6 @@
+pub mod GenesisFiles
+pub mod BlocksFiles
+pub mod Files
+pub mod Genesis
+pub mod Judging
+pub mod Parts

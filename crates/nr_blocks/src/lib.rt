@@ -1,0 +1,28 @@
+//! The files of a chain: its genesis and its blocks.
+//!
+//! A file is four bytes that name its kind, and then fields by Borsh: integers are little-endian,
+//! lists begin with their count as four bytes, ordinals are one byte. All of a file is read.
+#![tactic(auto)]
+
+mod block;
+mod block_checks;
+mod blocks_file;
+mod entry_checks;
+mod fault;
+mod fields;
+mod genesis;
+mod genesis_entry;
+mod genesis_file;
+mod owners;
+mod reading;
+mod supply;
+#[cfg(test)]
+mod tests;
+
+pub use block::Block;
+pub use blocks_file::BlocksFile;
+pub use fault::{BlocksFault, GenesisFault};
+pub use genesis::Genesis;
+pub use genesis_entry::GenesisEntry;
+pub use genesis_file::GenesisFile;
+pub use reading::{read_blocks, read_genesis};

@@ -1,0 +1,103 @@
+//! The two files, read whole.
+
+ghost use Rattle.std.specs.Prelude.{◌≡◌, Ok, IfOk};
+ghost use Rattle.nr_records.specs.Laws.{pair};
+ghost use Rattle.nr_records.specs.Reading.{Gives, GivesAll, all_of};
+ghost use Rattle.nr_blocks.specs.Files.{blocks_at};
+ghost use Rattle.nr_blocks.specs.Judging.{GivesOrFails, blocks_fault, blocks_read, founded, genesis_fault, genesis_read, ordered, parts_at, with_fault};
+ghost use Rattle.nr_blocks.specs.declared.fault.BlocksFault.TheVariants as blocks;
+ghost use Rattle.nr_blocks.specs.declared.fault.GenesisFault.TheVariants as genesis;
+
+use crate::block::Block;
+use crate::block_checks::check_blocks;
+use crate::blocks_file::BlocksFile;
+use crate::entry_checks::{check_code_hashes, check_owners, check_trie_keys, check_usages};
+use crate::fault::{BlocksFault, GenesisFault};
+use crate::fields::magic_of;
+use crate::genesis::Genesis;
+use crate::genesis_entry::GenesisEntry;
+use crate::supply::bounded_supply;
+use nr_bytes::{List, Reader};
+use nr_config::Config;
+use nr_layout::Layout;
+use nr_records::{RecordFault, Spelled, decode};
+use std::alloc::Global;
+
+#[tactic(auto, unfolding(crate::specs::Judging::parts_at))]
+fn parts_of(
+    alloc: Global,
+    reader: &mut Reader<'_>,
+) -> Result<(Layout, List<GenesisEntry>), RecordFault>
+    ensures { Gives result reader.new (parts_at reader.old) }
+{
+    magic_of(reader, *b"NRG1")?;
+    let layout = Layout::read(alloc, reader)?;
+    let entries = List::<GenesisEntry>::read(alloc, reader)?;
+    Ok((layout, entries))
+}
+
+#[tactic(auto, using(crate::proofs::Whole::read_whole, crate::proofs::Whole::read_not, crate::proofs::Whole::read_more))]
+fn all_parts_of(alloc: Global, bytes: &[u8]) -> Result<(Layout, List<GenesisEntry>), RecordFault>
+    ensures { GivesAll result (all_of parts_at bytes.now) }
+{
+    let mut reader = Reader::new(bytes);
+    let parts = parts_of(alloc, &mut reader)?;
+    reader.end()?;
+    Ok(parts)
+}
+
+/// The supply of the entries, where they hold together.
+#[tactic(auto, unfolding(crate::specs::Judging::founded))]
+fn judge(alloc: Global, entries: &[GenesisEntry], config: &Config) -> Result<u128, GenesisFault>
+    ensures { GivesOrFails genesis.Memory result (founded config.now entries.now) }
+{
+    check_trie_keys(alloc, entries)?;
+    check_owners(alloc, entries)?;
+    check_usages(alloc, entries, config)?;
+    let supply = bounded_supply(entries)?;
+    check_code_hashes(alloc, entries)?;
+    Ok(supply)
+}
+
+/// Reads a genesis file, under the configuration by which storage is counted: the bytes `NRG1`, the
+/// boundaries between the shards, the entries, and the end.
+///
+/// # Errors
+///
+/// The first of these that there is: `Spelling` with the place of the first field that can't be
+/// read, where a byte behind the entries is such a field; `Duplicate`, `NoOwner`, `Usage`, `Supply`
+/// and `CodeHash`, as they say. `Memory`.
+#[tactic(auto, unfolding(crate::specs::Judging::genesis_read))]
+pub fn read_genesis(alloc: Global, bytes: &[u8], config: &Config) -> Result<Genesis, GenesisFault>
+    ensures gives { GivesOrFails genesis.Memory result (genesis_read config.now bytes.now) }
+    // What later calls ask of a genesis.
+    ensures founded { IfOk result (λ genesis. founded config.now genesis.entries ≡ Ok genesis.supply) }
+{
+    let (layout, entries) = all_parts_of(alloc, bytes)?;
+    let supply = judge(alloc, entries.inner(), config)?;
+    Ok(Genesis {
+        layout,
+        entries,
+        supply,
+    })
+}
+
+/// Reads a blocks file for this many shards: the bytes `NRB1`, the blocks, and the end.
+///
+/// # Errors
+///
+/// The first of these that there is: of the first field that can't be read `Stake` where it is the
+/// ordinal of an action of staking, and otherwise `Spelling`, each with its place, where a byte
+/// behind the blocks is such a field; `ShardCount`, `HeightOrder` and `TooMany`, as they say.
+/// `Memory`.
+#[tactic(auto, unfolding(crate::specs::Judging::blocks_read))]
+pub fn read_blocks(alloc: Global, bytes: &[u8], shards: u32) -> Result<List<Block>, BlocksFault>
+    ensures gives { GivesOrFails blocks.Memory result (blocks_read shards bytes.now) }
+    // What later calls ask of blocks.
+    ensures ordered { IfOk result (λ blocks. ordered shards blocks ≡ Ok tt) }
+{
+    let file = decode::<BlocksFile>(alloc, bytes)?;
+    let blocks = file.blocks;
+    check_blocks(blocks.inner(), shards)?;
+    Ok(blocks)
+}

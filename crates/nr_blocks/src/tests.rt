@@ -1,0 +1,273 @@
+use crate::{BlocksFault, GenesisEntry, GenesisFault, GenesisFile, read_blocks, read_genesis};
+use nr_bytes::{Blob, List};
+use nr_config::Config;
+use nr_ids::{AccountId, Hash32, PublicKey};
+use nr_records::{AccessKey, Account, Permission, encode};
+use nr_triedef::value_hash;
+use std::alloc::Global;
+use std::test::Fail;
+
+/// Alice has 100 and a key, and bob has 20.
+const GENESIS: [u8; 226] = *b"\
+    NRG1\0\0\0\0\x03\0\0\0\0\x05\0\0\0aliced\0\0\0\0\0\0\0\0\0\0\0\0\0\0\0\0\0\0\0\0\0\
+    \0\0\0\0\0\0\0\0\0\0\0\0\0\0\0\0\0\0\0\0\0\0\0\0\0\0\0\0\0\0\0\0\0\0\0\0\0\0\0\0\0\
+    \0\xb6\0\0\0\0\0\0\0\0\x03\0\0\0bob\x14\0\0\0\0\0\0\0\0\0\0\0\0\0\0\0\0\0\0\0\0\0\
+    \0\0\0\0\0\0\0\0\0\0\0\0\0\0\0\0\0\0\0\0\0\0\0\0\0\0\0\0\0\0\0\0\0\0\0\0\0\0\0\0\0\
+    \0d\0\0\0\0\0\0\0\x02\x05\0\0\0alice\0\x01\x01\x01\x01\x01\x01\x01\x01\x01\x01\x01\
+    \x01\x01\x01\x01\x01\x01\x01\x01\x01\x01\x01\x01\x01\x01\x01\x01\x01\x01\x01\x01\x01\
+    \0\0\0\0\0\0\0\0\x01\
+";
+
+/// In block 1 alice sends 5 to bob, and block 2 is empty.
+const TRANSFER: [u8; 168] = *b"\
+    NRB1\x02\0\0\0\x01\0\0\0\0\0\0\0\0\0\0\0\0\0\0\0\x01\0\0\0\x01\x01\0\0\0\x05\0\0\0\
+    alice\0\x01\x01\x01\x01\x01\x01\x01\x01\x01\x01\x01\x01\x01\x01\x01\x01\x01\x01\x01\
+    \x01\x01\x01\x01\x01\x01\x01\x01\x01\x01\x01\x01\x01\x01\0\0\0\0\0\0\0\x03\0\0\0b\
+    ob\0\0\0\0\0\0\0\0\0\0\0\0\0\0\0\0\0\0\0\0\0\0\0\0\0\0\0\0\0\0\0\0\x01\0\0\0\x03\x05\
+    \0\0\0\0\0\0\0\0\0\0\0\0\0\0\0\x02\0\0\0\0\0\0\0\0\0\0\0\0\0\0\0\x01\0\0\0\x01\0\0\
+    \0\0\
+";
+
+const NO_CODE: Hash32 = Hash32([0; 32]);
+
+fn blocks_fault(alloc: Global, bytes: &[u8], shards: u32) -> Option<BlocksFault> {
+    match read_blocks(alloc, bytes, shards) {
+        Ok(_) => None,
+        Err(fault) => Some(fault),
+    }
+}
+
+/// Where the cut file can't be read.
+fn place_of(length: usize) -> u64 {
+    match length {
+        164..=167 => 164,
+        163 => 163,
+        159..=162 => 159,
+        151..=158 => 151,
+        143..=150 => 143,
+        127..=142 => 127,
+        _ => 126,
+    }
+}
+
+#[test]
+fn cut_blocks_tell_the_place(rt: HostRuntime) {
+    for length in 126..168 {
+        let want = BlocksFault::Spelling {
+            at: place_of(length),
+        };
+        assert!(rt; blocks_fault(rt.alloc(), &TRANSFER[..length], 1) == Some(want));
+    }
+}
+
+fn longer(alloc: Global, bytes: &[u8]) -> Result<Vec<u8>, Fail> {
+    let mut all = Vec::from_slice(alloc, bytes)?;
+    all.push(0)?;
+    Ok(all)
+}
+
+/// The blocks with another byte at a place.
+fn changed(alloc: Global, at: usize, byte: u8) -> Result<Vec<u8>, Fail> {
+    let mut all = Vec::from_slice(alloc, TRANSFER.as_slice())?;
+    if let Some(old) = all.get_mut(at) {
+        *old = byte;
+    }
+    Ok(all)
+}
+
+#[test]
+fn blocks_are_judged(rt: HostRuntime) -> Result<(), Fail> {
+    let alloc = rt.alloc();
+    let rest = longer(alloc, TRANSFER.as_slice())?;
+    assert!(rt; blocks_fault(alloc, &rest, 1) == Some(BlocksFault::Spelling { at: 168 }));
+    let word = changed(alloc, 3, b'2')?;
+    assert!(rt; blocks_fault(alloc, &word, 1) == Some(BlocksFault::Spelling { at: 0 }));
+    let stake = changed(alloc, 126, 4)?;
+    assert!(rt; blocks_fault(alloc, &stake, 1) == Some(BlocksFault::Stake { at: 126 }));
+    let height = changed(alloc, 143, 3)?;
+    assert!(rt; blocks_fault(alloc, &height, 1) == Some(BlocksFault::HeightOrder { height: 3 }));
+    assert!(rt; blocks_fault(alloc, &height, 2) == Some(BlocksFault::ShardCount { height: 1 }));
+    Ok(())
+}
+
+/// A file of this many blocks without chunks.
+fn empty_blocks(alloc: Global, count: u32) -> Result<Vec<u8>, Fail> {
+    let mut all = Vec::from_slice(alloc, b"NRB1".as_slice())?;
+    all.extend_from_slice(count.to_le_bytes().as_slice())?;
+    for number in 0..count {
+        all.extend_from_slice((u64::from(number) + 1).to_le_bytes().as_slice())?;
+        all.extend_from_slice([0; 12].as_slice())?;
+    }
+    Ok(all)
+}
+
+#[test]
+fn blocks_are_at_most_256(rt: HostRuntime) -> Result<(), Fail> {
+    let alloc = rt.alloc();
+    let most = empty_blocks(alloc, 256)?;
+    assert!(rt; blocks_fault(alloc, &most, 0) == None);
+    let more = empty_blocks(alloc, 257)?;
+    assert!(rt; blocks_fault(alloc, &more, 0) == Some(BlocksFault::TooMany));
+    Ok(())
+}
+
+#[test]
+fn genesis_is_read(rt: HostRuntime) {
+    let genesis = read_genesis(rt.alloc(), GENESIS.as_slice(), &Config::free());
+    assert!(rt; matches!(&genesis, Ok(genesis) if genesis.supply == 120));
+}
+
+fn account(
+    alloc: Global,
+    name: &[u8],
+    amount: u128,
+    code_hash: Hash32,
+    storage_usage: u64,
+) -> Result<GenesisEntry, Fail> {
+    let id = AccountId::parse(alloc, name)?;
+    let account = Account {
+        amount,
+        locked: 0,
+        code_hash,
+        storage_usage,
+    };
+    Ok(GenesisEntry::Account(id, account))
+}
+
+fn key(alloc: Global, name: &[u8], nonce: u64) -> Result<GenesisEntry, Fail> {
+    let id = AccountId::parse(alloc, name)?;
+    let access = AccessKey {
+        nonce,
+        permission: Permission::Full,
+    };
+    Ok(GenesisEntry::Key(id, PublicKey::Ed25519([1; 32]), access))
+}
+
+fn code(alloc: Global, name: &[u8]) -> Result<GenesisEntry, Fail> {
+    let id = AccountId::parse(alloc, name)?;
+    let bytes = Vec::from_slice(alloc, b"abc".as_slice())?;
+    Ok(GenesisEntry::Code(id, Blob::of(bytes)))
+}
+
+fn datum(alloc: Global, name: &[u8]) -> Result<GenesisEntry, Fail> {
+    let id = AccountId::parse(alloc, name)?;
+    let key = Vec::from_slice(alloc, b"k".as_slice())?;
+    let value = Vec::from_slice(alloc, b"abc".as_slice())?;
+    Ok(GenesisEntry::Datum(id, Blob::of(key), Blob::of(value)))
+}
+
+/// The fault of the file of two entries.
+fn fault_of_two(
+    alloc: Global,
+    first: GenesisEntry,
+    second: GenesisEntry,
+) -> Result<Option<GenesisFault>, Fail> {
+    let mut entries = Vec::new(alloc);
+    entries.push(first)?;
+    entries.push(second)?;
+    let file = GenesisFile {
+        boundaries: List::of(Vec::new(alloc)),
+        entries: List::of(entries),
+    };
+    let bytes = encode(alloc, &file)?;
+    Ok(match read_genesis(alloc, bytes.inner(), &Config::free()) {
+        Ok(_) => None,
+        Err(fault) => Some(fault),
+    })
+}
+
+#[test]
+fn trie_keys_are_judged(rt: HostRuntime) -> Result<(), Fail> {
+    let alloc = rt.alloc();
+    let alice = account(alloc, b"alice", 1, NO_CODE, 100)?;
+    let again = account(alloc, b"alice", 2, NO_CODE, 100)?;
+    let fault = fault_of_two(alloc, alice, again)?;
+    assert!(rt; fault == Some(GenesisFault::Duplicate { index: 1 }));
+    let first = key(alloc, b"alice", 0)?;
+    let second = key(alloc, b"alice", 1)?;
+    let fault = fault_of_two(alloc, first, second)?;
+    assert!(rt; fault == Some(GenesisFault::Duplicate { index: 1 }));
+    Ok(())
+}
+
+#[test]
+fn owners_are_judged(rt: HostRuntime) -> Result<(), Fail> {
+    let alloc = rt.alloc();
+    let alice = account(alloc, b"alice", 1, NO_CODE, 100)?;
+    let other = key(alloc, b"bob", 0)?;
+    let fault = fault_of_two(alloc, alice, other)?;
+    assert!(rt; fault == Some(GenesisFault::NoOwner { index: 1 }));
+    let alice = account(alloc, b"alice", 1, NO_CODE, 100)?;
+    let system = account(alloc, b"system", 1, NO_CODE, 100)?;
+    let fault = fault_of_two(alloc, alice, system)?;
+    assert!(rt; fault == Some(GenesisFault::NoOwner { index: 1 }));
+    Ok(())
+}
+
+#[test]
+fn usages_are_judged(rt: HostRuntime) -> Result<(), Fail> {
+    let alloc = rt.alloc();
+    let alice = account(alloc, b"alice", 1, NO_CODE, 182)?;
+    let other = key(alloc, b"alice", 0)?;
+    assert!(rt; fault_of_two(alloc, alice, other)? == None);
+    let alice = account(alloc, b"alice", 1, NO_CODE, 143)?;
+    let other = datum(alloc, b"alice")?;
+    let fault = fault_of_two(alloc, other, alice)?;
+    let want = GenesisFault::Usage {
+        index: 1,
+        stated: 143,
+        counted: 144,
+    };
+    assert!(rt; fault == Some(want));
+    Ok(())
+}
+
+/// The fault of the file of alice, with this amount, and bob.
+fn fault_of_amounts(alloc: Global, alice: u128, bob: u128) -> Result<Option<GenesisFault>, Fail> {
+    let alice = account(alloc, b"alice", alice, NO_CODE, 100)?;
+    let bob = account(alloc, b"bob", bob, NO_CODE, 100)?;
+    let fault = fault_of_two(alloc, alice, bob)?;
+    Ok(fault)
+}
+
+#[test]
+fn supply_is_at_most_its_bound(rt: HostRuntime) -> Result<(), Fail> {
+    let alloc = rt.alloc();
+    let most = fault_of_amounts(alloc, 1 << 127, 0)?;
+    assert!(rt; most == None);
+    let more = fault_of_amounts(alloc, 1 << 127, 1)?;
+    assert!(rt; more == Some(GenesisFault::Supply));
+    Ok(())
+}
+
+/// The fault of the file of code and its account.
+fn fault_of_hash(
+    alloc: Global,
+    other: GenesisEntry,
+    hash: Hash32,
+    usage: u64,
+) -> Result<Option<GenesisFault>, Fail> {
+    let alice = account(alloc, b"alice", 1, hash, usage)?;
+    let fault = fault_of_two(alloc, other, alice)?;
+    Ok(fault)
+}
+
+#[test]
+fn code_hashes_are_judged(rt: HostRuntime) -> Result<(), Fail> {
+    let alloc = rt.alloc();
+    let hash = value_hash(b"abc".as_slice());
+    let right = fault_of_hash(alloc, code(alloc, b"alice")?, hash, 103)?;
+    assert!(rt; right == None);
+    let wrong = fault_of_hash(alloc, code(alloc, b"alice")?, NO_CODE, 103)?;
+    assert!(rt; wrong == Some(GenesisFault::CodeHash { index: 1 }));
+    let without = fault_of_hash(alloc, key(alloc, b"alice", 0)?, hash, 182)?;
+    assert!(rt; without == Some(GenesisFault::CodeHash { index: 1 }));
+    Ok(())
+}
+
+#[test]
+fn boundaries_are_at_most_15(rt: HostRuntime) {
+    let bytes = *b"NRG1\x10\0\0\0";
+    let genesis = read_genesis(rt.alloc(), bytes.as_slice(), &Config::free());
+    assert!(rt; matches!(&genesis, Err(fault) if *fault == GenesisFault::Spelling { at: 4 }));
+}

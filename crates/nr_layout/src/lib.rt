@@ -1,0 +1,10 @@
+//! Which shard an account lives in: boundaries split the account ids into shards, in byte order.
+#![tactic(auto)]
+
+mod layout;
+mod reading;
+mod routing;
+#[cfg(test)]
+mod tests;
+
+pub use layout::Layout;

@@ -1,0 +1,4 @@
+pub mod World
+pub mod Flat
+pub mod Usage
+pub mod Entries
