@@ -31,7 +31,8 @@ use std::sync::ledger::Ledger;
 /// over the changes since that checkpoint, at log n each. `back` takes the changes since its
 /// checkpoint back, at log n each. `below` finds the prefix, at log n, and goes over the keys that
 /// begin with it. `root` makes each node of the trie once; it goes over all keys and values, and at
-/// each branch over the keys below it, once for each nibble.
+/// each branch over the keys below it, once for each nibble. Its recursion is at most two branches
+/// deep for each byte that keys share.
 #[derive(Drop)]
 pub struct PlainStore {
     alloc: Global,

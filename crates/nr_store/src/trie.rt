@@ -108,6 +108,9 @@ fn summarize<L: Ledger>(
     Ok(Summary { hash, usage })
 }
 
+// Not inlined, as `with_front` and `branch` are not: a node takes much of the stack, and the recursion
+// of `trie` goes two levels deep for each byte that keys share.
+#[inline(never)]
 fn leaf<L: Ledger>(
     alloc: Global,
     path: &Path<'_>,
@@ -154,6 +157,7 @@ fn extension<L: Ledger>(
     summarize(alloc, &node, usage, steps)
 }
 
+#[inline(never)]
 fn with_front<L: Ledger>(
     alloc: Global,
     shared: &[u8],
@@ -222,6 +226,7 @@ fn hashes(below: &[Option<Summary>]) -> [Option<Hash32>; 16]
     children
 }
 
+#[inline(never)]
 fn branch<L: Ledger>(
     alloc: Global,
     paths: &[Path<'_>],
