@@ -1,3 +1,4 @@
 mod Turns
 mod Entries
 mod Whole
+mod Spellings

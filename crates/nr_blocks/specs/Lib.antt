@@ -3,4 +3,5 @@ pub mod BlocksFiles
 pub mod Files
 pub mod Genesis
 pub mod Judging
+pub mod Spellings
 pub mod Parts

@@ -1,12 +1,15 @@
 //! The two files, read whole.
 
-ghost use Rattle.std.specs.Prelude.{◌≡◌, Ok, IfOk};
+ghost use Rattle.std.specs.Prelude.{◌≡◌, List as Items, Ok, IfOk};
 ghost use Rattle.nr_records.specs.Laws.{pair};
 ghost use Rattle.nr_records.specs.Reading.{Gives, GivesAll, all_of};
 ghost use Rattle.nr_blocks.specs.Files.{blocks_at};
-ghost use Rattle.nr_blocks.specs.Judging.{GivesOrFails, blocks_fault, blocks_read, founded, genesis_fault, genesis_read, ordered, parts_at, with_fault};
+ghost use Rattle.nr_blocks.specs.Judging.{GivesOrFails, blocks_fault, blocks_read, founded, genesis_fault, genesis_read, parts_at, with_fault};
+ghost use Rattle.nr_blocks.specs.Spellings.{genesis_spelling, IsGenesis, blocks_spelling, AreBlocks};
+ghost use Rattle.nr_blocks.specs.declared.block.Block.{Block as Blocks};
 ghost use Rattle.nr_blocks.specs.declared.fault.BlocksFault.TheVariants as blocks;
 ghost use Rattle.nr_blocks.specs.declared.fault.GenesisFault.TheVariants as genesis;
+ghost use Rattle.nr_blocks.specs.declared.genesis.Genesis.{Genesis as Genesises};
 
 use crate::block::Block;
 use crate::block_checks::check_blocks;
@@ -59,19 +62,9 @@ fn judge(alloc: Global, entries: &[GenesisEntry], config: &Config) -> Result<u12
     Ok(supply)
 }
 
-/// Reads a genesis file, under the configuration by which storage is counted: the bytes `NRG1`, the
-/// boundaries between the shards, the entries, and the end.
-///
-/// # Errors
-///
-/// The first of these that there is: `Spelling` with the place of the first field that can't be
-/// read, where a byte behind the entries is such a field; `Duplicate`, `NoOwner`, `Usage`, `Supply`
-/// and `CodeHash`, as they say. `Memory`.
 #[tactic(auto, unfolding(crate::specs::Judging::genesis_read))]
-pub fn read_genesis(alloc: Global, bytes: &[u8], config: &Config) -> Result<Genesis, GenesisFault>
-    ensures gives { GivesOrFails genesis.Memory result (genesis_read config.now bytes.now) }
-    // What later calls ask of a genesis.
-    ensures founded { IfOk result (λ genesis. founded config.now genesis.entries ≡ Ok genesis.supply) }
+fn genesis_of(alloc: Global, bytes: &[u8], config: &Config) -> Result<Genesis, GenesisFault>
+    ensures { GivesOrFails genesis.Memory result (genesis_read config.now bytes.now) }
 {
     let (layout, entries) = all_parts_of(alloc, bytes)?;
     let supply = judge(alloc, entries.inner(), config)?;
@@ -82,6 +75,34 @@ pub fn read_genesis(alloc: Global, bytes: &[u8], config: &Config) -> Result<Gene
     })
 }
 
+/// Reads a genesis file, under the configuration by which storage is counted: the bytes `NRG1`, the
+/// boundaries between the shards, the entries, and the end.
+///
+/// # Errors
+///
+/// The first of these that there is: `Spelling` with the place of the first field that can't be
+/// read, where a byte behind the entries is such a field; `Duplicate`, `NoOwner`, `Usage`, `Supply`
+/// and `CodeHash`, as they say. `Memory`.
+pub fn read_genesis(alloc: Global, bytes: &[u8], config: &Config) -> Result<Genesis, GenesisFault>
+    ensures gives { GivesOrFails genesis.Memory result (genesis_read config.now bytes.now) }
+    // What is read is spelled so.
+    ensures found { IfOk result (λ genesis. IsGenesis config.now genesis × (bytes.now ≡ genesis_spelling genesis)) }
+    // What is spelled so is read, unless memory runs out.
+    ensures only { (g : Genesises) → IsGenesis config.now g → bytes.now ≡ genesis_spelling g → GivesOrFails genesis.Memory result (Ok g) }
+{
+    genesis_of(alloc, bytes, config)
+}
+
+#[tactic(auto, unfolding(crate::specs::Judging::blocks_read))]
+fn blocks_of(alloc: Global, bytes: &[u8], shards: u32) -> Result<List<Block>, BlocksFault>
+    ensures { GivesOrFails blocks.Memory result (blocks_read shards bytes.now) }
+{
+    let file = decode::<BlocksFile>(alloc, bytes)?;
+    let blocks = file.blocks;
+    check_blocks(blocks.inner(), shards)?;
+    Ok(blocks)
+}
+
 /// Reads a blocks file for this many shards: the bytes `NRB1`, the blocks, and the end.
 ///
 /// # Errors
@@ -90,14 +111,12 @@ pub fn read_genesis(alloc: Global, bytes: &[u8], config: &Config) -> Result<Gene
 /// ordinal of an action of staking, and otherwise `Spelling`, each with its place, where a byte
 /// behind the blocks is such a field; `ShardCount`, `HeightOrder` and `TooMany`, as they say.
 /// `Memory`.
-#[tactic(auto, unfolding(crate::specs::Judging::blocks_read))]
 pub fn read_blocks(alloc: Global, bytes: &[u8], shards: u32) -> Result<List<Block>, BlocksFault>
     ensures gives { GivesOrFails blocks.Memory result (blocks_read shards bytes.now) }
-    // What later calls ask of blocks.
-    ensures ordered { IfOk result (λ blocks. ordered shards blocks ≡ Ok tt) }
+    // What is read is spelled so.
+    ensures found { IfOk result (λ list. AreBlocks shards list × (bytes.now ≡ blocks_spelling list)) }
+    // What is spelled so is read, unless memory runs out.
+    ensures only { (list : Items Blocks) → AreBlocks shards list → bytes.now ≡ blocks_spelling list → GivesOrFails blocks.Memory result (Ok list) }
 {
-    let file = decode::<BlocksFile>(alloc, bytes)?;
-    let blocks = file.blocks;
-    check_blocks(blocks.inner(), shards)?;
-    Ok(blocks)
+    blocks_of(alloc, bytes, shards)
 }
