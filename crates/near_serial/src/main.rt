@@ -1,6 +1,7 @@
 //! Replays the blocks of a file, one after another, and writes the report.
 //!
-//! The words that are built are `run free GENESIS BLOCKS`. The exit status is that of the call; for
+//! The words that are built are `run CONFIG GENESIS BLOCKS`, where CONFIG is `free` or the name of a
+//! file. The exit status is that of the call; for
 //! one above 0 a line on standard error has it, with its numbers.
 #![tactic(auto)]
 
@@ -25,6 +26,7 @@ fn number_of(status: Status) -> u8 {
     match status {
         Status::Done => 0,
         Status::Usage => 1,
+        Status::Config { kind: _, entry: _ } => 2,
         Status::ReadFault => 5,
         Status::WriteFault => 6,
         Status::NoMemory => 7,
@@ -56,10 +58,11 @@ fn run<R: Env + Files + Print + AllocGlobal>(rt: &R, alloc: Global) -> Status {
 /// Prints the line of a status above 0, where there is one.
 fn tell<R: Eprint + AllocGlobal>(rt: &R, status: Status) -> io::Result<()> {
     let number = number_of(status);
-    if let Status::NotBuilt { form } = status {
-        eprintln!(rt; "{number} {form}")?;
-    } else if number > 0 {
-        eprintln!(rt; "{number}")?;
+    match status {
+        Status::Done => {}
+        Status::Config { kind, entry } => eprintln!(rt; "{number} {kind} {entry}")?,
+        Status::NotBuilt { form } => eprintln!(rt; "{number} {form}")?,
+        _ => eprintln!(rt; "{number}")?,
     }
     Ok(())
 }

@@ -2,3 +2,7 @@ mod Turns
 mod Entries
 mod Whole
 mod Spellings
+pub mod Filling
+pub mod Sound
+pub mod Founded
+pub mod ValidFirst

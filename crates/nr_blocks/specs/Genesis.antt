@@ -1,7 +1,7 @@
 -- The world that the entries of a genesis give. This project's own file; usage after the Nomicon, Data Structures, Account (storage_usage).
-use Rattle.std.specs.Prelude.{ℕ, ◌==◌, ◌&&◌, not, Bool, cond, List, [], ◌∷◌, length, filter_map, sum_by, Option, Some, None}
+use Rattle.std.specs.Prelude.{◌≡◌, ℕ, ◌^◌, ◌≤◌, ◌==◌, ◌&&◌, not, Bool, true, false, cond, List, [], ◌∷◌, length, map, filter, filter_map, sum_by, Option, Some, None}
 use Rattle.std.specs.FinMap.{from_entries}
-use Rattle.std.specs.List.{list_any}
+use Rattle.std.specs.List.{list_any, list_all}
 use Rattle.std.specs.Str.{bytes_eq}
 use Rattle.nr_config.specs.Config.{Config, account_bytes_entry}
 use Rattle.nr_ids.specs.Grammar.{is_system}
@@ -9,10 +9,13 @@ use Rattle.nr_ids.specs.declared.key.Hash32.{Hash32}
 use Rattle.nr_ids.specs.declared.key.PublicKey.{PublicKey}
 use Rattle.nr_records.specs.declared.account.Account.{Account}
 use Rattle.nr_records.specs.declared.access_key.AccessKey.{AccessKey}
-use Rattle.nr_state.specs.Flat.{account_key, code_key, access_key_key, datum_key}
+use Rattle.nr_layout.specs.Layout.{shard_of}
+use Rattle.nr_columns.specs.Keys.{account_key, code_key, access_key_key, datum_key}
+use Rattle.nr_state.specs.Repeats.{has_repeat}
 use Rattle.nr_state.specs.Usage.{key_usage, datum_usage, zero_hash}
 use Rattle.nr_state.specs.World.{World, no_world, account_tokens}
 use Rattle.nr_triedef.specs.Node.{digest}
+use Rattle.nr_blocks.specs.declared.genesis.Genesis.{Genesis}
 use Rattle.nr_blocks.specs.declared.genesis_entry.GenesisEntry.{GenesisEntry}
 use Rattle.nr_blocks.specs.declared.genesis_entry.GenesisEntry.TheVariants as kind
 
@@ -66,6 +69,14 @@ genesis_world es =
       data_of = from_entries (filter_map datum_in es);
     }
 
+-- ---- the entries of a shard
+-- the account of an entry lives in it
+abbrev pub lives_in : List (List ℕ) → ℕ → GenesisEntry → Bool
+lives_in boundaries shard e = shard_of boundaries (owner e) == shard
+
+abbrev pub entries_of : List (List ℕ) → ℕ → List GenesisEntry → List GenesisEntry
+entries_of boundaries shard es = filter (lives_in boundaries shard) es
+
 -- ---- what the entries say of an account
 -- it stands
 abbrev pub is_account : List GenesisEntry → List ℕ → Bool
@@ -102,3 +113,19 @@ code_hash_in es id = hash_in (filter_map code_in es) id
 -- ---- the tokens of all accounts
 abbrev pub supply : List GenesisEntry → ℕ
 supply es = sum_by (λ a. account_tokens a.1) (accounts_in es)
+
+-- ---- a genesis whose entries hold together
+abbrev pub has_code_hash : List GenesisEntry → List ℕ × Account → Bool
+has_code_hash es a = bytes_eq a.1.code_hash.0 (code_hash_in es a.0).0
+
+pub record IsSoundGenesis (c : Config) (g : Genesis) : Type 0 where
+  -- no trie key stands twice
+  pub apart : has_repeat (map trie_key g.entries) ≡ false
+  -- the account of each entry stands, and is not the system
+  pub owned : list_all (is_owned g.entries) g.entries ≡ true
+  -- each account states what its entries are counted as, and the hash of its code
+  pub usage : list_all (has_usage c g.entries) (accounts_in g.entries) ≡ true
+  pub code_hash : list_all (has_code_hash g.entries) (accounts_in g.entries) ≡ true
+  -- the supply is that of the entries
+  pub tokens : g.supply ≡ supply g.entries
+  pub bounded : g.supply ≤ 2 ^ 127

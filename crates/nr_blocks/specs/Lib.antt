@@ -5,3 +5,4 @@ pub mod Genesis
 pub mod Judging
 pub mod Spellings
 pub mod Parts
+pub mod Filling

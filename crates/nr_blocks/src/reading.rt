@@ -4,6 +4,7 @@ ghost use Rattle.std.specs.Prelude.{◌≡◌, List as Items, Ok, IfOk};
 ghost use Rattle.nr_records.specs.Laws.{pair};
 ghost use Rattle.nr_records.specs.Reading.{Gives, GivesAll, all_of};
 ghost use Rattle.nr_blocks.specs.Files.{blocks_at};
+ghost use Rattle.nr_blocks.specs.Genesis.{IsSoundGenesis};
 ghost use Rattle.nr_blocks.specs.Judging.{GivesOrFails, blocks_fault, blocks_read, founded, genesis_fault, genesis_read, parts_at, with_fault};
 ghost use Rattle.nr_blocks.specs.Spellings.{genesis_spelling, IsGenesis, blocks_spelling, AreBlocks};
 ghost use Rattle.nr_blocks.specs.declared.block.Block.{Block as Blocks};
@@ -87,6 +88,7 @@ pub fn read_genesis(alloc: Global, bytes: &[u8], config: &Config) -> Result<Gene
     ensures gives { GivesOrFails genesis.Memory result (genesis_read config.now bytes.now) }
     // What is read is spelled so.
     ensures found { IfOk result (λ genesis. IsGenesis config.now genesis × (bytes.now ≡ genesis_spelling genesis)) }
+    ensures sound { IfOk result (IsSoundGenesis config.now) }
     // What is spelled so is read, unless memory runs out.
     ensures only { (g : Genesises) → IsGenesis config.now g → bytes.now ≡ genesis_spelling g → GivesOrFails genesis.Memory result (Ok g) }
 {

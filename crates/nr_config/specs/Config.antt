@@ -11,6 +11,9 @@ entry c n = slice_index c (n - 1)
 abbrev pub gas_price : Config → ℕ
 gas_price c = entry c 1
 
+abbrev pub storage_price : Config → ℕ
+storage_price c = entry c 2
+
 abbrev pub chunk_gas_limit : Config → ℕ
 chunk_gas_limit c = entry c 3
 

@@ -125,6 +125,29 @@ fn receipts_are_written(rt: HostRuntime) -> Result<(), Fail> {
 }
 
 #[test]
+fn lines_follow_what_was_written_in_order(rt: HostRuntime) -> Result<(), Fail> {
+    let mut lines = Vec::new(rt.alloc());
+    lines.push(ChunkLine::Late(id(0x0c)))?;
+    lines.push(ChunkLine::Postponed(id(0xa1)))?;
+    let chunk = ChunkResult {
+        height: Height(1),
+        shard: ShardId(0),
+        root: id(0x0d),
+        gas: 2,
+        burnt: 3,
+        lines: List::of(lines),
+    };
+    let mut out = Blob::of(Vec::from_slice(rt.alloc(), b"front\n")?);
+    write_chunk(rt.alloc(), &chunk, &mut out)?;
+    let text =
+        b"front\nchunk 1 0 0d0d0d0d0d0d0d0d0d0d0d0d0d0d0d0d0d0d0d0d0d0d0d0d0d0d0d0d0d0d0d0d 2 3\n\
+        late 0c0c0c0c0c0c0c0c0c0c0c0c0c0c0c0c0c0c0c0c0c0c0c0c0c0c0c0c0c0c0c0c\n\
+        post a1a1a1a1a1a1a1a1a1a1a1a1a1a1a1a1a1a1a1a1a1a1a1a1a1a1a1a1a1a1a1a1\n";
+    assert_eq!(rt; out.inner(), text.as_slice());
+    Ok(())
+}
+
+#[test]
 fn totals_are_written(rt: HostRuntime) -> Result<(), Fail> {
     let totals = Totals {
         supply: 120,

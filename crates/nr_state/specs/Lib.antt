@@ -1,4 +1,13 @@
 pub mod World
 pub mod Flat
 pub mod Usage
-pub mod Entries
+pub mod Changes
+pub mod Repeats
+pub mod View
+pub mod Codes
+pub mod Queues
+pub mod Tokens
+pub mod Valid
+pub mod Keeping
+pub mod Calls
+pub mod Owners

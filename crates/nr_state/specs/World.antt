@@ -1,25 +1,11 @@
 -- The world of a shard: its accounts, access keys, contracts and data, and the receipts that wait in it. After the Nomicon, Data Structures (Account, Access Keys) and Runtime Specification (Receipts).
 use Rattle.std.specs.Prelude.{ℕ, ◌+◌, List, [], Option, sum_by}
 use Rattle.std.specs.FinMap.{FinMap, empty, insert, values}
-use Rattle.std.specs.Ordering.{nat_cmp, ordering_then}
-use Rattle.std.specs.declared.cmp.Ordering.{Ordering}
-use Rattle.std.specs.Cmp.Lexicographic.{slice_cmp}
 use Rattle.nr_ids.specs.declared.key.PublicKey.{PublicKey}
-use Rattle.nr_ids.specs.Keys.{key_bytes}
 use Rattle.nr_records.specs.declared.account.Account.{Account}
 use Rattle.nr_records.specs.declared.access_key.AccessKey.{AccessKey}
 use Rattle.nr_records.specs.declared.receipt.Receipt.{Receipt}
-
-abbrev pub bytes_cmp : List ℕ → List ℕ → Ordering
-bytes_cmp = slice_cmp nat_cmp
-
--- by the owner, and then by the second part
-abbrev pub pair_cmp : List ℕ × List ℕ → List ℕ × List ℕ → Ordering
-pair_cmp a b = ordering_then (bytes_cmp a.0 b.0) (bytes_cmp a.1 b.1)
-
--- by the owner, and then by the key's spelling
-abbrev pub key_cmp : List ℕ × PublicKey → List ℕ × PublicKey → Ordering
-key_cmp a b = ordering_then (bytes_cmp a.0 b.0) (bytes_cmp (key_bytes a.1) (key_bytes b.1))
+pub use Rattle.nr_columns.specs.Orders.{bytes_cmp, pair_cmp, key_cmp}
 
 pub record World : Type 0 where
   -- by id

@@ -1,11 +1,16 @@
-//! The state of a shard: the world as a definition, and the keys of the trie that holds it.
+//! The state of a shard: a world over any store, which holds exactly the world's trie entries.
 #![tactic(auto)]
 
-mod entry;
-pub mod keys;
+mod accounts;
+mod calls;
+mod contents;
+pub mod laws;
 mod place;
-#[cfg(test)]
-mod tests;
+pub mod queues;
+mod state;
+mod usage;
 
-pub use entry::Entry;
+pub use calls::{CallContext, CallEnd, CallStop, Caller, Returned};
+pub use nr_columns::{Entry, keys};
 pub use place::Place;
+pub use state::ShardState;

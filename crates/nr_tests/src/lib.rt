@@ -2,6 +2,10 @@
 #![tactic(auto)]
 
 #[cfg(test)]
+mod by_config;
+#[cfg(test)]
+mod config_text;
+#[cfg(test)]
 mod refused;
 #[cfg(test)]
 mod rows;

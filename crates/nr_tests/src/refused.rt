@@ -1,19 +1,16 @@
 //! Runs that end with a refusal or a fault.
 
-use crate::setting::{ROOM, run, shelf_of, words_of};
+use crate::setting::{Ended, ROOM, end_of, run, shelf_of, words_of};
 use crate::worked;
 use nr_bytes::MemorySink;
 use nr_top::{Status, serial};
 use std::alloc::Global;
 use std::test::Fail;
 
-// The status of words over the files of one transfer that can't be loaded, and what was written.
-fn answer_to(alloc: Global, row: &[&str]) -> Result<(Status, MemorySink), Fail> {
-    let words = words_of(alloc, row)?;
-    let mut shelf = shelf_of(alloc, worked::GENESIS, worked::TRANSFER, &[1, 2])?;
-    let mut sink = MemorySink::new(alloc, 10, Vec::new(alloc), ROOM)?;
-    let status = serial(alloc, &words, &mut shelf, &mut sink);
-    Ok((status, sink))
+/// How words over the files of one transfer end.
+fn answer_to(alloc: Global, words: &[&str]) -> Result<Ended, Fail> {
+    let shelf = shelf_of(alloc, worked::GENESIS, worked::TRANSFER, &[])?;
+    end_of(alloc, words, shelf)
 }
 
 #[test]
@@ -41,26 +38,27 @@ fn words_of_no_command_are_usage(rt: HostRuntime) -> Result<(), Fail> {
         &["gen", "18446744073709551616", "4", "200"],
     ];
     for row in rows {
-        let (status, sink) = answer_to(rt.alloc(), row)?;
-        assert_eq!(rt; status, Status::Usage);
-        assert_eq!(rt; sink.bytes(), [].as_slice());
+        let ended = answer_to(rt.alloc(), row)?;
+        assert_eq!(rt; ended.status, Status::Usage);
+        assert!(rt; ended.asked(rt.alloc(), "None")?);
+        assert_eq!(rt; ended.sink.bytes(), [].as_slice());
     }
     Ok(())
 }
 
 #[test]
-fn later_commands_are_not_built(rt: HostRuntime) -> Result<(), Fail> {
-    let rows: [&[&str]; 5] = [
-        &["run", "config", "G", "B"],
+fn later_commands_load_nothing(rt: HostRuntime) -> Result<(), Fail> {
+    let rows: [&[&str]; 4] = [
         &["check", "free", "G", "B", "S"],
         &["gen", "7", "4", "200"],
         &["gen", "0", "1", "1"],
         &["gen", "18446744073709551615", "16", "256"],
     ];
     for row in rows {
-        let (status, sink) = answer_to(rt.alloc(), row)?;
-        assert_eq!(rt; status, Status::NotBuilt { form: 0 });
-        assert_eq!(rt; sink.bytes(), [].as_slice());
+        let ended = answer_to(rt.alloc(), row)?;
+        assert_eq!(rt; ended.status, Status::NotBuilt { form: 0 });
+        assert!(rt; ended.asked(rt.alloc(), "None")?);
+        assert_eq!(rt; ended.sink.bytes(), [].as_slice());
     }
     Ok(())
 }
@@ -90,9 +88,9 @@ fn other_files_are_not_built(rt: HostRuntime) -> Result<(), Fail> {
         (worked::NO_GENESIS, worked::TRANSFER, 2),
     ];
     for (genesis, blocks, form) in rows {
-        let (status, sink) = run(rt.alloc(), genesis, blocks)?;
-        assert_eq!(rt; status, Status::NotBuilt { form });
-        assert_eq!(rt; sink.bytes(), [].as_slice());
+        let ended = run(rt.alloc(), genesis, blocks)?;
+        assert_eq!(rt; ended.status, Status::NotBuilt { form });
+        assert_eq!(rt; ended.sink.bytes(), [].as_slice());
     }
     Ok(())
 }

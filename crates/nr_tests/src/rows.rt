@@ -12,7 +12,7 @@ struct Row {
     report: &'static str,
 }
 
-const ROWS: [Row; 6] = [
+const ROWS: [Row; 7] = [
     Row {
         genesis: worked::GENESIS,
         blocks: worked::TRANSFER,
@@ -43,14 +43,20 @@ const ROWS: [Row; 6] = [
         blocks: worked::TRANSFER_TO_HERSELF,
         report: worked::TO_HERSELF_REPORT,
     },
+    Row {
+        genesis: worked::GENESIS,
+        blocks: worked::GREATEST_TRANSFER,
+        report: worked::GREATEST_TRANSFER_REPORT,
+    },
 ];
 
 #[test]
 fn runs_are_reported(rt: HostRuntime) -> Result<(), Fail> {
     for row in &ROWS {
-        let (status, sink) = run(rt.alloc(), row.genesis, row.blocks)?;
-        assert_eq!(rt; status, Status::Done);
-        assert_eq!(rt; sink.bytes(), row.report.as_bytes());
+        let ended = run(rt.alloc(), row.genesis, row.blocks)?;
+        assert_eq!(rt; ended.status, Status::Done);
+        assert!(rt; ended.asked(rt.alloc(), "Some([\"G\", \"B\"])")?);
+        assert_eq!(rt; ended.sink.bytes(), row.report.as_bytes());
     }
     Ok(())
 }

@@ -8,6 +8,24 @@ use std::test::Fail;
 /// The room of a sink.
 pub(crate) const ROOM: usize = 67_108_864;
 
+/// How a run ended: its status, the names that it asked for, and what the sink took.
+#[derive(Drop)]
+pub(crate) struct Ended {
+    pub(crate) status: Status,
+    pub(crate) sink: MemorySink,
+    shelf: MemoryShelf,
+}
+
+impl Ended {
+    /// Whether these names alone were asked for, as the shelf's text ends.
+    pub(crate) fn asked(&self, alloc: Global, names: &str) -> Result<bool, Fail> {
+        let shelf = &self.shelf;
+        let text = format!(in alloc; "{shelf:?}")?;
+        let end = format!(in alloc; "asked: {names} }}")?;
+        Ok(text.as_bytes().strip_suffix(end.as_bytes()).is_some())
+    }
+}
+
 /// Words as texts of their own.
 pub(crate) fn words_of(alloc: Global, words: &[&str]) -> Result<Vec<String>, Fail> {
     let mut texts = Vec::new(alloc);
@@ -17,6 +35,27 @@ pub(crate) fn words_of(alloc: Global, words: &[&str]) -> Result<Vec<String>, Fai
     Ok(texts)
 }
 
+/// A shelf with a genesis `G` and blocks `B`, given in hexadecimal, and other files, that fails at some
+/// calls.
+pub(crate) fn shelf_with(
+    alloc: Global,
+    genesis: &str,
+    blocks: &str,
+    others: &[(&str, &[u8])],
+    fail: &[u64],
+) -> Result<MemoryShelf, Fail> {
+    let mut files = Vec::new(alloc);
+    files.push((String::from_str(alloc, "G")?, hex::decode(alloc, genesis)?))?;
+    files.push((String::from_str(alloc, "B")?, hex::decode(alloc, blocks)?))?;
+    for (name, bytes) in others {
+        files.push((
+            String::from_str(alloc, name)?,
+            Vec::from_slice(alloc, bytes)?,
+        ))?;
+    }
+    Ok(MemoryShelf::new(files, Vec::from_slice(alloc, fail)?))
+}
+
 /// A shelf with a genesis `G` and blocks `B`, given in hexadecimal, that fails at some calls.
 pub(crate) fn shelf_of(
     alloc: Global,
@@ -24,21 +63,35 @@ pub(crate) fn shelf_of(
     blocks: &str,
     fail: &[u64],
 ) -> Result<MemoryShelf, Fail> {
-    let mut files = Vec::new(alloc);
-    files.push((String::from_str(alloc, "G")?, hex::decode(alloc, genesis)?))?;
-    files.push((String::from_str(alloc, "B")?, hex::decode(alloc, blocks)?))?;
-    Ok(MemoryShelf::new(files, Vec::from_slice(alloc, fail)?))
+    shelf_with(alloc, genesis, blocks, &[], fail)
 }
 
-/// The status of `run free G B`, and what the sink took.
-pub(crate) fn run(
-    alloc: Global,
-    genesis: &str,
-    blocks: &str,
-) -> Result<(Status, MemorySink), Fail> {
-    let words = words_of(alloc, &["run", "free", "G", "B"])?;
-    let mut shelf = shelf_of(alloc, genesis, blocks, &[])?;
+/// What words over a shelf end with.
+pub(crate) fn end_of(alloc: Global, words: &[&str], shelf: MemoryShelf) -> Result<Ended, Fail> {
+    let words = words_of(alloc, words)?;
+    let mut shelf = shelf;
     let mut sink = MemorySink::new(alloc, 10, Vec::new(alloc), ROOM)?;
     let status = serial(alloc, &words, &mut shelf, &mut sink);
-    Ok((status, sink))
+    Ok(Ended {
+        status,
+        sink,
+        shelf,
+    })
+}
+
+/// What `run free G B` ends with.
+pub(crate) fn run(alloc: Global, genesis: &str, blocks: &str) -> Result<Ended, Fail> {
+    let shelf = shelf_of(alloc, genesis, blocks, &[])?;
+    end_of(alloc, &["run", "free", "G", "B"], shelf)
+}
+
+/// What `run C G B` ends with, for the bytes of a configuration.
+pub(crate) fn run_by(
+    alloc: Global,
+    config: &[u8],
+    genesis: &str,
+    blocks: &str,
+) -> Result<Ended, Fail> {
+    let shelf = shelf_with(alloc, genesis, blocks, &[("C", config)], &[])?;
+    end_of(alloc, &["run", "C", "G", "B"], shelf)
 }

@@ -125,3 +125,75 @@ pub(crate) const TO_HERSELF_REPORT: &str =
      total receipts 0\n\
      total burnt 0\n\
      total places 1 1 0 0 0\n";
+
+/// Alice sends 2^128 - 1 to Bob in block 1; block 2 is empty.
+pub(crate) const GREATEST_TRANSFER: &str =
+    "4e524231020000000100000000000000000000000000000001000000010100000005000000616c696365\
+     000101010101010101010101010101010101010101010101010101010101010101010000000000000003\
+     000000626f62000000000000000000000000000000000000000000000000000000000000000001000000\
+     03ffffffffffffffffffffffffffffffff02000000000000000000000000000000010000000100000000";
+
+/// What the run reports.
+pub(crate) const GREATEST_TRANSFER_REPORT: &str =
+    "chunk 1 0 50ad168d49cb50bd48de3e6166af81af986d7aeb0e1402c859e71f1492a2faf7 0 0\n\
+     tx fa482b8f1b49d7087a747ceb1353370300e4be72849cc276b64f81e850e12679 refused 9 100 340282366920938463463374607431768211455\n\
+     chunk 2 0 50ad168d49cb50bd48de3e6166af81af986d7aeb0e1402c859e71f1492a2faf7 0 0\n\
+     total supply 120\n\
+     total accounts 120\n\
+     total receipts 0\n\
+     total burnt 0\n\
+     total places 0 0 0 0 0\n";
+
+/// Alice sends 5 to Bob in the only block.
+pub(crate) const TRANSFER_IN_FLIGHT: &str =
+    "4e524231010000000100000000000000000000000000000001000000010100000005000000616c696365\
+     000101010101010101010101010101010101010101010101010101010101010101010000000000000003\
+     000000626f62000000000000000000000000000000000000000000000000000000000000000001000000\
+     0305000000000000000000000000000000";
+
+/// What one transfer under fees reports.
+pub(crate) const FEES_REPORT: &str =
+    "chunk 1 0 c8705e1f0759e32313151e656096bf29d309bc42709a0467f188cbaf43026272 1 1\n\
+     tx 923475a294f1ed3815d5e18071828f002f4190a1afa36e7d5adb41e226af71d2 ok 1db49a92f6565af840d649a74ad2eacfc1d2c593723750fc7a83746f38e0c950\n\
+     out 0 1db49a92f6565af840d649a74ad2eacfc1d2c593723750fc7a83746f38e0c950 739c2ad41d2e6bc522f6ff1517345ac2cb75c7553b58182c0d14972499d775a3\n\
+     chunk 2 0 312ed96516da909fe075cb8a3b32129da871971b0ca354ee7033084ffebbc80a 2 2\n\
+     run 1db49a92f6565af840d649a74ad2eacfc1d2c593723750fc7a83746f38e0c950 value - 2 2\n\
+     total supply 120\n\
+     total accounts 117\n\
+     total receipts 0\n\
+     total burnt 3\n\
+     total places 1 1 0 0 0\n";
+
+/// What it reports where its receipt stays in flight, with 5 and gas of 2.
+pub(crate) const FEES_IN_FLIGHT_REPORT: &str =
+    "chunk 1 0 c8705e1f0759e32313151e656096bf29d309bc42709a0467f188cbaf43026272 1 1\n\
+     tx 923475a294f1ed3815d5e18071828f002f4190a1afa36e7d5adb41e226af71d2 ok 1db49a92f6565af840d649a74ad2eacfc1d2c593723750fc7a83746f38e0c950\n\
+     out 0 1db49a92f6565af840d649a74ad2eacfc1d2c593723750fc7a83746f38e0c950 739c2ad41d2e6bc522f6ff1517345ac2cb75c7553b58182c0d14972499d775a3\n\
+     total supply 120\n\
+     total accounts 112\n\
+     total receipts 7\n\
+     total burnt 1\n\
+     total places 1 0 0 0 1\n";
+
+/// What a transfer to herself reports under a price of 2 for gas, and other fees for sending to others.
+pub(crate) const FEES_AT_HOME_REPORT: &str =
+    "chunk 1 0 8a255b6c3147ff3d9c84fb38ff6ea65380e2a64643906254ac84e1a94ab21df4 3 6\n\
+     tx f0e08bf08f08174a2fedcd9113f2294dc89451dd7d6a3a4deca1280dff299af1 ok 9ab74199be5d348592178e8a0d181bc83e7510a1168f2c9ebccf2e4c61a73bc9\n\
+     run 9ab74199be5d348592178e8a0d181bc83e7510a1168f2c9ebccf2e4c61a73bc9 value - 2 4\n\
+     chunk 2 0 8a255b6c3147ff3d9c84fb38ff6ea65380e2a64643906254ac84e1a94ab21df4 0 0\n\
+     total supply 120\n\
+     total accounts 114\n\
+     total receipts 0\n\
+     total burnt 6\n\
+     total places 1 1 0 0 0\n";
+
+/// What the greatest transfer reports under fees.
+pub(crate) const OVERFLOW_REPORT: &str =
+    "chunk 1 0 50ad168d49cb50bd48de3e6166af81af986d7aeb0e1402c859e71f1492a2faf7 0 0\n\
+     tx fa482b8f1b49d7087a747ceb1353370300e4be72849cc276b64f81e850e12679 refused 7 0 0\n\
+     chunk 2 0 50ad168d49cb50bd48de3e6166af81af986d7aeb0e1402c859e71f1492a2faf7 0 0\n\
+     total supply 120\n\
+     total accounts 120\n\
+     total receipts 0\n\
+     total burnt 0\n\
+     total places 0 0 0 0 0\n";

@@ -1,7 +1,7 @@
 -- What the entries of a genesis give, entry by entry.
 use Rattle.std.proofs.Common.{◌≡◌, ℕ, ◌+◌, ◌-◌, ◌^◌, ◌<◌, ◌≤◌, Bool, true, false, cond, List, [], ◌∷◌, length, drop, map, Option, Some, None, Ordering, sym, refl, ap, ◌∙◌, arith, get_or}
 use mathlib.Core.Bool.{false≢true}
-use Rattle.std.specs.Prelude.{not, ◌&&◌, ◌||◌, is_some, min, sum_by, filter_map, nat_le, unwrap_or}
+use Rattle.std.specs.Prelude.{not, ◌&&◌, ◌||◌, is_some, min, sum_by, filter_map, nat_le, nat_lt, unwrap_or, ◌==◌}
 use Rattle.std.proofs.lemmas.Bool.Decides.{nat_tests}
 use borrow.Author.Tests.{leb-true}
 use Rattle.std.specs.declared.cmp.Ordering.TheVariants.{Less, Equal, Greater}
@@ -12,18 +12,18 @@ use Rattle.std.specs.Cmp.{eq_by_cmp_equiv}
 use Rattle.std.specs.Cmp.Lexicographic.{nat_list_cmp_total, texts_ties}
 use Rattle.std.specs.BTreeMap.{is_at}
 use Rattle.std.specs.List.{list_any, list_all}
+use Rattle.std.specs.Map.{count_at}
 use Rattle.std.specs.Str.{bytes_eq}
 use Rattle.std.proofs.lemmas.List.{drop_more}
 use Rattle.std.proofs.lemmas.Map.Lookups.{exact_bytes}
 use Rattle.std.proofs.lemmas.List.Sums.{sum_by-cons}
 use Rattle.nr_ids.specs.Grammar.{is_system}
 use Rattle.nr_records.specs.declared.account.Account.{Account}
-use Rattle.nr_config.specs.Config.{free, account_bytes_entry, extra_record_bytes}
-use Rattle.nr_config.specs.Table.{table}
+use Rattle.nr_config.specs.Config.{Config}
 use Rattle.nr_top.specs.Execution.{system}
-use Rattle.nr_state.specs.Flat.{account_key}
-use Rattle.nr_top.specs.Founding.{plain_world, if_account, entry_tokens, is_sound, IsFounded}
-use Rattle.nr_blocks.specs.Genesis.{accounts_in, code_in, datum_in, key_in, genesis_world, has_usage, is_account, is_owned, supply, trie_key}
+use Rattle.nr_columns.specs.Keys.{account_key}
+use Rattle.nr_top.specs.Founding.{plain_world, if_account, has_small_usage, uses_counted, entry_tokens, is_sound, IsFounded}
+use Rattle.nr_blocks.specs.Genesis.{usage_in, accounts_in, code_in, datum_in, key_in, genesis_world, has_usage, is_account, is_owned, supply, trie_key}
 use Rattle.nr_top.specs.Genesis.{has_no_code, has_one_shard, has_repeat, holds_together, is_built_entry, is_built_genesis}
 use Rattle.nr_top.specs.LedgerWorld.{world_of}
 use Rattle.nr_state.specs.World.{bytes_cmp, no_world, account_tokens, accounts_tokens}
@@ -181,15 +181,6 @@ no_system_in all (kind.Code id code ∷ es) h = no_system_in all es (both_true _
 no_system_in all (kind.Key id key access ∷ es) h = no_system_in all es (both_true _ _ h).1
 no_system_in all (kind.Datum id key value ∷ es) h = no_system_in all es (both_true _ _ h).1
 
--- ---- the configuration's numbers
-pub account_is_100 : account_bytes_entry free ≡ 100
-unfolding free table
-account_is_100 = refl
-
-pub record_is_40 : extra_record_bytes free ≡ 40
-unfolding free table
-record_is_40 = refl
-
 -- ---- one usage written
 pub usage_written : (old : List ℕ → Option ℕ) (id q : List ℕ) (w u m : ℕ) (o : Option ℕ) → o ≡ cond (is_at (bytes_cmp id) q) (Some w) (old q) → w ≡ min (unwrap_or (old id) 0 + u) m → unwrap_or o 0 ≡ cond (bytes_eq id q) (min (unwrap_or (old q) 0 + u) m) (unwrap_or (old q) 0)
 usage_written old id q w u m o h k =
@@ -201,53 +192,69 @@ usage_written old id q w u m o h k =
     ] refl
     ∙ ap (λ b. cond b (min (unwrap_or (old q) 0 + u) m) (unwrap_or (old q) 0)) (sym (texts_ties id q))
 
+-- what was counted up to the greatest number is told apart from each usage of 64 bits
+usage_alike : (n usage : ℕ) → nat_lt usage (2 ^ 64) ≡ true → (usage == min n (2 ^ 128 - 1)) ≡ (usage == n)
+usage_alike n usage small = grind (arith, nat_tests)
+
+pub usages_alike : (c : Config) (es : List GenesisEntry) (counts : List ℕ → Option ℕ) → ((q : List ℕ) → count_at counts q ≡ min (usage_in c es q) (2 ^ 128 - 1)) → (xs : List (List ℕ × Account)) → list_all has_small_usage xs ≡ true
+    → list_all (uses_counted counts) xs ≡ list_all (has_usage c es) xs
+usages_alike c es counts h [] small = refl
+usages_alike c es counts h (a ∷ xs) small =
+    let two = both_true (has_small_usage a) (list_all has_small_usage xs) small in
+    let here : uses_counted counts a ≡ has_usage c es a = ap (λ n. a.1.storage_usage == n) (h a.0) ∙ usage_alike (usage_in c es a.0) a.1.storage_usage two.0 in
+    λ i. here i && usages_alike c es counts h xs two.1 i
+
+pub sound_by : (c : Config) (es : List GenesisEntry) (counts : List ℕ → Option ℕ) (used : Bool) → ((q : List ℕ) → count_at counts q ≡ min (usage_in c es q) (2 ^ 128 - 1)) → list_all has_small_usage (accounts_in es) ≡ true → used ≡ list_all (uses_counted counts) (accounts_in es)
+    → used ≡ list_all (has_usage c es) (accounts_in es)
+sound_by c es counts used h small is = is ∙ usages_alike c es counts h (accounts_in es) small
+
 -- ---- a file that is built, or isn't
 and_false : (b : Bool) → (b && false) ≡ false
 and_false true = refl
 and_false false = refl
 
-together : (es : List GenesisEntry) → holds_together free es ≡ (not (has_repeat (map trie_key es)) && is_sound es)
+together : (c : Config) (es : List GenesisEntry) → holds_together c es ≡ (not (has_repeat (map trie_key es)) && is_sound c es)
 unfolding holds_together
-together es = grouped (not (has_repeat (map trie_key es))) (list_all (is_owned es) es) (list_all (has_usage free es) (accounts_in es)) (nat_le (supply es) (2 ^ 127)) (list_all has_no_code (accounts_in es))
+together c es = grouped (not (has_repeat (map trie_key es))) (list_all (is_owned es) es) (list_all (has_usage c es) (accounts_in es)) (nat_le (supply es) (2 ^ 127)) (list_all has_no_code (accounts_in es))
   where
     grouped : (a b c d e : Bool) → (a && b && c && d && e) ≡ (a && (b && c && d && e))
     grouped true b c d e = refl
     grouped false b c d e = refl
 
-pub not_plain : (g : GenesisFile) → (has_one_shard g && list_all is_built_entry g.entries) ≡ false → is_built_genesis free g ≡ false
+pub not_plain : (c : Config) (g : GenesisFile) → (has_one_shard g && list_all is_built_entry g.entries) ≡ false → is_built_genesis c g ≡ false
 unfolding is_built_genesis
-not_plain g h = ap (λ b. b && holds_together free g.entries) h
+not_plain c g h = ap (λ b. b && holds_together c g.entries) h
 
-pub not_apart : (g : GenesisFile) → has_repeat (map trie_key g.entries) ≡ true → is_built_genesis free g ≡ false
+pub not_apart : (c : Config) (g : GenesisFile) → has_repeat (map trie_key g.entries) ≡ true → is_built_genesis c g ≡ false
 unfolding is_built_genesis
-not_apart g h =
-    ap (λ b. has_one_shard g && list_all is_built_entry g.entries && b) (together g.entries ∙ ap (λ r. not r && is_sound g.entries) h)
+not_apart c g h =
+    ap (λ b. has_one_shard g && list_all is_built_entry g.entries && b) (together c g.entries ∙ ap (λ r. not r && is_sound c g.entries) h)
     ∙ and_false (has_one_shard g && list_all is_built_entry g.entries)
 
-pub not_sound : (g : GenesisFile) → is_sound g.entries ≡ false → is_built_genesis free g ≡ false
+pub not_sound : (c : Config) (g : GenesisFile) → is_sound c g.entries ≡ false → is_built_genesis c g ≡ false
 unfolding is_built_genesis
-not_sound g h =
-    ap (λ b. has_one_shard g && list_all is_built_entry g.entries && b) (together g.entries ∙ ap (λ b. not (has_repeat (map trie_key g.entries)) && b) h ∙ and_false _)
+not_sound c g h =
+    ap (λ b. has_one_shard g && list_all is_built_entry g.entries && b) (together c g.entries ∙ ap (λ b. not (has_repeat (map trie_key g.entries)) && b) h ∙ and_false _)
     ∙ and_false (has_one_shard g && list_all is_built_entry g.entries)
 
-built : (g : GenesisFile) → (has_one_shard g && list_all is_built_entry g.entries) ≡ true → has_repeat (map trie_key g.entries) ≡ false → is_sound g.entries ≡ true → is_built_genesis free g ≡ true
+built : (c : Config) (g : GenesisFile) → (has_one_shard g && list_all is_built_entry g.entries) ≡ true → has_repeat (map trie_key g.entries) ≡ false → is_sound c g.entries ≡ true → is_built_genesis c g ≡ true
 unfolding is_built_genesis
-built g plain apart sound =
-    let all : holds_together free g.entries ≡ true = together g.entries ∙ (λ i. not (apart i) && sound i) in
+built c g plain apart sound =
+    let all : holds_together c g.entries ≡ true = together c g.entries ∙ (λ i. not (apart i) && sound i) in
     λ i. plain i && all i
 
-pub is_founded : (l : Ledger) (g : GenesisFile) → (has_one_shard g && list_all is_built_entry g.entries) ≡ true → has_repeat (map trie_key g.entries) ≡ false → is_sound g.entries ≡ true → world_of l ≡ genesis_world g.entries → IsFounded l g
+pub is_founded : (c : Config) (l : Ledger) (g : GenesisFile) → (has_one_shard g && list_all is_built_entry g.entries) ≡ true → has_repeat (map trie_key g.entries) ≡ false → is_sound c g.entries ≡ true → world_of l ≡ genesis_world g.entries → IsFounded c l g
 unfolding genesis_world
-is_founded l g plain apart sound world =
+is_founded c l g plain apart sound world =
     let es = g.entries in
     let owned = list_all (is_owned es) es in
-    let used = list_all (has_usage free es) (accounts_in es) in
+    let used = list_all (has_usage c es) (accounts_in es) in
     let bounded = nat_le (supply es) (2 ^ 127) in
     let three = both_true (owned && used && bounded) (list_all has_no_code (accounts_in es)) sound in
     let two = both_true (owned && used) bounded three.0 in
     let one = both_true owned used two.0 in
     record {
-      built = built g plain apart sound;
+      built = built c g plain apart sound;
       world = world;
       tokens = ap accounts_tokens world ∙ tokens_once es apart;
       bounded = leb-true _ _ two.1;

@@ -15,7 +15,10 @@ use Rattle.nr_records.specs.declared.account.Account.{Account}
 use Rattle.nr_top.specs.LedgerWorld.{accounts_held, keys_held}
 use Rattle.nr_records.specs.Accounts.{account_bytes}
 use Rattle.nr_records.specs.AccessKeys.{access_key_bytes}
-use Rattle.nr_state.specs.Flat.{flat, laid, account_key, access_key_key}
+use Rattle.nr_state.specs.Flat.{flat}
+use Rattle.nr_columns.specs.Columns.{laid_columns}
+use Rattle.nr_columns.specs.Keys.{account_key, access_key_key}
+use Rattle.nr_columns.specs.Tables.{laid}
 use Rattle.nr_state.specs.World.{bytes_cmp, key_cmp, no_world}
 use Rattle.nr_top.proofs.Maps.{get-held, held-changed, entries-held, entries_empty}
 
@@ -55,5 +58,5 @@ keys_listed = entries-held key_total exact_keys
 
 -- ---- a world of accounts and keys, laid flat
 pub flat_held : (es : List (List ℕ × Account)) (ks : List ((List ℕ × PublicKey) × AccessKey)) → IsStrictlySortedBy bytes_cmp (keys_of es) → IsStrictlySortedBy key_cmp (keys_of ks) → flat (record no_world { accounts = accounts_held es; keys = keys_held ks }) ≡ laid access_key_key access_key_bytes ks (laid account_key account_bytes es empty)
-unfolding flat
+unfolding flat laid_columns
 flat_held es ks s t = simp (entries_empty, accounts_listed es s, keys_listed ks t)

@@ -2,7 +2,7 @@
 pub mod Maps
 pub mod Founding
 pub mod Held
-pub mod Free
+pub mod Costs
 pub mod Converting
 pub mod Tokens
 pub mod Executing

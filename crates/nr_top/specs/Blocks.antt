@@ -1,7 +1,12 @@
--- Which blocks are built: few, in order of height, with one chunk each, of transfers between accounts of the genesis. This project's own file.
-use Rattle.std.specs.Prelude.{ℕ, ◌+◌, ◌==◌, ◌&&◌, Bool, true, false, List, [], ◌∷◌, length, Option, Some, None, nat_le, is_some}
+-- Which blocks are built: few, in order of height, with one chunk each, of transfers between accounts of the genesis; and under which configurations. This project's own file.
+use Rattle.std.specs.Prelude.{ℕ, ◌+◌, ◌*◌, ◌==◌, ◌&&◌, Bool, true, false, List, [], ◌∷◌, length, Option, Some, None, nat_le, nat_lt, is_some, sum_by}
 use Rattle.std.specs.FinMap.{get}
 use Rattle.std.specs.List.{list_all}
+use Rattle.nr_config.specs.Config.{Config, storage_price, chunk_gas_limit}
+use Rattle.nr_fees.specs.Fees.{fee}
+use Rattle.nr_fees.specs.declared.table.Fee.{Fee}
+use Rattle.nr_fees.specs.declared.table.Fee.TheVariants.{ActionReceipt as action_receipt, Transfer as transfer}
+use Rattle.nr_fees.specs.declared.table.Payment.TheVariants.{SendLocal, SendRemote, Execute}
 use Rattle.nr_records.specs.declared.action.Action.{Action}
 use Rattle.nr_records.specs.declared.action.Action.TheVariants.{Transfer}
 use Rattle.nr_records.specs.declared.transaction.Transaction.{Transaction}
@@ -41,3 +46,24 @@ most_blocks = 256
 
 unfoldable pub are_built_blocks : World → List Block → Bool
 are_built_blocks w blocks = nat_le (length blocks) most_blocks && are_built_from w 1 blocks
+
+-- ---- the gas that all transactions together can burn, however they are sent
+abbrev pub all_fees : Config → Fee → ℕ
+all_fees c f = fee c SendLocal f + fee c SendRemote f + fee c Execute f
+
+unfoldable pub most_gas : Config → Transaction → ℕ
+most_gas c tx = all_fees c action_receipt + length tx.actions * all_fees c transfer
+
+abbrev pub chunk_gas : Config → Option (List Transaction) → ℕ
+chunk_gas c None = 0
+chunk_gas c (Some txs) = sum_by (most_gas c) txs
+
+abbrev pub block_gas : Config → Block → ℕ
+block_gas c b = sum_by (chunk_gas c) b.chunks
+
+abbrev pub blocks_gas : Config → List Block → ℕ
+blocks_gas c blocks = sum_by (block_gas c) blocks
+
+-- storage costs nothing, and no chunk can come to its limit
+unfoldable pub is_built_config : Config → List Block → Bool
+is_built_config c blocks = (storage_price c == 0) && nat_lt (blocks_gas c blocks) (chunk_gas_limit c)

@@ -67,8 +67,17 @@ command (a ∷ b ∷ c ∷ d ∷ e ∷ []) = five_words a b c d e
 command (a ∷ b ∷ c ∷ d ∷ e ∷ f ∷ words) = None
 
 -- ---- what is built
--- the genesis and the blocks of a replay under the built-in configuration `free`
-abbrev pub built_files : Command → Option (List ℕ × List ℕ)
-built_files (Run config genesis blocks) = cond (bytes_eq config (codes "free")) (Some (genesis, blocks)) None
+-- the configuration, the genesis and the blocks of a replay
+pub record Names : Type 0 where
+  pub config : List ℕ
+  pub genesis : List ℕ
+  pub blocks : List ℕ
+
+abbrev pub built_files : Command → Option Names
+built_files (Run config genesis blocks) = Some (record { config = config; genesis = genesis; blocks = blocks })
 built_files (Check config genesis blocks schedule) = None
 built_files (Generate start shards blocks) = None
+
+-- the built-in configuration loads no file
+abbrev pub is_free : List ℕ → Bool
+is_free word = bytes_eq word (codes "free")

@@ -1,4 +1,4 @@
--- How a receipt is executed: its actions in order, what they burn, and the refunds. Rewards, data for other receipts and the check of storage join with the requests that build them; no run that is built has any. After the Nomicon, Runtime Specification, Receipts and Refunds.
+-- How a receipt is executed: its actions in order, what they burn, and the refunds. Rewards, data for other receipts and the check of storage are not yet built; no run that is built has any. After the Nomicon, Runtime Specification, Receipts and Refunds.
 use Rattle.std.specs.Prelude.{ℕ, ◌+◌, ◌-◌, ◌*◌, ◌==◌, cond, List, [], ◌∷◌, ◌++◌, length, replicate, Option, codes}
 use Rattle.nr_ids.specs.Grammar.{is_system}
 use Rattle.nr_ids.specs.Derive.{derived}

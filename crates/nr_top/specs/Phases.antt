@@ -1,37 +1,52 @@
--- What the bodies of this crate promise of a chunk's steps under the free configuration: what their clauses need, and no part of the rules.
-use Rattle.std.specs.Prelude.{◌≡◌, ◌≢◌, ℕ, ◌+◌, List, [], Result, Ok, Err}
+-- What the bodies of this crate promise of a chunk's steps: what their clauses need, and no part of the rules.
+use Rattle.std.specs.Prelude.{◌≡◌, ◌≢◌, ℕ, ◌+◌, ◌*◌, ◌^◌, ◌<◌, ◌≤◌, List, [], ◌∷◌, length, Some, Result, Ok, Err, nat_le, nat_lt}
 use Rattle.nr_records.specs.declared.chunk_result.Outcome.{Outcome}
 use Rattle.nr_records.specs.declared.chunk_result.RunStatus.TheVariants.{Value}
 use Rattle.nr_records.specs.declared.receipt.Body.{Body}
 use Rattle.nr_records.specs.declared.receipt.Body.TheVariants.{Act, Datum}
 use Rattle.nr_records.specs.declared.receipt.Receipt.{Receipt}
 use Rattle.nr_records.specs.declared.transaction.Transaction.{Transaction}
-use Rattle.nr_top.specs.Chunk.{Working}
-use Rattle.nr_config.specs.Config.{free}
-use Rattle.nr_top.specs.Conversion.{convert}
+use Rattle.nr_top.specs.Chunk.{Working, Opening}
+use Rattle.nr_config.specs.Config.{Config, gas_price}
+use Rattle.nr_top.specs.Conversion.{convert, first_refusal}
 use Rattle.nr_top.specs.Execution.{execute}
-use Rattle.nr_top.specs.Run.{list_tokens}
-use Rattle.nr_top.specs.Transfers.{IsSound}
-use Rattle.nr_state.specs.World.{World}
+use Rattle.nr_state.specs.Tokens.{list_tokens}
+use Rattle.nr_top.specs.Transfers.{AreTransfers, IsSettled, IsSound, running_gas}
+use Rattle.nr_state.specs.World.{World, accounts_tokens}
 use Rattle.nr_top.specs.declared.converted.Converted.{Converted}
 use Rattle.nr_state.specs.declared.place.Place.{Place}
 use Rattle.nr_top.specs.declared.tx_fault.TxFault.{TxFault}
-use Rattle.nr_top.specs.declared.tx_fault.TxFault.TheVariants.{Memory}
+use Rattle.nr_top.specs.declared.tx_fault.TxFault.TheVariants.{Nonce, CostOverflow, Balance, Memory}
 
 -- a conversion that gave this, from one world to another; where memory ran out nothing is said
-abbrev pub Converts : Result Converted TxFault → World → World → Transaction → Place → Type 0
-Converts (Ok made) old new tx place = convert free old tx place ≡ Ok (new, made)
-Converts (Err fault) old new tx place = fault ≢ Memory → (convert free old tx place ≡ Err fault) × (new ≡ old)
+abbrev pub Converts : Config → Result Converted TxFault → World → World → Transaction → Place → Type 0
+Converts c (Ok made) old new tx place = convert c old tx place ≡ Ok (new, made)
+Converts c (Err fault) old new tx place = fault ≢ Memory → (convert c old tx place ≡ Err fault) × (new ≡ old)
 
--- the outcome of a receipt that returned nothing and burnt nothing
-abbrev pub settled_outcome : Receipt → Outcome
-settled_outcome r = record { receipt_id = r.receipt_id; status = Value []; gas = 0; burnt = 0; logs = [] }
+-- what a signer who has the key pays, or the first refusal: the whole cost stands in for one that passes its type
+abbrev pub Judges : Result ℕ TxFault → ℕ → ℕ → ℕ → ℕ → Type 0
+Judges (Ok cost) key nonce amount whole = (cost ≡ whole) × (key < nonce) × (whole < 2 ^ 128) × (whole ≤ amount)
+Judges (Err fault) key nonce amount whole = first_refusal ((nat_le nonce key, Nonce key nonce) ∷ (nat_le (2 ^ 128) whole, CostOverflow) ∷ (nat_lt amount whole, Balance amount whole) ∷ []) ≡ Some fault
+
+-- the outcome of a transfer that returned nothing
+abbrev pub settled_outcome : Config → Receipt → Outcome
+settled_outcome c r = record { receipt_id = r.receipt_id; status = Value []; gas = running_gas c; burnt = running_gas c * gas_price c; logs = [] }
 
 -- an execution that made no receipt, from one world to another
-abbrev pub Executes : World → World → Receipt → Body → Type 0
-Executes old new r (Act act) = (place : Place) → execute free old r act [] place ≡ record { world = new; outcome = settled_outcome r; made = [] }
-Executes old new r (Datum d) = ⊥
+abbrev pub Executes : Config → World → World → Receipt → Body → Type 0
+Executes c old new r (Act act) = (place : Place) → execute c old r act [] place ≡ record { world = new; outcome = settled_outcome c r; made = [] }
+Executes c old new r (Datum d) = ⊥
 
--- what was sound stays sound, with the tokens of a list more
-abbrev pub KeepsSound : Working → Working → List Receipt → Type 0
-KeepsSound old new list = (w : World) (total : ℕ) → IsSound w total old → IsSound w (total + list_tokens free list) new
+-- what was sound stays sound, with the tokens and the gas of a list more
+abbrev pub KeepsSound : Config → Working → Working → List Receipt → Type 0
+KeepsSound c old new list = (w : World) (total most : ℕ) → IsSound c w total most old → IsSound c w (total + list_tokens c list) (most + running_gas c * length list) new
+
+-- a chunk that began with a world and converts its transactions: what it holds in tokens, what it burnt and what its receipts will burn at most
+pub record IsConverting (c : Config) (w : World) (total most : ℕ) (o : Opening) : Type 0 where
+  pub price : o.working.place.price ≡ gas_price c
+  pub settled : IsSettled w o.working.world
+  pub delayed : o.working.world.delayed ≡ []
+  pub outgoing : AreTransfers c w o.working.outgoing
+  pub local : AreTransfers c w o.local
+  pub tokens : accounts_tokens o.working.world + list_tokens c o.working.outgoing + list_tokens c o.local + o.working.burnt ≡ total
+  pub gas : o.working.gas + running_gas c * (length o.working.outgoing + length o.local) ≤ most

@@ -1,6 +1,6 @@
 -- A run: a configuration, a genesis and blocks; its chunks' phases; its sums; its report.
 use Rattle.std.specs.Prelude.{ℕ, ◌+◌, ◌-◌, ◌==◌, Bool, true, false, List, [], ◌∷◌, ◌++◌, length, map, filter, Option, slice_get, sum_by, count_by, is_some, unwrap_or, option_map, option_and_then, None}
-use Rattle.std.specs.FinMap.{values, len}
+use Rattle.std.specs.FinMap.{len}
 use Rattle.std.specs.List.{flat_map}
 use Rattle.nr_records.specs.declared.chunk_result.ChunkLine.{ChunkLine}
 use Rattle.nr_records.specs.declared.chunk_result.ChunkLine.TheVariants.{Run, Received, Lost, Sent}
@@ -8,11 +8,11 @@ use Rattle.nr_records.specs.declared.receipt.Receipt.{Receipt}
 use Rattle.nr_records.specs.declared.transaction.Transaction.{Transaction}
 use Rattle.nr_top.specs.Chunk.{Working, ChunkReport, open_chunk, take_list, report_of, lists_of}
 use Rattle.nr_config.specs.Config.{Config, gas_price}
-use Rattle.nr_fees.specs.Fees.{receipt_tokens}
 use Rattle.nr_blocks.specs.Genesis.{genesis_world, supply, owner}
 use Rattle.nr_layout.specs.Layout.{shard_of}
 use Rattle.nr_report.specs.Lines.{chunk_text, totals_text}
 use Rattle.nr_top.specs.Serial.{Rules, Sealing, sealings, in_flight, finished, shard_numbers}
+use Rattle.nr_state.specs.Tokens.{list_tokens, waiting_tokens}
 use Rattle.nr_state.specs.World.{World, accounts_tokens}
 use Rattle.nr_blocks.specs.declared.block.Block.{Block}
 use Rattle.nr_blocks.specs.declared.genesis_entry.GenesisEntry.{GenesisEntry}
@@ -82,12 +82,6 @@ routed_in r = r.local + count_by is_sent r.result.lines
 
 abbrev pub executed_in : ChunkReport → ℕ
 executed_in r = count_by is_execution r.result.lines
-
-abbrev pub list_tokens : Config → List Receipt → ℕ
-list_tokens c list = sum_by (receipt_tokens c) list
-
-abbrev pub waiting_tokens : Config → World → ℕ
-waiting_tokens c w = list_tokens c (values w.postponed) + list_tokens c w.delayed
 
 abbrev pub totals_from : Config → ℕ → List World → List ChunkReport → List (List Receipt) → Totals
 totals_from c supply worlds reports flight =

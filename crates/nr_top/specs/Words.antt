@@ -1,12 +1,11 @@
 -- Words as lent texts.
-use Rattle.std.specs.Prelude.{ℕ, List}
-use Rattle.std.specs.Borrow.{Bor}
-use Rattle.nr_top.specs.Command.{Command, Run, Check, Generate}
+use Rattle.nr_top.specs.Command.{Command, Run, Check, Generate, Names}
+use Rattle.nr_top.specs.declared.command.FileNames.{FileNames}
 use Rattle.nr_top.specs.declared.command.Words.{Words}
 use Rattle.nr_top.specs.declared.command.Words.TheVariants.{RunFiles, CheckSchedule, GenerateInput}
 
-abbrev pub text_pair : Bor (List ℕ) × Bor (List ℕ) → List ℕ × List ℕ
-text_pair p = (p.0.now, p.1.now)
+abbrev pub names_in : FileNames → Names
+names_in n = record { config = n.config.now; genesis = n.genesis.now; blocks = n.blocks.now }
 
 -- the command that lent words are
 abbrev pub command_in : Words → Command

@@ -1,4 +1,4 @@
--- The working state that a `ChunkWork` stands for: under the free configuration no gas and no token is burnt.
+-- The working state that a `ChunkWork` stands for.
 use Rattle.nr_top.specs.Chunk.{Working}
 use Rattle.nr_top.specs.LedgerWorld.{world_of}
 use Rattle.nr_top.specs.declared.chunk_work.ChunkWork.{ChunkWork}
@@ -8,8 +8,8 @@ work_of k =
     record {
       world = world_of k.ledger;
       place = k.place;
-      gas = 0;
-      burnt = 0;
+      gas = k.gas;
+      burnt = k.burnt;
       local = k.local;
       outgoing = k.outgoing.items;
       lines = k.lines.items;

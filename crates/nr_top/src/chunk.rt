@@ -1,17 +1,17 @@
 //! A chunk of transfers: opening it, taking lists, sealing it.
 
-ghost use Rattle.std.specs.Prelude.{◌≡◌, ◌≢◌, true, false, ◌≤◌, ◌+◌, ◌^◌, [], ◌∷◌, ◌++◌, IfOk, OnOk, fold, length, map};
+ghost use Rattle.std.specs.Prelude.{◌≡◌, ◌≢◌, true, false, ◌≤◌, ◌<◌, ◌+◌, ◌*◌, ◌^◌, [], ◌∷◌, ◌++◌, IfOk, OnOk, fold, length, map};
 ghost use Rattle.std.specs.List.{list_all};
 ghost use Rattle.nr_top.specs.Blocks.{is_built_transaction, is_one_transfer};
 ghost use Rattle.nr_top.specs.Chunk.{open_chunk, take_list, report_of, lists_of, serve, begun, convert_next, routed, with_line, sent};
-ghost use Rattle.nr_config.specs.Config.{free};
+ghost use Rattle.nr_config.specs.Config.{gas_price, chunk_gas_limit};
 ghost use Rattle.nr_top.specs.Conversion.{is_local};
 ghost use Rattle.nr_fees.specs.Fees.{receipt_tokens};
 ghost use Rattle.nr_top.specs.LedgerWorld.{world_of};
-ghost use Rattle.nr_top.specs.Phases.{KeepsSound};
+ghost use Rattle.nr_top.specs.Phases.{KeepsSound, IsConverting};
 ghost use Rattle.nr_top.specs.Refusal.{refused};
-ghost use Rattle.nr_top.specs.Run.{list_tokens};
-ghost use Rattle.nr_top.specs.Transfers.{IsTransfer, AreTransfers, IsSound, has_system};
+ghost use Rattle.nr_state.specs.Tokens.{list_tokens};
+ghost use Rattle.nr_top.specs.Transfers.{IsTransfer, AreTransfers, IsSound, has_system, running_gas, transaction_gas};
 ghost use Rattle.nr_top.specs.Work.{work_of};
 ghost use Rattle.nr_state.specs.World.{accounts_tokens};
 
@@ -24,6 +24,7 @@ use crate::root::root_of;
 use crate::sealed::Sealed;
 use crate::tx_fault::TxFault;
 use nr_bytes::List;
+use nr_config::Config;
 use nr_ids::{Hash32, ShardId};
 use nr_records::{ChunkLine, ChunkResult, Receipt, Transaction, hash_of};
 use nr_state::Place;
@@ -32,12 +33,20 @@ use std::alloc::{AllocError, Global};
 // ---- receipts
 
 /// Runs a receipt.
-fn serve(work: &mut ChunkWork, alloc: Global, receipt: &Receipt) -> Result<(), AllocError>
-    requires transfer { IsTransfer (world_of work.old.ledger) receipt.now }
-    requires room { accounts_tokens (world_of work.old.ledger) + receipt_tokens free receipt.now ≤ 2 ^ 127 }
-    ensures { OnOk result (work_of work.new ≡ serve free (work_of work.old) receipt.now) }
+fn serve(
+    work: &mut ChunkWork,
+    alloc: Global,
+    config: &Config,
+    receipt: &Receipt,
+) -> Result<(), AllocError>
+    requires transfer { IsTransfer config.now (world_of work.old.ledger) receipt.now }
+    requires room { accounts_tokens (world_of work.old.ledger) + receipt_tokens config.now receipt.now + work.old.burnt ≤ 2 ^ 127 }
+    requires gas { work.old.gas + running_gas config.now < chunk_gas_limit config.now }
+    ensures { OnOk result (work_of work.new ≡ serve config.now (work_of work.old) receipt.now) }
 {
-    let outcome = execute(&mut work.ledger, alloc, receipt);
+    let outcome = execute(&mut work.ledger, alloc, config, receipt);
+    work.gas += outcome.gas;
+    work.burnt += outcome.burnt;
     work.lines.push(ChunkLine::Run(outcome))?;
     Ok(())
 }
@@ -50,16 +59,20 @@ fn serve(work: &mut ChunkWork, alloc: Global, receipt: &Receipt) -> Result<(), A
 pub(crate) fn take_list(
     work: &mut ChunkWork,
     alloc: Global,
+    config: &Config,
     list: &[Receipt],
 ) -> Result<(), AllocError>
-    requires transfers { AreTransfers (world_of work.old.ledger) list.now }
-    requires room { accounts_tokens (world_of work.old.ledger) + list_tokens free work.old.outgoing.items + list_tokens free list.now ≤ 2 ^ 127 }
-    ensures taken { OnOk result (work_of work.new ≡ take_list free (work_of work.old) list.now) }
-    ensures sound { OnOk result (KeepsSound (work_of work.old) (work_of work.new) list.now) }
+    requires transfers { AreTransfers config.now (world_of work.old.ledger) list.now }
+    requires room { accounts_tokens (world_of work.old.ledger) + list_tokens config.now list.now + work.old.burnt ≤ 2 ^ 127 }
+    requires gas { work.old.gas + running_gas config.now * length list.now < chunk_gas_limit config.now }
+    ensures taken { OnOk result (work_of work.new ≡ take_list config.now (work_of work.old) list.now) }
+    ensures sound { OnOk result (KeepsSound config.now (work_of work.old) (work_of work.new) list.now) }
     ensures place { OnOk result (work.new.place ≡ work.old.place) }
 {
+    // The price is only read for the bounds of the configuration.
+    let _ = config.entry(1);
     for receipt in list {
-        serve(work, alloc, receipt)?;
+        serve(work, alloc, config, receipt)?;
     }
     Ok(())
 }
@@ -72,6 +85,8 @@ fn begin(alloc: Global, ledger: Ledger, place: Place) -> ChunkWork
     ChunkWork {
         ledger,
         place,
+        gas: 0,
+        burnt: 0,
         local: 0,
         outgoing: Vec::new(alloc),
         lines: Vec::new(alloc),
@@ -116,18 +131,25 @@ fn refuse(work: &mut ChunkWork, hash: Hash32, fault: TxFault) -> Result<(), Allo
 fn convert_next(
     work: &mut ChunkWork,
     alloc: Global,
+    config: &Config,
     local: &mut Vec<Receipt>,
     tx: &Transaction,
 ) -> Result<(), AllocError>
     requires one { is_one_transfer tx.now.actions ≡ true }
     requires count { work.old.local ≡ length local.old.items }
-    ensures converted { OnOk result (record { working = work_of work.new; local = local.new.items } ≡ convert_next free (record { working = work_of work.old; local = local.old.items }) tx.now) }
+    requires room { accounts_tokens (world_of work.old.ledger) + work.old.burnt ≤ 2 ^ 127 }
+    requires gas { work.old.gas + transaction_gas config.now < chunk_gas_limit config.now }
+    ensures converted { OnOk result (record { working = work_of work.new; local = local.new.items } ≡ convert_next config.now (record { working = work_of work.old; local = local.old.items }) tx.now) }
     ensures count { OnOk result (work.new.local ≡ length local.new.items) }
 {
+    // The price is only read for the bounds of the configuration.
+    let _ = config.entry(1);
     let hash = hash_of(alloc, tx)?;
-    match convert(&mut work.ledger, alloc, tx, &work.place) {
+    match convert(&mut work.ledger, alloc, config, tx, &work.place) {
         Ok(made) => {
             let receipt_id = made.receipt.receipt_id;
+            work.gas += made.gas;
+            work.burnt += made.burnt;
             work.lines.push(ChunkLine::TxOk { hash, receipt_id })?;
             route(work, tx.signer == tx.receiver, local, made.receipt)?;
         }
@@ -140,15 +162,21 @@ fn convert_next(
 fn convert_all(
     work: &mut ChunkWork,
     alloc: Global,
+    config: &Config,
     txs: &[Transaction],
 ) -> Result<Vec<Receipt>, AllocError>
+    requires price { work.old.place.price ≡ gas_price config.now }
     requires built { list_all (is_built_transaction (world_of work.old.ledger)) txs.now ≡ true }
-    requires count { work.old.local ≡ 0 }
-    ensures { IfOk result (λ local. record { working = work_of work.new; local = local.items } ≡ fold (convert_next free) (record { working = work_of work.old; local = [] }) txs.now) }
+    requires system { has_system (world_of work.old.ledger) ≡ false }
+    requires fresh { work_of work.old ≡ begun (world_of work.old.ledger) work.old.place }
+    requires room { accounts_tokens (world_of work.old.ledger) ≤ 2 ^ 127 }
+    requires gas { transaction_gas config.now * length txs.now < chunk_gas_limit config.now }
+    ensures converted { IfOk result (λ local. record { working = work_of work.new; local = local.items } ≡ fold (convert_next config.now) (record { working = work_of work.old; local = [] }) txs.now) }
+    ensures kept { IfOk result (λ local. IsConverting config.now (world_of work.old.ledger) (accounts_tokens (world_of work.old.ledger)) (transaction_gas config.now * length txs.now) (record { working = work_of work.new; local = local.items })) }
 {
     let mut local = Vec::new(alloc);
     for tx in txs {
-        convert_next(work, alloc, &mut local, tx)?;
+        convert_next(work, alloc, config, &mut local, tx)?;
     }
     Ok(local)
 }
@@ -161,20 +189,24 @@ fn convert_all(
 /// Where there is no memory.
 pub(crate) fn open_chunk(
     alloc: Global,
+    config: &Config,
     ledger: Ledger,
     place: Place,
     txs: &[Transaction],
 ) -> Result<ChunkWork, AllocError>
-    requires price { place.price ≡ 0 }
+    requires price { place.price ≡ gas_price config.now }
     requires built { list_all (is_built_transaction (world_of ledger)) txs.now ≡ true }
     requires system { has_system (world_of ledger) ≡ false }
     requires room { accounts_tokens (world_of ledger) ≤ 2 ^ 127 }
-    ensures opened { IfOk result (λ work. work_of work ≡ open_chunk free (world_of ledger) place txs.now) }
-    ensures sound { IfOk result (λ work. IsSound (world_of ledger) (accounts_tokens (world_of ledger)) (work_of work)) }
+    requires gas { transaction_gas config.now * length txs.now < chunk_gas_limit config.now }
+    ensures opened { IfOk result (λ work. work_of work ≡ open_chunk config.now (world_of ledger) place txs.now) }
+    ensures sound { IfOk result (λ work. IsSound config.now (world_of ledger) (accounts_tokens (world_of ledger)) (transaction_gas config.now * length txs.now) (work_of work)) }
 {
+    // The price is only read for the bounds of the configuration.
+    let _ = config.entry(1);
     let mut work = begin(alloc, ledger, place);
-    let local = convert_all(&mut work, alloc, txs)?;
-    take_list(&mut work, alloc, &local)?;
+    let local = convert_all(&mut work, alloc, config, txs)?;
+    take_list(&mut work, alloc, config, &local)?;
     Ok(work)
 }
 
@@ -224,8 +256,8 @@ pub(crate) fn seal_chunk(alloc: Global, work: ChunkWork) -> Result<Sealed, Alloc
             height: work.place.height,
             shard: ShardId(0),
             root,
-            gas: 0,
-            burnt: 0,
+            gas: work.gas,
+            burnt: work.burnt,
             lines: List::of(lines),
         },
         local: work.local,

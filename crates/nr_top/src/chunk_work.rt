@@ -7,6 +7,9 @@ use nr_state::Place;
 pub(crate) struct ChunkWork {
     pub(crate) ledger: Ledger,
     pub(crate) place: Place,
+    /// The gas that it burnt so far, and the tokens.
+    pub(crate) gas: u64,
+    pub(crate) burnt: u128,
     /// How many receipts it converted for their own signer.
     pub(crate) local: u64,
     /// The receipts that it makes for others, in order.

@@ -2,9 +2,9 @@
 
 ghost use Rattle.std.specs.Prelude.{◌≡◌, option_map};
 ghost use Rattle.std.specs.List.{list_all};
-ghost use Rattle.nr_top.specs.Command.{command, built_files, four_words, five_words, run_of, check_of, generate_of, number_in, is_plain, is_digit, has_no_leading_zero, is_numeral};
+ghost use Rattle.nr_top.specs.Command.{command, built_files, four_words, five_words, run_of, check_of, generate_of, number_in, is_plain, is_digit, has_no_leading_zero, is_numeral, is_free};
 ghost use Rattle.nr_top.specs.Input.{texts};
-ghost use Rattle.nr_top.specs.Words.{text_pair, command_in};
+ghost use Rattle.nr_top.specs.Words.{names_in, command_in};
 
 /// The words of a command.
 #[derive(Clone, Copy, Debug)]
@@ -28,6 +28,14 @@ pub(crate) enum Words<'a> {
         shards: u64,
         blocks: u64,
     },
+}
+
+/// The names of a replay's files; `free` names the built-in configuration.
+#[derive(Clone, Copy, Debug)]
+pub(crate) struct FileNames<'a> {
+    pub(crate) config: &'a str,
+    pub(crate) genesis: &'a str,
+    pub(crate) blocks: &'a str,
 }
 
 /// A word that isn't empty and doesn't begin with a dash.
@@ -177,22 +185,27 @@ pub(crate) fn command_of(words: &[String]) -> Option<Words<'_>>
     }
 }
 
-/// The genesis and the blocks of a replay under the built-in configuration `free`.
-pub(crate) fn built_files<'a>(words: &Words<'a>) -> Option<(&'a str, &'a str)>
-    ensures { option_map text_pair result ≡ built_files (command_in words.now) }
+/// The names of the files of a replay.
+pub(crate) fn built_files<'a>(words: &Words<'a>) -> Option<FileNames<'a>>
+    ensures { option_map names_in result ≡ built_files (command_in words.now) }
 {
     match words {
         Words::RunFiles {
             config,
             genesis,
             blocks,
-        } => {
-            if *config == "free" {
-                Some((*genesis, *blocks))
-            } else {
-                None
-            }
-        }
+        } => Some(FileNames {
+            config: *config,
+            genesis: *genesis,
+            blocks: *blocks,
+        }),
         _ => None,
     }
+}
+
+/// The word for the built-in configuration, which loads nothing.
+pub(crate) fn is_free(word: &str) -> bool
+    ensures { result ≡ is_free word.now }
+{
+    word == "free"
 }

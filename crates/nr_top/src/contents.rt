@@ -3,7 +3,8 @@
 ghost use Rattle.std.specs.Prelude.{◌≡◌, OnOk};
 ghost use Rattle.nr_records.specs.Accounts.{account_bytes};
 ghost use Rattle.nr_records.specs.AccessKeys.{access_key_bytes};
-ghost use Rattle.nr_state.specs.Flat.{laid, account_key, access_key_key};
+ghost use Rattle.nr_columns.specs.Keys.{account_key, access_key_key};
+ghost use Rattle.nr_columns.specs.Tables.{laid};
 
 use nr_ids::{AccountId, PublicKey};
 use nr_records::{AccessKey, Account, encode};

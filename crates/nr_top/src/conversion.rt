@@ -1,32 +1,23 @@
 //! How a transaction becomes a receipt.
 
-ghost use Rattle.std.specs.Prelude.{◌≡◌, true, ◌≤◌, [], ◌∷◌, IfOk, IfSome, OnOk, IsSome, option_map, nat_le, nat_lt};
+ghost use Rattle.std.specs.Prelude.{◌≡◌, true, ◌≤◌, ℕ, [], ◌∷◌, IfOk, IfSome, OnOk, IsSome, option_map};
 ghost use Rattle.std.specs.FinMap.{get};
 ghost use Rattle.nr_top.specs.Blocks.{is_one_transfer};
-ghost use Rattle.nr_top.specs.Conversion.{receipt_of, charged, first_refusal};
-ghost use Rattle.nr_fees.specs.Fees.{deposits};
+ghost use Rattle.nr_top.specs.Conversion.{receipt_of, charged, converted};
+ghost use Rattle.nr_fees.specs.Fees.{FitsIn};
 ghost use Rattle.nr_top.specs.LedgerWorld.{world_of};
-ghost use Rattle.nr_top.specs.Phases.{Converts};
+ghost use Rattle.nr_top.specs.Phases.{Converts, Judges};
 
 use crate::converted::Converted;
+use crate::fees::{cost_of, price_of, sending_gas};
 use crate::ledger::Ledger;
 use crate::tx_fault::TxFault;
 use nr_bytes::List;
+use nr_config::Config;
 use nr_ids::derive;
-use nr_records::{Account, Action, ActionReceipt, Body, Receipt, Spelled, Transaction, hash_of};
+use nr_records::{Account, ActionReceipt, Body, Receipt, Spelled, Transaction, hash_of};
 use nr_state::Place;
 use std::alloc::{AllocError, Global};
-
-/// What one transfer gives away.
-pub(crate) fn deposit_of(actions: &[Action]) -> u128
-    requires { is_one_transfer actions.now ≡ true }
-    ensures { result ≡ deposits actions.now }
-{
-    match &actions[0] {
-        Action::Transfer { deposit } => *deposit,
-        _ => 0,
-    }
-}
 
 /// The nonce of the signer's key.
 fn key_nonce(ledger: &Ledger, alloc: Global, tx: &Transaction) -> Result<Option<u64>, AllocError>
@@ -36,23 +27,26 @@ fn key_nonce(ledger: &Ledger, alloc: Global, tx: &Transaction) -> Result<Option<
     Ok(found.map(|access| access.nonce))
 }
 
-/// The first refusal of a signer who has the key.
-fn refusal(key_nonce: u64, nonce: u64, amount: u128, cost: u128) -> Option<TxFault>
-    ensures { result ≡ first_refusal ((nat_le nonce key_nonce, TxFault.Nonce key_nonce nonce) ∷ (nat_lt amount cost, TxFault.Balance amount cost) ∷ []) }
+/// What a signer who has the key pays, or the first refusal.
+fn judged(key_nonce: u64, nonce: u64, amount: u128, cost: Option<u128>) -> Result<u128, TxFault>
+    ensures { (whole : ℕ) → FitsIn 128 cost whole → Judges result key_nonce nonce amount whole }
 {
     if nonce <= key_nonce {
-        Some(TxFault::Nonce {
+        return Err(TxFault::Nonce {
             key: key_nonce,
             tx: nonce,
-        })
-    } else if amount < cost {
-        Some(TxFault::Balance {
+        });
+    }
+    let Some(cost) = cost else {
+        return Err(TxFault::CostOverflow);
+    };
+    if amount < cost {
+        return Err(TxFault::Balance {
             has: amount,
             needs: cost,
-        })
-    } else {
-        None
+        });
     }
+    Ok(cost)
 }
 
 /// The body of the receipt that a transaction becomes.
@@ -102,28 +96,30 @@ fn charge(
     Ok(())
 }
 
-/// Converts a transaction that isn't refused.
+/// Converts a transaction that isn't refused, for this cost.
 fn accept(
     ledger: &mut Ledger,
     alloc: Global,
+    config: &Config,
     tx: &Transaction,
     place: &Place,
     account: Account,
+    cost: u128,
 ) -> Result<Converted, AllocError>
     requires one { is_one_transfer tx.now.actions ≡ true }
     requires signer { IsSome (get (world_of ledger.old).accounts tx.now.signer) }
     requires key { IsSome (get (world_of ledger.old).keys (tx.now.signer, tx.now.public_key)) }
-    requires enough { deposits tx.now.actions ≤ account.amount }
-    ensures made { IfOk result (λ made. made ≡ record { receipt = receipt_of tx.now place.now; gas = 0; burnt = 0 }) }
-    ensures world { OnOk result (IfSome (get (world_of ledger.old).keys (tx.now.signer, tx.now.public_key)) (λ access. world_of ledger.new ≡ charged (world_of ledger.old) tx.now (deposits tx.now.actions) account access)) }
+    requires enough { cost ≤ account.amount }
+    ensures made { IfOk result (λ made. made ≡ converted config.now tx.now place.now) }
+    ensures world { OnOk result (IfSome (get (world_of ledger.old).keys (tx.now.signer, tx.now.public_key)) (λ access. world_of ledger.new ≡ charged (world_of ledger.old) tx.now cost account access)) }
 {
     let receipt = receipt_of(alloc, tx, place)?;
-    let cost = deposit_of(tx.actions.inner());
     charge(ledger, alloc, tx, account, cost)?;
+    let gas = sending_gas(config, tx);
     Ok(Converted {
         receipt,
-        gas: 0,
-        burnt: 0,
+        gas,
+        burnt: price_of(gas, place.price),
     })
 }
 
@@ -131,18 +127,17 @@ fn accept(
 ///
 /// # Errors
 ///
-/// The first refusal in order, of `NoSigner`, `NoKey`, `Nonce` and `Balance`; nothing is changed
-/// then. Or `Memory`.
+/// The first refusal in order, of `NoSigner`, `NoKey`, `Nonce`, `CostOverflow` and `Balance`; nothing
+/// is changed then. Or `Memory`.
 pub(crate) fn convert(
     ledger: &mut Ledger,
     alloc: Global,
+    config: &Config,
     tx: &Transaction,
     place: &Place,
 ) -> Result<Converted, TxFault>
     requires { is_one_transfer tx.now.actions ≡ true }
-    ensures converted { Converts result (world_of ledger.old) (world_of ledger.new) tx.now place.now }
-    ensures gas { IfOk result (λ made. made.gas ≡ 0) }
-    ensures burnt { IfOk result (λ made. made.burnt ≡ 0) }
+    ensures { Converts config.now result (world_of ledger.old) (world_of ledger.new) tx.now place.now }
 {
     let Some(account) = ledger.account(&tx.signer) else {
         return Err(TxFault::NoSigner);
@@ -153,11 +148,11 @@ pub(crate) fn convert(
     let Some(nonce) = nonce else {
         return Err(TxFault::NoKey);
     };
-    let cost = deposit_of(tx.actions.inner());
-    if let Some(fault) = refusal(nonce, tx.nonce, account.amount, cost) {
-        return Err(fault);
-    }
-    match accept(ledger, alloc, tx, place, account) {
+    let cost = match judged(nonce, tx.nonce, account.amount, cost_of(config, tx, place)) {
+        Ok(cost) => cost,
+        Err(fault) => return Err(fault),
+    };
+    match accept(ledger, alloc, config, tx, place, account, cost) {
         Ok(made) => Ok(made),
         Err(AllocError) => Err(TxFault::Memory),
     }

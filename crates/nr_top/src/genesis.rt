@@ -7,8 +7,7 @@ ghost use Rattle.std.specs.List.{list_all};
 ghost use Rattle.std.specs.Map.{count_at};
 ghost use Rattle.std.specs.Str.{bytes_eq};
 ghost use Rattle.nr_ids.specs.Grammar.{is_system};
-ghost use Rattle.nr_config.specs.Config.{free};
-ghost use Rattle.nr_top.specs.Founding.{Founds, entry_tokens, if_account, is_sound, with_entry};
+ghost use Rattle.nr_top.specs.Founding.{Founds, entry_tokens, has_small_usage, if_account, is_sound, uses_counted, with_entry};
 ghost use Rattle.nr_blocks.specs.Genesis.{accounts_in, entry_usage, genesis_world, has_usage, is_owned, owner, supply, trie_key, usage_in};
 ghost use Rattle.nr_top.specs.Genesis.{has_no_code, has_one_shard, has_repeat, is_built_entry, is_full};
 ghost use Rattle.nr_top.specs.LedgerWorld.{world_of};
@@ -17,17 +16,12 @@ ghost use Rattle.nr_state.specs.World.{bytes_cmp};
 use crate::ledger::Ledger;
 use nr_blocks::{GenesisEntry, GenesisFile};
 use nr_bytes::Blob;
+use nr_config::Config;
 use nr_ids::{AccountId, Hash32};
 use nr_records::{AccessKey, Permission, Spelled, encode};
 use nr_state::keys;
 use std::alloc::{AllocError, Global};
 use std::collections::{BTreeMap, BTreeSet};
-
-/// The bytes that an account is counted as.
-const ACCOUNT_BYTES: u128 = 100;
-
-/// The bytes that a key or a datum is counted as, beside its own.
-const RECORD_BYTES: u128 = 40;
 
 /// The most tokens that a genesis may have.
 const MOST_TOKENS: u128 = 1 << 127;
@@ -158,19 +152,20 @@ fn length_of<T: Spelled>(alloc: Global, value: &T) -> Result<u128, AllocError>
 }
 
 /// The bytes of storage that an entry costs its account.
-fn usage_of(alloc: Global, entry: &GenesisEntry) -> Result<u128, AllocError>
-    ensures { IfOk result (λ count. count ≡ entry_usage free entry.now) }
+fn usage_of(alloc: Global, config: &Config, entry: &GenesisEntry) -> Result<u128, AllocError>
+    ensures { IfOk result (λ count. count ≡ entry_usage config.now entry.now) }
 {
+    let record_bytes = u128::from(config.entry(8));
     match entry {
-        GenesisEntry::Account(_, _) => Ok(ACCOUNT_BYTES),
+        GenesisEntry::Account(_, _) => Ok(u128::from(config.entry(7))),
         GenesisEntry::Code(_, code) => Ok(code.inner().len() as u128),
         GenesisEntry::Key(_, key, access) => {
             let key = length_of(alloc, key)?;
             let access = length_of(alloc, access)?;
-            Ok(key + access + RECORD_BYTES)
+            Ok(key + access + record_bytes)
         }
         GenesisEntry::Datum(_, key, value) => {
-            Ok(key.inner().len() as u128 + value.inner().len() as u128 + RECORD_BYTES)
+            Ok(key.inner().len() as u128 + value.inner().len() as u128 + record_bytes)
         }
     }
 }
@@ -193,24 +188,25 @@ fn add_usage(
 /// What each account uses, up to the greatest number.
 fn usages_in(
     alloc: Global,
+    config: &Config,
     entries: &[GenesisEntry],
 ) -> Result<BTreeMap<AccountId, u128>, AllocError>
-    ensures { IfOk result (λ usages. (q : List ℕ) → count_at (tree.get bytes_cmp usages) q ≡ min (usage_in free entries.now q) (2 ^ 128 - 1)) }
+    ensures { IfOk result (λ usages. (q : List ℕ) → count_at (tree.get bytes_cmp usages) q ≡ min (usage_in config.now entries.now q) (2 ^ 128 - 1)) }
 {
     let mut usages = BTreeMap::new(alloc);
     let mut left = entries.len();
     while left > 0 {
         left -= 1;
         let entry = &entries[left];
-        let bytes = usage_of(alloc, entry)?;
+        let bytes = usage_of(alloc, config, entry)?;
         add_usage(alloc, &mut usages, owner_of(entry), bytes)?;
     }
     Ok(usages)
 }
 
 fn uses(entry: &GenesisEntry, usages: &BTreeMap<AccountId, u128>) -> bool
-    ensures value { result ≡ if_account (λ a. a.1.storage_usage == count_at (tree.get bytes_cmp usages.now) a.0) entry.now }
-    ensures small { if_account (λ a. nat_lt a.1.storage_usage (2 ^ 64)) entry.now ≡ true }
+    ensures value { result ≡ if_account (uses_counted (tree.get bytes_cmp usages.now)) entry.now }
+    ensures small { if_account has_small_usage entry.now ≡ true }
 {
     match entry {
         GenesisEntry::Account(id, account) => {
@@ -224,8 +220,8 @@ fn uses(entry: &GenesisEntry, usages: &BTreeMap<AccountId, u128>) -> bool
 
 /// Whether each account uses what it is counted as.
 fn all_use(entries: &[GenesisEntry], usages: &BTreeMap<AccountId, u128>) -> bool
-    requires { (q : List ℕ) → count_at (tree.get bytes_cmp usages.now) q ≡ min (usage_in free entries.now q) (2 ^ 128 - 1) }
-    ensures { result ≡ list_all (has_usage free entries.now) (accounts_in entries.now) }
+    ensures value { result ≡ list_all (uses_counted (tree.get bytes_cmp usages.now)) (accounts_in entries.now) }
+    ensures small { list_all has_small_usage (accounts_in entries.now) ≡ true }
 {
     let mut used = true;
     let mut left = entries.len();
@@ -290,16 +286,26 @@ fn have_no_code(entries: &[GenesisEntry]) -> bool
     all_codeless(entries)
 }
 
-/// Whether the accounts, usages, tokens and code hashes of the entries hold together.
-fn are_sound(entries: &[GenesisEntry], ledger: &Ledger, usages: &BTreeMap<AccountId, u128>) -> bool
-    requires world { world_of ledger.now ≡ genesis_world entries.now }
-    requires usages { (q : List ℕ) → count_at (tree.get bytes_cmp usages.now) q ≡ min (usage_in free entries.now q) (2 ^ 128 - 1) }
-    ensures { result ≡ is_sound entries.now }
+/// Whether each account uses what its entries cost.
+fn are_used(alloc: Global, config: &Config, entries: &[GenesisEntry]) -> Result<bool, AllocError>
+    ensures { IfOk result (λ used. used ≡ list_all (has_usage config.now entries.now) (accounts_in entries.now)) }
 {
-    all_owned(entries, ledger)
-        && all_use(entries, usages)
-        && is_bounded(entries)
-        && have_no_code(entries)
+    let usages = usages_in(alloc, config, entries)?;
+    Ok(all_use(entries, &usages))
+}
+
+/// Whether the accounts, usages, tokens and code hashes of the entries hold together.
+fn are_sound(
+    alloc: Global,
+    config: &Config,
+    entries: &[GenesisEntry],
+    ledger: &Ledger,
+) -> Result<bool, AllocError>
+    requires { world_of ledger.now ≡ genesis_world entries.now }
+    ensures { IfOk result (λ sound. sound ≡ is_sound config.now entries.now) }
+{
+    let used = are_used(alloc, config, entries)?;
+    Ok(all_owned(entries, ledger) && used && is_bounded(entries) && have_no_code(entries))
 }
 
 /// Whether the file has one shard, and no entries but accounts and full keys.
@@ -312,8 +318,12 @@ fn is_plain(file: &GenesisFile) -> bool
 /// The first state, or nothing where the file isn't one that is built: it has boundaries, an entry
 /// other than an account or a full key, a repeated trie key, an owner that is absent or is
 /// `system`, a usage that is off, more than 2^127 tokens, or a code hash.
-pub(crate) fn genesis(alloc: Global, file: &GenesisFile) -> Result<Option<Ledger>, AllocError>
-    ensures { IfOk result (λ ledger. Founds ledger file.now) }
+pub(crate) fn genesis(
+    alloc: Global,
+    config: &Config,
+    file: &GenesisFile,
+) -> Result<Option<Ledger>, AllocError>
+    ensures { IfOk result (λ ledger. Founds config.now ledger file.now) }
 {
     let entries = file.entries.inner();
     if !is_plain(file) {
@@ -323,8 +333,7 @@ pub(crate) fn genesis(alloc: Global, file: &GenesisFile) -> Result<Option<Ledger
         return Ok(None);
     }
     let ledger = filled(alloc, entries)?;
-    let usages = usages_in(alloc, entries)?;
-    if !are_sound(entries, &ledger, &usages) {
+    if !are_sound(alloc, config, entries, &ledger)? {
         return Ok(None);
     }
     Ok(Some(ledger))

@@ -1,17 +1,21 @@
-//! The replay of a chain: from the words and the bytes of two files to the bytes of the report.
+//! The replay of a chain: from the words and the bytes of the files to the bytes of the report.
 #![tactic(auto)]
 
 mod built_blocks;
+mod built_config;
 mod chunk;
 mod chunk_work;
 mod command;
+mod configuration;
 mod contents;
 mod conversion;
 mod converted;
 mod execution;
+mod fees;
 mod files;
 mod genesis;
 mod ledger;
+mod loading;
 mod refusal;
 mod root;
 mod run;

@@ -1,9 +1,9 @@
 //! The run of one shard, block after block.
 
-ghost use Rattle.std.specs.Prelude.{◌≡◌, ◌+◌, ◌++◌, ◌≤◌, ◌^◌, IfOk, Some, [], ◌∷◌, true, false, count_by, length};
-ghost use Rattle.nr_top.specs.Blocks.{are_built_from};
+ghost use Rattle.std.specs.Prelude.{◌≡◌, ◌+◌, ◌++◌, ◌≤◌, ◌<◌, ◌^◌, IfOk, Some, [], ◌∷◌, true, false, count_by, length};
+ghost use Rattle.nr_top.specs.Blocks.{are_built_from, blocks_gas};
 ghost use Rattle.nr_top.specs.Chains.{has_one_chunk};
-ghost use Rattle.nr_config.specs.Config.{free};
+ghost use Rattle.nr_config.specs.Config.{chunk_gas_limit};
 ghost use Rattle.nr_top.specs.LedgerWorld.{world_of};
 ghost use Rattle.nr_top.specs.Run.{is_sent, is_execution};
 ghost use Rattle.nr_top.specs.Transfers.{has_system};
@@ -15,6 +15,7 @@ use crate::sealed::Sealed;
 use crate::tally::{execution_lines, sent_lines, tokens_in};
 use nr_blocks::Block;
 use nr_bytes::{Blob, List};
+use nr_config::Config;
 use nr_records::{Receipt, Transaction};
 use nr_report::{Totals, write_chunk, write_totals};
 use nr_state::Place;
@@ -30,6 +31,8 @@ pub(crate) struct Progress {
     /// How many receipts were routed, and how many executed.
     routed: u64,
     executed: u64,
+    /// The tokens that all chunks burnt.
+    burnt: u128,
 }
 
 /// The transactions of a block's one chunk.
@@ -55,43 +58,46 @@ impl Progress {
     ghost use Rattle.nr_top.specs.Straight.{IsReady, IsSeal, IsKept, IsNext, IsAhead, work_at, straight_text, straight_totals, place_of};
     ghost use Rattle.nr_top.specs.Chains.{IsTransferBody};
     ghost use Rattle.nr_state.specs.World.{World};
-    ghost use Rattle.nr_top.specs.Run.{list_tokens};
+    ghost use Rattle.nr_state.specs.Tokens.{list_tokens};
     ghost use Rattle.std.specs.Prelude.{List as Items};
     ghost use Rattle.std.specs.List.{AllByRecursion};
 
-    fn place(block: &Block) -> Place
-        ensures { result ≡ place_of block.now }
+    fn place(config: &Config, block: &Block) -> Place
+        ensures { result ≡ place_of config.now block.now }
     {
         Place {
             height: block.height,
             timestamp: block.timestamp,
-            price: 0,
+            price: config.entry(1),
         }
     }
 
     /// Opens the chunk of a block, lets it take a list, and seals it.
     fn seal(
         alloc: Global,
+        config: &Config,
         ledger: Ledger,
         inbox: &[Receipt],
         block: &Block,
     ) -> Result<Sealed, AllocError>
-        requires { IsReady (world_of ledger) inbox.now block.now }
-        ensures seal { IfOk result (IsSeal (work_at (world_of ledger) inbox.now block.now)) }
-        ensures kept { IfOk result (λ _. IsKept (world_of ledger) inbox.now (work_at (world_of ledger) inbox.now block.now)) }
+        requires { IsReady config.now (world_of ledger) inbox.now block.now }
+        ensures seal { IfOk result (IsSeal (work_at config.now (world_of ledger) inbox.now block.now)) }
+        ensures kept { IfOk result (λ _. IsKept config.now (world_of ledger) inbox.now block.now (work_at config.now (world_of ledger) inbox.now block.now)) }
     {
         let txs = transactions(block);
-        let mut work = open_chunk(alloc, ledger, Progress::place(block), txs.inner())?;
-        take_list(&mut work, alloc, inbox)?;
+        let place = Progress::place(config, block);
+        let mut work = open_chunk(alloc, config, ledger, place, txs.inner())?;
+        take_list(&mut work, alloc, config, inbox)?;
         let sealed = seal_chunk(alloc, work)?;
         Ok(sealed)
     }
 
     /// Runs one block more.
-    fn next(self, alloc: Global, block: &Block) -> Result<Progress, AllocError>
-        requires { IsReady (world_of self.ledger) self.inbox.items block.now }
-        ensures next { IfOk result (IsNext self (work_at (world_of self.ledger) self.inbox.items block.now)) }
-        ensures kept { IfOk result (λ _. IsKept (world_of self.ledger) self.inbox.items (work_at (world_of self.ledger) self.inbox.items block.now)) }
+    fn next(self, alloc: Global, config: &Config, block: &Block) -> Result<Progress, AllocError>
+        requires ready { IsReady config.now (world_of self.ledger) self.inbox.items block.now }
+        requires room { accounts_tokens (world_of self.ledger) + list_tokens config.now self.inbox.items + self.burnt ≤ 2 ^ 127 }
+        ensures next { IfOk result (IsNext self (work_at config.now (world_of self.ledger) self.inbox.items block.now)) }
+        ensures kept { IfOk result (λ _. IsKept config.now (world_of self.ledger) self.inbox.items block.now (work_at config.now (world_of self.ledger) self.inbox.items block.now)) }
     {
         let Progress {
             ledger,
@@ -99,8 +105,9 @@ impl Progress {
             mut text,
             routed,
             executed,
+            burnt,
         } = self;
-        let sealed = Progress::seal(alloc, ledger, &inbox, block)?;
+        let sealed = Progress::seal(alloc, config, ledger, &inbox, block)?;
         write_chunk(alloc, &sealed.result, &mut text)?;
         let lines = sealed.result.lines.inner();
         let routed = sum(routed, sent_lines(lines), sealed.local)?;
@@ -111,15 +118,22 @@ impl Progress {
             text,
             routed,
             executed,
+            burnt: burnt + sealed.result.burnt,
         })
     }
 
     /// Runs all blocks.
-    fn run(alloc: Global, ledger: Ledger, blocks: &[Block]) -> Result<Progress, AllocError>
+    fn run(
+        alloc: Global,
+        config: &Config,
+        ledger: Ledger,
+        blocks: &[Block],
+    ) -> Result<Progress, AllocError>
         requires built { are_built_from (world_of ledger) 1 blocks.now ≡ true }
         requires system { has_system (world_of ledger) ≡ false }
         requires tokens { accounts_tokens (world_of ledger) ≤ 2 ^ 127 }
-        ensures { IfOk result (IsAhead (world_of ledger) blocks.now (1 + length blocks.now) []) }
+        requires gas { blocks_gas config.now blocks.now < chunk_gas_limit config.now }
+        ensures { IfOk result (IsAhead config.now (world_of ledger) blocks.now (1 + length blocks.now) []) }
     {
         let mut progress = Progress {
             ledger,
@@ -127,24 +141,25 @@ impl Progress {
             text: Blob::of(Vec::new(alloc)),
             routed: 0,
             executed: 0,
+            burnt: 0,
         };
         for block in blocks {
-            progress = progress.next(alloc, block)?;
+            progress = progress.next(alloc, config, block)?;
         }
         Ok(progress)
     }
 
     /// The sums over the run, where there was this much at first.
-    fn totals(&self, supply: u128) -> Totals
-        requires transfers { AllByRecursion IsTransferBody self.now.inbox.items }
-        requires few { accounts_tokens (world_of self.now.ledger) + list_tokens free self.now.inbox.items ≤ 2 ^ 127 }
-        ensures { (w : World) (blocks : Items Block) → supply ≡ accounts_tokens w → IsAhead w blocks (1 + length blocks) [] self.now → result ≡ straight_totals w blocks }
+    fn totals(&self, config: &Config, supply: u128) -> Totals
+        requires transfers { AllByRecursion (IsTransferBody config.now) self.now.inbox.items }
+        requires few { accounts_tokens (world_of self.now.ledger) + list_tokens config.now self.now.inbox.items ≤ 2 ^ 127 }
+        ensures { (w : World) (blocks : Items Block) → supply ≡ accounts_tokens w → IsAhead config.now w blocks (1 + length blocks) [] self.now → result ≡ straight_totals config.now w blocks }
     {
         Totals {
             supply,
             accounts: self.ledger.tokens(),
-            receipts: tokens_in(&self.inbox),
-            burnt: 0,
+            receipts: tokens_in(config, &self.inbox),
+            burnt: self.burnt,
             places: [self.routed, self.executed, 0, 0, self.inbox.len() as u64],
         }
     }
@@ -152,17 +167,19 @@ impl Progress {
     /// The report of a chain of one shard.
     pub(crate) fn report(
         alloc: Global,
+        config: &Config,
         ledger: Ledger,
         blocks: &[Block],
     ) -> Result<Blob, AllocError>
         requires built { are_built_from (world_of ledger) 1 blocks.now ≡ true }
         requires system { has_system (world_of ledger) ≡ false }
         requires tokens { accounts_tokens (world_of ledger) ≤ 2 ^ 127 }
-        ensures { IfOk result (λ text. text ≡ straight_text (world_of ledger) blocks.now) }
+        requires gas { blocks_gas config.now blocks.now < chunk_gas_limit config.now }
+        ensures { IfOk result (λ text. text ≡ straight_text config.now (world_of ledger) blocks.now) }
     {
         let supply = ledger.tokens();
-        let progress = Progress::run(alloc, ledger, blocks)?;
-        let totals = progress.totals(supply);
+        let progress = Progress::run(alloc, config, ledger, blocks)?;
+        let totals = progress.totals(config, supply);
         let mut text = progress.text;
         write_totals(alloc, &totals, &mut text)?;
         Ok(text)

@@ -5,7 +5,12 @@ pub enum Status {
     Done,
     /// The words are no command.
     Usage,
-    /// What was given isn't built yet: 0 the command, 1 the genesis, 2 the blocks.
+    /// The file is no configuration. The kind is 0 where it is longer than 1 MiB, 1 where it is no JSON
+    /// object, 2 where an entry is missing, 3 where it is no whole number, and 4 where it is outside
+    /// its bounds. The entry counts from 1, and is 0 for the kinds 0 and 1.
+    Config { kind: u32, entry: u32 },
+    /// What was given isn't built yet: 0 the command, 1 the genesis, 2 the blocks, 3 the
+    /// configuration.
     NotBuilt { form: u32 },
     /// A file could not be read.
     ReadFault,

@@ -2,13 +2,15 @@
 
 ghost use Rattle.std.specs.Prelude.{◌≡◌, ◌+◌, ◌<◌, ◌^◌, IfOk, count_by, true};
 ghost use Rattle.std.specs.List.{AllByRecursion};
-ghost use Rattle.nr_config.specs.Config.{free};
 ghost use Rattle.nr_fees.specs.Fees.{receipt_tokens};
-ghost use Rattle.nr_top.specs.Run.{is_sent, is_execution, list_tokens};
+ghost use Rattle.nr_top.specs.Run.{is_sent, is_execution};
+ghost use Rattle.nr_state.specs.Tokens.{list_tokens};
 ghost use Rattle.nr_top.specs.Chains.{IsTransferBody};
 ghost use Rattle.nr_top.specs.Transfers.{is_transfer_body};
 
-use nr_records::{Action, Body, ChunkLine, Receipt};
+use nr_config::Config;
+use nr_fees::receipt_tokens;
+use nr_records::{ChunkLine, Receipt};
 
 /// How many lines say that a receipt was sent.
 pub(crate) fn sent_lines(lines: &[ChunkLine]) -> usize
@@ -36,28 +38,29 @@ pub(crate) fn execution_lines(lines: &[ChunkLine]) -> usize
 }
 
 /// The tokens of a transfer.
-pub(crate) fn tokens_of(receipt: &Receipt) -> u128
-    requires { is_transfer_body receipt.now.body ≡ true }
-    ensures { result ≡ receipt_tokens free receipt.now }
+#[tactic(auto, using(crate::proofs::Costs::transfer_counts))]
+pub(crate) fn tokens_of(config: &Config, receipt: &Receipt) -> u128
+    requires transfer { is_transfer_body config.now receipt.now.body ≡ true }
+    requires fits { receipt_tokens config.now receipt.now < 2 ^ 128 }
+    ensures { result ≡ receipt_tokens config.now receipt.now }
 {
-    match &receipt.body {
-        Body::Act(act) => match act.actions.inner() {
-            [Action::Transfer { deposit }] => *deposit,
-            _ => unreachable!(),
-        },
-        Body::Datum(_) => unreachable!(),
+    // The price is only read for the bounds of the configuration.
+    let _ = config.entry(1);
+    match receipt_tokens(config, receipt) {
+        Some(tokens) => tokens,
+        None => unreachable!(),
     }
 }
 
 /// The tokens of a list of transfers.
-pub(crate) fn tokens_in(list: &[Receipt]) -> u128
-    requires transfers { AllByRecursion IsTransferBody list.now }
-    requires fits { list_tokens free list.now < 2 ^ 128 }
-    ensures { result ≡ list_tokens free list.now }
+pub(crate) fn tokens_in(config: &Config, list: &[Receipt]) -> u128
+    requires transfers { AllByRecursion (IsTransferBody config.now) list.now }
+    requires fits { list_tokens config.now list.now < 2 ^ 128 }
+    ensures { result ≡ list_tokens config.now list.now }
 {
     let mut sum = 0;
     for receipt in list {
-        sum += tokens_of(receipt);
+        sum += tokens_of(config, receipt);
     }
     sum
 }

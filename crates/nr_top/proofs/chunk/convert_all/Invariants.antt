@@ -6,6 +6,6 @@ use Rattle.nr_top.proofs.chunk.convert_all.Given as goal
 
 abbrev pub invariant-loop-tx : goal.invariant-loop-tx
 invariant-loop-tx l = record {
-  amid : IsAmid (world_of l.initial.work.ledger) (record { working = work_of l.initial.work; local = [] }) (record { working = work_of l.work; local = l.local.items }) l.txs l.tx-index;
+  amid : IsAmid l.config (world_of l.initial.work.ledger) (record { working = work_of l.initial.work; local = [] }) (record { working = work_of l.work; local = l.local.items }) l.txs l.tx-index;
   count : l.work.local ≡ length l.local.items;
 }

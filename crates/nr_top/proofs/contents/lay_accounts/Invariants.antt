@@ -1,6 +1,7 @@
 use Rattle.std.proofs.Common.{◌≡◌}
 use Rattle.nr_records.specs.Accounts.{account_bytes}
-use Rattle.nr_state.specs.Flat.{laid, account_key}
+use Rattle.nr_columns.specs.Keys.{account_key}
+use Rattle.nr_columns.specs.Tables.{laid}
 use Rattle.nr_top.proofs.contents.lay_accounts.Given as goal
 
 abbrev pub invariant-loop-id : goal.invariant-loop-id

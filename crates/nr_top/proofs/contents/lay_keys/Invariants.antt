@@ -1,6 +1,7 @@
 use Rattle.std.proofs.Common.{◌≡◌}
 use Rattle.nr_records.specs.AccessKeys.{access_key_bytes}
-use Rattle.nr_state.specs.Flat.{laid, access_key_key}
+use Rattle.nr_columns.specs.Keys.{access_key_key}
+use Rattle.nr_columns.specs.Tables.{laid}
 use Rattle.nr_top.proofs.contents.lay_keys.Given as goal
 
 abbrev pub invariant-loop-name : goal.invariant-loop-name

@@ -2,7 +2,6 @@ use Rattle.std.proofs.Common.{◌≡◌, ◌≤◌, ◌-◌, ◌^◌, ℕ, List,
 use Rattle.std.specs.Prelude.{min}
 use Rattle.std.specs.BTreeMap as tree
 use Rattle.std.specs.Map.{count_at}
-use Rattle.nr_config.specs.Config.{free}
 use Rattle.nr_blocks.specs.Genesis.{usage_in}
 use Rattle.nr_state.specs.World.{bytes_cmp}
 use Rattle.nr_top.proofs.genesis.usages_in.Given as goal
@@ -10,7 +9,7 @@ use Rattle.nr_top.proofs.genesis.usages_in.Given as goal
 abbrev pub invariant-loop-left : goal.invariant-loop-left
 invariant-loop-left l = record {
   within : l.left ≤ length l.entries;
-  counted : (q : List ℕ) → count_at (tree.get bytes_cmp l.usages) q ≡ min (usage_in free (drop l.left l.entries) q) (2 ^ 128 - 1);
+  counted : (q : List ℕ) → count_at (tree.get bytes_cmp l.usages) q ≡ min (usage_in l.config (drop l.left l.entries) q) (2 ^ 128 - 1);
 }
 
 abbrev pub decreases-loop-left : goal.decreases-loop-left

@@ -1,13 +1,12 @@
 use Rattle.std.proofs.Common.{◌≡◌, ◌+◌, drop}
 use Rattle.std.specs.List.{AllByRecursion}
-use Rattle.nr_config.specs.Config.{free}
-use Rattle.nr_top.specs.Run.{list_tokens}
+use Rattle.nr_state.specs.Tokens.{list_tokens}
 use Rattle.nr_top.specs.Chains.{IsTransferBody}
 use Rattle.nr_top.proofs.tally.tokens_in.Given as goal
 
 -- the sum so far and what is left make the whole
 abbrev pub invariant-loop-receipt : goal.invariant-loop-receipt
 invariant-loop-receipt l = record {
-  sum : l.sum + list_tokens free (drop l.receipt-index l.list) ≡ list_tokens free l.list;
-  left : AllByRecursion IsTransferBody (drop l.receipt-index l.list);
+  sum : l.sum + list_tokens l.config (drop l.receipt-index l.list) ≡ list_tokens l.config l.list;
+  left : AllByRecursion (IsTransferBody l.config) (drop l.receipt-index l.list);
 }

@@ -1,7 +1,8 @@
 use Rattle.std.proofs.Common.{sym, ap, ◌∙◌}
 use Rattle.nr_records.specs.Accounts.{account_bytes}
 use Rattle.nr_records.specs.AccessKeys.{access_key_bytes}
-use Rattle.nr_state.specs.Flat.{laid, account_key, access_key_key}
+use Rattle.nr_columns.specs.Keys.{account_key, access_key_key}
+use Rattle.nr_columns.specs.Tables.{laid}
 use Rattle.nr_top.proofs.Held.{flat_held}
 use Rattle.nr_top.proofs.ledger.Ledger.lay_into.Goals as goal
 

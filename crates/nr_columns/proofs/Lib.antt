@@ -1,0 +1,8 @@
+-- Lemmas behind the answers.
+pub mod Empty
+pub mod Tables
+pub mod Laid
+pub mod Places
+pub mod Steps
+pub mod KeyLists
+pub mod Owners

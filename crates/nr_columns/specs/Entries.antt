@@ -1,0 +1,18 @@
+-- Entries of a trie as pairs of bytes. This project's own.
+use Rattle.std.specs.Prelude.{ℕ, List, [], ◌∷◌, map, Option, Some, None}
+use Rattle.std.specs.FinMap.{get}
+use Rattle.nr_triedef.specs.Root.{Contents}
+use Rattle.nr_columns.specs.declared.entry.Entry.{Entry}
+
+-- the keys with their values
+abbrev pub pairs_of : List Entry → List (List ℕ × List ℕ)
+pairs_of es = map (λ e. (e.key, e.value)) es
+
+-- a key with the value that it has
+abbrev pub paired : List ℕ → Option (List ℕ) → List (List ℕ × List ℕ)
+paired key None = []
+paired key (Some value) = (key, value) ∷ []
+
+-- a key with its value, where it is there
+abbrev pub pair_at : Contents → List ℕ → List (List ℕ × List ℕ)
+pair_at c key = paired key (get c key)

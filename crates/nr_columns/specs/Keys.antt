@@ -1,0 +1,45 @@
+-- The keys of the state trie: a byte for the column, and then whose entry it is. After the Nomicon, Data Structures, Merkle Proofs and Trie; the bytes are this project's.
+use Rattle.std.specs.Prelude.{ℕ, List, [], ◌∷◌, ◌++◌}
+use Rattle.nr_bytes.specs.Numbers.{little}
+use Rattle.nr_ids.specs.declared.key.PublicKey.{PublicKey}
+use Rattle.nr_ids.specs.Keys.{key_bytes}
+
+abbrev pub account_key : List ℕ → List ℕ
+account_key id = 0 ∷ id
+
+abbrev pub code_key : List ℕ → List ℕ
+code_key id = 1 ∷ id
+
+abbrev pub access_key_key : List ℕ × PublicKey → List ℕ
+access_key_key k = 2 ∷ (k.0 ++ 2 ∷ key_bytes k.1)
+
+-- a column, an id, a comma and the rest
+abbrev pub column_key : ℕ → List ℕ → List ℕ → List ℕ
+column_key column id rest = column ∷ (id ++ 44 ∷ rest)
+
+-- by receiver and data id
+abbrev pub received_key : List ℕ × List ℕ → List ℕ
+received_key k = column_key 3 k.0 k.1
+
+-- by receiver and data id
+abbrev pub awaited_key : List ℕ × List ℕ → List ℕ
+awaited_key k = column_key 4 k.0 k.1
+
+-- by receiver and receipt id
+abbrev pub missing_key : List ℕ × List ℕ → List ℕ
+missing_key k = column_key 5 k.0 k.1
+
+-- by receiver and receipt id
+abbrev pub postponed_key : List ℕ × List ℕ → List ℕ
+postponed_key k = column_key 6 k.0 k.1
+
+abbrev pub queue_key : List ℕ
+queue_key = 7 ∷ []
+
+-- by the number in the queue
+abbrev pub delayed_key : ℕ → List ℕ
+delayed_key n = 7 ∷ little 8 n
+
+-- by owner and key
+abbrev pub datum_key : List ℕ × List ℕ → List ℕ
+datum_key k = column_key 9 k.0 k.1

@@ -1,0 +1,7 @@
+pub mod Orders
+pub mod Keys
+pub mod Tables
+pub mod Columns
+pub mod View
+pub mod Codes
+pub mod Entries

@@ -1,0 +1,94 @@
+//! Accounts and access keys.
+
+ghost use Rattle.std.specs.Prelude.{◌≡◌, IfOk, OnOk, OnErr, is_some};
+ghost use Rattle.std.specs.FinMap as map;
+ghost use Rattle.nr_columns.specs.View.{with_columns, without_owner};
+
+use crate::columns::Columns;
+use crate::keys;
+use crate::lists::remove_each;
+use crate::stored::{put, stored};
+use nr_ids::{AccountId, PublicKey};
+use nr_records::{AccessKey, Account};
+use nr_triedef::Store;
+use std::alloc::AllocError;
+
+impl<S: Store> Columns<S> {
+    /// An account; `None` where there is none.
+    pub fn account(&self, id: &AccountId) -> Result<Option<Account>, AllocError>
+        ensures { IfOk result (λ found. found ≡ map.get self.now.columns.accounts id.now) }
+    {
+        let key = keys::account_key(self.alloc, id)?;
+        stored(self.alloc, &self.store, key.inner())
+    }
+
+    /// Writes an account.
+    pub fn set_account(&mut self, id: &AccountId, account: &Account) -> Result<(), AllocError>
+        ensures ok { OnOk result (self.new ≡ with_columns self.old (record self.old.columns { accounts = map.insert self.old.columns.accounts id.now account.now })) }
+        ensures err { OnErr result (self.new ≡ self.old) }
+    {
+        let key = keys::account_key(self.alloc, id)?;
+        put(self.alloc, &mut self.store, key.inner(), account)?;
+        Ok(())
+    }
+
+    /// Takes an account out; `false` where it wasn't there.
+    pub fn remove_account(&mut self, id: &AccountId) -> Result<bool, AllocError>
+        ensures found { IfOk result (λ found. found ≡ is_some (map.get self.old.columns.accounts id.now)) }
+        ensures ok { OnOk result (self.new ≡ with_columns self.old (record self.old.columns { accounts = map.remove self.old.columns.accounts id.now })) }
+        ensures err { OnErr result (self.new ≡ self.old) }
+    {
+        let key = keys::account_key(self.alloc, id)?;
+        let found = self.store.remove(key.inner())?;
+        Ok(found)
+    }
+
+    /// An access key; `None` where there is none.
+    pub fn access_key(
+        &self,
+        id: &AccountId,
+        key: &PublicKey,
+    ) -> Result<Option<AccessKey>, AllocError>
+        ensures { IfOk result (λ found. found ≡ map.get self.now.columns.keys (id.now, key.now)) }
+    {
+        let place = keys::owner_key(self.alloc, id, key)?;
+        stored(self.alloc, &self.store, place.inner())
+    }
+
+    /// Writes an access key.
+    pub fn set_access_key(
+        &mut self,
+        id: &AccountId,
+        key: &PublicKey,
+        access: &AccessKey,
+    ) -> Result<(), AllocError>
+        ensures ok { OnOk result (self.new ≡ with_columns self.old (record self.old.columns { keys = map.insert self.old.columns.keys (id.now, key.now) access.now })) }
+        ensures err { OnErr result (self.new ≡ self.old) }
+    {
+        let place = keys::owner_key(self.alloc, id, key)?;
+        put(self.alloc, &mut self.store, place.inner(), access)?;
+        Ok(())
+    }
+
+    /// Takes an access key out; `false` where it wasn't there.
+    pub fn remove_access_key(&mut self, id: &AccountId, key: &PublicKey) -> Result<bool, AllocError>
+        ensures found { IfOk result (λ found. found ≡ is_some (map.get self.old.columns.keys (id.now, key.now))) }
+        ensures ok { OnOk result (self.new ≡ with_columns self.old (record self.old.columns { keys = map.remove self.old.columns.keys (id.now, key.now) })) }
+        ensures err { OnErr result (self.new ≡ self.old) }
+    {
+        let place = keys::owner_key(self.alloc, id, key)?;
+        let found = self.store.remove(place.inner())?;
+        Ok(found)
+    }
+
+    /// Takes all access keys of an owner out.
+    pub fn remove_access_keys(&mut self, id: &AccountId) -> Result<(), AllocError>
+        ensures ok { OnOk result (self.new ≡ with_columns self.old (record self.old.columns { keys = without_owner self.old.columns.keys id.now })) }
+        ensures marks { self.new.marks ≡ self.old.marks }
+    {
+        let front = keys::front(self.alloc, keys::ACCESS, id, keys::ACCESS)?;
+        let found = self.store.below(front.inner())?;
+        remove_each(&mut self.store, found.inner())?;
+        Ok(())
+    }
+}

@@ -1,0 +1,149 @@
+//! The keys of the state trie: a byte for the kind of the entry, and then whose it is.
+
+ghost use Rattle.std.specs.Prelude.{◌≡◌, ◌∷◌, ◌++◌, IfOk, OnOk, Some, None, []};
+ghost use Rattle.nr_bytes.specs.Numbers.{little, number};
+ghost use Rattle.nr_ids.specs.Grammar.{id_fault};
+ghost use Rattle.nr_ids.specs.Keys.{key_bytes};
+ghost use Rattle.nr_columns.specs.Keys.{account_key, code_key, access_key_key, datum_key, column_key, delayed_key};
+ghost use Rattle.nr_columns.specs.View.{at_first, key_of_rest};
+
+use nr_bytes::{Blob, Writer};
+use nr_ids::{AccountId, PublicKey};
+use nr_records::Spelled;
+use std::alloc::{AllocError, Global};
+
+/// The byte before the id in the key of an account.
+const ACCOUNT: u8 = 0;
+
+/// The byte before the id in the key of an account's code.
+const CODE: u8 = 1;
+
+/// The byte before the id, and before the public key, in the key of an access key.
+pub(crate) const ACCESS: u8 = 2;
+
+/// The byte before the receiver in the key of a received datum.
+pub(crate) const RECEIVED: u8 = 3;
+
+/// The byte before the receiver in the key of a datum that is waited for.
+pub(crate) const AWAITED: u8 = 4;
+
+/// The byte before the receiver in the key of a count of missing inputs.
+pub(crate) const MISSING: u8 = 5;
+
+/// The byte before the receiver in the key of a postponed receipt.
+pub(crate) const POSTPONED: u8 = 6;
+
+/// The key of the delayed queue's numbers, and the byte before the number in the key of a delayed
+/// receipt.
+pub(crate) const DELAYED: u8 = 7;
+
+/// The byte before the id in the key of a datum.
+pub(crate) const DATUM: u8 = 9;
+
+/// The trie key of an account: the byte 0 and the id.
+///
+/// # Errors
+///
+/// Where memory ran out.
+pub fn account_key(alloc: Global, id: &AccountId) -> Result<Blob, AllocError>
+    ensures { IfOk result (λ text. text ≡ account_key id.now) }
+{
+    let mut writer = Writer::new(alloc);
+    writer.put_u8(ACCOUNT)?;
+    writer.put_raw(id.bytes())?;
+    Ok(writer.finish())
+}
+
+/// The trie key of an account's code: the byte 1 and the id.
+///
+/// # Errors
+///
+/// Where memory ran out.
+pub fn code_key(alloc: Global, id: &AccountId) -> Result<Blob, AllocError>
+    ensures { IfOk result (λ text. text ≡ code_key id.now) }
+{
+    let mut writer = Writer::new(alloc);
+    writer.put_u8(CODE)?;
+    writer.put_raw(id.bytes())?;
+    Ok(writer.finish())
+}
+
+/// The trie key of an access key: the byte 2, the id, the byte 2 and the spelling of the public
+/// key.
+///
+/// # Errors
+///
+/// Where memory ran out.
+pub fn access_key(alloc: Global, id: &AccountId, key: &PublicKey) -> Result<Blob, AllocError>
+    ensures { IfOk result (λ text. text ≡ access_key_key (id.now, key.now)) }
+{
+    owner_key(alloc, id, key)
+}
+
+/// The trie key of a datum of an account: the byte 9, the id, a comma and the datum's own key.
+///
+/// # Errors
+///
+/// Where memory ran out.
+pub fn datum_key(alloc: Global, id: &AccountId, key: &[u8]) -> Result<Blob, AllocError>
+    ensures { IfOk result (λ text. text ≡ datum_key (id.now, key.now)) }
+{
+    pair_key(alloc, DATUM, id, key)
+}
+
+/// The key of an access key, from which the owner and the public key can be told.
+#[tactic(auto, using(crate::proofs::Places::rest_there))]
+pub(crate) fn owner_key(alloc: Global, id: &AccountId, key: &PublicKey) -> Result<Blob, AllocError>
+    ensures text { IfOk result (λ text. text ≡ access_key_key (id.now, key.now)) }
+    ensures there { OnOk result (key_of_rest (id.now ++ 2 ∷ key_bytes key.now) ≡ Some (id.now, key.now)) }
+{
+    let mut writer = Writer::new(alloc);
+    writer.put_u8(ACCESS)?;
+    writer.put_raw(id.bytes())?;
+    writer.put_u8(ACCESS)?;
+    key.write(&mut writer)?;
+    Ok(writer.finish())
+}
+
+/// A column's byte, an id, a comma and the rest. The id and the rest can be told from it.
+#[tactic(auto, using(crate::proofs::Places::comma_there))]
+pub(crate) fn pair_key(
+    alloc: Global,
+    column: u8,
+    id: &AccountId,
+    rest: &[u8],
+) -> Result<Blob, AllocError>
+    ensures text { IfOk result (λ text. text ≡ column_key column id.now rest.now) }
+    ensures there { OnOk result (at_first 44 (id.now ++ 44 ∷ rest.now) ≡ Some (id.now, rest.now)) }
+{
+    let mut writer = Writer::new(alloc);
+    writer.put_u8(column)?;
+    writer.put_raw(id.bytes())?;
+    writer.put_u8(b',')?;
+    writer.put_raw(rest)?;
+    Ok(writer.finish())
+}
+
+/// What the keys of an owner in a column begin with: the column's byte, the id and the mark.
+pub(crate) fn front(alloc: Global, column: u8, id: &AccountId, mark: u8) -> Result<Blob, AllocError>
+    ensures front { IfOk result (λ front. front ≡ column ∷ (id.now ++ mark ∷ [])) }
+    ensures valid { OnOk result (id_fault id.now ≡ None) }
+{
+    let mut writer = Writer::new(alloc);
+    writer.put_u8(column)?;
+    writer.put_raw(id.bytes())?;
+    writer.put_u8(mark)?;
+    Ok(writer.finish())
+}
+
+/// The key of a delayed receipt, from which its number can be told.
+#[tactic(auto, using(crate::proofs::Places::number_there))]
+pub(crate) fn delayed_key(alloc: Global, place: u64) -> Result<Blob, AllocError>
+    ensures text { IfOk result (λ text. text ≡ delayed_key place) }
+    ensures there { Some (number (little 8 place)) ≡ Some place }
+{
+    let mut writer = Writer::new(alloc);
+    writer.put_u8(DELAYED)?;
+    writer.put_u64(place)?;
+    Ok(writer.finish())
+}

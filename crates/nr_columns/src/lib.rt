@@ -1,0 +1,18 @@
+//! The columns of the state trie over any store: typed reads and writes of single entries.
+#![tactic(auto)]
+
+mod accounts;
+mod columns;
+mod contents;
+mod entry;
+mod inputs;
+pub mod keys;
+mod lists;
+mod numbers;
+mod receipts;
+mod stored;
+#[cfg(test)]
+mod tests;
+
+pub use columns::Columns;
+pub use entry::Entry;

@@ -1,0 +1,43 @@
+//! Lists of keys of a store.
+
+ghost use Rattle.std.specs.Prelude.{◌≡◌, IfOk, OnOk};
+ghost use Rattle.std.specs.FinMap as map;
+ghost use Rattle.std.specs.List.{fold, flat_map};
+ghost use Rattle.nr_columns.specs.View.{IsLaid};
+ghost use Rattle.nr_columns.specs.Entries.{pairs_of, pair_at};
+
+use crate::entry::Entry;
+use nr_bytes::Blob;
+use nr_triedef::Store;
+use std::alloc::{AllocError, Global};
+
+/// Takes the keys out, one after the other.
+pub(crate) fn remove_each<S: Store>(store: &mut S, keys: &[Blob]) -> Result<(), AllocError>
+    ensures ok { OnOk result (S.contents store.new ≡ fold map.remove (S.contents store.old) keys.now) }
+    ensures laid { IsLaid (S.contents store.old) → IsLaid (S.contents store.new) }
+    ensures marks { S.marks store.new ≡ S.marks store.old }
+    ensures spare { S.spare store.new ≡ S.spare store.old }
+{
+    for key in keys {
+        store.remove(key.inner())?;
+    }
+    Ok(())
+}
+
+/// The keys that are there, each with its value.
+pub(crate) fn entries_at<S: Store>(
+    alloc: Global,
+    store: &S,
+    keys: Vec<Blob>,
+) -> Result<Vec<Entry>, AllocError>
+    ensures { IfOk result (λ found. pairs_of found.items ≡ flat_map (pair_at (S.contents store.now)) keys.items) }
+{
+    let mut found = Vec::new(alloc);
+    for key in keys {
+        if let Some(bytes) = store.get(key.inner()) {
+            let value = Blob::of(Vec::from_slice(alloc, bytes)?);
+            found.push(Entry { key, value })?;
+        }
+    }
+    Ok(found)
+}

@@ -1,0 +1,5 @@
+use Rattle.nr_state.proofs.Whole.{state_none}
+use Rattle.nr_state.proofs.state.ShardState.new.Goals as goal
+
+pub invariant_of-result : goal.invariant_of-result
+invariant_of-result g c = state_none _ c.new.ensures.columns c.new.ensures.marks

@@ -1,0 +1,186 @@
+//! Accounts and access keys.
+
+ghost use Rattle.std.specs.Prelude.{◌≡◌, true, IfOk, OnOk, OnErr, IsSome, is_some};
+ghost use Rattle.std.specs.FinMap as map;
+ghost use Rattle.nr_columns.specs.View.{with_columns, without_owner};
+ghost use Rattle.nr_state.specs.World.{with_account};
+ghost use Rattle.nr_state.specs.View.{with_world, world_in};
+ghost use Rattle.nr_state.specs.Changes.{usage_of_key, set_key, removed_key, without_account};
+ghost use Rattle.nr_state.specs.Owners.{IsMoved, with_owner};
+ghost use Rattle.nr_state.specs.Usage.{key_usage};
+
+use crate::state::ShardState;
+use crate::usage::{key_usage, moved_owner};
+use nr_columns::Columns;
+use nr_config::Config;
+use nr_ids::{AccountId, PublicKey};
+use nr_records::{AccessKey, Account};
+use nr_triedef::Store;
+use std::alloc::{AllocError, Global};
+
+/// What a key costs its owner now; 0 where there is none.
+fn usage_of_key<S: Store>(
+    columns: &Columns<S>,
+    alloc: Global,
+    config: &Config,
+    id: &AccountId,
+    key: &PublicKey,
+) -> Result<u64, AllocError>
+    ensures { IfOk result (λ usage. usage ≡ usage_of_key config.now (world_in columns.now.columns) id.now key.now) }
+{
+    match columns.access_key(id, key)? {
+        Some(access) => key_usage(alloc, config, key, &access),
+        None => Ok(0),
+    }
+}
+
+/// The owner as it is once the key is written.
+fn owner_with_key<S: Store>(
+    columns: &Columns<S>,
+    alloc: Global,
+    config: &Config,
+    id: &AccountId,
+    key: &PublicKey,
+    access: &AccessKey,
+) -> Result<Account, AllocError>
+    ensures { IfOk result (IsMoved (world_in columns.now.columns) id.now (usage_of_key config.now (world_in columns.now.columns) id.now key.now) (key_usage config.now key.now access.now)) }
+{
+    let before = usage_of_key(columns, alloc, config, id, key)?;
+    let after = key_usage(alloc, config, key, access)?;
+    moved_owner(columns, id, before, after)
+}
+
+/// The owner as it is once the key is taken out.
+fn owner_without_key<S: Store>(
+    columns: &Columns<S>,
+    alloc: Global,
+    config: &Config,
+    id: &AccountId,
+    key: &PublicKey,
+) -> Result<Account, AllocError>
+    ensures { IfOk result (IsMoved (world_in columns.now.columns) id.now (usage_of_key config.now (world_in columns.now.columns) id.now key.now) 0) }
+{
+    let before = usage_of_key(columns, alloc, config, id, key)?;
+    moved_owner(columns, id, before, 0)
+}
+
+fn write_key<S: Store>(
+    columns: &mut Columns<S>,
+    id: &AccountId,
+    key: &PublicKey,
+    access: &AccessKey,
+    owner: &Account,
+) -> Result<(), AllocError>
+    ensures ok { OnOk result (columns.new ≡ with_columns columns.old (with_owner (record columns.old.columns { keys = map.insert columns.old.columns.keys (id.now, key.now) access.now }) id.now owner.now)) }
+    ensures marks { columns.new.marks ≡ columns.old.marks }
+{
+    columns.set_access_key(id, key, access)?;
+    columns.set_account(id, owner)?;
+    Ok(())
+}
+
+fn take_key<S: Store>(
+    columns: &mut Columns<S>,
+    id: &AccountId,
+    key: &PublicKey,
+    owner: &Account,
+) -> Result<bool, AllocError>
+    ensures found { IfOk result (λ found. found ≡ is_some (map.get columns.old.columns.keys (id.now, key.now))) }
+    ensures ok { OnOk result (columns.new ≡ with_columns columns.old (with_owner (record columns.old.columns { keys = map.remove columns.old.columns.keys (id.now, key.now) }) id.now owner.now)) }
+    ensures marks { columns.new.marks ≡ columns.old.marks }
+{
+    let found = columns.remove_access_key(id, key)?;
+    columns.set_account(id, owner)?;
+    Ok(found)
+}
+
+fn take_owned<S: Store>(columns: &mut Columns<S>, id: &AccountId) -> Result<(), AllocError>
+    ensures ok { OnOk result (columns.new ≡ with_columns columns.old (record columns.old.columns { keys = without_owner columns.old.columns.keys id.now; data_of = without_owner columns.old.columns.data_of id.now })) }
+    ensures marks { columns.new.marks ≡ columns.old.marks }
+{
+    columns.remove_access_keys(id)?;
+    columns.remove_data(id)?;
+    Ok(())
+}
+
+fn take_account<S: Store>(columns: &mut Columns<S>, id: &AccountId) -> Result<(), AllocError>
+    ensures ok { OnOk result (columns.new ≡ with_columns columns.old (record columns.old.columns { accounts = map.remove columns.old.columns.accounts id.now; keys = without_owner columns.old.columns.keys id.now; code = map.remove columns.old.columns.code id.now; data_of = without_owner columns.old.columns.data_of id.now })) }
+    ensures marks { columns.new.marks ≡ columns.old.marks }
+{
+    take_owned(columns, id)?;
+    columns.remove_code(id)?;
+    columns.remove_account(id)?;
+    Ok(())
+}
+
+impl<S: Store> ShardState<S> {
+    /// An account; `None` where there is none.
+    pub fn account(&self, id: &AccountId) -> Result<Option<Account>, AllocError>
+        ensures { IfOk result (λ found. found ≡ map.get self.now.world.accounts id.now) }
+    {
+        self.columns.account(id)
+    }
+
+    /// Writes an account.
+    pub fn set_account(&mut self, id: &AccountId, account: &Account) -> Result<(), AllocError>
+        requires { self.old.whole ≡ true }
+        ensures ok { OnOk result (self.new ≡ with_world self.old (with_account self.old.world id.now account.now)) }
+        ensures err { OnErr result (self.new ≡ self.old) }
+    {
+        self.columns.set_account(id, account)?;
+        Ok(())
+    }
+
+    /// Takes an account out, with all its keys, code and data. Nothing changes where there is none
+    /// of these.
+    pub fn remove_account(&mut self, id: &AccountId) -> Result<(), AllocError>
+        requires { self.old.whole ≡ true }
+        ensures ok { OnOk result (self.new ≡ with_world self.old (without_account self.old.world id.now)) }
+    {
+        self.whole = false;
+        take_account(&mut self.columns, id)?;
+        self.whole = true;
+        Ok(())
+    }
+
+    /// An access key of an account; `None` where there is none.
+    pub fn key(&self, id: &AccountId, key: &PublicKey) -> Result<Option<AccessKey>, AllocError>
+        ensures { IfOk result (λ found. found ≡ map.get self.now.world.keys (id.now, key.now)) }
+    {
+        self.columns.access_key(id, key)
+    }
+
+    /// Writes an access key of an account that stands, and moves the account's `storage_usage` by
+    /// what the key costs more or less.
+    pub fn set_key(
+        &mut self,
+        id: &AccountId,
+        key: &PublicKey,
+        access: &AccessKey,
+    ) -> Result<(), AllocError>
+        requires whole { self.old.whole ≡ true }
+        requires owner { IsSome (map.get self.old.world.accounts id.now) }
+        ensures ok { OnOk result (self.new ≡ with_world self.old (set_key self.old.config self.old.world id.now key.now access.now)) }
+    {
+        let owner = owner_with_key(&self.columns, self.alloc, &self.config, id, key, access)?;
+        self.whole = false;
+        write_key(&mut self.columns, id, key, access, &owner)?;
+        self.whole = true;
+        Ok(())
+    }
+
+    /// Takes out an access key of an account that stands, and takes what it cost off the account's
+    /// `storage_usage`; `false` where it wasn't there.
+    pub fn remove_key(&mut self, id: &AccountId, key: &PublicKey) -> Result<bool, AllocError>
+        requires whole { self.old.whole ≡ true }
+        requires owner { IsSome (map.get self.old.world.accounts id.now) }
+        ensures found { IfOk result (λ found. found ≡ is_some (map.get self.old.world.keys (id.now, key.now))) }
+        ensures ok { OnOk result (self.new ≡ with_world self.old (removed_key self.old.config self.old.world id.now key.now)) }
+    {
+        let owner = owner_without_key(&self.columns, self.alloc, &self.config, id, key)?;
+        self.whole = false;
+        let found = take_key(&mut self.columns, id, key, &owner)?;
+        self.whole = true;
+        Ok(found)
+    }
+}

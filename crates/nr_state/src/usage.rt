@@ -1,0 +1,66 @@
+//! What records cost their owner.
+
+ghost use Rattle.std.specs.Prelude.{◌≡◌, IfOk};
+ghost use Rattle.nr_state.specs.Changes.{moved};
+ghost use Rattle.nr_state.specs.Owners.{IsMoved};
+ghost use Rattle.nr_state.specs.View.{world_in};
+ghost use Rattle.nr_state.specs.Usage.{key_usage, datum_usage};
+
+use nr_columns::Columns;
+use nr_config::Config;
+use nr_ids::{AccountId, PublicKey};
+use nr_records::{AccessKey, Account, encode};
+use nr_triedef::Store;
+use std::alloc::{AllocError, Global};
+
+/// The entry of a configuration that counts the bytes of each record beside its key and value.
+const EXTRA_RECORD_BYTES: u32 = 8;
+
+pub(crate) fn datum_usage(config: &Config, key: &[u8], value: &[u8]) -> Result<u64, AllocError>
+    ensures { IfOk result (λ usage. usage ≡ datum_usage config.now key.now value.now) }
+{
+    (key.len() as u64)
+        .checked_add(value.len() as u64)
+        .and_then(|bytes| bytes.checked_add(config.entry(EXTRA_RECORD_BYTES)))
+        .ok_or(AllocError)
+}
+
+pub(crate) fn key_usage(
+    alloc: Global,
+    config: &Config,
+    key: &PublicKey,
+    access: &AccessKey,
+) -> Result<u64, AllocError>
+    ensures { IfOk result (λ usage. usage ≡ key_usage config.now key.now access.now) }
+{
+    let key = encode(alloc, key)?;
+    let access = encode(alloc, access)?;
+    datum_usage(config, key.inner(), access.inner())
+}
+
+fn moved(account: &Account, less: u64, more: u64) -> Result<Account, AllocError>
+    ensures { IfOk result (λ after. after ≡ moved less more account.now) }
+{
+    let mut after = *account;
+    after.storage_usage = account
+        .storage_usage
+        .saturating_sub(less)
+        .checked_add(more)
+        .ok_or(AllocError)?;
+    Ok(after)
+}
+
+/// The account with its usage moved from one count to another.
+pub(crate) fn moved_owner<S: Store>(
+    columns: &Columns<S>,
+    id: &AccountId,
+    less: u64,
+    more: u64,
+) -> Result<Account, AllocError>
+    ensures { IfOk result (IsMoved (world_in columns.now.columns) id.now less more) }
+{
+    match columns.account(id)? {
+        Some(account) => moved(&account, less, more),
+        None => Err(AllocError),
+    }
+}

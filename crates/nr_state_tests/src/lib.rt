@@ -1,0 +1,13 @@
+//! Tests of a shard's state over the store in memory.
+#![tactic(auto)]
+
+#[cfg(test)]
+mod accounts;
+#[cfg(test)]
+mod contents;
+#[cfg(test)]
+mod first_states;
+#[cfg(test)]
+mod setting;
+#[cfg(test)]
+mod states;

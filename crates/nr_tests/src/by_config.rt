@@ -1,0 +1,225 @@
+//! Runs under a configuration that is a file.
+
+use crate::config_text::{FEES, config_text};
+use crate::setting::{end_of, run_by, shelf_of, shelf_with};
+use crate::worked;
+use nr_top::Status;
+use std::alloc::Global;
+use std::test::Fail;
+
+/// The most bytes of a configuration's file.
+const LIMIT: usize = 1_048_576;
+
+/// What the shelf tells where all three files were asked for.
+const ALL: &str = "Some([\"C\", \"G\", \"B\"])";
+
+/// Numbers of entries in place of others.
+type Changes = &'static [&'static [(&'static str, &'static str)]];
+
+/// One run with its report.
+struct Row {
+    changes: Changes,
+    blocks: &'static str,
+    report: &'static str,
+}
+
+const ROWS: [Row; 7] = [
+    Row {
+        changes: &[],
+        blocks: worked::TRANSFER,
+        report: worked::ONE_TRANSFER_REPORT,
+    },
+    Row {
+        changes: &[&FEES],
+        blocks: worked::TRANSFER,
+        report: worked::FEES_REPORT,
+    },
+    Row {
+        changes: &[&FEES],
+        blocks: worked::TRANSFER_IN_FLIGHT,
+        report: worked::FEES_IN_FLIGHT_REPORT,
+    },
+    Row {
+        changes: &[
+            &[
+                ("gas_price", "2"),
+                ("action_receipt_send_remote", "30"),
+                ("transfer_send_remote", "40"),
+            ],
+            &FEES,
+        ],
+        blocks: worked::TRANSFER_TO_HERSELF,
+        report: worked::FEES_AT_HOME_REPORT,
+    },
+    Row {
+        changes: &[&FEES],
+        blocks: worked::GREATEST_TRANSFER,
+        report: worked::OVERFLOW_REPORT,
+    },
+    // The gas of one transaction comes to 4.
+    Row {
+        changes: &[&[("chunk_gas_limit", "5")], &FEES],
+        blocks: worked::TRANSFER,
+        report: worked::FEES_REPORT,
+    },
+    Row {
+        changes: &[&[("chunk_gas_limit", "1")]],
+        blocks: worked::TRANSFER,
+        report: worked::ONE_TRANSFER_REPORT,
+    },
+];
+
+#[test]
+fn runs_are_reported(rt: HostRuntime) -> Result<(), Fail> {
+    for row in &ROWS {
+        let config = config_text(rt.alloc(), row.changes)?;
+        let ended = run_by(rt.alloc(), config.as_bytes(), worked::GENESIS, row.blocks)?;
+        assert_eq!(rt; ended.status, Status::Done);
+        assert!(rt; ended.asked(rt.alloc(), ALL)?);
+        assert_eq!(rt; ended.sink.bytes(), row.report.as_bytes());
+    }
+    Ok(())
+}
+
+/// Configurations with a faulty entry, with its kind and number.
+const FAULTY: [(Changes, u32, u32); 4] = [
+    (&[&[("gas_price", "-1")]], 3, 1),
+    (&[&[("gas_price", "1.0")]], 3, 1),
+    (&[&[("regular_op_cost", "0")]], 4, 4),
+    (
+        &[&[("regular_op_cost", "0"), ("delete_account_exec", "-1")]],
+        4,
+        4,
+    ),
+];
+
+/// Whether a configuration's file is refused so, before other files are asked for.
+fn is_refused(alloc: Global, config: &[u8], kind: u32, entry: u32) -> Result<bool, Fail> {
+    let ended = run_by(alloc, config, worked::GENESIS, worked::TRANSFER)?;
+    let refused = ended.status == Status::Config { kind, entry };
+    Ok(refused && ended.asked(alloc, "Some([\"C\"])")? && ended.sink.bytes().is_empty())
+}
+
+#[test]
+fn faulty_configurations_are_refused(rt: HostRuntime) -> Result<(), Fail> {
+    assert!(rt; is_refused(rt.alloc(), b"[]", 1, 0)?);
+    assert!(rt; is_refused(rt.alloc(), b"", 1, 0)?);
+    assert!(rt; is_refused(rt.alloc(), b"{}", 2, 1)?);
+    for (changes, kind, entry) in FAULTY {
+        let config = config_text(rt.alloc(), changes)?;
+        assert!(rt; is_refused(rt.alloc(), config.as_bytes(), kind, entry)?);
+    }
+    Ok(())
+}
+
+#[test]
+fn configurations_have_a_greatest_length(rt: HostRuntime) -> Result<(), Fail> {
+    let mut config = config_text(rt.alloc(), &[&FEES])?;
+    for _ in config.as_bytes().len()..LIMIT {
+        config.push_str(" ")?;
+    }
+    let ended = run_by(
+        rt.alloc(),
+        config.as_bytes(),
+        worked::GENESIS,
+        worked::TRANSFER,
+    )?;
+    assert_eq!(rt; ended.status, Status::Done);
+    assert_eq!(rt; ended.sink.bytes(), worked::FEES_REPORT.as_bytes());
+    config.push_str(" ")?;
+    assert!(rt; is_refused(rt.alloc(), config.as_bytes(), 0, 0)?);
+    Ok(())
+}
+
+#[test]
+fn absent_configurations_are_read_faults(rt: HostRuntime) -> Result<(), Fail> {
+    for name in ["C", "Free", "free ", "./free"] {
+        let shelf = shelf_of(rt.alloc(), worked::GENESIS, worked::TRANSFER, &[])?;
+        let ended = end_of(rt.alloc(), &["run", name, "G", "B"], shelf)?;
+        assert_eq!(rt; ended.status, Status::ReadFault);
+        let asked = format!(in rt.alloc(); "Some([\"{name}\"])")?;
+        assert!(rt; ended.asked(rt.alloc(), asked.as_str())?);
+        assert_eq!(rt; ended.sink.bytes(), [].as_slice());
+    }
+    Ok(())
+}
+
+#[test]
+fn a_file_called_free_is_not_read(rt: HostRuntime) -> Result<(), Fail> {
+    let files: [(&str, &[u8]); 1] = [("free", b"[]")];
+    let shelf = shelf_with(rt.alloc(), worked::GENESIS, worked::TRANSFER, &files, &[])?;
+    let ended = end_of(rt.alloc(), &["run", "free", "G", "B"], shelf)?;
+    assert_eq!(rt; ended.status, Status::Done);
+    assert!(rt; ended.asked(rt.alloc(), "Some([\"G\", \"B\"])")?);
+    assert_eq!(rt; ended.sink.bytes(), worked::ONE_TRANSFER_REPORT.as_bytes());
+    Ok(())
+}
+
+/// One run that isn't built, and the files that it asks for.
+struct NotBuilt {
+    changes: Changes,
+    genesis: &'static str,
+    blocks: &'static str,
+    form: u32,
+    asked: &'static str,
+}
+
+const PRICED: Changes = &[&[("storage_price", "1")]];
+
+const NOT_BUILT: [NotBuilt; 6] = [
+    NotBuilt {
+        changes: PRICED,
+        genesis: worked::GENESIS,
+        blocks: worked::TRANSFER,
+        form: 3,
+        asked: ALL,
+    },
+    NotBuilt {
+        changes: PRICED,
+        genesis: "4e52473101000000",
+        blocks: worked::TRANSFER,
+        form: 1,
+        asked: "Some([\"C\", \"G\"])",
+    },
+    NotBuilt {
+        changes: PRICED,
+        genesis: worked::NO_GENESIS,
+        blocks: worked::TRANSFER,
+        form: 2,
+        asked: ALL,
+    },
+    NotBuilt {
+        changes: PRICED,
+        genesis: worked::GENESIS,
+        blocks: "4e52423100",
+        form: 2,
+        asked: ALL,
+    },
+    NotBuilt {
+        changes: &[&[("chunk_gas_limit", "1")], &FEES],
+        genesis: worked::GENESIS,
+        blocks: worked::TRANSFER,
+        form: 3,
+        asked: ALL,
+    },
+    // The gas of one transaction comes to 4.
+    NotBuilt {
+        changes: &[&[("chunk_gas_limit", "4")], &FEES],
+        genesis: worked::GENESIS,
+        blocks: worked::TRANSFER,
+        form: 3,
+        asked: ALL,
+    },
+];
+
+#[test]
+fn other_configurations_are_not_built(rt: HostRuntime) -> Result<(), Fail> {
+    for row in &NOT_BUILT {
+        let config = config_text(rt.alloc(), row.changes)?;
+        let ended = run_by(rt.alloc(), config.as_bytes(), row.genesis, row.blocks)?;
+        assert_eq!(rt; ended.status, Status::NotBuilt { form: row.form });
+        assert!(rt; ended.asked(rt.alloc(), row.asked)?);
+        assert_eq!(rt; ended.sink.bytes(), [].as_slice());
+    }
+    Ok(())
+}
