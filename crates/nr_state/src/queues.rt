@@ -1,6 +1,7 @@
 //! What waits in a state: data that came, receipts that lack data, and receipts that were delayed.
 //!
-//! Each call fails only where memory ran out. Nothing is said of a state in which a change failed.
+//! Each call fails only where memory ran out, or where a number that is kept or counted would pass its
+//! bits. Nothing is said of a state in which a change failed.
 
 ghost use Rattle.std.specs.Prelude.{◌≡◌, ◌+◌, ◌-◌, ℕ, true, false, IfOk, OnOk, None, is_some, count_by, slice_get, map as each};
 ghost use Rattle.std.specs.FinMap as map;
