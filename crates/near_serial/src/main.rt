@@ -1,8 +1,8 @@
 //! Replays the blocks of a file, one after another, and writes the report.
 //!
 //! The words that are built are `run CONFIG GENESIS BLOCKS`, where CONFIG is `free` or the name of a
-//! file. The exit status is that of the call; for
-//! one above 0 a line on standard error has it, with its numbers.
+//! file. The exit status is that of the call; for one above 0 a line on standard error has it, with
+//! its numbers.
 #![tactic(auto)]
 
 use nr_bytes::{FileShelf, StdoutSink};
@@ -27,6 +27,13 @@ fn number_of(status: Status) -> u8 {
         Status::Done => 0,
         Status::Usage => 1,
         Status::Config { kind: _, entry: _ } => 2,
+        Status::Genesis {
+            kind: _,
+            a: _,
+            b: _,
+            c: _,
+        } => 3,
+        Status::Blocks { kind: _, a: _ } => 4,
         Status::ReadFault => 5,
         Status::WriteFault => 6,
         Status::NoMemory => 7,
@@ -61,6 +68,8 @@ fn tell<R: Eprint + AllocGlobal>(rt: &R, status: Status) -> io::Result<()> {
     match status {
         Status::Done => {}
         Status::Config { kind, entry } => eprintln!(rt; "{number} {kind} {entry}")?,
+        Status::Genesis { kind, a, b, c } => eprintln!(rt; "{number} {kind} {a} {b} {c}")?,
+        Status::Blocks { kind, a } => eprintln!(rt; "{number} {kind} {a}")?,
         Status::NotBuilt { form } => eprintln!(rt; "{number} {form}")?,
         _ => eprintln!(rt; "{number}")?,
     }

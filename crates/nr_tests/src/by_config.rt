@@ -23,12 +23,7 @@ struct Row {
     report: &'static str,
 }
 
-const ROWS: [Row; 7] = [
-    Row {
-        changes: &[],
-        blocks: worked::TRANSFER,
-        report: worked::ONE_TRANSFER_REPORT,
-    },
+const ROWS: [Row; 6] = [
     Row {
         changes: &[&FEES],
         blocks: worked::TRANSFER,
@@ -97,7 +92,7 @@ const FAULTY: [(Changes, u32, u32); 4] = [
 fn is_refused(alloc: Global, config: &[u8], kind: u32, entry: u32) -> Result<bool, Fail> {
     let ended = run_by(alloc, config, worked::GENESIS, worked::TRANSFER)?;
     let refused = ended.status == Status::Config { kind, entry };
-    Ok(refused && ended.asked(alloc, "Some([\"C\"])")? && ended.sink.bytes().is_empty())
+    Ok(refused && ended.wrote_nothing(alloc, "Some([\"C\"])")?)
 }
 
 #[test]
@@ -127,7 +122,13 @@ fn configurations_have_a_greatest_length(rt: HostRuntime) -> Result<(), Fail> {
     assert_eq!(rt; ended.status, Status::Done);
     assert_eq!(rt; ended.sink.bytes(), worked::FEES_REPORT.as_bytes());
     config.push_str(" ")?;
-    assert!(rt; is_refused(rt.alloc(), config.as_bytes(), 0, 0)?);
+    let ended = run_by(
+        rt.alloc(),
+        config.as_bytes(),
+        worked::GENESIS,
+        worked::TRANSFER,
+    )?;
+    assert_eq!(rt; ended.status, Status::Config { kind: 0, entry: 0 });
     Ok(())
 }
 
@@ -138,16 +139,14 @@ fn absent_configurations_are_read_faults(rt: HostRuntime) -> Result<(), Fail> {
         let ended = end_of(rt.alloc(), &["run", name, "G", "B"], shelf)?;
         assert_eq!(rt; ended.status, Status::ReadFault);
         let asked = format!(in rt.alloc(); "Some([\"{name}\"])")?;
-        assert!(rt; ended.asked(rt.alloc(), asked.as_str())?);
-        assert_eq!(rt; ended.sink.bytes(), [].as_slice());
+        assert!(rt; ended.wrote_nothing(rt.alloc(), asked.as_str())?);
     }
     Ok(())
 }
 
 #[test]
 fn a_file_called_free_is_not_read(rt: HostRuntime) -> Result<(), Fail> {
-    let files: [(&str, &[u8]); 1] = [("free", b"[]")];
-    let shelf = shelf_with(rt.alloc(), worked::GENESIS, worked::TRANSFER, &files, &[])?;
+    let shelf = shelf_with(rt.alloc(), worked::GENESIS, worked::TRANSFER, "free", b"[]")?;
     let ended = end_of(rt.alloc(), &["run", "free", "G", "B"], shelf)?;
     assert_eq!(rt; ended.status, Status::Done);
     assert!(rt; ended.asked(rt.alloc(), "Some([\"G\", \"B\"])")?);
@@ -155,71 +154,98 @@ fn a_file_called_free_is_not_read(rt: HostRuntime) -> Result<(), Fail> {
     Ok(())
 }
 
-/// One run that isn't built, and the files that it asks for.
-struct NotBuilt {
+/// One run that is refused, and the files that it asks for.
+struct Refused {
     changes: Changes,
     genesis: &'static str,
     blocks: &'static str,
-    form: u32,
+    status: Status,
     asked: &'static str,
 }
 
+/// What the shelf tells where the blocks weren't asked for.
+const NO_BLOCKS: &str = "Some([\"C\", \"G\"])";
+
 const PRICED: Changes = &[&[("storage_price", "1")]];
 
-const NOT_BUILT: [NotBuilt; 6] = [
-    NotBuilt {
+const REFUSED: [Refused; 8] = [
+    Refused {
         changes: PRICED,
         genesis: worked::GENESIS,
         blocks: worked::TRANSFER,
-        form: 3,
+        status: Status::NotBuilt { form: 3 },
         asked: ALL,
     },
-    NotBuilt {
+    Refused {
         changes: PRICED,
-        genesis: "4e52473101000000",
+        genesis: "4e5247310000000001",
         blocks: worked::TRANSFER,
-        form: 1,
-        asked: "Some([\"C\", \"G\"])",
+        status: Status::Genesis {
+            kind: 1,
+            a: 8,
+            b: 0,
+            c: 0,
+        },
+        asked: NO_BLOCKS,
     },
-    NotBuilt {
+    Refused {
         changes: PRICED,
-        genesis: worked::NO_GENESIS,
+        genesis: "4e52473101000000020000006d6d00000000",
         blocks: worked::TRANSFER,
-        form: 2,
-        asked: ALL,
+        status: Status::NotBuilt { form: 1 },
+        asked: NO_BLOCKS,
     },
-    NotBuilt {
+    Refused {
         changes: PRICED,
         genesis: worked::GENESIS,
         blocks: "4e52423100",
-        form: 2,
+        status: Status::Blocks { kind: 1, a: 4 },
         asked: ALL,
     },
-    NotBuilt {
+    Refused {
+        changes: PRICED,
+        genesis: worked::NO_GENESIS,
+        blocks: worked::TRANSFER,
+        status: Status::NotBuilt { form: 2 },
+        asked: ALL,
+    },
+    // The configuration counts the usage.
+    Refused {
+        changes: &[&[("account_bytes", "99")]],
+        genesis: worked::GENESIS,
+        blocks: worked::TRANSFER,
+        status: Status::Genesis {
+            kind: 4,
+            a: 0,
+            b: 182,
+            c: 181,
+        },
+        asked: NO_BLOCKS,
+    },
+    Refused {
         changes: &[&[("chunk_gas_limit", "1")], &FEES],
         genesis: worked::GENESIS,
         blocks: worked::TRANSFER,
-        form: 3,
+        status: Status::NotBuilt { form: 3 },
         asked: ALL,
     },
     // The gas of one transaction comes to 4.
-    NotBuilt {
+    Refused {
         changes: &[&[("chunk_gas_limit", "4")], &FEES],
         genesis: worked::GENESIS,
         blocks: worked::TRANSFER,
-        form: 3,
+        status: Status::NotBuilt { form: 3 },
         asked: ALL,
     },
 ];
 
 #[test]
-fn other_configurations_are_not_built(rt: HostRuntime) -> Result<(), Fail> {
-    for row in &NOT_BUILT {
+fn the_first_refusal_comes(rt: HostRuntime) -> Result<(), Fail> {
+    for row in &REFUSED {
         let config = config_text(rt.alloc(), row.changes)?;
         let ended = run_by(rt.alloc(), config.as_bytes(), row.genesis, row.blocks)?;
-        assert_eq!(rt; ended.status, Status::NotBuilt { form: row.form });
-        assert!(rt; ended.asked(rt.alloc(), row.asked)?);
-        assert_eq!(rt; ended.sink.bytes(), [].as_slice());
+        assert_eq!(rt; ended.status, row.status);
+        assert!(rt; ended.wrote_nothing(rt.alloc(), row.asked)?);
     }
     Ok(())
 }

@@ -6,6 +6,12 @@ mod by_config;
 #[cfg(test)]
 mod config_text;
 #[cfg(test)]
+mod faulty;
+#[cfg(test)]
+mod lengths;
+#[cfg(test)]
+mod pieces;
+#[cfg(test)]
 mod refused;
 #[cfg(test)]
 mod rows;

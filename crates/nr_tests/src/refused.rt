@@ -1,6 +1,6 @@
 //! Runs that end with a refusal or a fault.
 
-use crate::setting::{Ended, ROOM, end_of, run, shelf_of, words_of};
+use crate::setting::{Ended, ROOM, end_of, shelf_of, words_of};
 use crate::worked;
 use nr_bytes::MemorySink;
 use nr_top::{Status, serial};
@@ -40,8 +40,7 @@ fn words_of_no_command_are_usage(rt: HostRuntime) -> Result<(), Fail> {
     for row in rows {
         let ended = answer_to(rt.alloc(), row)?;
         assert_eq!(rt; ended.status, Status::Usage);
-        assert!(rt; ended.asked(rt.alloc(), "None")?);
-        assert_eq!(rt; ended.sink.bytes(), [].as_slice());
+        assert!(rt; ended.wrote_nothing(rt.alloc(), "None")?);
     }
     Ok(())
 }
@@ -57,40 +56,7 @@ fn later_commands_load_nothing(rt: HostRuntime) -> Result<(), Fail> {
     for row in rows {
         let ended = answer_to(rt.alloc(), row)?;
         assert_eq!(rt; ended.status, Status::NotBuilt { form: 0 });
-        assert!(rt; ended.asked(rt.alloc(), "None")?);
-        assert_eq!(rt; ended.sink.bytes(), [].as_slice());
-    }
-    Ok(())
-}
-
-#[test]
-fn other_files_are_not_built(rt: HostRuntime) -> Result<(), Fail> {
-    let rows = [
-        // A genesis with a boundary, one that is cut, one with a byte behind it, other bytes.
-        ("4e52473101000000020000006d6d00000000", worked::NO_BLOCKS, 1),
-        ("4e524731000000000000", worked::NO_BLOCKS, 1),
-        ("4e524731000000000000000000", worked::NO_BLOCKS, 1),
-        ("4e5242310000000000000000", worked::NO_BLOCKS, 1),
-        // Blocks whose height is 2, that are cut, with a byte behind them, without a chunk, whose
-        // signer has no key.
-        (
-            worked::NO_GENESIS,
-            "4e5242310100000002000000000000000000000000000000010000000100000000",
-            2,
-        ),
-        (worked::NO_GENESIS, "4e52423100", 2),
-        (worked::NO_GENESIS, "4e5242310000000000", 2),
-        (
-            worked::NO_GENESIS,
-            "4e52423101000000010000000000000000000000000000000100000000",
-            2,
-        ),
-        (worked::NO_GENESIS, worked::TRANSFER, 2),
-    ];
-    for (genesis, blocks, form) in rows {
-        let ended = run(rt.alloc(), genesis, blocks)?;
-        assert_eq!(rt; ended.status, Status::NotBuilt { form });
-        assert_eq!(rt; ended.sink.bytes(), [].as_slice());
+        assert!(rt; ended.wrote_nothing(rt.alloc(), "None")?);
     }
     Ok(())
 }

@@ -12,7 +12,7 @@ struct Row {
     report: &'static str,
 }
 
-const ROWS: [Row; 7] = [
+const ROWS: [Row; 9] = [
     Row {
         genesis: worked::GENESIS,
         blocks: worked::TRANSFER,
@@ -47,6 +47,16 @@ const ROWS: [Row; 7] = [
         genesis: worked::GENESIS,
         blocks: worked::GREATEST_TRANSFER,
         report: worked::GREATEST_TRANSFER_REPORT,
+    },
+    Row {
+        genesis: worked::GENESIS_OF_ALL_KINDS,
+        blocks: worked::TRANSFER,
+        report: worked::ALL_KINDS_REPORT,
+    },
+    Row {
+        genesis: worked::GREATEST_SUPPLY,
+        blocks: worked::ONE_BLOCK,
+        report: worked::GREATEST_SUPPLY_REPORT,
     },
 ];
 

@@ -24,6 +24,12 @@ impl Ended {
         let end = format!(in alloc; "asked: {names} }}")?;
         Ok(text.as_bytes().strip_suffix(end.as_bytes()).is_some())
     }
+
+    /// Whether these names alone were asked for, and the sink took nothing.
+    pub(crate) fn wrote_nothing(&self, alloc: Global, names: &str) -> Result<bool, Fail> {
+        let asked = self.asked(alloc, names)?;
+        Ok(asked && self.sink.bytes().is_empty())
+    }
 }
 
 /// Words as texts of their own.
@@ -35,25 +41,25 @@ pub(crate) fn words_of(alloc: Global, words: &[&str]) -> Result<Vec<String>, Fai
     Ok(texts)
 }
 
-/// A shelf with a genesis `G` and blocks `B`, given in hexadecimal, and other files, that fails at some
-/// calls.
-pub(crate) fn shelf_with(
-    alloc: Global,
-    genesis: &str,
-    blocks: &str,
-    others: &[(&str, &[u8])],
-    fail: &[u64],
-) -> Result<MemoryShelf, Fail> {
-    let mut files = Vec::new(alloc);
-    files.push((String::from_str(alloc, "G")?, hex::decode(alloc, genesis)?))?;
-    files.push((String::from_str(alloc, "B")?, hex::decode(alloc, blocks)?))?;
-    for (name, bytes) in others {
-        files.push((
-            String::from_str(alloc, name)?,
-            Vec::from_slice(alloc, bytes)?,
-        ))?;
+/// A text put together of pieces.
+pub(crate) fn text_of(alloc: Global, pieces: &[&str]) -> Result<String, Fail> {
+    let mut text = String::new(alloc);
+    for piece in pieces {
+        text.push_str(piece)?;
     }
-    Ok(MemoryShelf::new(files, Vec::from_slice(alloc, fail)?))
+    Ok(text)
+}
+
+/// A genesis `G` and blocks `B`.
+fn files_of(
+    alloc: Global,
+    genesis: Vec<u8>,
+    blocks: Vec<u8>,
+) -> Result<Vec<(String, Vec<u8>)>, Fail> {
+    let mut files = Vec::new(alloc);
+    files.push((String::from_str(alloc, "G")?, genesis))?;
+    files.push((String::from_str(alloc, "B")?, blocks))?;
+    Ok(files)
 }
 
 /// A shelf with a genesis `G` and blocks `B`, given in hexadecimal, that fails at some calls.
@@ -63,7 +69,26 @@ pub(crate) fn shelf_of(
     blocks: &str,
     fail: &[u64],
 ) -> Result<MemoryShelf, Fail> {
-    shelf_with(alloc, genesis, blocks, &[], fail)
+    let genesis = hex::decode(alloc, genesis)?;
+    let files = files_of(alloc, genesis, hex::decode(alloc, blocks)?)?;
+    Ok(MemoryShelf::new(files, Vec::from_slice(alloc, fail)?))
+}
+
+/// A shelf with a genesis `G` and blocks `B`, given in hexadecimal, and a third file.
+pub(crate) fn shelf_with(
+    alloc: Global,
+    genesis: &str,
+    blocks: &str,
+    name: &str,
+    bytes: &[u8],
+) -> Result<MemoryShelf, Fail> {
+    let genesis = hex::decode(alloc, genesis)?;
+    let mut files = files_of(alloc, genesis, hex::decode(alloc, blocks)?)?;
+    files.push((
+        String::from_str(alloc, name)?,
+        Vec::from_slice(alloc, bytes)?,
+    ))?;
+    Ok(MemoryShelf::new(files, Vec::new(alloc)))
 }
 
 /// What words over a shelf end with.
@@ -79,10 +104,17 @@ pub(crate) fn end_of(alloc: Global, words: &[&str], shelf: MemoryShelf) -> Resul
     })
 }
 
-/// What `run free G B` ends with.
-pub(crate) fn run(alloc: Global, genesis: &str, blocks: &str) -> Result<Ended, Fail> {
-    let shelf = shelf_of(alloc, genesis, blocks, &[])?;
+/// What `run free G B` ends with, for the bytes of both files.
+pub(crate) fn run_files(alloc: Global, genesis: Vec<u8>, blocks: Vec<u8>) -> Result<Ended, Fail> {
+    let files = files_of(alloc, genesis, blocks)?;
+    let shelf = MemoryShelf::new(files, Vec::new(alloc));
     end_of(alloc, &["run", "free", "G", "B"], shelf)
+}
+
+/// What `run free G B` ends with, for both files in hexadecimal.
+pub(crate) fn run(alloc: Global, genesis: &str, blocks: &str) -> Result<Ended, Fail> {
+    let genesis = hex::decode(alloc, genesis)?;
+    run_files(alloc, genesis, hex::decode(alloc, blocks)?)
 }
 
 /// What `run C G B` ends with, for the bytes of a configuration.
@@ -92,6 +124,6 @@ pub(crate) fn run_by(
     genesis: &str,
     blocks: &str,
 ) -> Result<Ended, Fail> {
-    let shelf = shelf_with(alloc, genesis, blocks, &[("C", config)], &[])?;
+    let shelf = shelf_with(alloc, genesis, blocks, "C", config)?;
     end_of(alloc, &["run", "C", "G", "B"], shelf)
 }

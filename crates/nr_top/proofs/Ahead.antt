@@ -1,5 +1,5 @@
 -- One block more of the straight run.
-use Rattle.std.proofs.Common.{◌≡◌, ℕ, suc, ◌+◌, ◌*◌, ◌≤◌, ◌<◌, ◌^◌, ◌&&◌, length, List, [], ◌∷◌, ◌++◌, Bool, true, false, Option, Some, None, refl, sym, ap, subst, ◌∙◌, append_assoc, arith}
+use Rattle.std.proofs.Common.{◌≡◌, ℕ, ◌+◌, ◌*◌, ◌≤◌, ◌^◌, ◌&&◌, length, List, [], ◌∷◌, ◌++◌, true, false, Option, Some, None, refl, sym, ap, subst, ◌∙◌, append_assoc, arith}
 use Rattle.std.specs.Prelude.{is_some, sum_by, ◌==◌, slice_get, unwrap_or}
 use Rattle.std.proofs.Math.Nat.{mul-suc}
 use Rattle.std.specs.FinMap.{get}
@@ -7,35 +7,35 @@ use Rattle.std.specs.List.{list_all}
 use Rattle.std.proofs.lemmas.List.Sums.{sum_by-cons}
 use Rattle.nr_records.specs.declared.receipt.Receipt.{Receipt}
 use Rattle.nr_records.specs.declared.transaction.Transaction.{Transaction}
-use Rattle.nr_top.specs.Blocks.{is_one_transfer, is_built_transaction, is_built_chunk, are_built_chunks, are_built_from, most_gas, chunk_gas, block_gas}
+use Rattle.nr_top.specs.Blocks.{is_one_transfer, has_full_key, is_built_transaction, is_built_chunk, are_built_chunks, most_gas, chunk_gas, block_gas}
 use Rattle.nr_top.specs.Chunk.{Working, ChunkReport}
 use Rattle.nr_config.specs.Config.{Config}
 use Rattle.nr_top.specs.Execution.{system as system_id}
-use Rattle.nr_top.specs.LedgerWorld.{world_of}
 use Rattle.nr_report.specs.Lines.{chunk_text}
 use Rattle.nr_top.specs.Run.{routed_in, executed_in}
 use Rattle.nr_state.specs.Tokens.{list_tokens}
-use Rattle.nr_top.specs.Straight.{IsReady, IsKept, IsNext, IsAhead, transactions_of, work_at, sent_from, report_at, reports_from, reports_text, left_by}
-use Rattle.nr_top.specs.Transfers.{AreTransfers, IsSettled, has_system, running_gas, transaction_gas}
+use Rattle.nr_top.specs.Straight.{are_built_from, IsReady, IsKept, IsNext, IsAhead, transactions_of, work_at, sent_from, report_at, reports_from, reports_text, left_by}
+use Rattle.nr_top.specs.Transfers.{AreTransfers, IsSettled, IsIdle, has_system, running_gas, transaction_gas}
 use Rattle.nr_state.specs.World.{World, accounts_tokens}
 use Rattle.nr_blocks.specs.declared.block.Block.{Block}
 use Rattle.nr_top.specs.declared.run.Progress.{Progress}
 use Rattle.nr_top.proofs.Costs.{most_is}
 use Rattle.nr_top.proofs.Serving.{still_transfers}
+use Rattle.nr_top.proofs.Both.{both_left, both_right}
 
--- ---- what holds of a world holds of each one with the same accounts and keys
+-- ---- what holds of a world holds of each one that it settled into
 transfers_back : (c : Config) (old new : World) (list : List Receipt) → IsSettled old new → AreTransfers c new list → AreTransfers c old list
 transfers_back c old new [] same h = tt
 transfers_back c old new (r ∷ rs) same h =
     (record { body = h.0.body; sender = h.0.sender; receiver = sym (same.accounts r.receiver) ∙ h.0.receiver }, transfers_back c old new rs same h.1)
 
 settled_on : (a b c : World) → IsSettled a b → IsSettled b c → IsSettled a c
-settled_on a b c one two = record { accounts = λ id. two.accounts id ∙ one.accounts id; keys = λ key. two.keys key ∙ one.keys key }
+settled_on a b c one two = record { accounts = λ id. two.accounts id ∙ one.accounts id; keys = λ key. two.keys key ∙ one.keys key; postponed = two.postponed ∙ one.postponed; delayed = two.delayed ∙ one.delayed }
 
 built_transaction : (old new : World) (tx : Transaction) → IsSettled old new → is_built_transaction new tx ≡ is_built_transaction old tx
 built_transaction old new tx same =
     ap (λ b. is_one_transfer tx.actions && b && is_some (get new.accounts tx.receiver)) (same.keys (tx.signer, tx.public_key))
-    ∙ ap (λ b. is_one_transfer tx.actions && is_some (get old.keys (tx.signer, tx.public_key)) && b) (same.accounts tx.receiver)
+    ∙ ap (λ b. is_one_transfer tx.actions && has_full_key (get old.keys (tx.signer, tx.public_key)) && b) (same.accounts tx.receiver)
 
 built_transactions : (old new : World) (txs : List Transaction) → IsSettled old new → list_all (is_built_transaction new) txs ≡ list_all (is_built_transaction old) txs
 built_transactions old new [] same = refl
@@ -52,14 +52,6 @@ built_chunks old new [] same = refl
 built_chunks old new (chunk ∷ []) same = built_chunk old new chunk same
 built_chunks old new (chunk ∷ next ∷ chunks) same = refl
 
-pub both_left : (a b : Bool) → (a && b) ≡ true → a ≡ true
-both_left true b e = refl
-both_left false b e = e
-
-pub both_right : (a b : Bool) → (a && b) ≡ true → b ≡ true
-both_right true b e = e
-both_right false b e = absurd cc
-
 -- ---- the gas of transactions that are built
 list_gas : (c : Config) (w : World) (txs : List Transaction) → list_all (is_built_transaction w) txs ≡ true → sum_by (most_gas c) txs ≡ transaction_gas c * length txs
 list_gas c w [] e =
@@ -67,7 +59,7 @@ list_gas c w [] e =
     sym none
 list_gas c w (tx ∷ txs) e =
     let built = both_left (is_built_transaction w tx) (list_all (is_built_transaction w) txs) e in
-    let one : is_one_transfer tx.actions ≡ true = both_left (is_one_transfer tx.actions) (is_some (get w.keys (tx.signer, tx.public_key))) (both_left (is_one_transfer tx.actions && is_some (get w.keys (tx.signer, tx.public_key))) (is_some (get w.accounts tx.receiver)) built) in
+    let one : is_one_transfer tx.actions ≡ true = both_left (is_one_transfer tx.actions) (has_full_key (get w.keys (tx.signer, tx.public_key))) (both_left (is_one_transfer tx.actions && has_full_key (get w.keys (tx.signer, tx.public_key))) (is_some (get w.accounts tx.receiver)) built) in
     omega (arith, sum_by-cons (most_gas c) tx txs, most_is c tx one, list_gas c w txs (both_right (is_built_transaction w tx) (list_all (is_built_transaction w) txs) e), mul-suc (transaction_gas c) (length txs))
 
 block_gas_is : (c : Config) (w : World) (b : Block) → are_built_chunks w b.chunks ≡ true → block_gas c b ≡ transaction_gas c * length (transactions_of b)
@@ -83,26 +75,27 @@ block_gas_is c w b e = of_chunks b.chunks e
 chunks_built : (w : World) (h : ℕ) (b : Block) (rest : List Block) → are_built_from w h (b ∷ rest) ≡ true → are_built_chunks w b.chunks ≡ true
 chunks_built w h b rest e = both_right (b.height.0 == h) (are_built_chunks w b.chunks) (both_left ((b.height.0 == h) && are_built_chunks w b.chunks) (are_built_from w (h + 1) rest) e)
 
-pub is_ready : (c : Config) (w : World) (blocks : List Block) (h : ℕ) (b : Block) (rest : List Block) (p : Progress) → has_system w ≡ false → accounts_tokens w ≤ 2 ^ 127 → IsAhead c w blocks h (b ∷ rest) p → IsReady c (world_of p.ledger) p.inbox.items b
-is_ready c w blocks h b rest p system few ahead =
-    let now = world_of p.ledger in
+pub is_ready : (c : Config) (w : World) (blocks : List Block) (h : ℕ) (b : Block) (rest : List Block) (p : Progress) → IsIdle w → has_system w ≡ false → accounts_tokens w ≤ 2 ^ 127 → IsAhead c w blocks h (b ∷ rest) p → IsReady c p.state.world p.inbox.items b
+is_ready c w blocks h b rest p idle system few ahead =
+    let now = p.state.world in
     let chunks : are_built_chunks w b.chunks ≡ true = chunks_built w h b rest ahead.built in
     record {
       chunks = built_chunks w now b.chunks ahead.settled ∙ chunks;
       system = ahead.settled.accounts system_id ∙ system;
+      delayed = ahead.settled.delayed ∙ idle.delayed;
       transfers = still_transfers c w now p.inbox.items ahead.settled ahead.transfers;
       tokens = omega (arith, ahead.tokens, few);
       gas = omega (arith, ahead.gas, sum_by-cons (block_gas c) b rest, block_gas_is c w b chunks);
     }
 
-pub has_room : (c : Config) (w : World) (blocks : List Block) (h : ℕ) (rest : List Block) (p : Progress) → accounts_tokens w ≤ 2 ^ 127 → IsAhead c w blocks h rest p → accounts_tokens (world_of p.ledger) + list_tokens c p.inbox.items + p.burnt ≤ 2 ^ 127
+pub has_room : (c : Config) (w : World) (blocks : List Block) (h : ℕ) (rest : List Block) (p : Progress) → accounts_tokens w ≤ 2 ^ 127 → IsAhead c w blocks h rest p → accounts_tokens p.state.world + list_tokens c p.inbox.items + p.burnt ≤ 2 ^ 127
 has_room c w blocks h rest p few ahead = omega (arith, ahead.tokens, few)
 
 regroup : (a b c whole : List ℕ) → a ++ (b ++ c) ≡ whole → (a ++ b) ++ c ≡ whole
 regroup a b c whole e = append_assoc a b c ∙ e
 
 -- the same reports, from the state after the block
-after_next : {A : Type 0} (f : World → List Receipt → A) (k : Working) (p q : Progress) → IsNext p k q → f (world_of q.ledger) q.inbox.items ≡ f k.world (sent_from k)
+after_next : {A : Type 0} (f : World → List Receipt → A) (k : Working) (p q : Progress) → IsNext p k q → f q.state.world q.inbox.items ≡ f k.world (sent_from k)
 after_next f k p q next = ap (λ w. f w q.inbox.items) next.world ∙ ap (f k.world) next.inbox
 
 summed : (before more now rest whole : ℕ) → now ≡ before + more → before + (more + rest) ≡ whole → now + rest ≡ whole
@@ -115,10 +108,10 @@ summed_next f k before now whole others rest same next e =
     ∙ summed before (f (report_at k)) now (sum_by f rest) whole next (ap (λ n. before + n) (sym (sum_by-cons f (report_at k) rest)) ∙ e)
 
 pub one_more : (c : Config) (w : World) (blocks : List Block) (h : ℕ) (b : Block) (rest : List Block) (p q : Progress) → IsAhead c w blocks h (b ∷ rest) p
-    → IsNext p (work_at c (world_of p.ledger) p.inbox.items b) q → IsKept c (world_of p.ledger) p.inbox.items b (work_at c (world_of p.ledger) p.inbox.items b) → IsAhead c w blocks (h + 1) rest q
+    → IsNext p (work_at c p.state.world p.inbox.items b) q → IsKept c p.state.world p.inbox.items b (work_at c p.state.world p.inbox.items b) → IsAhead c w blocks (h + 1) rest q
 one_more c w blocks h b rest p q ahead next kept =
-    let k = work_at c (world_of p.ledger) p.inbox.items b in
-    let reports : reports_from c (world_of q.ledger) q.inbox.items rest ≡ reports_from c k.world (sent_from k) rest = after_next (λ v list. reports_from c v list rest) k p q next in
+    let k = work_at c p.state.world p.inbox.items b in
+    let reports : reports_from c q.state.world q.inbox.items rest ≡ reports_from c k.world (sent_from k) rest = after_next (λ v list. reports_from c v list rest) k p q next in
     record {
       built = both_right ((b.height.0 == h) && are_built_chunks w b.chunks) (are_built_from w (h + 1) rest) ahead.built;
       left = after_next (λ v list. left_by c v list rest) k p q next ∙ ahead.left;
@@ -127,8 +120,9 @@ one_more c w blocks h b rest p q ahead next kept =
       routed = summed_next routed_in k p.routed q.routed _ _ _ reports next.routed ahead.routed;
       executed = summed_next executed_in k p.executed q.executed _ _ _ reports next.executed ahead.executed;
       burnt = summed_next (λ r. r.result.burnt) k p.burnt q.burnt _ _ _ reports next.burnt ahead.burnt;
-      settled = settled_on w (world_of p.ledger) (world_of q.ledger) ahead.settled (subst (IsSettled (world_of p.ledger)) (sym next.world) kept.settled);
-      transfers = subst (AreTransfers c w) (sym next.inbox) (transfers_back c w (world_of p.ledger) (sent_from k) ahead.settled kept.transfers);
+      settled = settled_on w p.state.world q.state.world ahead.settled (subst (IsSettled p.state.world) (sym next.world) kept.settled);
+      whole = next.whole;
+      transfers = subst (AreTransfers c w) (sym next.inbox) (transfers_back c w p.state.world (sent_from k) ahead.settled kept.transfers);
       tokens = omega (arith, ap accounts_tokens next.world, ap (list_tokens c) next.inbox, next.burnt, kept.tokens, ahead.tokens);
       gas = omega (arith, ap (λ (list : List Receipt). running_gas c * length list) next.inbox, kept.gas, ahead.gas, sum_by-cons (block_gas c) b rest, block_gas_is c w b (chunks_built w h b rest ahead.built));
     }

@@ -9,7 +9,7 @@ use Rattle.std.specs.Global.{Global}
 use Rattle.std.specs.declared.string.String.{String}
 use Rattle.nr_top.specs.Command.{command, is_digit, has_no_leading_zero, is_numeral, number_in}
 use Rattle.nr_top.specs.Input.{texts}
-use Rattle.nr_top.proofs.Ahead.{both_left, both_right}
+use Rattle.nr_top.proofs.Both.{both_left, both_right}
 
 pub few_words : (words : List (String Global)) → length words < 4 → command (texts words) ≡ None
 unfolding command

@@ -1,5 +1,5 @@
 -- What one transfer costs.
-use Rattle.std.proofs.Common.{◌≡◌, ℕ, ◌+◌, ◌*◌, ◌^◌, ◌<◌, ◌≤◌, Bool, true, false, cond, List, [], ◌∷◌, length, Option, Some, None, refl, sym, ap, ◌∙◌, arith, inl, inr}
+use Rattle.std.proofs.Common.{◌≡◌, ℕ, ◌+◌, ◌*◌, ◌^◌, ◌<◌, ◌≤◌, Bool, true, false, cond, List, [], ◌∷◌, length, None, refl, sym, ap, ◌∙◌, arith, inl, inr}
 use Rattle.std.specs.Prelude.{◌&&◌, ◌==◌, nat_lt}
 use Rattle.std.proofs.lemmas.Bool.{eqb-true, le-ltb}
 use Rattle.std.proofs.lemmas.Nat.{mul-le}
@@ -21,6 +21,7 @@ use Rattle.nr_records.specs.declared.transaction.Transaction.{Transaction}
 use Rattle.nr_top.specs.Blocks.{is_one_transfer, most_gas, blocks_gas, is_built_config}
 use Rattle.nr_top.specs.Conversion.{is_local, sending_gas, whole_gas}
 use Rattle.nr_top.specs.Transfers.{transfer_gas, running_gas, transaction_gas, is_transfer_act, is_transfer_body}
+use Rattle.nr_top.proofs.Both.{both_left, both_right}
 
 -- ---- bounds
 receipt_small : (c : Config) (p : Payment) → IsValidConfig c → fee c p action_receipt ≤ 10 ^ 15
@@ -83,19 +84,11 @@ sending_small c tx one = by (is_local tx) (sending_is c tx one)
     by false e = omega (arith, e)
 
 -- ---- a receipt of one transfer
-first : (a b : Bool) → (a && b) ≡ true → a ≡ true
-first true b e = refl
-first false b e = e
-
-second : (a b : Bool) → (a && b) ≡ true → b ≡ true
-second true b e = e
-second false b e = absurd cc
-
 pub one_act : (c : Config) (a : ActionReceipt) → is_transfer_act c a ≡ true → is_one_transfer a.actions ≡ true
-one_act c a e = first _ _ (first _ _ (first _ _ e))
+one_act c a e = both_left _ _ (both_left _ _ (both_left _ _ e))
 
 pub price_act : (c : Config) (a : ActionReceipt) → is_transfer_act c a ≡ true → a.gas_price ≡ gas_price c
-price_act c a e = eqb-true a.gas_price (gas_price c) (second (is_one_transfer a.actions && (length a.inputs == 0) && (length a.outputs == 0)) (a.gas_price == gas_price c) e)
+price_act c a e = eqb-true a.gas_price (gas_price c) (both_right (is_one_transfer a.actions && (length a.inputs == 0) && (length a.outputs == 0)) (a.gas_price == gas_price c) e)
 
 pub act_tokens_is : (c : Config) (a : ActionReceipt) → is_one_transfer a.actions ≡ true → a.gas_price ≡ gas_price c → act_tokens c false a ≡ deposits a.actions + running_gas c * gas_price c
 act_tokens_is c a one e = ap (λ n. deposits a.actions + n * a.gas_price) (prepaid_is c a.actions one) ∙ ap (λ n. deposits a.actions + running_gas c * n) e

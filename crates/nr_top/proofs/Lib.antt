@@ -1,8 +1,8 @@
 -- Lemmas behind the answers.
-pub mod Maps
-pub mod Founding
-pub mod Held
+pub mod Both
+pub mod Turns
 pub mod Costs
+pub mod Charging
 pub mod Converting
 pub mod Tokens
 pub mod Executing
@@ -16,4 +16,6 @@ pub mod Ahead
 pub mod Straightened
 pub mod Sums
 pub mod Growth
+pub mod First
+pub mod Stopping
 pub mod Preparing

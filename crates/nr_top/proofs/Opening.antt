@@ -1,8 +1,8 @@
 -- What the opening of a chunk of transfers keeps.
 use Rattle.std.proofs.Common.{◌≡◌, ℕ, suc, ◌+◌, ◌-◌, ◌*◌, ◌^◌, ◌<◌, ◌≤◌, min, Bool, true, false, List, [], ◌∷◌, ◌++◌, length, drop, get_or, Option, Some, None, Ok, Err, refl, sym, ap, subst, ◌∙◌, arith, add-one}
-use Rattle.std.specs.Prelude.{◌≢◌, fold, is_some, not, nat_lt, nat_le, ◌&&◌}
+use Rattle.std.specs.Prelude.{◌≢◌, fold, is_some}
 use Rattle.std.specs.FinMap.{get}
-use Rattle.std.specs.List.{list_all}
+use Rattle.std.specs.List.{list_all, AllByRecursion}
 use Rattle.std.proofs.Math.Nat.{mul-suc, mul-add, add-mul, mul-le-mul_left, mul-le-mul_right}
 use Rattle.std.proofs.lemmas.Bool.{ltb-false, eq-eqb}
 use Rattle.std.proofs.lemmas.Slice.Eq.{bytes_eq-Decides}
@@ -21,7 +21,7 @@ use Rattle.nr_records.specs.declared.receipt.Receipt.{Receipt}
 use Rattle.nr_records.specs.declared.transaction.Transaction.{Transaction}
 use Rattle.nr_top.specs.Blocks.{is_one_transfer, is_built_transaction}
 use Rattle.nr_top.specs.Chunk.{Working, Opening, begun, spent, serve, convert_next, by_conversion, routed, with_line, open_chunk, serve_delayed, serve_queue}
-use Rattle.nr_top.specs.Conversion.{Conversion, convert, is_local, transaction_hash, receipt_of, charged, by_key, by_signer, unless_refused, first_refusal, fits, sending_gas, whole_gas, whole_cost, converted}
+use Rattle.nr_top.specs.Conversion.{Conversion, convert, is_local, transaction_hash, receipt_of, charged, by_key, by_signer, unless_refused, first_refusal, refusals, sending_gas, whole_gas, whole_cost, converted}
 use Rattle.nr_top.specs.Execution.{system}
 use Rattle.nr_fees.specs.Fees.{deposits, body_tokens, receipt_tokens}
 use Rattle.nr_top.specs.Phases.{Converts, IsConverting}
@@ -32,16 +32,17 @@ use Rattle.nr_state.specs.World.{World, accounts_tokens}
 use Rattle.nr_top.specs.declared.converted.Converted.{Converted}
 use Rattle.nr_state.specs.declared.place.Place.{Place}
 use Rattle.nr_top.specs.declared.tx_fault.TxFault.{TxFault}
-use Rattle.nr_top.specs.declared.tx_fault.TxFault.TheVariants.{Nonce, CostOverflow, Balance, Memory}
+use Rattle.nr_top.specs.declared.tx_fault.TxFault.TheVariants.{Memory}
 use Rattle.nr_top.proofs.Costs.{prepaid_is, whole_gas_is, sending_small}
-use Rattle.nr_top.proofs.Serving.{IsServed, serves_all, still_transfers, front_of}
+use Rattle.nr_top.proofs.Serving.{IsServed, serves_all, still_transfers}
 use Rattle.nr_top.proofs.Tokens.{charged_tokens, charged_settled, settled_itself, settled_then}
+use Rattle.nr_top.proofs.Both.{both_left, both_right}
+use Rattle.nr_top.proofs.Turns.{front_of}
 
 -- ---- what an accepted transaction of one transfer does
 pub record IsAccepted (c : Config) (w : World) (tx : Transaction) (place : Place) (p : World × Converted) : Type 0 where
   pub settled : IsSettled w p.0
   pub tokens : accounts_tokens p.0 + whole_cost c tx place ≡ accounts_tokens w
-  pub delayed : p.0.delayed ≡ w.delayed
   pub signer : is_some (get w.accounts tx.signer) ≡ true
   pub made : p.1 ≡ converted c tx place
 
@@ -55,23 +56,25 @@ accepted : (c : Config) (w : World) (tx : Transaction) (place : Place) (account 
 accepted c w tx place account key h g le = record {
   settled = charged_settled w tx (whole_cost c tx place) account key h g;
   tokens = charged_tokens w tx (whole_cost c tx place) account key h le;
-  delayed = refl;
   signer = ap is_some h;
   made = refl;
 }
 
-by_refusal : (c : Config) (w : World) (tx : Transaction) (place : Place) (account : Account) (key : AccessKey) (first second third : Bool) (a b d : TxFault) → (third ≡ false → IsAccepted c w tx place (charged w tx (whole_cost c tx place) account key, converted c tx place))
-    → IsVerdict c w tx place (unless_refused c w tx place account key (first_refusal ((first, a) ∷ (second, b) ∷ (third, d) ∷ [])))
-by_refusal c w tx place account key true second third a b d h = tt
-by_refusal c w tx place account key false true third a b d h = tt
-by_refusal c w tx place account key false false true a b d h = tt
-by_refusal c w tx place account key false false false a b d h = h refl
+all_pass : (rs : List (Bool × TxFault)) → first_refusal rs ≡ None → AllByRecursion (λ (r : Bool × TxFault). r.0 ≡ false) rs
+all_pass [] e = tt
+all_pass ((true, fault) ∷ rs) e = absurd cc
+all_pass ((false, fault) ∷ rs) e = (refl, all_pass rs e)
+
+by_refusal : (c : Config) (w : World) (tx : Transaction) (place : Place) (account : Account) (key : AccessKey) (o : Option TxFault) → (o ≡ None → IsAccepted c w tx place (charged w tx (whole_cost c tx place) account key, converted c tx place))
+    → IsVerdict c w tx place (unless_refused c w tx place account key o)
+by_refusal c w tx place account key None h = h refl
+by_refusal c w tx place account key (Some fault) h = tt
 
 of_key : (c : Config) (w : World) (tx : Transaction) (place : Place) (account : Account) (o : Option AccessKey) → get w.accounts tx.signer ≡ Some account → get w.keys (tx.signer, tx.public_key) ≡ o
     → IsVerdict c w tx place (by_key c w tx place account o)
 of_key c w tx place account None h g = tt
 of_key c w tx place account (Some key) h g =
-    by_refusal c w tx place account key (nat_le tx.nonce key.nonce) (not (fits c tx place)) (nat_lt account.amount (whole_cost c tx place)) (Nonce key.nonce tx.nonce) CostOverflow (Balance account.amount (whole_cost c tx place)) (λ t. accepted c w tx place account key h g (ltb-false account.amount (whole_cost c tx place) t))
+    by_refusal c w tx place account key (first_refusal (refusals c tx place account key)) (λ e. accepted c w tx place account key h g (ltb-false account.amount (whole_cost c tx place) (all_pass (refusals c tx place account key) e).1.1.0))
 
 of_signer : (c : Config) (w : World) (tx : Transaction) (place : Place) (o : Option Account) → get w.accounts tx.signer ≡ o → IsVerdict c w tx place (by_signer c w tx place o)
 of_signer c w tx place None h = tt
@@ -86,19 +89,11 @@ pub was_accepted : (c : Config) (w new : World) (tx : Transaction) (place : Plac
 was_accepted c w new tx place made e = subst (IsVerdict c w tx place) e (verdict c w tx place)
 
 -- ---- the receipt that it becomes
-first : (a b : Bool) → (a && b) ≡ true → a ≡ true
-first true b e = refl
-first false b e = e
-
-second : (a b : Bool) → (a && b) ≡ true → b ≡ true
-second true b e = e
-second false b e = absurd cc
-
 pub one_built : (w : World) (tx : Transaction) → is_built_transaction w tx ≡ true → is_one_transfer tx.actions ≡ true
-one_built w tx e = first _ _ (first _ _ e)
+one_built w tx e = both_left _ _ (both_left _ _ e)
 
 receiver_built : (w : World) (tx : Transaction) → is_built_transaction w tx ≡ true → is_some (get w.accounts tx.receiver) ≡ true
-receiver_built w tx e = second _ _ e
+receiver_built w tx e = both_right _ _ e
 
 no_system : (w : World) (id : List ℕ) (b : Bool) → is_system id ≡ b → has_system w ≡ false → is_some (get w.accounts id) ≡ true → b ≡ false
 unfolding is_system
@@ -136,21 +131,19 @@ more_gas : (e count n : ℕ) → n ≡ suc count → e * n ≡ e * count + e
 more_gas e count n is = ap (λ m. e * m) is ∙ mul-suc e count
 
 -- ---- what the conversions of a chunk keep
-routes : (c : Config) (w : World) (total most : ℕ) (k : Working) (local : List Receipt) (r : Receipt) (is_local : Bool) → k.place.price ≡ gas_price c → IsSettled w k.world → k.world.delayed ≡ [] → AreTransfers c w k.outgoing → AreTransfers c w local → IsTransfer c w r
+routes : (c : Config) (w : World) (total most : ℕ) (k : Working) (local : List Receipt) (r : Receipt) (is_local : Bool) → k.place.price ≡ gas_price c → IsSettled w k.world → AreTransfers c w k.outgoing → AreTransfers c w local → IsTransfer c w r
     → accounts_tokens k.world + list_tokens c k.outgoing + list_tokens c local + k.burnt + receipt_tokens c r ≡ total → k.gas + running_gas c * (length k.outgoing + length local) + running_gas c ≤ most → IsConverting c w total most (routed is_local k local r)
-routes c w total most k local r true price settled delayed outgoing there one tokens gas = record {
+routes c w total most k local r true price settled outgoing there one tokens gas = record {
   price = price;
   settled = settled;
-  delayed = delayed;
   outgoing = outgoing;
   local = more_transfers c w local r there one;
   tokens = omega (arith, more_tokens c local r, tokens);
   gas = omega (arith, gas, more_gas (running_gas c) (length k.outgoing + length local) (length k.outgoing + length (local ++ r ∷ [])) (omega (arith, length-append local (r ∷ []))));
 }
-routes c w total most k local r false price settled delayed outgoing there one tokens gas = record {
+routes c w total most k local r false price settled outgoing there one tokens gas = record {
   price = price;
   settled = settled;
-  delayed = delayed;
   outgoing = more_transfers c w k.outgoing r outgoing one;
   local = there;
   tokens = omega (arith, more_tokens c k.outgoing r, tokens);
@@ -164,7 +157,7 @@ less_spent gas more = below (gas + more)
     below n = omega arith
 
 by_verdict : (c : Config) (w : World) (total most : ℕ) (o : Opening) (tx : Transaction) (v : Conversion) → has_system w ≡ false → is_built_transaction w tx ≡ true → IsConverting c w total most o → IsVerdict c o.working.world tx o.working.place v → IsConverting c w total (most + transaction_gas c) (by_conversion o tx v)
-by_verdict c w total most o tx (Err fault) none built k v = record { price = k.price; settled = k.settled; delayed = k.delayed; outgoing = k.outgoing; local = k.local; tokens = k.tokens; gas = omega (arith, k.gas) }
+by_verdict c w total most o tx (Err fault) none built k v = record { price = k.price; settled = k.settled; outgoing = k.outgoing; local = k.local; tokens = k.tokens; gas = omega (arith, k.gas) }
 by_verdict c w total most o tx (Ok p) none built k v =
     let r : Receipt = receipt_of tx o.working.place in
     let gas : ℕ = sending_gas c tx in
@@ -172,7 +165,7 @@ by_verdict c w total most o tx (Ok p) none built k v =
     let signer : is_some (get w.accounts tx.signer) ≡ true = sym (k.settled.accounts tx.signer) ∙ v.signer in
     let one : IsTransfer c w r = becomes c w tx o.working.place none built k.price signer in
     rw v.made
-    (routes c w total (most + transaction_gas c) mid o.local r (is_local tx) k.price (settled_then w o.working.world p.0 k.settled v.settled) (v.delayed ∙ k.delayed) k.outgoing k.local one
+    (routes c w total (most + transaction_gas c) mid o.local r (is_local tx) k.price (settled_then w o.working.world p.0 k.settled v.settled) k.outgoing k.local one
     (omega (arith, k.tokens, v.tokens, cost_parts c tx o.working.place (one_built w tx built) one.sender))
     (omega (arith, k.gas, less_spent o.working.gas gas, sending_small c tx (one_built w tx built))))
 
@@ -180,10 +173,10 @@ pub converts_next : (c : Config) (w : World) (total most : ℕ) (o : Opening) (t
 unfolding convert_next
 converts_next c w total most o tx none built k = by_verdict c w total most o tx (convert c o.working.world tx o.working.place) none built k (verdict c o.working.world tx o.working.place)
 
-pub convert_begins : (c : Config) (w : World) (place : Place) → place.price ≡ gas_price c → w.delayed ≡ [] → IsConverting c w (accounts_tokens w) (transaction_gas c * 0) (record { working = begun w place; local = [] })
-convert_begins c w place price delayed =
+pub convert_begins : (c : Config) (w : World) (place : Place) → place.price ≡ gas_price c → IsConverting c w (accounts_tokens w) (transaction_gas c * 0) (record { working = begun w place; local = [] })
+convert_begins c w place price =
     let none : running_gas c * (0 + 0) ≡ 0 = omega arith in
-    record { price = price; settled = settled_itself w; delayed = delayed; outgoing = tt; local = tt; tokens = omega arith; gas = omega (arith, none) }
+    record { price = price; settled = settled_itself w; outgoing = tt; local = tt; tokens = omega arith; gas = omega (arith, none) }
 
 -- ---- the transactions at work
 pub record IsAmid (c : Config) (w : World) (begin now : Opening) (txs : List Transaction) (i : ℕ) : Type 0 where
@@ -191,16 +184,16 @@ pub record IsAmid (c : Config) (w : World) (begin now : Opening) (txs : List Tra
   pub built : list_all (is_built_transaction w) (drop i txs) ≡ true
   pub kept : IsConverting c w (accounts_tokens w) (transaction_gas c * i) now
 
-pub amid_begins : (c : Config) (w : World) (place : Place) (k : Working) (txs : List Transaction) → place.price ≡ gas_price c → w.delayed ≡ [] → list_all (is_built_transaction w) txs ≡ true → k ≡ begun w place
+pub amid_begins : (c : Config) (w : World) (place : Place) (k : Working) (txs : List Transaction) → place.price ≡ gas_price c → list_all (is_built_transaction w) txs ≡ true → k ≡ begun w place
     → IsAmid c w (record { working = k; local = [] }) (record { working = k; local = [] }) txs 0
-amid_begins c w place k txs price delayed built fresh = record {
+amid_begins c w place k txs price built fresh = record {
   left = refl;
   built = built;
-  kept = subst (λ (x : Working). IsConverting c w (accounts_tokens w) (transaction_gas c * 0) (record { working = x; local = [] })) (sym fresh) (convert_begins c w place price delayed);
+  kept = subst (λ (x : Working). IsConverting c w (accounts_tokens w) (transaction_gas c * 0) (record { working = x; local = [] })) (sym fresh) (convert_begins c w place price);
 }
 
 pub amid_next : (c : Config) (w : World) (begin now : Opening) (txs : List Transaction) (i : ℕ) (tx : Transaction) → i < length txs → tx ≡ get_or txs i tx → IsAmid c w begin now txs i → is_one_transfer tx.actions ≡ true
-amid_next c w begin now txs i tx lt is u = one_built w tx (first _ _ (ap (list_all (is_built_transaction w)) (sym (front_of txs i tx lt is)) ∙ u.built))
+amid_next c w begin now txs i tx lt is u = one_built w tx (both_left _ _ (ap (list_all (is_built_transaction w)) (sym (front_of txs i tx lt is)) ∙ u.built))
 
 pub amid_room : (c : Config) (w : World) (begin now : Opening) (txs : List Transaction) (i : ℕ) → accounts_tokens w ≤ 2 ^ 127 → IsAmid c w begin now txs i → accounts_tokens now.working.world + now.working.burnt ≤ 2 ^ 127
 amid_room c w begin now txs i le u = omega (arith, le, u.kept.tokens)
@@ -216,8 +209,8 @@ amid_goes_on c w begin now txs i tx none lt is u =
     let more : transaction_gas c * i + transaction_gas c ≡ transaction_gas c * (i + 1) = omega (arith, mul-suc (transaction_gas c) i, ap (λ n. transaction_gas c * n) (add-one i)) in
     record {
       left = ap (fold (convert_next c) now) (sym (front_of txs i tx lt is)) ∙ u.left;
-      built = second _ _ built;
-      kept = subst (λ most. IsConverting c w (accounts_tokens w) most (convert_next c now tx)) more (converts_next c w (accounts_tokens w) (transaction_gas c * i) now tx none (first _ _ built) u.kept);
+      built = both_right _ _ built;
+      kept = subst (λ most. IsConverting c w (accounts_tokens w) most (convert_next c now tx)) more (converts_next c w (accounts_tokens w) (transaction_gas c * i) now tx none (both_left _ _ built) u.kept);
     }
 
 pub amid_ends : (c : Config) (w : World) (begin now : Opening) (txs : List Transaction) (i : ℕ) → length txs ≤ i → IsAmid c w begin now txs i → now ≡ fold (convert_next c) begin txs
@@ -253,18 +246,18 @@ begun_fold : (c : Config) (w : World) (place : Place) (txs : List Transaction) (
     → ◌≡◌ {A = Opening} (record { working = k; local = local }) (fold (convert_next c) (record { working = begun w place; local = [] }) txs)
 begun_fold c w place txs begin k local b e = e ∙ ap (λ (x : Working). fold (convert_next c) (record { working = x; local = [] }) txs) b
 
-opens_with : (c : Config) (w : World) (place : Place) (txs : List Transaction) (o : Opening) (total most : ℕ) → IsValidConfig c → most < chunk_gas_limit c → IsConverting c w total most o
+opens_with : (c : Config) (w : World) (place : Place) (txs : List Transaction) (o : Opening) (total most : ℕ) → w.delayed ≡ [] → IsValidConfig c → most < chunk_gas_limit c → IsConverting c w total most o
     → o ≡ fold (convert_next c) (record { working = begun w place; local = [] }) txs → fold (serve c) o.working o.local ≡ open_chunk c w place txs
 unfolding open_chunk
-opens_with c w place txs o total most v lt k e =
-    let quiet : (fold (serve c) o.working o.local).world.delayed ≡ [] = (ran c w total most o v lt k).delayed ∙ k.delayed in
+opens_with c w place txs o total most idle v lt k e =
+    let quiet : (fold (serve c) o.working o.local).world.delayed ≡ [] = (ran c w total most o v lt k).settled.delayed ∙ k.settled.delayed ∙ idle in
     sym (no_queue c (fold (serve c) o.working o.local) quiet) ∙ ap (λ (x : Opening). serve_delayed c (fold (serve c) x.working x.local)) e
 
 -- end is what the local receipts made of k
-pub opens : (c : Config) (w : World) (place : Place) (txs : List Transaction) (begin k end : Working) (local slice : List Receipt) (total most : ℕ) → IsValidConfig c → most < chunk_gas_limit c → IsConverting c w total most (record { working = k; local = local }) → begin ≡ begun w place
+pub opens : (c : Config) (w : World) (place : Place) (txs : List Transaction) (begin k end : Working) (local slice : List Receipt) (total most : ℕ) → w.delayed ≡ [] → IsValidConfig c → most < chunk_gas_limit c → IsConverting c w total most (record { working = k; local = local }) → begin ≡ begun w place
     → record { working = k; local = local } ≡ fold (convert_next c) (record { working = begin; local = [] }) txs → slice ≡ local → end ≡ fold (serve c) k slice → end ≡ open_chunk c w place txs
-opens c w place txs begin k end local slice total most v lt o b e s r =
-    r ∙ ap (fold (serve c) k) s ∙ opens_with c w place txs (record { working = k; local = local }) total most v lt o (begun_fold c w place txs begin k local b e)
+opens c w place txs begin k end local slice total most idle v lt o b e s r =
+    r ∙ ap (fold (serve c) k) s ∙ opens_with c w place txs (record { working = k; local = local }) total most idle v lt o (begun_fold c w place txs begin k local b e)
 
 pub opens_sound : (c : Config) (w : World) (k end : Working) (local slice : List Receipt) (total most : ℕ) → IsValidConfig c → most < chunk_gas_limit c → IsConverting c w total most (record { working = k; local = local }) → slice ≡ local → end ≡ fold (serve c) k slice → IsSound c w total most end
 opens_sound c w k end local slice total most v lt o s r =

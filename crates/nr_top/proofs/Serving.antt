@@ -1,5 +1,5 @@
 -- What transfers do to a chunk at work.
-use Rattle.std.proofs.Common.{◌≡◌, ℕ, suc, ◌+◌, ◌-◌, ◌*◌, ◌<◌, ◌≤◌, ◌^◌, min, true, false, List, [], ◌∷◌, ◌++◌, length, drop, get_or, Option, Some, None, refl, sym, ap, subst, ◌∙◌, arith, add-one, drop-cons}
+use Rattle.std.proofs.Common.{◌≡◌, ℕ, suc, ◌+◌, ◌-◌, ◌*◌, ◌<◌, ◌≤◌, ◌^◌, min, true, false, List, [], ◌∷◌, ◌++◌, length, drop, get_or, Option, Some, None, refl, sym, ap, subst, ◌∙◌, arith}
 use Rattle.std.specs.Prelude.{fold, is_some, nat_lt}
 use Rattle.std.specs.FinMap.{get}
 use Rattle.std.proofs.lemmas.Bool.{lt-ltb}
@@ -22,6 +22,7 @@ use Rattle.nr_top.specs.Transfers.{IsTransfer, AreTransfers, IsSettled, running_
 use Rattle.nr_state.specs.World.{World, accounts_tokens}
 use Rattle.nr_top.proofs.Executing.{executes, deposit_in, tokens_are}
 use Rattle.nr_top.proofs.Tokens.{raised, raised_tokens, raised_settled, settled_itself, settled_then}
+use Rattle.nr_top.proofs.Turns.{front_of}
 
 -- gas below the limit of a chunk stays within its type
 pub all_spent : (c : Config) (gas more : ℕ) → IsValidConfig c → gas + more < chunk_gas_limit c → spent gas more ≡ gas + more
@@ -55,7 +56,6 @@ pub record IsServed (c : Config) (old new : Working) (list : List Receipt) : Typ
   pub outgoing : new.outgoing ≡ old.outgoing
   pub settled : IsSettled old.world new.world
   pub tokens : accounts_tokens new.world + new.burnt ≡ accounts_tokens old.world + old.burnt + list_tokens c list
-  pub delayed : new.world.delayed ≡ old.world.delayed
 
 pub still_transfers : (c : Config) (w new : World) (list : List Receipt) → IsSettled w new → AreTransfers c w list → AreTransfers c new list
 still_transfers c w new [] s t = tt
@@ -75,7 +75,6 @@ serves_by c k r (Some account) e v g t =
       outgoing = refl;
       settled = raised_settled k.world r.receiver account brings.0 e;
       tokens = omega (arith, raised_tokens k.world r.receiver account brings.0 e, sum_by-cons (receipt_tokens c) r [], brings.1, tokens_are c k.world r t);
-      delayed = refl;
     })
 
 pub serves : (c : Config) (k : Working) (r : Receipt) → IsValidConfig c → k.gas + running_gas c < chunk_gas_limit c → IsTransfer c k.world r → IsServed c k (serve c k r) (r ∷ [])
@@ -91,7 +90,7 @@ one_and e g n all limit is lt =
 pub serves_all : (c : Config) (k : Working) (list : List Receipt) → IsValidConfig c → k.gas + running_gas c * length list < chunk_gas_limit c → AreTransfers c k.world list → IsServed c k (fold (serve c) k list) list
 serves_all c k [] v g t =
     let none : running_gas c * 0 ≡ 0 = omega arith in
-    record { gas = omega (arith, none); place = refl; outgoing = refl; settled = settled_itself k.world; tokens = omega arith; delayed = refl }
+    record { gas = omega (arith, none); place = refl; outgoing = refl; settled = settled_itself k.world; tokens = omega arith }
 serves_all c k (r ∷ rest) v g t =
     let parts = one_and (running_gas c) k.gas (length rest) (length (r ∷ rest)) (chunk_gas_limit c) refl g in
     let one : IsServed c k (serve c k r) (r ∷ []) = serves c k r v parts.0 t.0 in
@@ -103,7 +102,6 @@ serves_all c k (r ∷ rest) v g t =
       outgoing = more.outgoing ∙ one.outgoing;
       settled = settled_then k.world (serve c k r).world (fold (serve c) (serve c k r) rest).world one.settled more.settled;
       tokens = omega (arith, one.tokens, more.tokens, sum_by-cons (receipt_tokens c) r rest, sum_by-cons (receipt_tokens c) r []);
-      delayed = more.delayed ∙ one.delayed;
     }
 
 pub kept_sound : (c : Config) (old new : Working) (list : List Receipt) → IsServed c old new list → KeepsSound c old new list
@@ -121,11 +119,6 @@ pub record IsUnderway (c : Config) (first now : Working) (list : List Receipt) (
   pub room : accounts_tokens now.world + list_tokens c (drop i list) + now.burnt ≤ 2 ^ 127
   pub gas : now.gas + running_gas c * length (drop i list) < chunk_gas_limit c
   pub place : now.place ≡ first.place
-
-pub front_of : {X : Type 0} (list : List X) (i : ℕ) (x : X) → i < length list → x ≡ get_or list i x → drop i list ≡ x ∷ drop (i + 1) list
-front_of list i x lt is =
-    let cons : drop i list ≡ get_or list i x ∷ drop (suc i) list = drop-cons list i x lt in
-    rw (add-one i) (cons ∙ ap (λ y. y ∷ drop (suc i) list) (sym is))
 
 pub begins : (c : Config) (k : Working) (list : List Receipt) → AreTransfers c k.world list → accounts_tokens k.world + list_tokens c list + k.burnt ≤ 2 ^ 127 → k.gas + running_gas c * length list < chunk_gas_limit c → IsUnderway c k k list 0
 begins c k list t le lt = record { left = refl; transfers = t; room = le; gas = lt; place = refl }

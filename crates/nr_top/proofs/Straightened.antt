@@ -1,41 +1,33 @@
 -- The serial run of a chain of one shard whose chunks are all there is the straight run of its blocks.
 use Rattle.std.proofs.Common.{◌≡◌, ℕ, zero, suc, ◌+◌, ◌-◌, ◌<◌, ◌&&◌, List, [], ◌∷◌, ◌++◌, length, map, true, Option, Some, None, refl, sym, ap, subst, ◌∙◌, append_assoc, arith, eqb}
-use Rattle.std.specs.Prelude.{slice_get, unwrap_or, option_map, option_and_then, is_some, filter, sum_by}
+use Rattle.std.specs.Prelude.{slice_get, unwrap_or, option_map, option_and_then, is_some, sum_by}
 use Rattle.std.specs.List.{range_with_len}
 use Rattle.std.proofs.lemmas.Bool.{eqb-true}
 use Rattle.std.proofs.lemmas.List.{length-append}
 use Rattle.std.specs.FinMap.{len}
 use Rattle.nr_records.specs.declared.receipt.Receipt.{Receipt}
 use Rattle.nr_records.specs.declared.transaction.Transaction.{Transaction}
-use Rattle.nr_top.specs.Blocks.{are_built_chunks, are_built_from}
+use Rattle.nr_top.specs.Blocks.{are_built_chunks}
 use Rattle.nr_top.specs.Chunk.{Working, ChunkReport, open_chunk, take_list}
 use Rattle.nr_config.specs.Config.{Config, gas_price}
-use Rattle.nr_blocks.specs.Genesis.{genesis_world, supply, owner}
-use Rattle.nr_layout.specs.Layout.{shard_of}
+use Rattle.nr_blocks.specs.Genesis.{genesis_world, supply}
+use Rattle.nr_blocks.proofs.Founded.{one_shard}
 use Rattle.nr_report.specs.Lines.{totals_text}
-use Rattle.nr_top.specs.Run.{Chain, transactions_at, timestamp_at, place_at, entries_of, rules_of, routed_in, executed_in, totals_from, reports, last_worlds, totals, report_text}
+use Rattle.nr_top.specs.Run.{Chain, transactions_at, timestamp_at, place_at, rules_of, routed_in, executed_in, totals_from, reports, last_worlds, totals, report_text}
 use Rattle.nr_state.specs.Tokens.{list_tokens, waiting_tokens}
 use Rattle.nr_top.specs.Serial.{Rules, Sealing, in_flight}
-use Rattle.nr_top.specs.Straight.{place_of, transactions_of, work_at, sent_from, report_at, reports_from, left_by, reports_text, straight_totals, straight_text}
+use Rattle.nr_top.specs.Straight.{are_built_from, place_of, transactions_of, work_at, sent_from, report_at, reports_from, left_by, reports_text, straight_totals, straight_text}
 use Rattle.nr_state.specs.World.{World, accounts_tokens}
 use Rattle.nr_blocks.specs.declared.block.Block.{Block}
 use Rattle.nr_blocks.specs.declared.genesis_entry.GenesisEntry.{GenesisEntry}
 use Rattle.nr_state.specs.declared.place.Place.{Place}
 use Rattle.nr_report.specs.declared.totals.Totals.{Totals}
-use Rattle.nr_top.proofs.Ahead.{both_left, both_right}
+use Rattle.nr_top.proofs.Both.{both_left, both_right}
 use Rattle.nr_top.proofs.OneShard.{IsLine, line, work, seal, sealings_are, worlds_are, flight_is}
 
 -- the chain of one shard
 abbrev pub chain_of : List GenesisEntry → List Block → Chain
 chain_of es blocks = record { boundaries = []; entries = es; blocks = blocks }
-
--- its first shard has all entries
-all_entries : (es : List GenesisEntry) (blocks : List Block) → entries_of (chain_of es blocks) 0 ≡ es
-all_entries es blocks = kept es
-  where
-    kept : (es : List GenesisEntry) → filter (λ (e : GenesisEntry). eqb (shard_of [] (owner e)) 0) es ≡ es
-    kept [] = refl
-    kept (e ∷ es) = ap (λ (t : List GenesisEntry). e ∷ t) (kept es)
 
 -- ---- the blocks by their heights
 -- the block behind some others
@@ -158,7 +150,8 @@ whole c es blocks is = same_from c es blocks [] blocks refl is
 
 genesis_is : (c : Config) (es : List GenesisEntry) (blocks : List Block) → (line_of c es blocks 0).0 ≡ genesis_world es
 unfolding rules_of
-genesis_is c es blocks = ap genesis_world (all_entries es blocks)
+-- the first shard has all entries
+genesis_is c es blocks = ap genesis_world (one_shard es)
 
 heights_are : (c : Config) (es : List GenesisEntry) (blocks : List Block) → (rules_for c es blocks).heights ≡ length blocks
 unfolding rules_of

@@ -11,10 +11,11 @@ use Rattle.std.proofs.lemmas.List.Sums.{sum_by-cons}
 use Rattle.nr_records.specs.declared.account.Account.{Account}
 use Rattle.nr_records.specs.declared.access_key.AccessKey.{AccessKey}
 use Rattle.nr_records.specs.declared.transaction.Transaction.{Transaction}
+use Rattle.nr_top.specs.Blocks.{is_full, has_full_key}
 use Rattle.nr_top.specs.Conversion.{charged}
 use Rattle.nr_top.specs.Transfers.{IsSettled}
 use Rattle.nr_state.specs.World.{World, with_account, account_tokens, accounts_tokens}
-use Rattle.nr_top.proofs.Held.{key_total}
+use Rattle.nr_state.proofs.ValidOwned.{key_total}
 
 second : (a b : Bool) → T (a && b) → T b
 second true b p = p
@@ -46,6 +47,16 @@ module _ {K X : Type 0} {R : K → K → Ordering} (o : IsTotalOrder R) where
         | Greater ↦ λ p. refl
       ] refl)
 
+-- a key stays one that may do all, whatever its nonce
+still_full : {K : Type 0} {R : K → K → Ordering} (o : IsTotalOrder R) (m : FinMap R AccessKey) (k : K) (v a : AccessKey) (q : K) → get m k ≡ Some a → v.permission ≡ a.permission → has_full_key (get (insert m k v) q) ≡ has_full_key (get m q)
+still_full {R = R} o m k v a q h same =
+    rw (get-insert o m k v q)
+    (elim (R q k) as (λ r. R q k ≡ r → has_full_key (cond (is_eq r) (Some v) (get m q)) ≡ has_full_key (get m q)) [
+      | Less ↦ λ p. refl
+      | Equal ↦ λ p. ap is_full same ∙ sym (ap has_full_key (sym (get_tied o m q k p) ∙ h))
+      | Greater ↦ λ p. refl
+    ] refl)
+
 -- ---- the accounts
 unfoldable pub raised : World → List ℕ → Account → ℕ → World
 raised w id account more = with_account w id (record account { amount = account.amount + more })
@@ -65,20 +76,29 @@ charged_tokens w tx cost account key h le = omega (arith, changed_tokens w tx.si
 
 -- ---- what stands
 pub settled_itself : (w : World) → IsSettled w w
-settled_itself w = record { accounts = λ id. refl; keys = λ key. refl }
+settled_itself w = record { accounts = λ id. refl; keys = λ key. refl; postponed = refl; delayed = refl }
 
 pub settled_then : (a b c : World) → IsSettled a b → IsSettled b c → IsSettled a c
-settled_then a b c s t = record { accounts = λ id. t.accounts id ∙ s.accounts id; keys = λ key. t.keys key ∙ s.keys key }
+settled_then a b c s t = record {
+  accounts = λ id. t.accounts id ∙ s.accounts id;
+  keys = λ key. t.keys key ∙ s.keys key;
+  postponed = t.postponed ∙ s.postponed;
+  delayed = t.delayed ∙ s.delayed;
+}
 
 pub raised_settled : (w : World) (id : List ℕ) (account : Account) (more : ℕ) → get w.accounts id ≡ Some account → IsSettled w (raised w id account more)
 unfolding raised
 raised_settled w id account more h = record {
   accounts = λ q. still_some nat_list_cmp_total w.accounts id (record account { amount = account.amount + more }) q (ap is_some h);
   keys = λ key. refl;
+  postponed = refl;
+  delayed = refl;
 }
 
 pub charged_settled : (w : World) (tx : Transaction) (cost : ℕ) (account : Account) (key : AccessKey) → get w.accounts tx.signer ≡ Some account → get w.keys (tx.signer, tx.public_key) ≡ Some key → IsSettled w (charged w tx cost account key)
 charged_settled w tx cost account key h g = record {
   accounts = λ q. still_some nat_list_cmp_total w.accounts tx.signer (record account { amount = account.amount - cost }) q (ap is_some h);
-  keys = λ q. still_some key_total w.keys (tx.signer, tx.public_key) (record key { nonce = tx.nonce }) q (ap is_some g);
+  keys = λ q. still_full key_total w.keys (tx.signer, tx.public_key) (record key { nonce = tx.nonce }) key q g refl;
+  postponed = refl;
+  delayed = refl;
 }

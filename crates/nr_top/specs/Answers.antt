@@ -1,14 +1,15 @@
 -- Which answers of the top call are right for what was asked for, and what the sink then took.
-use Rattle.std.specs.Prelude.{◌≡◌, ℕ, ◌<◌, ◌≤◌, List, ◌++◌, length, Option, Some, None, Result, Ok, Err}
+use Rattle.std.specs.Prelude.{◌≡◌, ℕ, ◌<◌, ◌≤◌, List, ◌++◌, length, Option, Some, None, IfSome, Result, Ok, Err}
 use Rattle.nr_bytes.specs.Outside.{Grew}
 use Rattle.std.specs.Global.{Vec}
 use Rattle.nr_top.specs.Founding.{IsFounded}
 use Rattle.nr_config.specs.Config.{Config}
-use Rattle.nr_top.specs.Input.{Given, Report, Refused, Untold, Configured, By, Bars, Unknown, genesis_of}
-use Rattle.nr_top.specs.declared.ledger.Ledger.{Ledger}
-use Rattle.nr_blocks.specs.declared.genesis_file.GenesisFile.{GenesisFile}
+use Rattle.nr_top.specs.Input.{Given, Report, Refused, Untold, Configured, By, Bars, Unknown, by_configured, by_genesis_read}
+use Rattle.nr_blocks.specs.declared.fault.GenesisFault.{GenesisFault}
+use Rattle.nr_blocks.specs.declared.genesis.Genesis.{Genesis}
+use Rattle.nr_state.specs.View.{StateView}
 use Rattle.nr_top.specs.declared.status.Status.{Status}
-use Rattle.nr_top.specs.declared.status.Status.TheVariants.{Done, Usage, Config as faulty_config, NotBuilt, ReadFault, WriteFault, NoMemory}
+use Rattle.nr_top.specs.declared.status.Status.TheVariants.{Done, Usage, Config as faulty_config, Genesis as faulty_genesis, Blocks as faulty_blocks, NotBuilt, ReadFault, WriteFault, NoMemory}
 
 -- What the sink holds grew by a front of these bytes, where it tells.
 abbrev pub GrewInPart : Option (List ℕ) → Option (List ℕ) → List ℕ → Type 0
@@ -32,6 +33,12 @@ Serves Usage Untold old new = ⊥
 Serves (faulty_config kind entry) (Report text) old new = ⊥
 Serves (faulty_config kind entry) (Refused status) old new = (status ≡ faulty_config kind entry) × (new ≡ old)
 Serves (faulty_config kind entry) Untold old new = new ≡ old
+Serves (faulty_genesis kind a b c) (Report text) old new = ⊥
+Serves (faulty_genesis kind a b c) (Refused status) old new = (status ≡ faulty_genesis kind a b c) × (new ≡ old)
+Serves (faulty_genesis kind a b c) Untold old new = new ≡ old
+Serves (faulty_blocks kind a) (Report text) old new = ⊥
+Serves (faulty_blocks kind a) (Refused status) old new = (status ≡ faulty_blocks kind a) × (new ≡ old)
+Serves (faulty_blocks kind a) Untold old new = new ≡ old
 Serves (NotBuilt form) (Report text) old new = ⊥
 Serves (NotBuilt form) (Refused status) old new = (status ≡ NotBuilt form) × (new ≡ old)
 Serves (NotBuilt form) Untold old new = new ≡ old
@@ -43,80 +50,65 @@ abbrev pub AsksFront : List (List ℕ) → List (List ℕ) → List (List ℕ) �
 AsksFront old new files = (front : List (List ℕ)) × (rest : List (List ℕ)) × (files ≡ front ++ rest) × (new ≡ old ++ front)
 
 -- ---- steps on the way
--- a status that says what is wrong with a file
-abbrev pub IsRefusal : Status → Type 0
-IsRefusal (NotBuilt form) = Unit {0}
-IsRefusal (faulty_config kind entry) = Unit {0}
-IsRefusal Done = ⊥
-IsRefusal Usage = ⊥
-IsRefusal ReadFault = ⊥
-IsRefusal WriteFault = ⊥
-IsRefusal NoMemory = ⊥
+-- why a status comes before anything is written: something failed, or what was given is refused; the others don't come there
+pub data Cause : Type 0 where
+  Failing : Cause
+  Refusing : Cause
+  Other : Cause
+
+abbrev pub cause : Status → Cause
+cause ReadFault = Failing
+cause NoMemory = Failing
+cause (faulty_config kind entry) = Refusing
+cause (faulty_genesis kind a b c) = Refusing
+cause (faulty_blocks kind a) = Refusing
+cause (NotBuilt form) = Refusing
+cause Usage = Other
+cause Done = Other
+cause WriteFault = Other
+
+-- it is the refusal that is due, where that is told
+abbrev pub IsDue : Status → Given → Type 0
+IsDue status (Report text) = ⊥
+IsDue status (Refused due) = due ≡ status
+IsDue status Untold = Unit {0}
+
+abbrev pub StopsFor : Cause → Status → Given → Type 0
+StopsFor Failing status given = Unit {0}
+StopsFor Refusing status given = IsDue status given
+StopsFor Other status given = ⊥
+
+-- a status before the writing is right for what was given
+abbrev pub Stops : Status → Given → Type 0
+Stops status given = StopsFor (cause status) status given
+
+-- what the preparation answers: the report, or such a status
+abbrev pub Prepares : Result (List ℕ) Status → Given → Type 0
+Prepares (Ok report) (Report text) = report ≡ text
+Prepares (Ok report) (Refused status) = ⊥
+Prepares (Ok report) Untold = Unit {0}
+Prepares (Err status) given = Stops status given
+
+-- a file that is too long has the status for it
+abbrev pub IsLong : Cause → Status → Status → ℕ → Option (List ℕ) → Type 0
+IsLong Failing status long limit held = Unit {0}
+IsLong Refusing status long limit held = (status ≡ long) × IfSome held (λ bytes. limit < length bytes)
+IsLong Other status long limit held = ⊥
 
 -- what loading a file answers, of which at most a limit is taken, and a status where there is more
 abbrev pub Loaded : Result (Vec ℕ) Status → Status → ℕ → Option (List ℕ) → Type 0
 Loaded (Ok read) long limit None = Unit {0}
 Loaded (Ok read) long limit (Some bytes) = (length bytes ≤ limit) × (read.items ≡ bytes)
-Loaded (Err ReadFault) long limit held = Unit {0}
-Loaded (Err NoMemory) long limit held = Unit {0}
-Loaded (Err (NotBuilt n)) long limit None = long ≡ NotBuilt n
-Loaded (Err (NotBuilt n)) long limit (Some bytes) = (long ≡ NotBuilt n) × (limit < length bytes)
-Loaded (Err (faulty_config kind entry)) long limit None = long ≡ faulty_config kind entry
-Loaded (Err (faulty_config kind entry)) long limit (Some bytes) = (long ≡ faulty_config kind entry) × (limit < length bytes)
-Loaded (Err Done) long limit held = ⊥
-Loaded (Err Usage) long limit held = ⊥
-Loaded (Err WriteFault) long limit held = ⊥
+Loaded (Err status) long limit held = IsLong (cause status) status long limit held
 
--- what the word for a configuration gives: the configuration, or the refusal
+-- what the word for a configuration gives: itself, or a status, whatever the genesis and the blocks are
 abbrev pub Configures : Result Config Status → Configured → Type 0
 Configures (Ok c) (By d) = c ≡ d
 Configures (Ok c) (Bars status) = ⊥
 Configures (Ok c) Unknown = Unit {0}
-Configures (Err (faulty_config kind entry)) (By d) = ⊥
-Configures (Err (faulty_config kind entry)) (Bars status) = status ≡ faulty_config kind entry
-Configures (Err (faulty_config kind entry)) Unknown = Unit {0}
-Configures (Err ReadFault) given = Unit {0}
-Configures (Err NoMemory) given = Unit {0}
-Configures (Err (NotBuilt form)) given = ⊥
-Configures (Err Done) given = ⊥
-Configures (Err Usage) given = ⊥
-Configures (Err WriteFault) given = ⊥
+Configures (Err status) given = (genesis blocks : Option (List ℕ)) → Stops status (by_configured given genesis blocks)
 
--- what the bytes of a genesis give: the file and its state, or that it isn't built
-abbrev pub FoundsFrom : Config → Result (GenesisFile × Ledger) Status → List ℕ → Type 0
-FoundsFrom c (Ok p) bytes = (genesis_of c bytes ≡ Some p.0) × IsFounded c p.1 p.0
-FoundsFrom c (Err (NotBuilt n)) bytes = (n ≡ 1) × (genesis_of c bytes ≡ None)
-FoundsFrom c (Err NoMemory) bytes = Unit {0}
-FoundsFrom c (Err (faulty_config kind entry)) bytes = ⊥
-FoundsFrom c (Err ReadFault) bytes = ⊥
-FoundsFrom c (Err Done) bytes = ⊥
-FoundsFrom c (Err Usage) bytes = ⊥
-FoundsFrom c (Err WriteFault) bytes = ⊥
-
--- what is made of bytes that were read: the report, or the refusal
-abbrev pub Gives : Result (List ℕ) Status → Given → Type 0
-Gives (Ok text) given = given ≡ Report text
-Gives (Err (NotBuilt n)) given = given ≡ Refused (NotBuilt n)
-Gives (Err NoMemory) given = Unit {0}
-Gives (Err (faulty_config kind entry)) given = ⊥
-Gives (Err ReadFault) given = ⊥
-Gives (Err Done) given = ⊥
-Gives (Err Usage) given = ⊥
-Gives (Err WriteFault) given = ⊥
-
--- what the preparation answers: the report, or a status that isn't from the writing
-abbrev pub Prepares : Result (List ℕ) Status → Given → Type 0
-Prepares (Ok report) (Report text) = report ≡ text
-Prepares (Ok report) (Refused status) = ⊥
-Prepares (Ok report) Untold = Unit {0}
-Prepares (Err Done) given = ⊥
-Prepares (Err WriteFault) given = ⊥
-Prepares (Err Usage) given = ⊥
-Prepares (Err (NotBuilt form)) (Report text) = ⊥
-Prepares (Err (NotBuilt form)) (Refused status) = status ≡ NotBuilt form
-Prepares (Err (NotBuilt form)) Untold = Unit {0}
-Prepares (Err (faulty_config kind entry)) (Report text) = ⊥
-Prepares (Err (faulty_config kind entry)) (Refused status) = status ≡ faulty_config kind entry
-Prepares (Err (faulty_config kind entry)) Untold = Unit {0}
-Prepares (Err ReadFault) given = Unit {0}
-Prepares (Err NoMemory) given = Unit {0}
+-- what a genesis gives: itself and its first state, or a status, whatever the blocks are
+abbrev pub Founds : Config → Result (Genesis × StateView) Status → Result Genesis GenesisFault → Type 0
+Founds c (Ok p) read = (read ≡ Ok p.0) × IsFounded c p.0 p.1
+Founds c (Err status) read = (blocks : Option (List ℕ)) → Stops status (by_genesis_read c read blocks)

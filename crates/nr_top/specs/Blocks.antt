@@ -1,5 +1,5 @@
--- Which blocks are built: few, in order of height, with one chunk each, of transfers between accounts of the genesis; and under which configurations. This project's own file.
-use Rattle.std.specs.Prelude.{ℕ, ◌+◌, ◌*◌, ◌==◌, ◌&&◌, Bool, true, false, List, [], ◌∷◌, length, Option, Some, None, nat_le, nat_lt, is_some, sum_by}
+-- Which blocks of a file without fault are built over a genesis of one shard: each chunk is there and has transfers alone, by keys of the genesis that may do all, to accounts of the genesis; and under which configurations. This project's own.
+use Rattle.std.specs.Prelude.{ℕ, ◌+◌, ◌*◌, ◌==◌, ◌&&◌, Bool, true, false, List, [], ◌∷◌, length, Option, Some, None, nat_lt, is_some, sum_by}
 use Rattle.std.specs.FinMap.{get}
 use Rattle.std.specs.List.{list_all}
 use Rattle.nr_config.specs.Config.{Config, storage_price, chunk_gas_limit}
@@ -7,6 +7,9 @@ use Rattle.nr_fees.specs.Fees.{fee}
 use Rattle.nr_fees.specs.declared.table.Fee.{Fee}
 use Rattle.nr_fees.specs.declared.table.Fee.TheVariants.{ActionReceipt as action_receipt, Transfer as transfer}
 use Rattle.nr_fees.specs.declared.table.Payment.TheVariants.{SendLocal, SendRemote, Execute}
+use Rattle.nr_records.specs.declared.access_key.AccessKey.{AccessKey}
+use Rattle.nr_records.specs.declared.access_key.Permission.{Permission}
+use Rattle.nr_records.specs.declared.access_key.Permission.TheVariants as permission
 use Rattle.nr_records.specs.declared.action.Action.{Action}
 use Rattle.nr_records.specs.declared.action.Action.TheVariants.{Transfer}
 use Rattle.nr_records.specs.declared.transaction.Transaction.{Transaction}
@@ -23,8 +26,18 @@ is_one_transfer [] = false
 is_one_transfer (a ∷ []) = is_transfer a
 is_one_transfer (a ∷ b ∷ actions) = false
 
+-- a key that may do all
+abbrev pub is_full : Permission → Bool
+is_full (permission.Call call) = false
+is_full permission.Full = true
+
+abbrev pub has_full_key : Option AccessKey → Bool
+has_full_key None = false
+has_full_key (Some access) = is_full access.permission
+
+-- one transfer, by a key that may do all, to an account that stands
 abbrev pub is_built_transaction : World → Transaction → Bool
-is_built_transaction w tx = is_one_transfer tx.actions && is_some (get w.keys (tx.signer, tx.public_key)) && is_some (get w.accounts tx.receiver)
+is_built_transaction w tx = is_one_transfer tx.actions && has_full_key (get w.keys (tx.signer, tx.public_key)) && is_some (get w.accounts tx.receiver)
 
 abbrev pub is_built_chunk : World → Option (List Transaction) → Bool
 is_built_chunk w None = false
@@ -36,16 +49,8 @@ are_built_chunks w [] = false
 are_built_chunks w (chunk ∷ []) = is_built_chunk w chunk
 are_built_chunks w (chunk ∷ next ∷ chunks) = false
 
--- the first block has this height, and each other one the next
-abbrev pub are_built_from : World → ℕ → List Block → Bool
-are_built_from w height [] = true
-are_built_from w height (b ∷ bs) = (b.height.0 == height) && are_built_chunks w b.chunks && are_built_from w (height + 1) bs
-
-abbrev pub most_blocks : ℕ
-most_blocks = 256
-
 unfoldable pub are_built_blocks : World → List Block → Bool
-are_built_blocks w blocks = nat_le (length blocks) most_blocks && are_built_from w 1 blocks
+are_built_blocks w blocks = list_all (λ b. are_built_chunks w b.chunks) blocks
 
 -- ---- the gas that all transactions together can burn, however they are sent
 abbrev pub all_fees : Config → Fee → ℕ

@@ -13,6 +13,7 @@ use Rattle.nr_records.specs.declared.transaction.Transaction.{Transaction}
 use Rattle.nr_config.specs.Config.{Config, chunk_gas_limit}
 use Rattle.nr_top.specs.Conversion.{Conversion, convert, transaction_hash, is_local}
 use Rattle.nr_top.specs.Execution.{Execution, execute}
+use Rattle.nr_state.specs.Changes.{with_delayed, served_front}
 use Rattle.nr_state.specs.Flat.{flat}
 use Rattle.nr_layout.specs.Layout.{shard_of, out_to}
 use Rattle.nr_triedef.specs.Node.{digest}
@@ -62,7 +63,7 @@ offered c k r (Act a) = with_run k (execute c k.world r a [] k.place)
 offered c k r (Datum d) = k
 
 abbrev pub postponed_to_next : Working → Receipt → Working
-postponed_to_next k r = record k { world = record k.world { delayed = k.world.delayed ++ r ∷ [] }; lines = k.lines ++ Late r.receipt_id ∷ [] }
+postponed_to_next k r = record k { world = with_delayed k.world r; lines = k.lines ++ Late r.receipt_id ∷ [] }
 
 unfoldable pub serve : Config → Working → Receipt → Working
 serve c k r = cond (nat_lt k.gas (chunk_gas_limit c)) (offered c k r r.body) (postponed_to_next k r)
@@ -100,7 +101,7 @@ abbrev pub convert_all : Config → World → Place → List Transaction → Ope
 convert_all c w place txs = fold (convert_next c) (record { working = begun w place; local = [] }) txs
 
 abbrev pub without_front : Working → Receipt → List Receipt → Working
-without_front k r rest = record k { world = record k.world { delayed = rest; served = k.world.served + 1 } }
+without_front k r rest = record k { world = served_front k.world (r ∷ rest) }
 
 -- The queue is served until the gas is used up or it is empty.
 abbrev pub serve_queue : Config → List Receipt → Working → Working

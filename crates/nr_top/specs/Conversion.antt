@@ -40,12 +40,16 @@ abbrev pub fits : Config → Transaction → Place → Bool
 fits c tx place = nat_lt (whole_gas c tx) (2 ^ 64) && nat_lt (whole_cost c tx place) (2 ^ 128)
 
 -- ---- the refusals of a signer who has the key, in the order in which they are tried
-abbrev pub refusals : Config → Transaction → Place → Account → AccessKey → List (Bool × TxFault)
-refusals c tx place account key =
-    (nat_le tx.nonce key.nonce, Nonce key.nonce tx.nonce)
-    ∷ (not (fits c tx place), CostOverflow)
-    ∷ (nat_lt account.amount (whole_cost c tx place), Balance account.amount (whole_cost c tx place))
+-- by the nonces of the key and of the transaction, by whether the cost fits, and by what the signer has and what it costs
+abbrev pub refusals_by : ℕ → ℕ → Bool → ℕ → ℕ → List (Bool × TxFault)
+refusals_by key nonce fitting amount cost =
+    (nat_le nonce key, Nonce key nonce)
+    ∷ (not fitting, CostOverflow)
+    ∷ (nat_lt amount cost, Balance amount cost)
     ∷ []
+
+abbrev pub refusals : Config → Transaction → Place → Account → AccessKey → List (Bool × TxFault)
+refusals c tx place account key = refusals_by key.nonce tx.nonce (fits c tx place) account.amount (whole_cost c tx place)
 
 abbrev pub first_refusal : List (Bool × TxFault) → Option TxFault
 first_refusal [] = None

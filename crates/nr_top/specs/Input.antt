@@ -1,23 +1,24 @@
 -- What the words and the files ask for: a report, or the first refusal. This project's own commands and limits.
-use Rattle.std.specs.Prelude.{ℕ, List, [], ◌∷◌, ◌++◌, map, Bool, cond, Option, Some, None, Result, Ok, Err, nat_lt, string_bytes, length}
+use Rattle.std.specs.Prelude.{ℕ, ◌+◌, ◌==◌, List, [], ◌∷◌, ◌++◌, map, Bool, cond, Option, Some, None, Result, Ok, Err, nat_lt, string_bytes, length}
 use Rattle.std.specs.Global.{Global}
 use Rattle.std.specs.declared.string.String.{String}
-use Rattle.nr_records.specs.Reading.{all_of}
-use Rattle.nr_records.specs.declared.fault.RecordFault.{RecordFault}
 use Rattle.nr_top.specs.Blocks.{are_built_blocks, is_built_config}
 use Rattle.nr_top.specs.Command.{Command, Names, command, built_files, is_free}
 use Rattle.nr_config.specs.Config.{Config, free}
 use Rattle.nr_config.specs.Reading.{configuration}
 use Rattle.nr_config.specs.declared.fault.ConfigFault.{ConfigFault}
 use Rattle.nr_config.specs.declared.fault.ConfigFault.TheVariants as fault
-use Rattle.nr_blocks.specs.Files.{genesis_at, blocks_at}
 use Rattle.nr_blocks.specs.Genesis.{genesis_world}
-use Rattle.nr_top.specs.Genesis.{is_built_genesis}
+use Rattle.nr_blocks.specs.Judging.{genesis_read, blocks_read}
+use Rattle.nr_blocks.specs.declared.block.Block.{Block}
+use Rattle.nr_blocks.specs.declared.fault.BlocksFault.{BlocksFault}
+use Rattle.nr_blocks.specs.declared.fault.BlocksFault.TheVariants as blocks
+use Rattle.nr_blocks.specs.declared.fault.GenesisFault.{GenesisFault}
+use Rattle.nr_blocks.specs.declared.fault.GenesisFault.TheVariants as genesis
+use Rattle.nr_blocks.specs.declared.genesis.Genesis.{Genesis}
 use Rattle.nr_top.specs.Run.{Chain, report_text}
-use Rattle.nr_blocks.specs.declared.blocks_file.BlocksFile.{BlocksFile}
-use Rattle.nr_blocks.specs.declared.genesis_file.GenesisFile.{GenesisFile}
 use Rattle.nr_top.specs.declared.status.Status.{Status}
-use Rattle.nr_top.specs.declared.status.Status.TheVariants.{Usage, NotBuilt, Config as faulty_config, NoMemory}
+use Rattle.nr_top.specs.declared.status.Status.TheVariants.{Usage, NotBuilt, Config as faulty_config, Genesis as faulty_genesis, Blocks as faulty_blocks, NoMemory}
 
 abbrev pub texts : List (String Global) → List (List ℕ)
 texts words = map (λ word. string_bytes word) words
@@ -50,6 +51,11 @@ pub data Given : Type 0 where
   Refused : Status → Given
   Untold : Given
 
+-- what the bytes of a file give, or the refusal of one that is longer than its limit
+abbrev pub by_file : ℕ → Status → (List ℕ → Given) → Option (List ℕ) → Given
+by_file limit long by_bytes None = Untold
+by_file limit long by_bytes (Some bytes) = cond (nat_lt limit (length bytes)) (Refused long) (by_bytes bytes)
+
 -- ---- the configuration: the built-in one, or that of a file
 pub data Configured : Type 0 where
   By : Config → Configured
@@ -78,37 +84,59 @@ by_config_bytes (Some bytes) = cond (nat_lt config_limit (length bytes)) (Bars t
 abbrev pub configured : List ℕ → Option (List ℕ) → Configured
 configured word bytes = cond (is_free word) (By free) (by_config_bytes bytes)
 
--- ---- genesis and blocks
-abbrev pub if_ok : {X : Type 0} → (X → Bool) → Result X RecordFault → Option X
-if_ok test (Ok x) = cond (test x) (Some x) None
-if_ok test (Err fault) = None
+-- ---- the genesis: its faults, by kind and numbers; then whether it has one shard
+abbrev pub genesis_status : GenesisFault → Status
+genesis_status (genesis.Spelling at) = faulty_genesis 1 at 0 0
+genesis_status (genesis.Duplicate index) = faulty_genesis 2 index 0 0
+genesis_status (genesis.NoOwner index) = faulty_genesis 3 index 0 0
+genesis_status (genesis.Usage index stated counted) = faulty_genesis 4 index stated counted
+genesis_status genesis.Supply = faulty_genesis 5 0 0 0
+genesis_status (genesis.CodeHash index) = faulty_genesis 6 index 0 0
+genesis_status genesis.Memory = NoMemory
 
--- the genesis, where the file is one that is built
-unfoldable pub genesis_of : Config → List ℕ → Option GenesisFile
-genesis_of c bytes = if_ok (is_built_genesis c) (all_of genesis_at bytes)
+abbrev pub too_long_genesis : Status
+too_long_genesis = faulty_genesis 0 0 0 0
 
--- the blocks, where the file is one that is built over this genesis
-unfoldable pub blocks_of : GenesisFile → List ℕ → Option BlocksFile
-blocks_of g bytes = if_ok (λ b. are_built_blocks (genesis_world g.entries) b.blocks) (all_of blocks_at bytes)
+abbrev pub has_one_shard : Genesis → Bool
+has_one_shard g = length g.layout == 0
 
-abbrev pub chain : GenesisFile → BlocksFile → Chain
-chain g b = record { boundaries = g.boundaries; entries = g.entries; blocks = b.blocks }
+-- ---- the blocks: their faults, by kind and number; then whether they are built, and under this configuration
+abbrev pub blocks_status : BlocksFault → Status
+blocks_status (blocks.Spelling at) = faulty_blocks 1 at
+blocks_status (blocks.ShardCount height) = faulty_blocks 2 height
+blocks_status (blocks.HeightOrder height) = faulty_blocks 3 height
+blocks_status blocks.TooMany = faulty_blocks 4 0
+blocks_status (blocks.Stake at) = faulty_blocks 5 at
+blocks_status blocks.Memory = NoMemory
 
-abbrev pub by_blocks : Config → GenesisFile → Option BlocksFile → Given
-by_blocks c g None = Refused (NotBuilt 2)
-by_blocks c g (Some b) = cond (is_built_config c b.blocks) (Report (report_text c (chain g b))) (Refused (NotBuilt 3))
+abbrev pub too_long_blocks : Status
+too_long_blocks = faulty_blocks 0 0
 
-abbrev pub by_blocks_bytes : Config → GenesisFile → Option (List ℕ) → Given
-by_blocks_bytes c g None = Untold
-by_blocks_bytes c g (Some bytes) = cond (nat_lt blocks_limit (length bytes)) (Refused (NotBuilt 2)) (by_blocks c g (blocks_of g bytes))
+abbrev pub chain : Genesis → List Block → Chain
+chain g bs = record { boundaries = g.layout; entries = g.entries; blocks = bs }
 
-abbrev pub by_genesis : Config → Option GenesisFile → Option (List ℕ) → Given
-by_genesis c None blocks = Refused (NotBuilt 1)
-by_genesis c (Some g) blocks = by_blocks_bytes c g blocks
+abbrev pub by_built_blocks : Config → Genesis → List Block → Given
+by_built_blocks c g bs = cond (is_built_config c bs) (Report (report_text c (chain g bs))) (Refused (NotBuilt 3))
+
+unfoldable pub by_blocks : Config → Genesis → List Block → Given
+by_blocks c g bs = cond (are_built_blocks (genesis_world g.entries) bs) (by_built_blocks c g bs) (Refused (NotBuilt 2))
+
+abbrev pub by_blocks_read : Config → Genesis → Result (List Block) BlocksFault → Given
+by_blocks_read c g (Ok bs) = by_blocks c g bs
+by_blocks_read c g (Err fault) = Refused (blocks_status fault)
+
+abbrev pub by_blocks_file : Config → Genesis → Option (List ℕ) → Given
+by_blocks_file c g bytes = by_file blocks_limit too_long_blocks (λ file. by_blocks_read c g (blocks_read (length g.layout + 1) file)) bytes
+
+abbrev pub by_genesis : Config → Genesis → Option (List ℕ) → Given
+by_genesis c g blocks = cond (has_one_shard g) (by_blocks_file c g blocks) (Refused (NotBuilt 1))
+
+abbrev pub by_genesis_read : Config → Result Genesis GenesisFault → Option (List ℕ) → Given
+by_genesis_read c (Ok g) blocks = by_genesis c g blocks
+by_genesis_read c (Err fault) blocks = Refused (genesis_status fault)
 
 abbrev pub by_files : Config → Option (List ℕ) → Option (List ℕ) → Given
-by_files c None blocks = Untold
-by_files c (Some bytes) blocks = cond (nat_lt genesis_limit (length bytes)) (Refused (NotBuilt 1)) (by_genesis c (genesis_of c bytes) blocks)
+by_files c genesis blocks = by_file genesis_limit too_long_genesis (λ file. by_genesis_read c (genesis_read c file) blocks) genesis
 
 -- ---- the whole, in the order in which the files are read
 abbrev pub by_configured : Configured → Option (List ℕ) → Option (List ℕ) → Given

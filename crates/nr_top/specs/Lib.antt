@@ -5,11 +5,9 @@ pub mod Execution
 pub mod Chunk
 pub mod Command
 pub mod Serial
-pub mod Genesis
 pub mod Blocks
 pub mod Run
 pub mod Input
-pub mod LedgerWorld
 pub mod Transfers
 pub mod Chains
 pub mod Work

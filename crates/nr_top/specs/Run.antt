@@ -1,5 +1,5 @@
 -- A run: a configuration, a genesis and blocks; its chunks' phases; its sums; its report.
-use Rattle.std.specs.Prelude.{ℕ, ◌+◌, ◌-◌, ◌==◌, Bool, true, false, List, [], ◌∷◌, ◌++◌, length, map, filter, Option, slice_get, sum_by, count_by, is_some, unwrap_or, option_map, option_and_then, None}
+use Rattle.std.specs.Prelude.{ℕ, ◌+◌, ◌-◌, Bool, true, false, List, [], ◌∷◌, ◌++◌, length, map, Option, slice_get, sum_by, count_by, is_some, unwrap_or, option_map, option_and_then, None}
 use Rattle.std.specs.FinMap.{len}
 use Rattle.std.specs.List.{flat_map}
 use Rattle.nr_records.specs.declared.chunk_result.ChunkLine.{ChunkLine}
@@ -8,8 +8,7 @@ use Rattle.nr_records.specs.declared.receipt.Receipt.{Receipt}
 use Rattle.nr_records.specs.declared.transaction.Transaction.{Transaction}
 use Rattle.nr_top.specs.Chunk.{Working, ChunkReport, open_chunk, take_list, report_of, lists_of}
 use Rattle.nr_config.specs.Config.{Config, gas_price}
-use Rattle.nr_blocks.specs.Genesis.{genesis_world, supply, owner}
-use Rattle.nr_layout.specs.Layout.{shard_of}
+use Rattle.nr_blocks.specs.Genesis.{genesis_world, entries_of, supply}
 use Rattle.nr_report.specs.Lines.{chunk_text, totals_text}
 use Rattle.nr_top.specs.Serial.{Rules, Sealing, sealings, in_flight, finished, shard_numbers}
 use Rattle.nr_state.specs.Tokens.{list_tokens, waiting_tokens}
@@ -41,10 +40,6 @@ timestamp_at run height = unwrap_or (option_map (λ block. block.timestamp) (sli
 abbrev pub place_at : Config → Chain → ℕ → Place
 place_at c run height = record { height = record { 0 = height }; timestamp = timestamp_at run height; price = gas_price c }
 
--- the entries whose accounts live in a shard
-abbrev pub entries_of : Chain → ℕ → List GenesisEntry
-entries_of run shard = filter (λ e. shard_of run.boundaries (owner e) == shard) run.entries
-
 -- ---- the phases of its chunks
 abbrev pub sealing_of : Chain → ℕ → Working → Sealing World (List Receipt) ChunkReport
 sealing_of run shard k =
@@ -60,7 +55,7 @@ rules_of c run =
       shards = shards run;
       heights = length run.blocks;
       present = λ shard height. is_some (chunk_at run shard height);
-      begins = λ shard. genesis_world (entries_of run shard);
+      begins = λ shard. genesis_world (entries_of run.boundaries shard run.entries);
       opens = λ shard height w. open_chunk c w (place_at c run height) (transactions_at run shard height);
       takes = take_list c;
       seals = sealing_of run;

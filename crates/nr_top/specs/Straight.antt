@@ -1,14 +1,13 @@
 -- The run of one shard whose chunks are all there, block after block: what the loop over the blocks makes. Each chunk takes what the one before sent. It is the serial run of such a chain, as proofs/Straightened.antt shows.
-use Rattle.std.specs.Prelude.{◌≡◌, ℕ, ◌+◌, ◌*◌, ◌≤◌, ◌<◌, ◌^◌, length, true, false, List, [], ◌∷◌, ◌++◌, None, slice_get, unwrap_or, sum_by}
+use Rattle.std.specs.Prelude.{◌≡◌, ℕ, ◌+◌, ◌*◌, ◌≤◌, ◌<◌, ◌^◌, ◌==◌, ◌&&◌, Bool, length, true, false, List, [], ◌∷◌, ◌++◌, None, slice_get, unwrap_or, sum_by}
 use Rattle.std.specs.List.{flat_map}
 use Rattle.nr_ids.specs.declared.number.ShardId.{ShardId}
 use Rattle.nr_records.specs.declared.receipt.Receipt.{Receipt}
 use Rattle.nr_records.specs.declared.transaction.Transaction.{Transaction}
-use Rattle.nr_top.specs.Blocks.{are_built_chunks, are_built_from, blocks_gas}
+use Rattle.nr_top.specs.Blocks.{are_built_chunks, blocks_gas}
 use Rattle.nr_top.specs.Chunk.{Working, ChunkReport, open_chunk, take_list, report_of}
 use Rattle.nr_config.specs.Config.{Config, gas_price, chunk_gas_limit}
 use Rattle.nr_layout.specs.Layout.{out_to}
-use Rattle.nr_top.specs.LedgerWorld.{world_of}
 use Rattle.nr_report.specs.Lines.{chunk_text, totals_text}
 use Rattle.nr_top.specs.Run.{routed_in, executed_in, totals_from}
 use Rattle.nr_state.specs.Tokens.{list_tokens}
@@ -58,10 +57,16 @@ unfoldable pub straight_text : Config → World → List Block → List ℕ
 straight_text c w blocks = reports_text (reports_from c w [] blocks) ++ totals_text (straight_totals c w blocks)
 
 -- ---- what the steps of the loop need and give
+-- blocks that are built, of which the first has this height and each other one the next
+abbrev pub are_built_from : World → ℕ → List Block → Bool
+are_built_from w height [] = true
+are_built_from w height (b ∷ bs) = (b.height.0 == height) && are_built_chunks w b.chunks && are_built_from w (height + 1) bs
+
 -- what a block needs of the state before it
 pub record IsReady (c : Config) (w : World) (inbox : List Receipt) (b : Block) : Type 0 where
   pub chunks : are_built_chunks w b.chunks ≡ true
   pub system : has_system w ≡ false
+  pub delayed : w.delayed ≡ []
   pub transfers : AreTransfers c w inbox
   pub tokens : accounts_tokens w + list_tokens c inbox ≤ 2 ^ 127
   pub gas : running_gas c * length inbox + transaction_gas c * length (transactions_of b) < chunk_gas_limit c
@@ -70,12 +75,14 @@ pub record IsReady (c : Config) (w : World) (inbox : List Receipt) (b : Block) :
 pub record IsSeal (k : Working) (s : Sealed) : Type 0 where
   pub report : s.result ≡ (report_at k).result
   pub local : s.local ≡ k.local
-  pub world : world_of s.ledger ≡ k.world
+  pub world : s.state.world ≡ k.world
+  pub whole : s.state.whole ≡ true
   pub sent : s.outgoing.items ≡ sent_from k
 
 -- what one block more adds
 pub record IsNext (old : Progress) (k : Working) (new : Progress) : Type 0 where
-  pub world : world_of new.ledger ≡ k.world
+  pub world : new.state.world ≡ k.world
+  pub whole : new.state.whole ≡ true
   pub inbox : new.inbox.items ≡ sent_from k
   pub text : new.text ≡ old.text ++ chunk_text (report_at k).result
   pub routed : new.routed ≡ old.routed + routed_in (report_at k)
@@ -92,12 +99,13 @@ pub record IsKept (c : Config) (w : World) (inbox : List Receipt) (b : Block) (k
 -- the blocks from a height on are left: with them the progress makes the whole
 pub record IsAhead (c : Config) (w : World) (blocks : List Block) (height : ℕ) (rest : List Block) (p : Progress) : Type 0 where
   pub built : are_built_from w height rest ≡ true
-  pub left : left_by c (world_of p.ledger) p.inbox.items rest ≡ left_by c w [] blocks
-  pub text : p.text ++ reports_text (reports_from c (world_of p.ledger) p.inbox.items rest) ≡ reports_text (reports_from c w [] blocks)
-  pub routed : p.routed + sum_by routed_in (reports_from c (world_of p.ledger) p.inbox.items rest) ≡ sum_by routed_in (reports_from c w [] blocks)
-  pub executed : p.executed + sum_by executed_in (reports_from c (world_of p.ledger) p.inbox.items rest) ≡ sum_by executed_in (reports_from c w [] blocks)
-  pub burnt : p.burnt + sum_by (λ r. r.result.burnt) (reports_from c (world_of p.ledger) p.inbox.items rest) ≡ sum_by (λ r. r.result.burnt) (reports_from c w [] blocks)
-  pub settled : IsSettled w (world_of p.ledger)
+  pub left : left_by c p.state.world p.inbox.items rest ≡ left_by c w [] blocks
+  pub text : p.text ++ reports_text (reports_from c p.state.world p.inbox.items rest) ≡ reports_text (reports_from c w [] blocks)
+  pub routed : p.routed + sum_by routed_in (reports_from c p.state.world p.inbox.items rest) ≡ sum_by routed_in (reports_from c w [] blocks)
+  pub executed : p.executed + sum_by executed_in (reports_from c p.state.world p.inbox.items rest) ≡ sum_by executed_in (reports_from c w [] blocks)
+  pub burnt : p.burnt + sum_by (λ r. r.result.burnt) (reports_from c p.state.world p.inbox.items rest) ≡ sum_by (λ r. r.result.burnt) (reports_from c w [] blocks)
+  pub settled : IsSettled w p.state.world
+  pub whole : p.state.whole ≡ true
   pub transfers : AreTransfers c w p.inbox.items
-  pub tokens : accounts_tokens (world_of p.ledger) + list_tokens c p.inbox.items + p.burnt ≡ accounts_tokens w
+  pub tokens : accounts_tokens p.state.world + list_tokens c p.inbox.items + p.burnt ≡ accounts_tokens w
   pub gas : running_gas c * length p.inbox.items + blocks_gas c rest < chunk_gas_limit c

@@ -1,6 +1,6 @@
 -- What holds of the receipts and working states of runs of transfers: what the bodies of this crate need, and no part of the rules.
-use Rattle.std.specs.Prelude.{◌≡◌, ℕ, ◌+◌, ◌*◌, ◌≤◌, ◌==◌, ◌&&◌, Bool, true, false, List, length, is_some}
-use Rattle.std.specs.FinMap.{get}
+use Rattle.std.specs.Prelude.{◌≡◌, ℕ, ◌+◌, ◌*◌, ◌≤◌, ◌==◌, ◌&&◌, Bool, true, false, List, [], length, is_some}
+use Rattle.std.specs.FinMap.{empty, get}
 use Rattle.std.specs.List.{AllByRecursion}
 use Rattle.nr_ids.specs.Grammar.{is_system}
 use Rattle.nr_ids.specs.declared.key.PublicKey.{PublicKey}
@@ -8,7 +8,7 @@ use Rattle.nr_records.specs.declared.receipt.ActionReceipt.{ActionReceipt}
 use Rattle.nr_records.specs.declared.receipt.Body.{Body}
 use Rattle.nr_records.specs.declared.receipt.Body.TheVariants.{Act, Datum}
 use Rattle.nr_records.specs.declared.receipt.Receipt.{Receipt}
-use Rattle.nr_top.specs.Blocks.{is_one_transfer}
+use Rattle.nr_top.specs.Blocks.{is_one_transfer, has_full_key}
 use Rattle.nr_top.specs.Chunk.{Working}
 use Rattle.nr_config.specs.Config.{Config, gas_price}
 use Rattle.nr_fees.specs.Fees.{fee}
@@ -46,10 +46,17 @@ pub record IsTransfer (c : Config) (w : World) (r : Receipt) : Type 0 where
 abbrev pub AreTransfers : Config → World → List Receipt → Type 0
 AreTransfers c w list = AllByRecursion (IsTransfer c w) list
 
--- the same accounts and keys stand in both
+-- the same accounts stand in both, the same keys may do all, and the same receipts wait
 pub record IsSettled (old new : World) : Type 0 where
   pub accounts : (id : List ℕ) → is_some (get new.accounts id) ≡ is_some (get old.accounts id)
-  pub keys : (key : List ℕ × PublicKey) → is_some (get new.keys key) ≡ is_some (get old.keys key)
+  pub keys : (key : List ℕ × PublicKey) → has_full_key (get new.keys key) ≡ has_full_key (get old.keys key)
+  pub postponed : new.postponed ≡ old.postponed
+  pub delayed : new.delayed ≡ old.delayed
+
+-- no receipt waits
+pub record IsIdle (w : World) : Type 0 where
+  pub postponed : w.postponed ≡ empty
+  pub delayed : w.delayed ≡ []
 
 abbrev pub has_system : World → Bool
 has_system w = is_some (get w.accounts system)

@@ -1,12 +1,11 @@
 -- The working state that a `ChunkWork` stands for.
 use Rattle.nr_top.specs.Chunk.{Working}
-use Rattle.nr_top.specs.LedgerWorld.{world_of}
 use Rattle.nr_top.specs.declared.chunk_work.ChunkWork.{ChunkWork}
 
 abbrev pub work_of : ChunkWork → Working
 work_of k =
     record {
-      world = world_of k.ledger;
+      world = k.state.world;
       place = k.place;
       gas = k.gas;
       burnt = k.burnt;

@@ -7,7 +7,6 @@ ghost use Rattle.nr_top.specs.Chunk.{open_chunk, take_list, report_of, lists_of,
 ghost use Rattle.nr_config.specs.Config.{gas_price, chunk_gas_limit};
 ghost use Rattle.nr_top.specs.Conversion.{is_local};
 ghost use Rattle.nr_fees.specs.Fees.{receipt_tokens};
-ghost use Rattle.nr_top.specs.LedgerWorld.{world_of};
 ghost use Rattle.nr_top.specs.Phases.{KeepsSound, IsConverting};
 ghost use Rattle.nr_top.specs.Refusal.{refused};
 ghost use Rattle.nr_state.specs.Tokens.{list_tokens};
@@ -18,10 +17,10 @@ ghost use Rattle.nr_state.specs.World.{accounts_tokens};
 use crate::chunk_work::ChunkWork;
 use crate::conversion::convert;
 use crate::execution::execute;
-use crate::ledger::Ledger;
 use crate::refusal::line;
 use crate::root::root_of;
 use crate::sealed::Sealed;
+use crate::state::State;
 use crate::tx_fault::TxFault;
 use nr_bytes::List;
 use nr_config::Config;
@@ -39,12 +38,14 @@ fn serve(
     config: &Config,
     receipt: &Receipt,
 ) -> Result<(), AllocError>
-    requires transfer { IsTransfer config.now (world_of work.old.ledger) receipt.now }
-    requires room { accounts_tokens (world_of work.old.ledger) + receipt_tokens config.now receipt.now + work.old.burnt ≤ 2 ^ 127 }
+    requires whole { work.old.state.whole ≡ true }
+    requires transfer { IsTransfer config.now work.old.state.world receipt.now }
+    requires room { accounts_tokens work.old.state.world + receipt_tokens config.now receipt.now + work.old.burnt ≤ 2 ^ 127 }
     requires gas { work.old.gas + running_gas config.now < chunk_gas_limit config.now }
-    ensures { OnOk result (work_of work.new ≡ serve config.now (work_of work.old) receipt.now) }
+    ensures served { OnOk result (work_of work.new ≡ serve config.now (work_of work.old) receipt.now) }
+    ensures whole { OnOk result (work.new.state.whole ≡ true) }
 {
-    let outcome = execute(&mut work.ledger, alloc, config, receipt);
+    let outcome = execute(&mut work.state, alloc, config, receipt)?;
     work.gas += outcome.gas;
     work.burnt += outcome.burnt;
     work.lines.push(ChunkLine::Run(outcome))?;
@@ -62,12 +63,14 @@ pub(crate) fn take_list(
     config: &Config,
     list: &[Receipt],
 ) -> Result<(), AllocError>
-    requires transfers { AreTransfers config.now (world_of work.old.ledger) list.now }
-    requires room { accounts_tokens (world_of work.old.ledger) + list_tokens config.now list.now + work.old.burnt ≤ 2 ^ 127 }
+    requires whole { work.old.state.whole ≡ true }
+    requires transfers { AreTransfers config.now work.old.state.world list.now }
+    requires room { accounts_tokens work.old.state.world + list_tokens config.now list.now + work.old.burnt ≤ 2 ^ 127 }
     requires gas { work.old.gas + running_gas config.now * length list.now < chunk_gas_limit config.now }
     ensures taken { OnOk result (work_of work.new ≡ take_list config.now (work_of work.old) list.now) }
     ensures sound { OnOk result (KeepsSound config.now (work_of work.old) (work_of work.new) list.now) }
     ensures place { OnOk result (work.new.place ≡ work.old.place) }
+    ensures whole { OnOk result (work.new.state.whole ≡ true) }
 {
     // The price is only read for the bounds of the configuration.
     let _ = config.entry(1);
@@ -79,11 +82,12 @@ pub(crate) fn take_list(
 
 // ---- opening
 
-fn begin(alloc: Global, ledger: Ledger, place: Place) -> ChunkWork
-    ensures { work_of result ≡ begun (world_of ledger) place }
+fn begin(alloc: Global, state: State, place: Place) -> ChunkWork
+    ensures begun { work_of result ≡ begun state.world place }
+    ensures whole { result.state.whole ≡ state.whole }
 {
     ChunkWork {
-        ledger,
+        state,
         place,
         gas: 0,
         burnt: 0,
@@ -103,6 +107,7 @@ fn route(
     requires { work.old.local ≡ length local.old.items }
     ensures routed { OnOk result (record { working = work_of work.new; local = local.new.items } ≡ routed is_local (work_of work.old) local.old.items receipt) }
     ensures count { OnOk result (work.new.local ≡ length local.new.items) }
+    ensures whole { work.new.state.whole ≡ work.old.state.whole }
 {
     if is_local {
         local.push(receipt)?;
@@ -117,6 +122,7 @@ fn route(
 fn refuse(work: &mut ChunkWork, hash: Hash32, fault: TxFault) -> Result<(), AllocError>
     ensures refused { OnOk result (work_of work.new ≡ with_line (work_of work.old) (refused hash fault)) }
     ensures fault { OnOk result (fault ≢ TxFault.Memory) }
+    ensures whole { work.new.state.whole ≡ work.old.state.whole }
 {
     match fault {
         TxFault::Memory => Err(AllocError),
@@ -135,17 +141,19 @@ fn convert_next(
     local: &mut Vec<Receipt>,
     tx: &Transaction,
 ) -> Result<(), AllocError>
+    requires whole { work.old.state.whole ≡ true }
     requires one { is_one_transfer tx.now.actions ≡ true }
     requires count { work.old.local ≡ length local.old.items }
-    requires room { accounts_tokens (world_of work.old.ledger) + work.old.burnt ≤ 2 ^ 127 }
+    requires room { accounts_tokens work.old.state.world + work.old.burnt ≤ 2 ^ 127 }
     requires gas { work.old.gas + transaction_gas config.now < chunk_gas_limit config.now }
     ensures converted { OnOk result (record { working = work_of work.new; local = local.new.items } ≡ convert_next config.now (record { working = work_of work.old; local = local.old.items }) tx.now) }
     ensures count { OnOk result (work.new.local ≡ length local.new.items) }
+    ensures whole { OnOk result (work.new.state.whole ≡ true) }
 {
     // The price is only read for the bounds of the configuration.
     let _ = config.entry(1);
     let hash = hash_of(alloc, tx)?;
-    match convert(&mut work.ledger, alloc, config, tx, &work.place) {
+    match convert(&mut work.state, alloc, config, tx, &work.place) {
         Ok(made) => {
             let receipt_id = made.receipt.receipt_id;
             work.gas += made.gas;
@@ -165,14 +173,16 @@ fn convert_all(
     config: &Config,
     txs: &[Transaction],
 ) -> Result<Vec<Receipt>, AllocError>
+    requires whole { work.old.state.whole ≡ true }
     requires price { work.old.place.price ≡ gas_price config.now }
-    requires built { list_all (is_built_transaction (world_of work.old.ledger)) txs.now ≡ true }
-    requires system { has_system (world_of work.old.ledger) ≡ false }
-    requires fresh { work_of work.old ≡ begun (world_of work.old.ledger) work.old.place }
-    requires room { accounts_tokens (world_of work.old.ledger) ≤ 2 ^ 127 }
+    requires built { list_all (is_built_transaction work.old.state.world) txs.now ≡ true }
+    requires system { has_system work.old.state.world ≡ false }
+    requires fresh { work_of work.old ≡ begun work.old.state.world work.old.place }
+    requires room { accounts_tokens work.old.state.world ≤ 2 ^ 127 }
     requires gas { transaction_gas config.now * length txs.now < chunk_gas_limit config.now }
     ensures converted { IfOk result (λ local. record { working = work_of work.new; local = local.items } ≡ fold (convert_next config.now) (record { working = work_of work.old; local = [] }) txs.now) }
-    ensures kept { IfOk result (λ local. IsConverting config.now (world_of work.old.ledger) (accounts_tokens (world_of work.old.ledger)) (transaction_gas config.now * length txs.now) (record { working = work_of work.new; local = local.items })) }
+    ensures kept { IfOk result (λ local. IsConverting config.now work.old.state.world (accounts_tokens work.old.state.world) (transaction_gas config.now * length txs.now) (record { working = work_of work.new; local = local.items })) }
+    ensures whole { OnOk result (work.new.state.whole ≡ true) }
 {
     let mut local = Vec::new(alloc);
     for tx in txs {
@@ -190,21 +200,24 @@ fn convert_all(
 pub(crate) fn open_chunk(
     alloc: Global,
     config: &Config,
-    ledger: Ledger,
+    state: State,
     place: Place,
     txs: &[Transaction],
 ) -> Result<ChunkWork, AllocError>
+    requires whole { state.whole ≡ true }
+    requires delayed { state.world.delayed ≡ [] }
     requires price { place.price ≡ gas_price config.now }
-    requires built { list_all (is_built_transaction (world_of ledger)) txs.now ≡ true }
-    requires system { has_system (world_of ledger) ≡ false }
-    requires room { accounts_tokens (world_of ledger) ≤ 2 ^ 127 }
+    requires built { list_all (is_built_transaction state.world) txs.now ≡ true }
+    requires system { has_system state.world ≡ false }
+    requires room { accounts_tokens state.world ≤ 2 ^ 127 }
     requires gas { transaction_gas config.now * length txs.now < chunk_gas_limit config.now }
-    ensures opened { IfOk result (λ work. work_of work ≡ open_chunk config.now (world_of ledger) place txs.now) }
-    ensures sound { IfOk result (λ work. IsSound config.now (world_of ledger) (accounts_tokens (world_of ledger)) (transaction_gas config.now * length txs.now) (work_of work)) }
+    ensures opened { IfOk result (λ work. work_of work ≡ open_chunk config.now state.world place txs.now) }
+    ensures sound { IfOk result (λ work. IsSound config.now state.world (accounts_tokens state.world) (transaction_gas config.now * length txs.now) (work_of work)) }
+    ensures whole { IfOk result (λ work. work.state.whole ≡ true) }
 {
     // The price is only read for the bounds of the configuration.
     let _ = config.entry(1);
-    let mut work = begin(alloc, ledger, place);
+    let mut work = begin(alloc, state, place);
     let local = convert_all(&mut work, alloc, config, txs)?;
     take_list(&mut work, alloc, config, &local)?;
     Ok(work)
@@ -243,15 +256,18 @@ fn with_sent(
 ///
 /// Where there is no memory.
 pub(crate) fn seal_chunk(alloc: Global, work: ChunkWork) -> Result<Sealed, AllocError>
+    requires whole { work.state.whole ≡ true }
     ensures result { IfOk result (λ sealed. sealed.result ≡ (report_of [] (record { 0 = 0 }) (work_of work)).result) }
     ensures local { IfOk result (λ sealed. sealed.local ≡ (report_of [] (record { 0 = 0 }) (work_of work)).local) }
-    ensures world { IfOk result (λ sealed. world_of sealed.ledger ≡ (work_of work).world) }
+    ensures world { IfOk result (λ sealed. sealed.state.world ≡ (work_of work).world) }
     ensures lists { IfOk result (λ sealed. lists_of [] 1 (work_of work) ≡ sealed.outgoing.items ∷ []) }
+    ensures whole { IfOk result (λ sealed. sealed.state.whole ≡ true) }
 {
-    let root = root_of(alloc, &work.ledger)?;
+    let mut state = work.state;
+    let root = root_of(&mut state)?;
     let lines = with_sent(alloc, work.lines, &work.outgoing)?;
     Ok(Sealed {
-        ledger: work.ledger,
+        state,
         result: ChunkResult {
             height: work.place.height,
             shard: ShardId(0),

@@ -1,11 +1,11 @@
-use crate::ledger::Ledger;
+use crate::state::State;
 use nr_records::{ChunkLine, Receipt};
 use nr_state::Place;
 
 /// A chunk at work: its state, and what it made so far.
 #[derive(Drop)]
 pub(crate) struct ChunkWork {
-    pub(crate) ledger: Ledger,
+    pub(crate) state: State,
     pub(crate) place: Place,
     /// The gas that it burnt so far, and the tokens.
     pub(crate) gas: u64,

@@ -4,14 +4,15 @@ ghost use Rattle.std.specs.Prelude.{◌≡◌, ◌≢◌, ◌++◌, ◌∷◌, [
 ghost use Rattle.nr_bytes.specs.Outside.{Rose};
 ghost use Rattle.nr_config.specs.Reading.{configuration};
 ghost use Rattle.nr_top.specs.Answers.{AsksFront, Configures};
-ghost use Rattle.nr_top.specs.Input.{config_files, config_status, configured, by_reading};
+ghost use Rattle.nr_top.specs.Input.{config_files, configured, by_reading};
 ghost use Rattle.nr_top.specs.declared.status.Status.TheVariants.{ReadFault};
 
 use crate::command::is_free;
 use crate::loading::load;
+use crate::refused::config_status;
 use crate::status::Status;
 use nr_bytes::Shelf;
-use nr_config::{Config, ConfigFault};
+use nr_config::Config;
 use std::alloc::Global;
 
 /// The most bytes of a configuration, 1 MiB.
@@ -19,30 +20,19 @@ const CONFIG_LIMIT: usize = 1_048_576;
 
 const TOO_LONG: Status = Status::Config { kind: 0, entry: 0 };
 
-fn refusal(fault: ConfigFault) -> Status
-    ensures { result ≡ config_status fault }
-{
-    match fault {
-        ConfigFault::NotJson => Status::Config { kind: 1, entry: 0 },
-        ConfigFault::Missing { entry } => Status::Config { kind: 2, entry },
-        ConfigFault::NotWhole { entry } => Status::Config { kind: 3, entry },
-        ConfigFault::OutOfRange { entry } => Status::Config { kind: 4, entry },
-        ConfigFault::Memory => Status::NoMemory,
-    }
-}
-
-#[tactic(auto, using(crate::proofs::Preparing::not_read_fault))]
+#[tactic(auto, using(crate::proofs::Stopping::config_was_read))]
 fn read(alloc: Global, bytes: &[u8]) -> Result<Config, Status>
     ensures configures { Configures result (by_reading (configuration bytes.now)) }
     ensures no_fault { result ≢ Err ReadFault }
 {
     match Config::read(alloc, bytes) {
         Ok(config) => Ok(config),
-        Err(fault) => Err(refusal(fault)),
+        Err(fault) => Err(config_status(fault)),
     }
 }
 
 /// The configuration of a word: `free`, which loads nothing, or the name of a file.
+#[tactic(auto, using(crate::proofs::Stopping::config_read))]
 pub(crate) fn configuration<S: Shelf>(
     alloc: Global,
     word: &str,

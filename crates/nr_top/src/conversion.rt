@@ -1,31 +1,22 @@
 //! How a transaction becomes a receipt.
 
-ghost use Rattle.std.specs.Prelude.{◌≡◌, true, ◌≤◌, ℕ, [], ◌∷◌, IfOk, IfSome, OnOk, IsSome, option_map};
+ghost use Rattle.std.specs.Prelude.{◌≡◌, true, ◌≤◌, ℕ, IfOk, OnOk, IsSome};
 ghost use Rattle.std.specs.FinMap.{get};
 ghost use Rattle.nr_top.specs.Blocks.{is_one_transfer};
 ghost use Rattle.nr_top.specs.Conversion.{receipt_of, charged, converted};
 ghost use Rattle.nr_fees.specs.Fees.{FitsIn};
-ghost use Rattle.nr_top.specs.LedgerWorld.{world_of};
-ghost use Rattle.nr_top.specs.Phases.{Converts, Judges};
+ghost use Rattle.nr_top.specs.Phases.{Converts, StaysWhole, Judges};
 
 use crate::converted::Converted;
 use crate::fees::{cost_of, price_of, sending_gas};
-use crate::ledger::Ledger;
+use crate::state::State;
 use crate::tx_fault::TxFault;
 use nr_bytes::List;
 use nr_config::Config;
 use nr_ids::derive;
-use nr_records::{Account, ActionReceipt, Body, Receipt, Spelled, Transaction, hash_of};
+use nr_records::{AccessKey, Account, ActionReceipt, Body, Receipt, Spelled, Transaction, hash_of};
 use nr_state::Place;
 use std::alloc::{AllocError, Global};
-
-/// The nonce of the signer's key.
-fn key_nonce(ledger: &Ledger, alloc: Global, tx: &Transaction) -> Result<Option<u64>, AllocError>
-    ensures { IfOk result (λ nonce. nonce ≡ option_map (λ access. access.nonce) (get (world_of ledger.now).keys (tx.now.signer, tx.now.public_key))) }
-{
-    let found = ledger.key(alloc, &tx.signer, &tx.public_key)?;
-    Ok(found.map(|access| access.nonce))
-}
 
 /// What a signer who has the key pays, or the first refusal.
 fn judged(key_nonce: u64, nonce: u64, amount: u128, cost: Option<u128>) -> Result<u128, TxFault>
@@ -78,46 +69,44 @@ fn receipt_of(alloc: Global, tx: &Transaction, place: &Place) -> Result<Receipt,
 }
 
 /// Takes the cost from the signer, and notes the nonce.
+#[tactic(auto, using(crate::proofs::Charging::charged_is))]
 fn charge(
-    ledger: &mut Ledger,
-    alloc: Global,
+    state: &mut State,
     tx: &Transaction,
     account: Account,
+    access: AccessKey,
     cost: u128,
 ) -> Result<(), AllocError>
-    requires signer { IsSome (get (world_of ledger.old).accounts tx.now.signer) }
-    requires key { IsSome (get (world_of ledger.old).keys (tx.now.signer, tx.now.public_key)) }
+    requires whole { state.old.whole ≡ true }
+    requires signer { IsSome (get state.old.world.accounts tx.now.signer) }
     requires enough { cost ≤ account.amount }
-    ensures { OnOk result (IfSome (get (world_of ledger.old).keys (tx.now.signer, tx.now.public_key)) (λ access. world_of ledger.new ≡ charged (world_of ledger.old) tx.now cost account access)) }
+    ensures world { OnOk result (state.new.world ≡ charged state.old.world tx.now cost account access) }
+    ensures whole { OnOk result (state.new.whole ≡ true) }
 {
-    ledger.set_nonce(alloc, &tx.signer, &tx.public_key, tx.nonce)?;
+    let renewed = AccessKey {
+        nonce: tx.nonce,
+        ..access
+    };
     let amount = account.amount - cost;
-    ledger.set_account(&tx.signer, Account { amount, ..account });
+    state.set_key(&tx.signer, &tx.public_key, &renewed)?;
+    // The account is written as it was read, whatever the key's write made of its usage.
+    state.set_account(&tx.signer, &Account { amount, ..account })?;
     Ok(())
 }
 
-/// Converts a transaction that isn't refused, for this cost.
-fn accept(
-    ledger: &mut Ledger,
+/// What an accepted transaction becomes.
+fn converted(
     alloc: Global,
     config: &Config,
     tx: &Transaction,
     place: &Place,
-    account: Account,
-    cost: u128,
 ) -> Result<Converted, AllocError>
-    requires one { is_one_transfer tx.now.actions ≡ true }
-    requires signer { IsSome (get (world_of ledger.old).accounts tx.now.signer) }
-    requires key { IsSome (get (world_of ledger.old).keys (tx.now.signer, tx.now.public_key)) }
-    requires enough { cost ≤ account.amount }
-    ensures made { IfOk result (λ made. made ≡ converted config.now tx.now place.now) }
-    ensures world { OnOk result (IfSome (get (world_of ledger.old).keys (tx.now.signer, tx.now.public_key)) (λ access. world_of ledger.new ≡ charged (world_of ledger.old) tx.now cost account access)) }
+    requires { is_one_transfer tx.now.actions ≡ true }
+    ensures { IfOk result (λ made. made ≡ converted config.now tx.now place.now) }
 {
-    let receipt = receipt_of(alloc, tx, place)?;
-    charge(ledger, alloc, tx, account, cost)?;
     let gas = sending_gas(config, tx);
     Ok(Converted {
-        receipt,
+        receipt: receipt_of(alloc, tx, place)?,
         gas,
         burnt: price_of(gas, place.price),
     })
@@ -130,30 +119,29 @@ fn accept(
 /// The first refusal in order, of `NoSigner`, `NoKey`, `Nonce`, `CostOverflow` and `Balance`; nothing
 /// is changed then. Or `Memory`.
 pub(crate) fn convert(
-    ledger: &mut Ledger,
+    state: &mut State,
     alloc: Global,
     config: &Config,
     tx: &Transaction,
     place: &Place,
 ) -> Result<Converted, TxFault>
-    requires { is_one_transfer tx.now.actions ≡ true }
-    ensures { Converts config.now result (world_of ledger.old) (world_of ledger.new) tx.now place.now }
+    requires whole { state.old.whole ≡ true }
+    requires one { is_one_transfer tx.now.actions ≡ true }
+    ensures converts { Converts config.now result state.old.world state.new.world tx.now place.now }
+    ensures whole { StaysWhole result state.new.whole }
 {
-    let Some(account) = ledger.account(&tx.signer) else {
+    let Some(account) = state.account(&tx.signer)? else {
         return Err(TxFault::NoSigner);
     };
-    let Ok(nonce) = key_nonce(ledger, alloc, tx) else {
-        return Err(TxFault::Memory);
-    };
-    let Some(nonce) = nonce else {
+    let Some(access) = state.key(&tx.signer, &tx.public_key)? else {
         return Err(TxFault::NoKey);
     };
-    let cost = match judged(nonce, tx.nonce, account.amount, cost_of(config, tx, place)) {
+    let cost = cost_of(config, tx, place);
+    let cost = match judged(access.nonce, tx.nonce, account.amount, cost) {
         Ok(cost) => cost,
         Err(fault) => return Err(fault),
     };
-    match accept(ledger, alloc, config, tx, place, account, cost) {
-        Ok(made) => Ok(made),
-        Err(AllocError) => Err(TxFault::Memory),
-    }
+    let made = converted(alloc, config, tx, place)?;
+    charge(state, tx, account, access, cost)?;
+    Ok(made)
 }

@@ -2,7 +2,7 @@
 
 ghost use Rattle.std.specs.Prelude.{◌≡◌, ◌++◌, ◌∷◌, [], Err, IsOk, ◌≤◌};
 ghost use Rattle.nr_bytes.specs.Outside.{Rose};
-ghost use Rattle.nr_top.specs.Answers.{Loaded, AsksFront, IsRefusal};
+ghost use Rattle.nr_top.specs.Answers.{Loaded, AsksFront, cause, Refusing};
 ghost use Rattle.nr_top.specs.declared.status.Status.TheVariants.{ReadFault};
 
 use crate::status::Status;
@@ -17,7 +17,7 @@ pub(crate) fn load<S: Shelf>(
     limit: usize,
     shelf: &mut S,
 ) -> Result<Vec<u8>, Status>
-    requires { IsRefusal too_long }
+    requires { cause too_long ≡ Refusing }
     ensures loaded { Loaded result too_long limit (S.held shelf.old name.now) }
     ensures asked { AsksFront (S.asked shelf.old) (S.asked shelf.new) (name.now ∷ []) }
     ensures all { IsOk result → S.asked shelf.new ≡ S.asked shelf.old ++ name.now ∷ [] }

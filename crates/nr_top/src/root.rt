@@ -1,58 +1,38 @@
-//! The root of a ledger's state.
+//! The root of a shard's state.
 
-ghost use Rattle.std.specs.Prelude.{◌≡◌, ◌<◌, IfOk};
-ghost use Rattle.std.specs.FinMap.{empty};
+ghost use Rattle.std.specs.Prelude.{◌≡◌, ◌<◌, true, IfOk};
 ghost use Rattle.nr_state.specs.Flat.{flat};
-ghost use Rattle.nr_top.specs.LedgerWorld.{world_of};
 ghost use Rattle.nr_triedef.specs.Root.{root_of};
 
-use crate::ledger::Ledger;
+use crate::state::State;
 use nr_ids::Hash32;
-use nr_store::PlainStore;
-use nr_triedef::{Steps, Store, bytes_of};
-use std::alloc::{AllocError, Global};
+use nr_triedef::{Steps, bytes_of};
+use std::alloc::AllocError;
 use std::marker::Brand;
-use std::sync::ledger::{Blank, Ledger as Counted};
+use std::sync::ledger::{Blank, Ledger};
 
-// The root of a ledger, laid into an empty store.
-fn root_in<S: Store, L: Counted>(
-    alloc: Global,
-    ledger: &Ledger,
-    store: &mut S,
-    steps: &mut Steps<L>,
-) -> Result<Hash32, AllocError>
-    requires { S.contents store.old ≡ empty }
-    ensures { IfOk result (λ hash. hash ≡ (root_of (flat (world_of ledger.now))).hash) }
+fn counted_root<L: Ledger>(state: &mut State, blank: Blank) -> Result<Hash32, AllocError>
+    requires name { blank.name ≡ L.name }
+    requires parts { blank.parts ≡ L.parts }
+    requires some { 0 < blank.parts }
+    requires whole { state.old.whole ≡ true }
+    ensures root { IfOk result (λ hash. hash ≡ (root_of (flat state.old.world)).hash) }
+    ensures same { state.new ≡ state.old }
 {
-    ledger.lay_into(alloc, store)?;
-    let root = store.root(steps)?;
+    let mut steps = Steps::<L>::new(blank);
+    let root = state.root(&mut steps)?;
     Ok(Hash32(bytes_of(&root)))
 }
 
-fn counted_root<L: Counted>(
-    alloc: Global,
-    ledger: &Ledger,
-    blank: Blank,
-) -> Result<Hash32, AllocError>
-    requires name { blank.name ≡ L.name }
-    requires parts { blank.parts ≡ L.parts }
-    requires whole { 0 < blank.parts }
-    ensures { IfOk result (λ hash. hash ≡ (root_of (flat (world_of ledger.now))).hash) }
-{
-    let mut steps = Steps::<L>::new(blank);
-    let mut store = PlainStore::new(alloc);
-    let root = root_in(alloc, ledger, &mut store, &mut steps)?;
-    Ok(root)
-}
-
-/// The root of a ledger's state.
+/// The root of a state.
 ///
 /// # Errors
 ///
 /// Where there is no memory.
-pub(crate) fn root_of(alloc: Global, ledger: &Ledger) -> Result<Hash32, AllocError>
-    ensures { IfOk result (λ hash. hash ≡ (root_of (flat (world_of ledger.now))).hash) }
+pub(crate) fn root_of(state: &mut State) -> Result<Hash32, AllocError>
+    requires { state.old.whole ≡ true }
+    ensures root { IfOk result (λ hash. hash ≡ (root_of (flat state.old.world)).hash) }
+    ensures same { state.new ≡ state.old }
 {
-    let root = counted_root::<Brand>(alloc, ledger, Blank::new(1))?;
-    Ok(root)
+    counted_root::<Brand>(state, Blank::new(1))
 }

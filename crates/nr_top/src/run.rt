@@ -1,17 +1,17 @@
 //! The run of one shard, block after block.
 
 ghost use Rattle.std.specs.Prelude.{◌≡◌, ◌+◌, ◌++◌, ◌≤◌, ◌<◌, ◌^◌, IfOk, Some, [], ◌∷◌, true, false, count_by, length};
-ghost use Rattle.nr_top.specs.Blocks.{are_built_from, blocks_gas};
+ghost use Rattle.nr_top.specs.Blocks.{blocks_gas};
 ghost use Rattle.nr_top.specs.Chains.{has_one_chunk};
 ghost use Rattle.nr_config.specs.Config.{chunk_gas_limit};
-ghost use Rattle.nr_top.specs.LedgerWorld.{world_of};
 ghost use Rattle.nr_top.specs.Run.{is_sent, is_execution};
-ghost use Rattle.nr_top.specs.Transfers.{has_system};
+ghost use Rattle.nr_top.specs.Straight.{are_built_from};
+ghost use Rattle.nr_top.specs.Transfers.{IsIdle, has_system};
 ghost use Rattle.nr_state.specs.World.{accounts_tokens};
 
 use crate::chunk::{open_chunk, seal_chunk, take_list};
-use crate::ledger::Ledger;
 use crate::sealed::Sealed;
+use crate::state::State;
 use crate::tally::{execution_lines, sent_lines, tokens_in};
 use nr_blocks::Block;
 use nr_bytes::{Blob, List};
@@ -24,7 +24,7 @@ use std::alloc::{AllocError, Global};
 /// What a run has made so far.
 #[derive(Drop)]
 pub(crate) struct Progress {
-    ledger: Ledger,
+    state: State,
     /// What the last chunk sent.
     inbox: Vec<Receipt>,
     text: Blob,
@@ -76,17 +76,18 @@ impl Progress {
     fn seal(
         alloc: Global,
         config: &Config,
-        ledger: Ledger,
+        state: State,
         inbox: &[Receipt],
         block: &Block,
     ) -> Result<Sealed, AllocError>
-        requires { IsReady config.now (world_of ledger) inbox.now block.now }
-        ensures seal { IfOk result (IsSeal (work_at config.now (world_of ledger) inbox.now block.now)) }
-        ensures kept { IfOk result (λ _. IsKept config.now (world_of ledger) inbox.now block.now (work_at config.now (world_of ledger) inbox.now block.now)) }
+        requires whole { state.whole ≡ true }
+        requires ready { IsReady config.now state.world inbox.now block.now }
+        ensures seal { IfOk result (IsSeal (work_at config.now state.world inbox.now block.now)) }
+        ensures kept { IfOk result (λ _. IsKept config.now state.world inbox.now block.now (work_at config.now state.world inbox.now block.now)) }
     {
         let txs = transactions(block);
         let place = Progress::place(config, block);
-        let mut work = open_chunk(alloc, config, ledger, place, txs.inner())?;
+        let mut work = open_chunk(alloc, config, state, place, txs.inner())?;
         take_list(&mut work, alloc, config, inbox)?;
         let sealed = seal_chunk(alloc, work)?;
         Ok(sealed)
@@ -94,26 +95,27 @@ impl Progress {
 
     /// Runs one block more.
     fn next(self, alloc: Global, config: &Config, block: &Block) -> Result<Progress, AllocError>
-        requires ready { IsReady config.now (world_of self.ledger) self.inbox.items block.now }
-        requires room { accounts_tokens (world_of self.ledger) + list_tokens config.now self.inbox.items + self.burnt ≤ 2 ^ 127 }
-        ensures next { IfOk result (IsNext self (work_at config.now (world_of self.ledger) self.inbox.items block.now)) }
-        ensures kept { IfOk result (λ _. IsKept config.now (world_of self.ledger) self.inbox.items block.now (work_at config.now (world_of self.ledger) self.inbox.items block.now)) }
+        requires whole { self.state.whole ≡ true }
+        requires ready { IsReady config.now self.state.world self.inbox.items block.now }
+        requires room { accounts_tokens self.state.world + list_tokens config.now self.inbox.items + self.burnt ≤ 2 ^ 127 }
+        ensures next { IfOk result (IsNext self (work_at config.now self.state.world self.inbox.items block.now)) }
+        ensures kept { IfOk result (λ _. IsKept config.now self.state.world self.inbox.items block.now (work_at config.now self.state.world self.inbox.items block.now)) }
     {
         let Progress {
-            ledger,
+            state,
             inbox,
             mut text,
             routed,
             executed,
             burnt,
         } = self;
-        let sealed = Progress::seal(alloc, config, ledger, &inbox, block)?;
+        let sealed = Progress::seal(alloc, config, state, &inbox, block)?;
         write_chunk(alloc, &sealed.result, &mut text)?;
         let lines = sealed.result.lines.inner();
         let routed = sum(routed, sent_lines(lines), sealed.local)?;
         let executed = sum(executed, execution_lines(lines), 0)?;
         Ok(Progress {
-            ledger: sealed.ledger,
+            state: sealed.state,
             inbox: sealed.outgoing,
             text,
             routed,
@@ -126,17 +128,19 @@ impl Progress {
     fn run(
         alloc: Global,
         config: &Config,
-        ledger: Ledger,
+        state: State,
         blocks: &[Block],
     ) -> Result<Progress, AllocError>
-        requires built { are_built_from (world_of ledger) 1 blocks.now ≡ true }
-        requires system { has_system (world_of ledger) ≡ false }
-        requires tokens { accounts_tokens (world_of ledger) ≤ 2 ^ 127 }
+        requires whole { state.whole ≡ true }
+        requires idle { IsIdle state.world }
+        requires built { are_built_from state.world 1 blocks.now ≡ true }
+        requires system { has_system state.world ≡ false }
+        requires tokens { accounts_tokens state.world ≤ 2 ^ 127 }
         requires gas { blocks_gas config.now blocks.now < chunk_gas_limit config.now }
-        ensures { IfOk result (IsAhead config.now (world_of ledger) blocks.now (1 + length blocks.now) []) }
+        ensures { IfOk result (IsAhead config.now state.world blocks.now (1 + length blocks.now) []) }
     {
         let mut progress = Progress {
-            ledger,
+            state,
             inbox: Vec::new(alloc),
             text: Blob::of(Vec::new(alloc)),
             routed: 0,
@@ -152,33 +156,38 @@ impl Progress {
     /// The sums over the run, where there was this much at first.
     fn totals(&self, config: &Config, supply: u128) -> Totals
         requires transfers { AllByRecursion (IsTransferBody config.now) self.now.inbox.items }
-        requires few { accounts_tokens (world_of self.now.ledger) + list_tokens config.now self.now.inbox.items ≤ 2 ^ 127 }
-        ensures { (w : World) (blocks : Items Block) → supply ≡ accounts_tokens w → IsAhead config.now w blocks (1 + length blocks) [] self.now → result ≡ straight_totals config.now w blocks }
+        requires within { list_tokens config.now self.now.inbox.items + self.now.burnt ≤ supply }
+        ensures { (w : World) (blocks : Items Block) → IsIdle w → supply ≡ accounts_tokens w → IsAhead config.now w blocks (1 + length blocks) [] self.now → result ≡ straight_totals config.now w blocks }
     {
+        let receipts = tokens_in(config, &self.inbox);
         Totals {
             supply,
-            accounts: self.ledger.tokens(),
-            receipts: tokens_in(config, &self.inbox),
+            // What isn't in receipts and wasn't burnt.
+            accounts: supply - receipts - self.burnt,
+            receipts,
             burnt: self.burnt,
             places: [self.routed, self.executed, 0, 0, self.inbox.len() as u64],
         }
     }
 
-    /// The report of a chain of one shard.
+    /// The report of a chain of one shard, whose accounts hold the supply.
     pub(crate) fn report(
         alloc: Global,
         config: &Config,
-        ledger: Ledger,
+        state: State,
+        supply: u128,
         blocks: &[Block],
     ) -> Result<Blob, AllocError>
-        requires built { are_built_from (world_of ledger) 1 blocks.now ≡ true }
-        requires system { has_system (world_of ledger) ≡ false }
-        requires tokens { accounts_tokens (world_of ledger) ≤ 2 ^ 127 }
+        requires whole { state.whole ≡ true }
+        requires idle { IsIdle state.world }
+        requires built { are_built_from state.world 1 blocks.now ≡ true }
+        requires system { has_system state.world ≡ false }
+        requires supply { supply ≡ accounts_tokens state.world }
+        requires tokens { supply ≤ 2 ^ 127 }
         requires gas { blocks_gas config.now blocks.now < chunk_gas_limit config.now }
-        ensures { IfOk result (λ text. text ≡ straight_text config.now (world_of ledger) blocks.now) }
+        ensures { IfOk result (λ text. text ≡ straight_text config.now state.world blocks.now) }
     {
-        let supply = ledger.tokens();
-        let progress = Progress::run(alloc, config, ledger, blocks)?;
+        let progress = Progress::run(alloc, config, state, blocks)?;
         let totals = progress.totals(config, supply);
         let mut text = progress.text;
         write_totals(alloc, &totals, &mut text)?;

@@ -1,10 +1,10 @@
-use crate::ledger::Ledger;
+use crate::state::State;
 use nr_records::{ChunkResult, Receipt};
 
 /// What a seal leaves.
 #[derive(Drop)]
 pub(crate) struct Sealed {
-    pub(crate) ledger: Ledger,
+    pub(crate) state: State,
     pub(crate) result: ChunkResult,
     /// How many receipts the chunk converted for their own signer.
     pub(crate) local: u64,

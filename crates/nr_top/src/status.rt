@@ -1,4 +1,8 @@
 /// How a call of the program ended.
+///
+/// A genesis or a blocks file is refused by the first fault that `nr_blocks` gives, with its numbers
+/// in their order and zeros for the rest. Places count bytes from 0, entries count from 0 over all
+/// entries of the file, and a height is the one that the block states.
 #[derive(Clone, Copy, Debug, PartialEq, Eq)]
 pub enum Status {
     /// The report was written.
@@ -9,6 +13,18 @@ pub enum Status {
     /// object, 2 where an entry is missing, 3 where it is no whole number, and 4 where it is outside
     /// its bounds. The entry counts from 1, and is 0 for the kinds 0 and 1.
     Config { kind: u32, entry: u32 },
+    /// The file is no genesis. The kind is 0 where it is longer than 64 MiB, 1 where a field can't be
+    /// read (`a` is its place), 2 where an earlier entry has the same trie key (`a` is the entry), 3
+    /// where an entry has no owner (`a` is the entry), 4 where an account states another storage usage
+    /// than its entries count (`a` is the entry, `b` the stated and `c` the counted bytes), 5 where
+    /// the supply passes 2^127, and 6 where a code hash is off (`a` is the entry).
+    Genesis { kind: u32, a: u64, b: u64, c: u64 },
+    /// The file has no blocks for the shards of the genesis. The kind is 0 where it is longer than
+    /// 256 MiB, 1 where a field can't be read (`a` is its place), 2 where a block hasn't one chunk for
+    /// each shard (`a` is its height), 3 where a block's height isn't its number, from 1 (`a` is its
+    /// height), 4 where there are more than 256 blocks, and 5 where an action of staking stands (`a`
+    /// is its place).
+    Blocks { kind: u32, a: u64 },
     /// What was given isn't built yet: 0 the command, 1 the genesis, 2 the blocks, 3 the
     /// configuration.
     NotBuilt { form: u32 },

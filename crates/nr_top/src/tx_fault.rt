@@ -1,4 +1,9 @@
-/// Why a transaction becomes no receipt. Tokens are in the ledger's smallest unit.
+ghost use Rattle.std.specs.Prelude.{◌≡◌};
+ghost use Rattle.nr_top.specs.declared.tx_fault.TxFault.TheVariants.{Memory};
+
+use std::alloc::AllocError;
+
+/// Why a transaction becomes no receipt. Tokens are in the state's smallest unit.
 #[derive(Clone, Copy, Debug, PartialEq, Eq)]
 pub enum TxFault {
     /// The signer has no account here.
@@ -23,4 +28,12 @@ pub enum TxFault {
     StorageStake { has: u128, needs: u128 },
     /// Memory ran out.
     Memory,
+}
+
+impl From<AllocError> for TxFault {
+    ghost from_gives = { λ _ e. e ≡ Memory };
+
+    fn from(_fault: AllocError) -> TxFault {
+        TxFault::Memory
+    }
 }

@@ -1,5 +1,4 @@
-use Rattle.std.proofs.Common.{◌≡◌, refl, sym, ap, arith}
-use Rattle.nr_top.specs.LedgerWorld.{world_of}
+use Rattle.std.proofs.Common.{◌≡◌, sym, ap, arith}
 use Rattle.nr_records.specs.declared.chunk_result.Outcome.{Outcome}
 use Rattle.nr_top.specs.Transfers.{running_gas}
 use Rattle.nr_top.specs.Work.{work_of}
@@ -8,8 +7,8 @@ use Rattle.nr_top.proofs.chunk.serve.Goals as goal
 
 pub overflow_add-work : goal.overflow_add-work
 overflow_add-work c =
-    let gas : c.execute-outcome.result.gas ≡ running_gas c.args.config.now = ap (λ (o : Outcome). o.gas) c.execute-outcome.ensures.outcome in
-    omega (arith, gas, gas_fits c.args.config.now c.args.work.now.gas (running_gas c.args.config.now) c.execute-outcome.ensures.valid c.requires.gas)
+    let gas : c.in_ok-outcome.outcome.gas ≡ running_gas c.args.config.now = ap (λ (o : Outcome). o.gas) c.in_ok-outcome.ensures.outcome in
+    omega (arith, gas, gas_fits c.args.config.now c.args.work.now.gas (running_gas c.args.config.now) c.execute.ensures.valid c.requires.gas)
 
-pub returns : goal.returns
-returns c = rw (c.in_ok-push.ensures.items, c.execute-outcome.ensures.outcome) (sym (served c.args.config.now (work_of c.args.work.now) (world_of c.execute-outcome.new.ledger) c.args.receipt.now c.execute-outcome.ensures.valid c.requires.gas c.execute-outcome.ensures.executed))
+pub returns-clause-served : goal.returns-clause-served
+returns-clause-served c = rw (c.in_ok-push.ensures.items, c.in_ok-outcome.ensures.outcome) (sym (served c.args.config.now (work_of c.args.work.now) c.execute.new.state.world c.args.receipt.now c.execute.ensures.valid c.requires.gas c.in_ok-outcome.ensures.executed))

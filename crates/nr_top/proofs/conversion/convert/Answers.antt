@@ -1,29 +1,31 @@
-use Rattle.std.proofs.Common.{◌≡◌, ◌<◌, ◌^◌, None, refl, sym, ap, ◌∙◌, arith}
-use Rattle.std.specs.FinMap.{get}
-use Rattle.nr_top.specs.Conversion.{whole_gas, whole_cost}
-use Rattle.nr_top.specs.LedgerWorld.{world_of}
-use Rattle.nr_top.proofs.Converting.{no_signer, no_key_by, refuses, accepts}
+use Rattle.std.proofs.Common.{refl, sym, ◌∙◌, arith}
+use Rattle.nr_top.specs.Conversion.{whole_cost}
+use Rattle.nr_top.proofs.Converting.{no_signer, no_key, refuses, accepts}
 use Rattle.nr_top.proofs.conversion.convert.Goals as goal
 
-pub returns-in_default : goal.returns-in_default
-returns-in_default c =
-    let none : get (world_of c.args.ledger.now).accounts c.args.tx.now.signer ≡ None = cc in
-    λ _. (no_signer c.args.config.now (world_of c.args.ledger.now) c.args.tx.now c.args.place.now none, refl)
+pub returns-in_default-clause-converts : goal.returns-in_default-clause-converts
+returns-in_default-clause-converts c =
+    λ _. (no_signer c.args.config.now c.args.state.now.world c.args.tx.now c.args.place.now (sym c.in_ok-account.ensures ∙ c.in_default.is), refl)
 
-pub returns-in_default-nonce : goal.returns-in_default-nonce
-returns-in_default-nonce c =
-    λ _. (no_key_by c.args.config.now (world_of c.args.ledger.now) c.args.tx.now c.args.place.now c.in-Some.account (sym c.in-Some.is ∙ c.account.ensures) (sym c.in_default-nonce.is ∙ c.in-Ok.ensures), refl)
+pub returns-in_default-2-clause-converts : goal.returns-in_default-2-clause-converts
+returns-in_default-2-clause-converts c =
+    λ _. (no_key c.args.config.now c.args.state.now.world c.args.tx.now c.args.place.now c.in-Some.account (sym c.in_ok-account.ensures ∙ c.in-Some.is) (sym c.in_ok-access.ensures ∙ c.in_default-2.is), refl)
 
-pub returns-in-Err : goal.returns-in-Err
-returns-in-Err c =
+pub returns-in-Err-clause-converts : goal.returns-in-Err-clause-converts
+returns-in-Err-clause-converts c =
     λ _. (
-      refuses c.args.config.now (world_of c.args.ledger.now) c.args.tx.now c.args.place.now c.in-Some.account c.in-Some-nonce.nonce _ c.cost_of.ensures.gas
-          (sym c.in-Some.is ∙ c.account.ensures) (sym c.in-Some-nonce.is ∙ c.in-Ok.ensures) (c.in-Err.ensures (whole_cost c.args.config.now c.args.tx.now c.args.place.now) c.cost_of.ensures.value),
+      refuses c.args.config.now c.args.state.now.world c.args.tx.now c.args.place.now c.in-Some.account c.in-Some-2.access _ c.cost_of-cost.ensures.gas
+          (sym c.in_ok-account.ensures ∙ c.in-Some.is) (sym c.in_ok-access.ensures ∙ c.in-Some-2.is) (c.in-Err.ensures (whole_cost c.args.config.now c.args.tx.now c.args.place.now) c.cost_of-cost.ensures.value),
       refl,
     )
 
-pub returns-in-Ok-accept : goal.returns-in-Ok-accept
-returns-in-Ok-accept c =
-    accepts c.args.config.now (world_of c.args.ledger.now) (world_of c.accept.new.ledger) c.args.tx.now c.args.place.now c.in-Some.account c.in-Some-nonce.nonce c.in-Ok-judged.cost c.in-Ok-accept.made c.cost_of.ensures.gas
-    (sym c.in-Some.is ∙ c.account.ensures) (sym c.in-Some-nonce.is ∙ c.in-Ok.ensures) (c.in-Ok-judged.ensures (whole_cost c.args.config.now c.args.tx.now c.args.place.now) c.cost_of.ensures.value)
-    c.in-Ok-accept.ensures.made c.in-Ok-accept.ensures.world
+pub charge-requires-clause-enough : goal.charge-requires-clause-enough
+charge-requires-clause-enough c =
+    let judged = c.in-Ok.ensures (whole_cost c.args.config.now c.args.tx.now c.args.place.now) c.cost_of-cost.ensures.value in
+    omega (arith, judged.0, judged.1)
+
+pub returns-clause-converts : goal.returns-clause-converts
+returns-clause-converts c =
+    accepts c.args.config.now c.args.state.now.world c.charge.new.state.world c.args.tx.now c.args.place.now c.in-Some.account c.in-Some-2.access c.in-Ok.cost c.in_ok-made.made c.cost_of-cost.ensures.gas
+    (sym c.in_ok-account.ensures ∙ c.in-Some.is) (sym c.in_ok-access.ensures ∙ c.in-Some-2.is) (c.in-Ok.ensures (whole_cost c.args.config.now c.args.tx.now c.args.place.now) c.cost_of-cost.ensures.value)
+    c.in_ok-made.ensures c.in_ok-charge.ensures.world

@@ -1,7 +1,0 @@
-use Rattle.nr_top.proofs.Preparing.{blocks_misspelled}
-use Rattle.nr_top.proofs.top.report_of.Goals as goal
-
-pub returns-in-Ok-None : goal.returns-in-Ok-None
-returns-in-Ok-None c =
-    let told = rw c.in-Ok-None.field-0-is at c.in-Ok-None.ensures in
-    blocks_misspelled c.args.config.now c.args.file.now c.args.bytes.now told.0 told.1
