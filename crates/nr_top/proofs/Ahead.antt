@@ -1,5 +1,5 @@
 -- One block more of the straight run.
-use Rattle.std.proofs.Common.{◌≡◌, ℕ, ◌+◌, ◌*◌, ◌≤◌, ◌^◌, ◌&&◌, length, List, [], ◌∷◌, ◌++◌, true, false, Option, Some, None, refl, sym, ap, subst, ◌∙◌, append_assoc, arith}
+use Rattle.std.proofs.Common.{◌≡◌, ℕ, ◌+◌, ◌*◌, ◌≤◌, ◌<◌, ◌^◌, ◌&&◌, length, List, [], ◌∷◌, ◌++◌, true, false, Option, Some, None, refl, sym, ap, subst, ◌∙◌, append_assoc, arith}
 use Rattle.std.specs.Prelude.{is_some, sum_by, ◌==◌, slice_get, unwrap_or}
 use Rattle.std.proofs.Math.Nat.{mul-suc}
 use Rattle.std.specs.FinMap.{get}
@@ -7,9 +7,9 @@ use Rattle.std.specs.List.{list_all}
 use Rattle.std.proofs.lemmas.List.Sums.{sum_by-cons}
 use Rattle.nr_records.specs.declared.receipt.Receipt.{Receipt}
 use Rattle.nr_records.specs.declared.transaction.Transaction.{Transaction}
-use Rattle.nr_top.specs.Blocks.{is_one_transfer, has_full_key, is_built_transaction, is_built_chunk, are_built_chunks, most_gas, chunk_gas, block_gas}
+use Rattle.nr_top.specs.Blocks.{is_one_transfer, has_full_key, is_built_transaction, is_built_chunk, are_built_chunks, most_gas, chunk_gas, block_gas, blocks_gas}
 use Rattle.nr_top.specs.Chunk.{Working, ChunkReport}
-use Rattle.nr_config.specs.Config.{Config}
+use Rattle.nr_config.specs.Config.{Config, chunk_gas_limit}
 use Rattle.nr_top.specs.Execution.{system as system_id}
 use Rattle.nr_report.specs.Lines.{chunk_text}
 use Rattle.nr_top.specs.Run.{routed_in, executed_in}
@@ -24,12 +24,12 @@ use Rattle.nr_top.proofs.Serving.{still_transfers}
 use Rattle.nr_top.proofs.Both.{both_left, both_right}
 
 -- ---- what holds of a world holds of each one that it settled into
-transfers_back : (c : Config) (old new : World) (list : List Receipt) → IsSettled old new → AreTransfers c new list → AreTransfers c old list
+pub transfers_back : (c : Config) (old new : World) (list : List Receipt) → IsSettled old new → AreTransfers c new list → AreTransfers c old list
 transfers_back c old new [] same h = tt
 transfers_back c old new (r ∷ rs) same h =
     (record { body = h.0.body; sender = h.0.sender; receiver = sym (same.accounts r.receiver) ∙ h.0.receiver }, transfers_back c old new rs same h.1)
 
-settled_on : (a b c : World) → IsSettled a b → IsSettled b c → IsSettled a c
+pub settled_on : (a b c : World) → IsSettled a b → IsSettled b c → IsSettled a c
 settled_on a b c one two = record { accounts = λ id. two.accounts id ∙ one.accounts id; keys = λ key. two.keys key ∙ one.keys key; postponed = two.postponed ∙ one.postponed; delayed = two.delayed ∙ one.delayed }
 
 built_transaction : (old new : World) (tx : Transaction) → IsSettled old new → is_built_transaction new tx ≡ is_built_transaction old tx
@@ -62,7 +62,7 @@ list_gas c w (tx ∷ txs) e =
     let one : is_one_transfer tx.actions ≡ true = both_left (is_one_transfer tx.actions) (has_full_key (get w.keys (tx.signer, tx.public_key))) (both_left (is_one_transfer tx.actions && has_full_key (get w.keys (tx.signer, tx.public_key))) (is_some (get w.accounts tx.receiver)) built) in
     omega (arith, sum_by-cons (most_gas c) tx txs, most_is c tx one, list_gas c w txs (both_right (is_built_transaction w tx) (list_all (is_built_transaction w) txs) e), mul-suc (transaction_gas c) (length txs))
 
-block_gas_is : (c : Config) (w : World) (b : Block) → are_built_chunks w b.chunks ≡ true → block_gas c b ≡ transaction_gas c * length (transactions_of b)
+pub block_gas_is : (c : Config) (w : World) (b : Block) → are_built_chunks w b.chunks ≡ true → block_gas c b ≡ transaction_gas c * length (transactions_of b)
 block_gas_is c w b e = of_chunks b.chunks e
   where
     of_chunks : (chunks : List (Option (List Transaction))) → are_built_chunks w chunks ≡ true → sum_by (chunk_gas c) chunks ≡ transaction_gas c * length (unwrap_or (unwrap_or (slice_get chunks 0) None) [])
@@ -72,21 +72,25 @@ block_gas_is c w b e = of_chunks b.chunks e
     of_chunks (chunk ∷ next ∷ chunks) e = absurd cc
 
 -- ---- the next block
-chunks_built : (w : World) (h : ℕ) (b : Block) (rest : List Block) → are_built_from w h (b ∷ rest) ≡ true → are_built_chunks w b.chunks ≡ true
+pub chunks_built : (w : World) (h : ℕ) (b : Block) (rest : List Block) → are_built_from w h (b ∷ rest) ≡ true → are_built_chunks w b.chunks ≡ true
 chunks_built w h b rest e = both_right (b.height.0 == h) (are_built_chunks w b.chunks) (both_left ((b.height.0 == h) && are_built_chunks w b.chunks) (are_built_from w (h + 1) rest) e)
+
+pub ready_on : (c : Config) (w v : World) (inbox : List Receipt) (h : ℕ) (b : Block) (rest : List Block) → IsIdle w → has_system w ≡ false → are_built_from w h (b ∷ rest) ≡ true → IsSettled w v → AreTransfers c w inbox
+    → accounts_tokens v + list_tokens c inbox ≤ 2 ^ 127 → running_gas c * length inbox + blocks_gas c (b ∷ rest) < chunk_gas_limit c → IsReady c v inbox b
+ready_on c w v inbox h b rest idle system built settled transfers few gas =
+    let chunks : are_built_chunks w b.chunks ≡ true = chunks_built w h b rest built in
+    record {
+      chunks = built_chunks w v b.chunks settled ∙ chunks;
+      system = settled.accounts system_id ∙ system;
+      delayed = settled.delayed ∙ idle.delayed;
+      transfers = still_transfers c w v inbox settled transfers;
+      tokens = few;
+      gas = omega (arith, gas, sum_by-cons (block_gas c) b rest, block_gas_is c w b chunks);
+    }
 
 pub is_ready : (c : Config) (w : World) (blocks : List Block) (h : ℕ) (b : Block) (rest : List Block) (p : Progress) → IsIdle w → has_system w ≡ false → accounts_tokens w ≤ 2 ^ 127 → IsAhead c w blocks h (b ∷ rest) p → IsReady c p.state.world p.inbox.items b
 is_ready c w blocks h b rest p idle system few ahead =
-    let now = p.state.world in
-    let chunks : are_built_chunks w b.chunks ≡ true = chunks_built w h b rest ahead.built in
-    record {
-      chunks = built_chunks w now b.chunks ahead.settled ∙ chunks;
-      system = ahead.settled.accounts system_id ∙ system;
-      delayed = ahead.settled.delayed ∙ idle.delayed;
-      transfers = still_transfers c w now p.inbox.items ahead.settled ahead.transfers;
-      tokens = omega (arith, ahead.tokens, few);
-      gas = omega (arith, ahead.gas, sum_by-cons (block_gas c) b rest, block_gas_is c w b chunks);
-    }
+    ready_on c w p.state.world p.inbox.items h b rest idle system ahead.built ahead.settled ahead.transfers (omega (arith, ahead.tokens, few)) ahead.gas
 
 pub has_room : (c : Config) (w : World) (blocks : List Block) (h : ℕ) (rest : List Block) (p : Progress) → accounts_tokens w ≤ 2 ^ 127 → IsAhead c w blocks h rest p → accounts_tokens p.state.world + list_tokens c p.inbox.items + p.burnt ≤ 2 ^ 127
 has_room c w blocks h rest p few ahead = omega (arith, ahead.tokens, few)

@@ -1,5 +1,5 @@
 -- A block's chunk, opened, fed and sealed, is the one of the straight run.
-use Rattle.std.proofs.Common.{◌≡◌, ℕ, ◌+◌, ◌*◌, ◌<◌, ◌≤◌, ◌^◌, List, [], ◌∷◌, length, true, Option, Some, None, refl, sym, ap, subst, ◌∙◌, arith}
+use Rattle.std.proofs.Common.{◌≡◌, ℕ, ◌+◌, ◌*◌, ◌<◌, ◌≤◌, ◌^◌, List, [], ◌∷◌, length, true, Option, Some, None, sym, ap, subst, ◌∙◌, arith}
 use Rattle.std.specs.Prelude.{slice_get, unwrap_or}
 use Rattle.nr_records.specs.declared.receipt.Receipt.{Receipt}
 use Rattle.nr_records.specs.declared.transaction.Transaction.{Transaction}
@@ -13,11 +13,7 @@ use Rattle.nr_state.specs.World.{World, accounts_tokens}
 use Rattle.nr_blocks.specs.declared.block.Block.{Block}
 use Rattle.nr_state.specs.declared.place.Place.{Place}
 use Rattle.nr_top.specs.declared.sealed.Sealed.{Sealed}
-
--- with no boundaries all receipts stay here
-pub all_here : (list : List Receipt) → out_to [] 0 list ≡ list
-all_here [] = refl
-all_here (r ∷ rs) = ap (λ (t : List Receipt). r ∷ t) (all_here rs)
+use Rattle.nr_top.proofs.Sealing.{all_here}
 
 first_of : {X : Type 0} (x y : X) → x ∷ [] ≡ y ∷ [] → x ≡ y
 first_of x y e = cc

@@ -19,3 +19,4 @@ pub mod Growth
 pub mod First
 pub mod Stopping
 pub mod Preparing
+pub mod Balance

@@ -246,7 +246,7 @@ begun_fold : (c : Config) (w : World) (place : Place) (txs : List Transaction) (
     → ◌≡◌ {A = Opening} (record { working = k; local = local }) (fold (convert_next c) (record { working = begun w place; local = [] }) txs)
 begun_fold c w place txs begin k local b e = e ∙ ap (λ (x : Working). fold (convert_next c) (record { working = x; local = [] }) txs) b
 
-opens_with : (c : Config) (w : World) (place : Place) (txs : List Transaction) (o : Opening) (total most : ℕ) → w.delayed ≡ [] → IsValidConfig c → most < chunk_gas_limit c → IsConverting c w total most o
+pub opens_with : (c : Config) (w : World) (place : Place) (txs : List Transaction) (o : Opening) (total most : ℕ) → w.delayed ≡ [] → IsValidConfig c → most < chunk_gas_limit c → IsConverting c w total most o
     → o ≡ fold (convert_next c) (record { working = begun w place; local = [] }) txs → fold (serve c) o.working o.local ≡ open_chunk c w place txs
 unfolding open_chunk
 opens_with c w place txs o total most idle v lt k e =

@@ -51,7 +51,7 @@ pub AreBlocksFrom : ℕ → List Block → Type 0
 AreBlocksFrom n [] = Unit {0}
 AreBlocksFrom n (b ∷ bs) = IsBlockAt n b × AreBlocksFrom (suc n) bs
 
-blocks_from : (w : World) (n : ℕ) (bs : List Block) → are_built_from w (suc n) bs ≡ true → AreBlocksFrom n bs
+pub blocks_from : (w : World) (n : ℕ) (bs : List Block) → are_built_from w (suc n) bs ≡ true → AreBlocksFrom n bs
 unfolding AreBlocksFrom
 blocks_from w n [] e = tt
 blocks_from w n (b ∷ bs) e =
@@ -197,7 +197,7 @@ totals_with c given worlds rs tokens count =
       places = sum_by routed_in rs ∷ sum_by executed_in rs ∷ sum_by (λ (w : World). len w.postponed) worlds ∷ sum_by (λ (w : World). length w.delayed) worlds ∷ count ∷ [];
     }
 
-totals_are : (c : Config) (es : List GenesisEntry) (blocks : List Block) → AreBlocksFrom 0 blocks → supply es ≡ accounts_tokens (genesis_world es) → totals c (chain_of es blocks) ≡ straight_totals c (genesis_world es) blocks
+pub totals_are : (c : Config) (es : List GenesisEntry) (blocks : List Block) → AreBlocksFrom 0 blocks → supply es ≡ accounts_tokens (genesis_world es) → totals c (chain_of es blocks) ≡ straight_totals c (genesis_world es) blocks
 totals_are c es blocks is same =
     ap (λ n. totals_from c n (last_worlds c (chain_of es blocks)) (reports c (chain_of es blocks)) (in_flight (rules_for c es blocks))) same
     ∙ ap (λ ws. totals_from c (accounts_tokens (genesis_world es)) ws (reports c (chain_of es blocks)) (in_flight (rules_for c es blocks))) (worlds_last c es blocks is)

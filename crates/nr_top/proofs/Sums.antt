@@ -25,13 +25,13 @@ no_values =
     let none : entries (empty {X = Receipt} {R = pair_cmp}) ≡ [] = nil_from_length _ (sym (len-entries (empty {X = Receipt} {R = pair_cmp})) ∙ none_postponed) in
     ap (λ (es : List ((List ℕ × List ℕ) × Receipt)). map (λ e. e.1) es) none
 
-none_waiting : (c : Config) (w : World) → IsIdle w → waiting_tokens c w ≡ 0
+pub none_waiting : (c : Config) (w : World) → IsIdle w → waiting_tokens c w ≡ 0
 none_waiting c w idle =
     ap (λ (waiting : FinMap pair_cmp Receipt). list_tokens c (values waiting) + list_tokens c w.delayed) idle.postponed
     ∙ ap (λ (list : List Receipt). list_tokens c (values (empty {X = Receipt} {R = pair_cmp})) + list_tokens c list) idle.delayed
     ∙ ap (λ (list : List Receipt). list_tokens c list + list_tokens c []) no_values
 
-still_idle : (old new : World) → IsSettled old new → IsIdle old → IsIdle new
+pub still_idle : (old new : World) → IsSettled old new → IsIdle old → IsIdle new
 still_idle old new same idle = record { postponed = same.postponed ∙ idle.postponed; delayed = same.delayed ∙ idle.delayed }
 
 abbrev made : ℕ → ℕ → ℕ → ℕ → ℕ → ℕ → ℕ → ℕ → ℕ → Totals

@@ -1,5 +1,5 @@
 -- A run: a configuration, a genesis and blocks; its chunks' phases; its sums; its report.
-use Rattle.std.specs.Prelude.{ℕ, ◌+◌, ◌-◌, Bool, true, false, List, [], ◌∷◌, ◌++◌, length, map, Option, slice_get, sum_by, count_by, is_some, unwrap_or, option_map, option_and_then, None}
+use Rattle.std.specs.Prelude.{◌≡◌, ℕ, ◌+◌, ◌-◌, Bool, true, false, List, [], ◌∷◌, ◌++◌, length, map, Option, slice_get, sum_by, count_by, is_some, unwrap_or, option_map, option_and_then, None}
 use Rattle.std.specs.FinMap.{len}
 use Rattle.std.specs.List.{flat_map}
 use Rattle.nr_records.specs.declared.chunk_result.ChunkLine.{ChunkLine}
@@ -100,6 +100,10 @@ last_worlds c run = map (finished (rules_of c run)).world (shard_numbers (rules_
 
 abbrev pub totals : Config → Chain → Totals
 totals c run = totals_from c (supply run.entries) (last_worlds c run) (reports c run) (in_flight (rules_of c run))
+
+-- what the accounts have, what receipts hold and what was burnt are together the supply
+abbrev pub AddsUp : Totals → Type 0
+AddsUp t = t.accounts + t.receipts + t.burnt ≡ t.supply
 
 unfoldable pub report_text : Config → Chain → List ℕ
 report_text c run = flat_map (λ r. chunk_text r.result) (reports c run) ++ totals_text (totals c run)

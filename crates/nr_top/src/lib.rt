@@ -12,6 +12,7 @@ mod converted;
 mod execution;
 mod fees;
 mod founding;
+mod laws;
 mod loading;
 mod refusal;
 mod refused;
@@ -27,6 +28,7 @@ mod tx_fault;
 mod writing;
 
 pub use converted::Converted;
+pub use laws::totals_law;
 pub use status::Status;
 pub use top::serial;
 pub use tx_fault::TxFault;
