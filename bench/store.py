@@ -3,6 +3,9 @@
 
 usage: bench/store.py [--turns N] [--program PATH]
 
+The second table has roots: milliseconds for one root and the greatest memory of the run in MiB, over flat keys of four
+bytes and over nested keys (a, aa, aaa and so on), each with a short value.
+
 Build the program first: cd crates/near_bench && rt run. Each number is the time of one turn in nanoseconds: the time
 of a run with N turns less that of a run that only fills the store, the least of three tries each, over N. N is at least
 five times the keys, so that the filling doesn't hide the turns.
@@ -15,6 +18,7 @@ import time
 
 SIZES = [1_000, 10_000, 100_000, 1_000_000]
 OPERATIONS = ["get", "set", "remove", "keep", "back"]
+ROOTS = [("root", 1_000), ("root", 10_000), ("root", 100_000), ("nested", 1_000), ("nested", 3_000), ("nested", 11_200)]
 
 
 def seconds(program, operation, keys, turns):
@@ -45,6 +49,26 @@ def main():
             taken = seconds(arguments.program, operation, keys, turns) - fill
             row.append(f"{taken / turns * 1e9:.0f}")
         print(f"| {keys:,} | " + " | ".join(row) + " |", flush=True)
+    print("\n| Keys | root | memory |\n|---|---|---|")
+    for operation, keys in ROOTS:
+        filled, _ = least_run(arguments.program, operation, keys, 0)
+        whole, memory = least_run(arguments.program, operation, keys, 1)
+        kind = "flat" if operation == "root" else "nested"
+        print(f"| {keys:,} {kind} | {(whole - filled) * 1e3:.0f} | {memory} |", flush=True)
+
+
+def least_run(program, operation, keys, turns):
+    """The least of three times, and the greatest memory in MiB, of a run."""
+    times, memory = [], 0
+    for _ in range(3):
+        begin = time.perf_counter()
+        child = subprocess.Popen([program, operation, str(keys), str(turns)], stdout=subprocess.DEVNULL)
+        _, status, used = os.wait4(child.pid, 0)
+        times.append(time.perf_counter() - begin)
+        if status != 0:
+            sys.exit(f"{operation} {keys} {turns} ended with {status}")
+        memory = max(memory, used.ru_maxrss // 1024)
+    return min(times), memory
 
 
 main()

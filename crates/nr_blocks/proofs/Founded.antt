@@ -18,8 +18,7 @@ use Rattle.nr_state.proofs.ValidSums.{values-insert}
 use Rattle.nr_state.proofs.ValidOwned.{same_id}
 use Rattle.nr_blocks.proofs.Entries.{supply_more}
 use Rattle.nr_blocks.proofs.Filling.{both_true, account_found}
-use Rattle.nr_blocks.specs.Genesis.{IsSoundGenesis, accounts_in, entries_of, genesis_world, is_account, is_owned, lives_in, supply, trie_key}
-use Rattle.nr_blocks.specs.declared.genesis.Genesis.{Genesis}
+use Rattle.nr_blocks.specs.Genesis.{AreSoundEntries, accounts_in, entries_of, genesis_world, is_account, is_owned, lives_in, supply, trie_key}
 use Rattle.nr_blocks.specs.declared.genesis_entry.GenesisEntry.{GenesisEntry}
 use Rattle.nr_blocks.specs.declared.genesis_entry.GenesisEntry.TheVariants as kind
 
@@ -117,19 +116,19 @@ unfolding genesis_world
 account_known es id = ap is_some (get-from_entries nat_list_cmp_total (accounts_in es) id) ∙ sym (account_found id (accounts_in es))
 
 -- ---- the world of a shard
-module _ (c : Config) (g : Genesis) (sound : IsSoundGenesis c g) (shard : ℕ) where
-  -- its accounts have the tokens that its entries state, and they are at most the supply
-  pub shard_tokens : accounts_tokens (genesis_world (entries_of g.layout shard g.entries)) ≡ supply (entries_of g.layout shard g.entries)
-  shard_tokens = tokens_once (entries_of g.layout shard g.entries) (apart_in g.layout shard g.entries sound.apart)
+module _ (c : Config) (es : List GenesisEntry) (sound : AreSoundEntries c es) (boundaries : List (List ℕ)) (shard : ℕ) where
+  -- its accounts have the tokens that its entries state, and they are at most those of all
+  pub shard_tokens : accounts_tokens (genesis_world (entries_of boundaries shard es)) ≡ supply (entries_of boundaries shard es)
+  shard_tokens = tokens_once (entries_of boundaries shard es) (apart_in boundaries shard es sound.apart)
 
-  pub few_tokens : supply (entries_of g.layout shard g.entries) ≤ 2 ^ 127
-  few_tokens = omega (arith, less_supply g.layout shard g.entries, sound.tokens, sound.bounded)
+  pub few_tokens : supply (entries_of boundaries shard es) ≤ 2 ^ 127
+  few_tokens = omega (arith, less_supply boundaries shard es, sound.bounded)
 
-  pub no_system_in : (id : List ℕ) → IsSome (get (genesis_world (entries_of g.layout shard g.entries)).accounts id) → is_system id ≡ false
+  pub no_system_in : (id : List ℕ) → IsSome (get (genesis_world (entries_of boundaries shard es)).accounts id) → is_system id ≡ false
   no_system_in id h =
-      let kept = entries_of g.layout shard g.entries in
-      owned_alone g.entries kept id (owned_in g.layout shard (is_owned g.entries) g.entries sound.owned) (sym (account_known kept id) ∙ h)
+      let kept = entries_of boundaries shard es in
+      owned_alone es kept id (owned_in boundaries shard (is_owned es) es sound.owned) (sym (account_known kept id) ∙ h)
 
 -- ---- one shard holds all tokens
-pub all_tokens : (c : Config) (g : Genesis) → IsSoundGenesis c g → accounts_tokens (genesis_world g.entries) ≡ g.supply
-all_tokens c g sound = tokens_once g.entries sound.apart ∙ sym sound.tokens
+pub all_tokens : (c : Config) (es : List GenesisEntry) → AreSoundEntries c es → accounts_tokens (genesis_world es) ≡ supply es
+all_tokens c es sound = tokens_once es sound.apart

@@ -1,6 +1,5 @@
 mod Turns
 mod Entries
-mod Whole
 mod Spellings
 pub mod Filling
 pub mod Sound

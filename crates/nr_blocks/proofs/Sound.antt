@@ -11,7 +11,7 @@ use Rattle.nr_bytes.specs.Reading.{◌>>=◌}
 use Rattle.nr_config.specs.Config.{Config}
 use Rattle.nr_state.proofs.ValidOwned.{turned}
 use Rattle.nr_state.specs.Repeats.{has_repeat}
-use Rattle.nr_blocks.specs.Genesis.{IsSoundGenesis, accounts_in, code_hash_in, has_code_hash, has_usage, is_owned, supply, trie_key, usage_in}
+use Rattle.nr_blocks.specs.Genesis.{AreSoundEntries, IsSoundGenesis, accounts_in, code_hash_in, has_code_hash, has_usage, is_owned, supply, trie_key, usage_in}
 use Rattle.nr_blocks.specs.Judging.{bounded_supply, each, each_from, founded, has_owner, is_first, states_hash, states_usage}
 use Rattle.nr_blocks.specs.Spellings.{IsGenesis}
 use Rattle.nr_blocks.specs.declared.fault.GenesisFault.{GenesisFault}
@@ -134,12 +134,14 @@ is_sound c g fits =
     let same : four.0 ≡ g.supply = given four.0 g.supply five.2 in
     let tokens = bounded es four.0 four.1 in
     record {
-      apart = (keys_apart es [] es refl one.1).1;
-      owned = all_owned es es 0 two.1;
-      usage = all_used c es es 0 three.1;
-      code_hash = all_hashed es es 0 five.1;
+      entries = record {
+        apart = (keys_apart es [] es refl one.1).1;
+        owned = all_owned es es 0 two.1;
+        usage = all_used c es es 0 three.1;
+        code_hash = all_hashed es es 0 five.1;
+        bounded = subst (λ n. n ≤ 2 ^ 127) tokens.0 tokens.1;
+      };
       tokens = sym same ∙ tokens.0;
-      bounded = subst (λ n. n ≤ 2 ^ 127) same tokens.1;
     }
 
 pub sound_if : (c : Config) (r : Result Genesis GenesisFault) (Spelled : Genesis → Type 0) → IfOk r (λ g. IsGenesis c g × Spelled g) → IfOk r (IsSoundGenesis c)

@@ -32,8 +32,7 @@ use Rattle.nr_state.proofs.ValidOwned.{key_total, pair_total, exact_keys, exact_
 use Rattle.nr_blocks.proofs.Entries.{ties_back}
 use Rattle.nr_blocks.proofs.Filling.{AreOwned, are_owned, both_true, account_found, is_owner}
 use Rattle.nr_blocks.proofs.Founded.{neither, other_account, account_known, apart_in, shard_tokens, few_tokens, no_system_in}
-use Rattle.nr_blocks.specs.Genesis.{IsSoundGenesis, accounts_in, code_in, key_in, datum_in, code_hash_in, entries_of, entry_usage, genesis_world, has_code_hash, has_usage, hash_in, is_account, lives_in, owner, trie_key, usage_if_owned, usage_in}
-use Rattle.nr_blocks.specs.declared.genesis.Genesis.{Genesis}
+use Rattle.nr_blocks.specs.Genesis.{AreSoundEntries, accounts_in, code_in, key_in, datum_in, code_hash_in, entries_of, entry_usage, genesis_world, has_code_hash, has_usage, hash_in, is_account, lives_in, owner, trie_key, usage_if_owned, usage_in}
 use Rattle.nr_blocks.specs.declared.genesis_entry.GenesisEntry.{GenesisEntry}
 use Rattle.nr_blocks.specs.declared.genesis_entry.GenesisEntry.TheVariants as kind
 
@@ -259,31 +258,31 @@ hash_found id (x ∷ cs) =
     elim (eq_by_cmp bytes_cmp id x.0) as (λ b. cond b (digest x.1) (hash_of_code (find bytes_cmp id cs)) ≡ hash_of_code (cond b (Some x.1) (find bytes_cmp id cs))) [ true ↦ refl | false ↦ refl ]
 
 -- ---- the world of a shard
-module _ (c : Config) (g : Genesis) (sound : IsSoundGenesis c g) (shard : ℕ) where
+module _ (c : Config) (es : List GenesisEntry) (sound : AreSoundEntries c es) (boundaries : List (List ℕ)) (shard : ℕ) where
   abbrev kept : List GenesisEntry
-  kept = entries_of g.layout shard g.entries
+  kept = entries_of boundaries shard es
 
   its_owned : AreOwned kept
-  its_owned = are_owned g.layout shard g.entries sound.owned
+  its_owned = are_owned boundaries shard es sound.owned
 
   its_usage : (id : List ℕ) (account : Account) → get (genesis_world kept).accounts id ≡ Some account → account.storage_usage ≡ valid.usage_in c (genesis_world kept) id
   unfolding genesis_world
   its_usage id account h =
       let found : find bytes_cmp id (accounts_in kept) ≡ Some account = sym (get-from_entries nat_list_cmp_total (accounts_in kept) id) ∙ h in
-      let two = test_passed g.layout shard (has_usage c g.entries) g.entries id account sound.usage found in
-      let stated : account.storage_usage ≡ usage_in c g.entries id = eqb-true _ _ two.0 in
-      let here : usage_in c kept id ≡ usage_in c g.entries id = usage_here c g.layout shard g.entries id two.1 in
+      let two = test_passed boundaries shard (has_usage c es) es id account sound.usage found in
+      let stated : account.storage_usage ≡ usage_in c es id = eqb-true _ _ two.0 in
+      let here : usage_in c kept id ≡ usage_in c es id = usage_here c boundaries shard es id two.1 in
       let stands : base c kept id ≡ account_bytes_entry c = ap (λ b. cond b (account_bytes_entry c) 0) (account_found id (accounts_in kept) ∙ ap is_some found) in
-      let sum : IsCounted c kept id = counted c kept id (apart_in g.layout shard g.entries sound.apart) in
+      let sum : IsCounted c kept id = counted c kept id (apart_in boundaries shard es sound.apart) in
       omega (arith, stated, here, stands, sum)
 
   its_hash : (id : List ℕ) (account : Account) → get (genesis_world kept).accounts id ≡ Some account → account.code_hash ≡ valid.code_hash_in (genesis_world kept) id
   unfolding genesis_world
   its_hash id account h =
       let found : find bytes_cmp id (accounts_in kept) ≡ Some account = sym (get-from_entries nat_list_cmp_total (accounts_in kept) id) ∙ h in
-      let two = test_passed g.layout shard (has_code_hash g.entries) g.entries id account sound.code_hash found in
-      let stated : account.code_hash ≡ code_hash_in g.entries id = ap (λ (bytes : List ℕ). record { 0 = bytes }) (same_id account.code_hash.0 (code_hash_in g.entries id).0 two.0) in
-      stated ∙ sym (hash_here g.layout shard g.entries id two.1) ∙ hash_found id (filter_map code_in kept) ∙ ap hash_of_code (sym (get-from_entries nat_list_cmp_total (filter_map code_in kept) id))
+      let two = test_passed boundaries shard (has_code_hash es) es id account sound.code_hash found in
+      let stated : account.code_hash ≡ code_hash_in es id = ap (λ (bytes : List ℕ). record { 0 = bytes }) (same_id account.code_hash.0 (code_hash_in es id).0 two.0) in
+      stated ∙ sym (hash_here boundaries shard es id two.1) ∙ hash_found id (filter_map code_in kept) ∙ ap hash_of_code (sym (get-from_entries nat_list_cmp_total (filter_map code_in kept) id))
 
   its_accounts : AreAccounts c (genesis_world kept)
   unfolding genesis_world
@@ -291,7 +290,7 @@ module _ (c : Config) (g : Genesis) (sound : IsSoundGenesis c g) (shard : ℕ) w
     keys = λ k h. account_known kept k.0 ∙ its_owned k.0 (key_owner kept k (ap is_some (sym (get-from_entries key_total (filter_map key_in kept) k)) ∙ h));
     code = λ id h. account_known kept id ∙ its_owned id (code_owner kept id (ap is_some (sym (get-from_entries nat_list_cmp_total (filter_map code_in kept) id)) ∙ h));
     data_of = λ k h. account_known kept k.0 ∙ its_owned k.0 (datum_owner kept k (ap is_some (sym (get-from_entries pair_total (filter_map datum_in kept) k)) ∙ h));
-    no_system = no_system_in c g sound shard;
+    no_system = no_system_in c es sound boundaries shard;
     usage = its_usage;
     code_hash = its_hash;
   }
@@ -307,7 +306,7 @@ module _ (c : Config) (g : Genesis) (sound : IsSoundGenesis c g) (shard : ℕ) w
   first_valid = record {
     accounts = its_accounts;
     waiting = its_waiting;
-    tokens = omega (arith, shard_tokens c g sound shard, few_tokens c g sound shard, no_receipts);
+    tokens = omega (arith, shard_tokens c es sound boundaries shard, few_tokens c es sound boundaries shard, no_receipts);
   }
     where
       no_receipts : list_tokens c (values (empty {X = Receipt} {R = pair_cmp})) ≡ 0

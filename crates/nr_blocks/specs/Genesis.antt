@@ -114,18 +114,22 @@ code_hash_in es id = hash_in (filter_map code_in es) id
 abbrev pub supply : List GenesisEntry → ℕ
 supply es = sum_by (λ a. account_tokens a.1) (accounts_in es)
 
--- ---- a genesis whose entries hold together
+-- ---- entries that hold together
 abbrev pub has_code_hash : List GenesisEntry → List ℕ × Account → Bool
 has_code_hash es a = bytes_eq a.1.code_hash.0 (code_hash_in es a.0).0
 
-pub record IsSoundGenesis (c : Config) (g : Genesis) : Type 0 where
+pub record AreSoundEntries (c : Config) (es : List GenesisEntry) : Type 0 where
   -- no trie key stands twice
-  pub apart : has_repeat (map trie_key g.entries) ≡ false
+  pub apart : has_repeat (map trie_key es) ≡ false
   -- the account of each entry stands, and is not the system
-  pub owned : list_all (is_owned g.entries) g.entries ≡ true
+  pub owned : list_all (is_owned es) es ≡ true
   -- each account states what its entries are counted as, and the hash of its code
-  pub usage : list_all (has_usage c g.entries) (accounts_in g.entries) ≡ true
-  pub code_hash : list_all (has_code_hash g.entries) (accounts_in g.entries) ≡ true
-  -- the supply is that of the entries
+  pub usage : list_all (has_usage c es) (accounts_in es) ≡ true
+  pub code_hash : list_all (has_code_hash es) (accounts_in es) ≡ true
+  -- at most 2 ^ 127 tokens
+  pub bounded : supply es ≤ 2 ^ 127
+
+-- a genesis of such entries, whose supply is theirs
+pub record IsSoundGenesis (c : Config) (g : Genesis) : Type 0 where
+  pub entries : AreSoundEntries c g.entries
   pub tokens : g.supply ≡ supply g.entries
-  pub bounded : g.supply ≤ 2 ^ 127

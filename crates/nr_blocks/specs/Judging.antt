@@ -1,18 +1,15 @@
 -- Which genesis and blocks files are refused, and by which fault. This project's own files and limits.
-use Rattle.std.specs.Prelude.{◌≡◌, ◌≢◌, ℕ, ◌+◌, ◌^◌, ◌==◌, List, [], ◌∷◌, length, map, take, Result, Ok, Err, nat_le, if◌then◌else◌}
+use Rattle.std.specs.Prelude.{ℕ, ◌+◌, ◌^◌, ◌==◌, List, [], ◌∷◌, length, map, take, Result, Ok, Err, nat_le, if◌then◌else◌}
 use Rattle.std.specs.List.{list_any}
 use Rattle.std.specs.Str.{bytes_eq}
-use Rattle.nr_bytes.specs.Reading.{Input, ◌>>=◌}
+use Rattle.nr_bytes.specs.Reading.{◌>>=◌}
 use Rattle.nr_config.specs.Config.{Config}
 use Rattle.nr_ids.specs.declared.key.Hash32.{Hash32}
-use Rattle.nr_layout.specs.Reading.{layout_at}
-use Rattle.nr_records.specs.Laws.{pair}
-use Rattle.nr_records.specs.Reading.{Read, list_at, all_of}
+use Rattle.nr_records.specs.Reading.{all_of}
 use Rattle.nr_records.specs.declared.fault.RecordFault.{RecordFault}
 use Rattle.nr_records.specs.declared.fault.RecordFault.TheVariants as unread
-use Rattle.nr_blocks.specs.Files.{blocks_at, genesis_magic, headed}
+use Rattle.nr_blocks.specs.Files.{blocks_at, genesis_at}
 use Rattle.nr_blocks.specs.Genesis.{code_hash_in, is_owned, supply, trie_key, usage_in}
-use Rattle.nr_blocks.specs.GenesisFiles.{entry_at}
 use Rattle.nr_blocks.specs.declared.block.Block.{Block}
 use Rattle.nr_blocks.specs.declared.fault.BlocksFault.{BlocksFault}
 use Rattle.nr_blocks.specs.declared.fault.BlocksFault.TheVariants as blocks
@@ -21,11 +18,6 @@ use Rattle.nr_blocks.specs.declared.fault.GenesisFault.TheVariants as genesis
 use Rattle.nr_blocks.specs.declared.genesis.Genesis.{Genesis}
 use Rattle.nr_blocks.specs.declared.genesis_entry.GenesisEntry.{GenesisEntry}
 use Rattle.nr_blocks.specs.declared.genesis_entry.GenesisEntry.TheVariants as kind
-
--- A call gave this answer, unless memory ran out.
-abbrev pub GivesOrFails : {X F : Type 0} → F → Result X F → Result X F → Type 0
-GivesOrFails memory (Ok x) answer = answer ≡ Ok x
-GivesOrFails memory (Err e) answer = e ≢ memory → answer ≡ Err e
 
 -- ---- items in turn
 -- a test of an item and its number passes, or has a fault
@@ -70,13 +62,7 @@ blocks_fault (unread.TooManyBoundaries at) = blocks.Spelling at
 blocks_fault (unread.BoundaryOrder at) = blocks.Spelling at
 blocks_fault unread.Memory = blocks.Memory
 
--- ---- the genesis file: boundaries and entries
-abbrev pub Parts : Type 0
-Parts = List (List ℕ) × List GenesisEntry
-
-unfoldable pub parts_at : Input → Read Parts
-parts_at = headed genesis_magic (pair layout_at (list_at entry_at))
-
+-- ---- the genesis file
 -- no entry before it has its trie key
 abbrev pub is_first : List GenesisEntry → Check GenesisEntry GenesisFault
 is_first es n e = if list_any (bytes_eq (trie_key e)) (map trie_key (take n es)) then Err (genesis.Duplicate n) else Ok tt
@@ -115,9 +101,9 @@ founded c es = do
 -- what a genesis file gives
 unfoldable pub genesis_read : Config → List ℕ → Result Genesis GenesisFault
 genesis_read c bytes = do
-  parts ← with_fault genesis_fault (all_of parts_at bytes)
-  tokens ← founded c parts.1
-  Ok (record { layout = parts.0; entries = parts.1; supply = tokens })
+  file ← with_fault genesis_fault (all_of genesis_at bytes)
+  tokens ← founded c file.entries
+  Ok (record { layout = file.layout; entries = file.entries; supply = tokens })
 
 -- ---- the blocks file
 abbrev pub has_chunks : ℕ → Check Block BlocksFault

@@ -1,6 +1,9 @@
 pub mod GenesisFiles
 pub mod BlocksFiles
 pub mod Files
+pub mod EntryLaws
+pub mod BlockLaws
+pub mod FileLaws
 pub mod Genesis
 pub mod Judging
 pub mod Spellings

@@ -1,5 +1,6 @@
 ghost use Rattle.std.specs.Prelude.{◌≡◌};
-ghost use Rattle.nr_blocks.specs.BlocksFiles.{block_at, block_bytes, IsBlock, block_law};
+ghost use Rattle.nr_blocks.specs.BlocksFiles.{block_at, block_bytes, IsBlock};
+ghost use Rattle.nr_blocks.specs.BlockLaws.{block_law};
 
 use nr_bytes::{List, Reader, Writer};
 use nr_ids::Height;

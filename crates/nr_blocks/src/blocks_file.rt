@@ -1,5 +1,6 @@
 ghost use Rattle.std.specs.Prelude.{◌≡◌};
-ghost use Rattle.nr_blocks.specs.Files.{blocks_at, blocks_bytes, IsBlocksFile, blocks_law};
+ghost use Rattle.nr_blocks.specs.Files.{blocks_at, blocks_bytes, IsBlocksFile};
+ghost use Rattle.nr_blocks.specs.FileLaws.{blocks_law};
 
 use crate::block::Block;
 use crate::fields::magic_of;

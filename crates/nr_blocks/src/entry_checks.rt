@@ -8,7 +8,8 @@ ghost use Rattle.nr_ids.specs.Grammar.{is_system};
 ghost use Rattle.nr_state.specs.Usage.{zero_hash};
 ghost use Rattle.nr_state.specs.World.{bytes_cmp};
 ghost use Rattle.nr_blocks.specs.Genesis.{code_hash_in, is_account, owner, usage_in};
-ghost use Rattle.nr_blocks.specs.Judging.{GivesOrFails, each, has_owner, is_first, states_hash, states_usage};
+ghost use Rattle.nr_bytes.specs.Answers.{Gives};
+ghost use Rattle.nr_blocks.specs.Judging.{each, has_owner, is_first, states_hash, states_usage};
 ghost use Rattle.nr_blocks.specs.declared.fault.GenesisFault.TheVariants.{Memory};
 
 use crate::fault::GenesisFault;
@@ -22,7 +23,7 @@ use std::collections::{BTreeMap, BTreeSet};
 /// No trie key stands twice.
 #[tactic(auto, using(crate::proofs::Turns::each_begins, crate::proofs::Turns::each_goes_on, crate::proofs::Turns::each_stops, crate::proofs::Turns::each_ends))]
 pub(crate) fn check_trie_keys(alloc: Global, entries: &[GenesisEntry]) -> Result<(), GenesisFault>
-    ensures { GivesOrFails Memory result (each (is_first entries.now) entries.now) }
+    ensures { Gives Memory result (each (is_first entries.now) entries.now) }
 {
     let mut seen = BTreeSet::new(alloc);
     for index in 0..entries.len() {
@@ -64,7 +65,7 @@ fn check_owners_in(
 
 /// Each entry's account stands, and is not `system`.
 pub(crate) fn check_owners(alloc: Global, entries: &[GenesisEntry]) -> Result<(), GenesisFault>
-    ensures { GivesOrFails Memory result (each (has_owner entries.now) entries.now) }
+    ensures { Gives Memory result (each (has_owner entries.now) entries.now) }
 {
     let accounts = accounts_of(alloc, entries)?;
     check_owners_in(entries, &accounts)?;
@@ -76,7 +77,7 @@ fn check_usage(
     entry: &GenesisEntry,
     usages: &BTreeMap<AccountId, u128>,
 ) -> Result<(), GenesisFault>
-    ensures { GivesOrFails Memory result (states_usage (λ q. count_at (tree.get bytes_cmp usages.now) q) index entry.now) }
+    ensures { Gives Memory result (states_usage (λ q. count_at (tree.get bytes_cmp usages.now) q) index entry.now) }
 {
     match entry {
         GenesisEntry::Account(id, account) => {
@@ -105,7 +106,7 @@ fn check_usages_in(
     entries: &[GenesisEntry],
     usages: &BTreeMap<AccountId, u128>,
 ) -> Result<(), GenesisFault>
-    ensures { GivesOrFails Memory result (each (states_usage (λ q. count_at (tree.get bytes_cmp usages.now) q)) entries.now) }
+    ensures { Gives Memory result (each (states_usage (λ q. count_at (tree.get bytes_cmp usages.now) q)) entries.now) }
 {
     for index in 0..entries.len() {
         check_usage(index, &entries[index], usages)?;
@@ -119,7 +120,7 @@ pub(crate) fn check_usages(
     entries: &[GenesisEntry],
     config: &Config,
 ) -> Result<(), GenesisFault>
-    ensures { GivesOrFails Memory result (each (states_usage (usage_in config.now entries.now)) entries.now) }
+    ensures { Gives Memory result (each (states_usage (usage_in config.now entries.now)) entries.now) }
 {
     let usages = usages_of(alloc, entries, config)?;
     check_usages_in(entries, &usages)?;
@@ -164,7 +165,7 @@ fn check_hashes_in(
 
 /// Each account states the hash of its code, or zeros where it has none.
 pub(crate) fn check_code_hashes(alloc: Global, entries: &[GenesisEntry]) -> Result<(), GenesisFault>
-    ensures { GivesOrFails Memory result (each (states_hash (code_hash_in entries.now)) entries.now) }
+    ensures { Gives Memory result (each (states_hash (code_hash_in entries.now)) entries.now) }
 {
     let hashes = hashes_of(alloc, entries)?;
     check_hashes_in(entries, &hashes)?;

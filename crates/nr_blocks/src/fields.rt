@@ -1,6 +1,8 @@
 //! Fields of the files that no record of the ledger has.
 
-ghost use Rattle.nr_records.specs.Reading.{Gives, nat_at};
+ghost use Rattle.nr_records.specs.Reading.{nat_at};
+ghost use Rattle.nr_bytes.specs.Answers.{GivesRead};
+ghost use Rattle.nr_records.specs.declared.fault.RecordFault.TheVariants.{Memory};
 ghost use Rattle.nr_blocks.specs.Files.{magic_at};
 
 use nr_bytes::Reader;
@@ -8,14 +10,14 @@ use nr_records::RecordFault;
 
 /// The ordinal of an entry.
 pub(crate) fn ordinal_of(reader: &mut Reader<'_>) -> Result<u8, RecordFault>
-    ensures { Gives result reader.new (nat_at 1 reader.old) }
+    ensures { GivesRead Memory result reader.new (nat_at 1 reader.old) }
 {
     Ok(reader.u8()?)
 }
 
 /// The word that a file begins with.
 pub(crate) fn magic_of(reader: &mut Reader<'_>, magic: [u8; 4]) -> Result<[u8; 4], RecordFault>
-    ensures { Gives result reader.new (magic_at magic reader.old) }
+    ensures { GivesRead Memory result reader.new (magic_at magic reader.old) }
 {
     let at = reader.at();
     let word = reader.fixed::<4>()?;

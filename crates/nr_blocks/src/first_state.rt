@@ -5,7 +5,7 @@ ghost use Rattle.std.specs.FinMap as map;
 ghost use Rattle.nr_state.specs.Valid.{IsValidWorld};
 ghost use Rattle.nr_state.specs.View.{with_world};
 ghost use Rattle.nr_blocks.specs.Filling.{laid, stand_in, with_contents, with_own_account, with_owned};
-ghost use Rattle.nr_blocks.specs.Genesis.{IsSoundGenesis, entries_of, genesis_world, lives_in, owner};
+ghost use Rattle.nr_blocks.specs.Genesis.{AreSoundEntries, entries_of, genesis_world, lives_in, owner};
 
 use crate::genesis::Genesis;
 use crate::genesis_entry::GenesisEntry;
@@ -113,7 +113,7 @@ fn fill_accounts<S: Store>(
 }
 
 /// The state of a shard before the first block: the accounts of the genesis that live in it, with
-/// their keys, code and data.
+/// their keys, code and data. The genesis's `supply` is not looked at.
 ///
 /// # Errors
 ///
@@ -125,7 +125,7 @@ pub fn fill<S: Store + Drop>(
     store: S,
     config: &Config,
 ) -> Result<ShardState<S>, AllocError>
-    requires sound { IsSoundGenesis config.now genesis.now }
+    requires sound { AreSoundEntries config.now genesis.now.entries }
     requires empty { S.contents store ≡ map.empty }
     requires marks { S.marks store ≡ [] }
     ensures world { IfOk result (λ state. state.world ≡ genesis_world (entries_of genesis.now.layout shard.0 genesis.now.entries)) }

@@ -1,10 +1,13 @@
 ghost use Rattle.std.specs.Prelude.{◌≡◌};
-ghost use Rattle.nr_records.specs.Laws.{mapped, pair};
-ghost use Rattle.nr_records.specs.Reading.{Gives, account_id_at, blob_at};
+ghost use Rattle.nr_bytes.specs.Fields.{mapped, pair};
+ghost use Rattle.nr_records.specs.Reading.{account_id_at, blob_at};
+ghost use Rattle.nr_bytes.specs.Answers.{GivesRead};
+ghost use Rattle.nr_records.specs.declared.fault.RecordFault.TheVariants.{Memory};
 ghost use Rattle.nr_records.specs.Accounts.{account_at};
 ghost use Rattle.nr_records.specs.AccessKeys.{access_key_at};
 ghost use Rattle.nr_records.specs.Ids.{key_at};
-ghost use Rattle.nr_blocks.specs.GenesisFiles.{entry_at, entry_bytes, IsEntry, entry_law, key_of, datum_of};
+ghost use Rattle.nr_blocks.specs.GenesisFiles.{entry_at, entry_bytes, IsEntry, key_of, datum_of};
+ghost use Rattle.nr_blocks.specs.EntryLaws.{entry_law};
 
 use crate::fields::ordinal_of;
 use nr_bytes::{Blob, Reader, Writer};
@@ -26,7 +29,7 @@ pub enum GenesisEntry {
 }
 
 fn read_key(alloc: Global, reader: &mut Reader<'_>) -> Result<GenesisEntry, RecordFault>
-    ensures { Gives result reader.new (mapped key_of (pair account_id_at (pair key_at access_key_at)) reader.old) }
+    ensures { GivesRead Memory result reader.new (mapped key_of (pair account_id_at (pair key_at access_key_at)) reader.old) }
 {
     let id = AccountId::read(alloc, reader)?;
     let key = PublicKey::read(alloc, reader)?;
@@ -35,7 +38,7 @@ fn read_key(alloc: Global, reader: &mut Reader<'_>) -> Result<GenesisEntry, Reco
 }
 
 fn read_datum(alloc: Global, reader: &mut Reader<'_>) -> Result<GenesisEntry, RecordFault>
-    ensures { Gives result reader.new (mapped datum_of (pair account_id_at (pair blob_at blob_at)) reader.old) }
+    ensures { GivesRead Memory result reader.new (mapped datum_of (pair account_id_at (pair blob_at blob_at)) reader.old) }
 {
     let id = AccountId::read(alloc, reader)?;
     let key = Blob::read(alloc, reader)?;

@@ -20,6 +20,7 @@ mod reading;
 mod supply;
 #[cfg(test)]
 mod tests;
+mod threads;
 
 pub use block::Block;
 pub use blocks_file::BlocksFile;

@@ -1,6 +1,6 @@
 //! What the entries of a genesis say of each account, by its id.
 
-ghost use Rattle.std.specs.Prelude.{◌≡◌, ◌+◌, ◌<◌, ◌^◌, ◌||◌, ℕ, List, cond, length, unwrap_or, IfOk, OnOk};
+ghost use Rattle.std.specs.Prelude.{◌≡◌, ◌+◌, ◌||◌, ℕ, List, cond, unwrap_or, IfOk, OnOk};
 ghost use Rattle.std.specs.BTreeMap as tree;
 ghost use Rattle.std.specs.BTreeSet.{contains};
 ghost use Rattle.std.specs.Map.{count_at};
@@ -14,19 +14,13 @@ ghost use Rattle.nr_blocks.specs.Parts.{hash_with, is_account_of};
 use crate::genesis_entry::GenesisEntry;
 use nr_bytes::Blob;
 use nr_config::Config;
+use nr_config::entries::ACCOUNT_BYTES;
 use nr_ids::{AccountId, Hash32};
-use nr_records::{Spelled, encode};
 use nr_state::keys;
+use nr_state::usage::{code_usage, datum_usage, key_usage};
 use nr_triedef::value_hash;
 use std::alloc::{AllocError, Global};
 use std::collections::{BTreeMap, BTreeSet};
-
-/// The entry of the configuration with the bytes that an account is counted as.
-const ACCOUNT_BYTES: u32 = 7;
-
-/// The entry of the configuration with the bytes that a key or a datum is counted as, beside its
-/// own.
-const RECORD_BYTES: u32 = 8;
 
 /// The account that an entry is of.
 pub(crate) fn owner_of(entry: &GenesisEntry) -> &AccountId
@@ -95,29 +89,20 @@ pub(crate) fn accounts_of(
     Ok(accounts)
 }
 
-fn length_of<T: Spelled>(alloc: Global, value: &T) -> Result<u128, AllocError>
-    ensures value { IfOk result (λ count. count ≡ length (T.spelling value.now)) }
-    ensures small { IfOk result (λ count. count < 2 ^ 64) }
-{
-    let text = encode(alloc, value)?;
-    Ok(text.inner().len() as u128)
-}
-
 /// The bytes of storage that an entry costs its account.
 fn usage_of(alloc: Global, entry: &GenesisEntry, config: &Config) -> Result<u128, AllocError>
     ensures { IfOk result (λ count. count ≡ entry_usage config.now entry.now) }
 {
-    let record = u128::from(config.entry(RECORD_BYTES));
     match entry {
         GenesisEntry::Account(_, _) => Ok(u128::from(config.entry(ACCOUNT_BYTES))),
-        GenesisEntry::Code(_, code) => Ok(code.inner().len() as u128),
+        GenesisEntry::Code(_, code) => Ok(u128::from(code_usage(code.inner()))),
         GenesisEntry::Key(_, key, access) => {
-            let key = length_of(alloc, key)?;
-            let access = length_of(alloc, access)?;
-            Ok(key + access + record)
+            let bytes = key_usage(alloc, config, key, access)?;
+            Ok(u128::from(bytes))
         }
         GenesisEntry::Datum(_, key, value) => {
-            Ok(key.inner().len() as u128 + value.inner().len() as u128 + record)
+            let bytes = datum_usage(config, key.inner(), value.inner())?;
+            Ok(u128::from(bytes))
         }
     }
 }

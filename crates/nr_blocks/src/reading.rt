@@ -1,11 +1,9 @@
 //! The two files, read whole.
 
 ghost use Rattle.std.specs.Prelude.{◌≡◌, List as Items, Ok, IfOk};
-ghost use Rattle.nr_records.specs.Laws.{pair};
-ghost use Rattle.nr_records.specs.Reading.{Gives, GivesAll, all_of};
-ghost use Rattle.nr_blocks.specs.Files.{blocks_at};
 ghost use Rattle.nr_blocks.specs.Genesis.{IsSoundGenesis};
-ghost use Rattle.nr_blocks.specs.Judging.{GivesOrFails, blocks_fault, blocks_read, founded, genesis_fault, genesis_read, parts_at, with_fault};
+ghost use Rattle.nr_bytes.specs.Answers.{Gives};
+ghost use Rattle.nr_blocks.specs.Judging.{blocks_read, founded, genesis_read};
 ghost use Rattle.nr_blocks.specs.Spellings.{genesis_spelling, IsGenesis, blocks_spelling, AreBlocks};
 ghost use Rattle.nr_blocks.specs.declared.block.Block.{Block as Blocks};
 ghost use Rattle.nr_blocks.specs.declared.fault.BlocksFault.TheVariants as blocks;
@@ -17,43 +15,19 @@ use crate::block_checks::check_blocks;
 use crate::blocks_file::BlocksFile;
 use crate::entry_checks::{check_code_hashes, check_owners, check_trie_keys, check_usages};
 use crate::fault::{BlocksFault, GenesisFault};
-use crate::fields::magic_of;
 use crate::genesis::Genesis;
 use crate::genesis_entry::GenesisEntry;
+use crate::genesis_file::GenesisFile;
 use crate::supply::bounded_supply;
-use nr_bytes::{List, Reader};
+use nr_bytes::List;
 use nr_config::Config;
-use nr_layout::Layout;
-use nr_records::{RecordFault, Spelled, decode};
+use nr_records::decode;
 use std::alloc::Global;
-
-#[tactic(auto, unfolding(crate::specs::Judging::parts_at))]
-fn parts_of(
-    alloc: Global,
-    reader: &mut Reader<'_>,
-) -> Result<(Layout, List<GenesisEntry>), RecordFault>
-    ensures { Gives result reader.new (parts_at reader.old) }
-{
-    magic_of(reader, *b"NRG1")?;
-    let layout = Layout::read(alloc, reader)?;
-    let entries = List::<GenesisEntry>::read(alloc, reader)?;
-    Ok((layout, entries))
-}
-
-#[tactic(auto, using(crate::proofs::Whole::read_whole, crate::proofs::Whole::read_not, crate::proofs::Whole::read_more))]
-fn all_parts_of(alloc: Global, bytes: &[u8]) -> Result<(Layout, List<GenesisEntry>), RecordFault>
-    ensures { GivesAll result (all_of parts_at bytes.now) }
-{
-    let mut reader = Reader::new(bytes);
-    let parts = parts_of(alloc, &mut reader)?;
-    reader.end()?;
-    Ok(parts)
-}
 
 /// The supply of the entries, where they hold together.
 #[tactic(auto, unfolding(crate::specs::Judging::founded))]
 fn judge(alloc: Global, entries: &[GenesisEntry], config: &Config) -> Result<u128, GenesisFault>
-    ensures { GivesOrFails genesis.Memory result (founded config.now entries.now) }
+    ensures { Gives genesis.Memory result (founded config.now entries.now) }
 {
     check_trie_keys(alloc, entries)?;
     check_owners(alloc, entries)?;
@@ -65,13 +39,13 @@ fn judge(alloc: Global, entries: &[GenesisEntry], config: &Config) -> Result<u12
 
 #[tactic(auto, unfolding(crate::specs::Judging::genesis_read))]
 fn genesis_of(alloc: Global, bytes: &[u8], config: &Config) -> Result<Genesis, GenesisFault>
-    ensures { GivesOrFails genesis.Memory result (genesis_read config.now bytes.now) }
+    ensures { Gives genesis.Memory result (genesis_read config.now bytes.now) }
 {
-    let (layout, entries) = all_parts_of(alloc, bytes)?;
-    let supply = judge(alloc, entries.inner(), config)?;
+    let file = decode::<GenesisFile>(alloc, bytes)?;
+    let supply = judge(alloc, file.entries.inner(), config)?;
     Ok(Genesis {
-        layout,
-        entries,
+        layout: file.layout,
+        entries: file.entries,
         supply,
     })
 }
@@ -85,19 +59,19 @@ fn genesis_of(alloc: Global, bytes: &[u8], config: &Config) -> Result<Genesis, G
 /// read, where a byte behind the entries is such a field; `Duplicate`, `NoOwner`, `Usage`, `Supply`
 /// and `CodeHash`, as they say. `Memory`.
 pub fn read_genesis(alloc: Global, bytes: &[u8], config: &Config) -> Result<Genesis, GenesisFault>
-    ensures gives { GivesOrFails genesis.Memory result (genesis_read config.now bytes.now) }
+    ensures gives { Gives genesis.Memory result (genesis_read config.now bytes.now) }
     // What is read is spelled so.
     ensures found { IfOk result (λ genesis. IsGenesis config.now genesis × (bytes.now ≡ genesis_spelling genesis)) }
     ensures sound { IfOk result (IsSoundGenesis config.now) }
     // What is spelled so is read, unless memory runs out.
-    ensures only { (g : Genesises) → IsGenesis config.now g → bytes.now ≡ genesis_spelling g → GivesOrFails genesis.Memory result (Ok g) }
+    ensures only { (g : Genesises) → IsGenesis config.now g → bytes.now ≡ genesis_spelling g → Gives genesis.Memory result (Ok g) }
 {
     genesis_of(alloc, bytes, config)
 }
 
 #[tactic(auto, unfolding(crate::specs::Judging::blocks_read))]
 fn blocks_of(alloc: Global, bytes: &[u8], shards: u32) -> Result<List<Block>, BlocksFault>
-    ensures { GivesOrFails blocks.Memory result (blocks_read shards bytes.now) }
+    ensures { Gives blocks.Memory result (blocks_read shards bytes.now) }
 {
     let file = decode::<BlocksFile>(alloc, bytes)?;
     let blocks = file.blocks;
@@ -114,11 +88,11 @@ fn blocks_of(alloc: Global, bytes: &[u8], shards: u32) -> Result<List<Block>, Bl
 /// behind the blocks is such a field; `ShardCount`, `HeightOrder` and `TooMany`, as they say.
 /// `Memory`.
 pub fn read_blocks(alloc: Global, bytes: &[u8], shards: u32) -> Result<List<Block>, BlocksFault>
-    ensures gives { GivesOrFails blocks.Memory result (blocks_read shards bytes.now) }
+    ensures gives { Gives blocks.Memory result (blocks_read shards bytes.now) }
     // What is read is spelled so.
     ensures found { IfOk result (λ list. AreBlocks shards list × (bytes.now ≡ blocks_spelling list)) }
     // What is spelled so is read, unless memory runs out.
-    ensures only { (list : Items Blocks) → AreBlocks shards list → bytes.now ≡ blocks_spelling list → GivesOrFails blocks.Memory result (Ok list) }
+    ensures only { (list : Items Blocks) → AreBlocks shards list → bytes.now ≡ blocks_spelling list → Gives blocks.Memory result (Ok list) }
 {
     blocks_of(alloc, bytes, shards)
 }

@@ -2,7 +2,8 @@ use crate::{BlocksFault, GenesisEntry, GenesisFault, GenesisFile, read_blocks, r
 use nr_bytes::{Blob, List};
 use nr_config::Config;
 use nr_ids::{AccountId, Hash32, PublicKey};
-use nr_records::{AccessKey, Account, Permission, encode};
+use nr_layout::Layout;
+use nr_records::{AccessKey, Account, Permission, decode, encode};
 use nr_triedef::value_hash;
 use std::alloc::Global;
 use std::test::Fail;
@@ -90,27 +91,6 @@ fn blocks_are_judged(rt: HostRuntime) -> Result<(), Fail> {
     Ok(())
 }
 
-/// A file of this many blocks without chunks.
-fn empty_blocks(alloc: Global, count: u32) -> Result<Vec<u8>, Fail> {
-    let mut all = Vec::from_slice(alloc, b"NRB1".as_slice())?;
-    all.extend_from_slice(count.to_le_bytes().as_slice())?;
-    for number in 0..count {
-        all.extend_from_slice((u64::from(number) + 1).to_le_bytes().as_slice())?;
-        all.extend_from_slice([0; 12].as_slice())?;
-    }
-    Ok(all)
-}
-
-#[test]
-fn blocks_are_at_most_256(rt: HostRuntime) -> Result<(), Fail> {
-    let alloc = rt.alloc();
-    let most = empty_blocks(alloc, 256)?;
-    assert!(rt; blocks_fault(alloc, &most, 0) == None);
-    let more = empty_blocks(alloc, 257)?;
-    assert!(rt; blocks_fault(alloc, &more, 0) == Some(BlocksFault::TooMany));
-    Ok(())
-}
-
 #[test]
 fn genesis_is_read(rt: HostRuntime) {
     let genesis = read_genesis(rt.alloc(), GENESIS.as_slice(), &Config::free());
@@ -166,7 +146,7 @@ fn fault_of_two(
     entries.push(first)?;
     entries.push(second)?;
     let file = GenesisFile {
-        boundaries: List::of(Vec::new(alloc)),
+        layout: decode::<Layout>(alloc, b"\0\0\0\0")?,
         entries: List::of(entries),
     };
     let bytes = encode(alloc, &file)?;

@@ -1,7 +1,10 @@
 pub mod Numbers
 pub mod Reading
-pub mod Lending
+pub mod Answers
+pub mod Fields
 pub mod Writing
+pub mod Spelling
+pub mod Lending
 pub mod Outside
 pub mod Memory
 pub mod Files

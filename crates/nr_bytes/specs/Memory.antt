@@ -59,12 +59,12 @@ PutsFound (Err Failed) None limit old new = new ≡ old
 PutsFound (Err Failed) (Some bytes) limit old new = ⊥
 PutsFound (Err Memory) bytes limit old new = new ≡ old
 
--- What a load leaves of the shelf. Want of memory counts as a call and notes nothing.
+-- What a load leaves of the shelf. Want of memory leaves it as it was.
 abbrev pub Finds : Result (Unit {0}) LoadFault → ShelfInMemory → ShelfInMemory → List ℕ → Type 0
 Finds (Ok u) old new name = IsSome (found old name) × (new ≡ record old { calls = one_more old.calls; asked = old.asked ++ name ∷ [] })
 Finds (Err TooLong) old new name = IsSome (found old name) × (new ≡ record old { calls = one_more old.calls; asked = old.asked ++ name ∷ [] })
 Finds (Err Failed) old new name = (found old name ≡ None) × (new ≡ record old { calls = one_more old.calls; faults = one_more old.faults; asked = old.asked ++ name ∷ [] })
-Finds (Err Memory) old new name = new ≡ record old { calls = one_more old.calls }
+Finds (Err Memory) old new name = new ≡ old
 
 -- bytes taken; how many it takes in all and in one call; the numbers of the calls that fail, from 1; how many
 -- calls and faults there were

@@ -1,6 +1,6 @@
 -- Borsh 1.0, "Integers", "Bool", "Fixed sized arrays", "Dynamic sized array" and "String": each field read from the
 -- front of some bytes, or the fault where no front of them spells one.
-use Rattle.std.specs.Prelude.{◌≡◌, ◌≢◌, ℕ, zero, suc, ◌+◌, ◌-◌, Option, Some, None, List, length, take, drop, Bool, true, false, Result, Ok, Err, nat_lt, ◌==◌, if◌then◌else◌, slice_index}
+use Rattle.std.specs.Prelude.{◌≡◌, ℕ, zero, suc, ◌+◌, ◌-◌, Option, Some, None, List, length, take, drop, Bool, true, false, Result, Ok, Err, nat_lt, ◌==◌, if◌then◌else◌, slice_index}
 use Rattle.std.specs.Str.{is_utf8}
 use Rattle.nr_bytes.specs.Numbers.{number}
 use Rattle.nr_bytes.specs.declared.fault.BytesFault.{BytesFault}
@@ -25,11 +25,6 @@ abbrev pub ◌>>=◌ : {A B F : Type 0} → Result A F → (A → Result B F) �
 abbrev pub Reads : {X F : Type 0} → Result X F → Input → Input → Result (X × Input) F → Type 0
 Reads (Ok x) old new read = read ≡ Ok (x, new)
 Reads (Err e) old new read = (read ≡ Err e) × (new ≡ old)
-
--- The same, unless memory ran out.
-abbrev pub ReadsOrFails : {X F : Type 0} → F → Result X F → Input → Input → Result (X × Input) F → Type 0
-ReadsOrFails memory (Ok x) old new read = read ≡ Ok (x, new)
-ReadsOrFails memory (Err e) old new read = (e ≢ memory → read ≡ Err e) × (new ≡ old)
 
 -- fixed sized array of bytes: k bytes without a count
 abbrev pub fixed_at : ℕ → Input → Result (List ℕ × Input) BytesFault

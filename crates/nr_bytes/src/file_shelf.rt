@@ -1,4 +1,4 @@
-ghost use Rattle.std.specs.Prelude.{◌≡◌, [], OnErr};
+ghost use Rattle.std.specs.Prelude.{◌≡◌, ◌≤◌, ◌+◌, [], length, OnOk, OnErr};
 ghost use Rattle.std.specs.Io.{StartsWith};
 ghost use Rattle.nr_bytes.specs.Outside.{Loads};
 ghost use Rattle.nr_bytes.specs.Files.{Passes};
@@ -58,6 +58,7 @@ pub(crate) fn append_rest<F: Read>(
 ) -> Result<(), LoadFault>
     ensures loads { Loads result (F.remaining file.old) limit out.old.items out.new.items }
     ensures front { StartsWith out.new.items out.old.items }
+    ensures within { OnOk result (length out.new.items ≤ length out.old.items + limit) }
 {
     let start = out.len();
     let mut left = limit;
@@ -85,6 +86,7 @@ fn append_file<R: Files>(
 ) -> Result<(), LoadFault>
     ensures refused { OnErr result (out.new.items ≡ out.old.items) }
     ensures front { StartsWith out.new.items out.old.items }
+    ensures within { OnOk result (length out.new.items ≤ length out.old.items + limit) }
 {
     let mut file = fs::open(rt, name).map_err(|_| LoadFault::Failed)?;
     let told = file.metadata().map_err(|_| LoadFault::Failed)?.len();

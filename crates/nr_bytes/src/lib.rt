@@ -16,6 +16,7 @@ mod stdout_sink;
 #[cfg(test)]
 mod tests;
 mod text;
+mod threads;
 mod writer;
 
 pub use blob::Blob;

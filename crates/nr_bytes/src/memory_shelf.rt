@@ -7,7 +7,7 @@ use std::alloc::{AllocError, Global};
 use std::marker::Model;
 
 /// A shelf in memory. It fails at the loads whose numbers, from 1, are listed, and where it has no file of the
-/// name. Its two counts stay at 2^64 - 1.
+/// name. Its two counts stay at 2^64 - 1. A load that ran out of memory is not counted.
 #[derive(Debug, Drop)]
 pub struct MemoryShelf {
     files: Vec<(String, Vec<u8>)>,
@@ -123,8 +123,8 @@ impl Shelf for MemoryShelf {
         ensures rises { self.old.faults ≤ self.new.faults }
         ensures exactly { Finds result self.old self.new name.now }
     {
-        self.calls = self.calls.saturating_add(1);
-        let found = find_at(&self.fail, &self.files, self.calls, name);
+        let call = self.calls.saturating_add(1);
+        let found = find_at(&self.fail, &self.files, call, name);
         let start = out.len();
         let answer = put_found(found, limit, out);
         if answer == Err(LoadFault::Memory) {
@@ -134,6 +134,7 @@ impl Shelf for MemoryShelf {
             out.truncate(start);
             return Err(LoadFault::Memory);
         }
+        self.calls = call;
         if answer == Err(LoadFault::Failed) {
             self.faults = self.faults.saturating_add(1);
         }

@@ -1,7 +1,8 @@
-ghost use Rattle.std.specs.Prelude.{◌≡◌, length, [], option_copied, if◌then◌else◌, IfSome, ◌+◌, ◌≤◌};
+ghost use Rattle.std.specs.Prelude.{◌≡◌, length, [], option_copied, if◌then◌else◌, IfSome, OnErr, ◌+◌, ◌≤◌};
 ghost use Rattle.std.specs.Str.{is_utf8};
 ghost use Rattle.nr_bytes.specs.Numbers.{IsBytes};
-ghost use Rattle.nr_bytes.specs.Reading.{Reads, ReadsOrFails, fixed_at, number_at, flag_at, counted, bytes_at, text_at, end_at};
+ghost use Rattle.nr_bytes.specs.Answers.{GivesRead};
+ghost use Rattle.nr_bytes.specs.Reading.{Reads, fixed_at, number_at, flag_at, counted, bytes_at, text_at, end_at};
 ghost use Rattle.nr_bytes.specs.declared.fault.BytesFault.TheVariants.{Memory};
 
 use crate::blob::Blob;
@@ -210,7 +211,8 @@ impl<'a> Reader<'a> {
     ///
     /// `Short`, at the count, where fewer bytes than the count and the bytes are left; `Memory`.
     pub fn bytes(&mut self, alloc: Global) -> Result<Blob, BytesFault>
-        ensures { ReadsOrFails Memory result self.old self.new (bytes_at self.old) }
+        ensures gives { GivesRead Memory result self.new (bytes_at self.old) }
+        ensures refused { OnErr result (self.new ≡ self.old) }
     {
         let at = self.at;
         let field = counted_slice(&self.bytes[at..]).ok_or(BytesFault::Short { at })?;
@@ -227,7 +229,8 @@ impl<'a> Reader<'a> {
     /// where the whole field is there and is no UTF-8; `Memory`.
     #[tactic(auto, unfolding(crate::specs::Reading::text_at))]
     pub fn text(&mut self, alloc: Global) -> Result<Text, BytesFault>
-        ensures { ReadsOrFails Memory result self.old self.new (text_at self.old) }
+        ensures gives { GivesRead Memory result self.new (text_at self.old) }
+        ensures refused { OnErr result (self.new ≡ self.old) }
     {
         let at = self.at;
         let field = counted_slice(&self.bytes[at..]).ok_or(BytesFault::Short { at })?;

@@ -28,7 +28,7 @@ pub trait Shelf {
     ghost asked: { Self → List (List ℕ) };
 
     /// Appends the bytes under a name to `out`, at most `limit` bytes. After a refusal `out` is as before.
-    /// The name is noted as asked for, unless the answer is `Memory`.
+    /// The name is noted as asked for, unless the answer is `Memory`, after which the shelf is as before too.
     ///
     /// # Errors
     ///

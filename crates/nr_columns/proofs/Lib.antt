@@ -2,7 +2,8 @@
 pub mod Empty
 pub mod Tables
 pub mod Laid
-pub mod Places
+pub mod ReadBack
 pub mod Steps
 pub mod KeyLists
 pub mod Owners
+pub mod InOrder

@@ -17,7 +17,7 @@ use Rattle.nr_columns.specs.Keys.{access_key_key, datum_key}
 use Rattle.nr_columns.specs.View.{columns_in, at_first, with_key, spelled_key, keys_table, data_table, without_owner}
 use Rattle.nr_columns.proofs.KeyLists.{begins, begins_so, begins_if, get_cleared, laid_fold}
 use Rattle.nr_columns.proofs.Laid.{Agree, moved, keys_law, data_law}
-use Rattle.nr_columns.proofs.Places.{id_there}
+use Rattle.nr_columns.proofs.ReadBack.{id_there}
 use Rattle.nr_columns.proofs.Steps.{Turned}
 use Rattle.nr_columns.proofs.Tables.{same_test, some_same, some_none, unchecked, part_kept}
 

@@ -20,14 +20,14 @@ use Rattle.nr_columns.proofs.Laid.{canon, canon_of, laid_insert, laid_remove, mo
 abbrev pub ApartFrom : List ℕ → Contents → Contents → Type 0
 ApartFrom b c d = (q : List ℕ) → eq_by_cmp bytes_cmp q b ≡ false → get c q ≡ get d q
 
--- a column, how it is picked and how it is put in place of another
-pub record IsColumn {K X : Type 0} (t : Table K X) (pick : Columns → FinMap t.cmp X) (place : Columns → FinMap t.cmp X → Columns) : Type 0 where
+-- a column, how it is picked and how it is put over another
+pub record IsColumn {K X : Type 0} (t : Table K X) (pick : Columns → FinMap t.cmp X) (put_in : Columns → FinMap t.cmp X → Columns) : Type 0 where
   pub law : IsTable t
   pub picks : (c : Contents) → pick (columns_in c) ≡ part t c
   -- no other column claims its keys
   pub alone : (k : K) (o : Option (List ℕ)) → canon (t.key k) o ≡ claim t (t.key k) o
   -- a change at one of its keys leaves the other columns
-  pub moves : (k : K) (c d : Contents) → ApartFrom (t.key k) c d → columns_in d ≡ place (columns_in c) (part t d)
+  pub moves : (k : K) (c d : Contents) → ApartFrom (t.key k) c d → columns_in d ≡ put_in (columns_in c) (part t d)
 
 -- the contents turned into others, as f turns their columns
 pub record Turned (c d : Contents) (f : Columns → Columns) : Type 0 where
@@ -51,7 +51,7 @@ same_some : {A B : Type 0} (f : A → B) (o : Option A) → is_some (option_map 
 same_some f None = refl
 same_some f (Some x) = refl
 
-module _ {K X : Type 0} {t : Table K X} {pick : Columns → FinMap t.cmp X} {place : Columns → FinMap t.cmp X → Columns} (is : IsColumn t pick place) where
+module _ {K X : Type 0} {t : Table K X} {pick : Columns → FinMap t.cmp X} {put_in : Columns → FinMap t.cmp X → Columns} (is : IsColumn t pick put_in) where
   pub found : (c : Contents) (b : List ℕ) (k : K) → b ≡ t.key k → t.unkey (t.key k) ≡ Some k → option_and_then t.read (get c b) ≡ get (pick (columns_in c)) k
   found c b k at there = ap (λ q. option_and_then t.read (get c q)) at ∙ sym (ap (λ m. get m k) (is.picks c) ∙ get_part is.law c k (spells t k there))
 
@@ -62,22 +62,22 @@ module _ {K X : Type 0} {t : Table K X} {pick : Columns → FinMap t.cmp X} {pla
       ∙ same_some t.spell (option_and_then t.read (get c (t.key k)))
       ∙ ap is_some (found c (t.key k) k refl there)
 
-  pub wrote : (c d : Contents) (b : List ℕ) (k : K) (x : X) → d ≡ insert c b (t.spell x) → b ≡ t.key k → t.unkey (t.key k) ≡ Some k → t.read (t.spell x) ≡ Some x → Turned c d (λ s. place s (insert (pick s) k x))
+  pub wrote : (c d : Contents) (b : List ℕ) (k : K) (x : X) → d ≡ insert c b (t.spell x) → b ≡ t.key k → t.unkey (t.key k) ≡ Some k → t.read (t.spell x) ≡ Some x → Turned c d (λ s. put_in s (insert (pick s) k x))
   wrote c d b k x new at there back =
       let same : d ≡ insert c (t.key k) (t.spell x) = new ∙ ap (λ q. insert c q (t.spell x)) at in
-      subst (λ d. Turned c d (λ s. place s (insert (pick s) k x))) (sym same)
+      subst (λ d. Turned c d (λ s. put_in s (insert (pick s) k x))) (sym same)
       (record {
         laid = laid_insert c (t.key k) (t.spell x) (is.alone k _ ∙ claim_written t (t.key k) k x (spells t k there) back);
-        columns = is.moves k c _ (apart_insert c (t.key k) (t.spell x)) ∙ ap (place (columns_in c)) (part_insert is.law c k x (spells t k there) back ∙ ap (λ m. insert m k x) (sym (is.picks c)));
+        columns = is.moves k c _ (apart_insert c (t.key k) (t.spell x)) ∙ ap (put_in (columns_in c)) (part_insert is.law c k x (spells t k there) back ∙ ap (λ m. insert m k x) (sym (is.picks c)));
       })
 
-  pub took : (c d : Contents) (b : List ℕ) (k : K) → d ≡ remove c b → b ≡ t.key k → t.unkey (t.key k) ≡ Some k → Turned c d (λ s. place s (remove (pick s) k))
+  pub took : (c d : Contents) (b : List ℕ) (k : K) → d ≡ remove c b → b ≡ t.key k → t.unkey (t.key k) ≡ Some k → Turned c d (λ s. put_in s (remove (pick s) k))
   took c d b k new at there =
       let same : d ≡ remove c (t.key k) = new ∙ ap (remove c) at in
-      subst (λ d. Turned c d (λ s. place s (remove (pick s) k))) (sym same)
+      subst (λ d. Turned c d (λ s. put_in s (remove (pick s) k))) (sym same)
       (record {
         laid = laid_remove c (t.key k);
-        columns = is.moves k c _ (apart_remove c (t.key k)) ∙ ap (place (columns_in c)) (part_remove is.law c k (spells t k there) ∙ ap (λ m. remove m k) (sym (is.picks c)));
+        columns = is.moves k c _ (apart_remove c (t.key k)) ∙ ap (put_in (columns_in c)) (part_remove is.law c k (spells t k there) ∙ ap (λ m. remove m k) (sym (is.picks c)));
       })
 
 -- ---- the columns

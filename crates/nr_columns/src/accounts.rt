@@ -2,6 +2,10 @@
 
 ghost use Rattle.std.specs.Prelude.{◌≡◌, IfOk, OnOk, OnErr, is_some};
 ghost use Rattle.std.specs.FinMap as map;
+ghost use Rattle.nr_records.specs.Accounts.{IsAccount};
+ghost use Rattle.nr_records.specs.Ids.{IsId};
+ghost use Rattle.nr_ids.specs.Keys.{IsHash, IsKey};
+ghost use Rattle.nr_records.specs.AccessKeys.{IsAccessKey};
 ghost use Rattle.nr_columns.specs.View.{with_columns, without_owner};
 
 use crate::columns::Columns;
@@ -25,6 +29,7 @@ impl<S: Store> Columns<S> {
     /// Writes an account.
     pub fn set_account(&mut self, id: &AccountId, account: &Account) -> Result<(), AllocError>
         ensures ok { OnOk result (self.new ≡ with_columns self.old (record self.old.columns { accounts = map.insert self.old.columns.accounts id.now account.now })) }
+        ensures fits { OnOk result (IsId id.now × IsAccount account.now) }
         ensures err { OnErr result (self.new ≡ self.old) }
     {
         let key = keys::account_key(self.alloc, id)?;
@@ -51,8 +56,8 @@ impl<S: Store> Columns<S> {
     ) -> Result<Option<AccessKey>, AllocError>
         ensures { IfOk result (λ found. found ≡ map.get self.now.columns.keys (id.now, key.now)) }
     {
-        let place = keys::owner_key(self.alloc, id, key)?;
-        stored(self.alloc, &self.store, place.inner())
+        let slot = keys::owner_key(self.alloc, id, key)?;
+        stored(self.alloc, &self.store, slot.inner())
     }
 
     /// Writes an access key.
@@ -63,10 +68,11 @@ impl<S: Store> Columns<S> {
         access: &AccessKey,
     ) -> Result<(), AllocError>
         ensures ok { OnOk result (self.new ≡ with_columns self.old (record self.old.columns { keys = map.insert self.old.columns.keys (id.now, key.now) access.now })) }
+        ensures fits { OnOk result (IsId id.now × (IsKey key.now × IsAccessKey access.now)) }
         ensures err { OnErr result (self.new ≡ self.old) }
     {
-        let place = keys::owner_key(self.alloc, id, key)?;
-        put(self.alloc, &mut self.store, place.inner(), access)?;
+        let slot = keys::owner_key(self.alloc, id, key)?;
+        put(self.alloc, &mut self.store, slot.inner(), access)?;
         Ok(())
     }
 
@@ -76,8 +82,8 @@ impl<S: Store> Columns<S> {
         ensures ok { OnOk result (self.new ≡ with_columns self.old (record self.old.columns { keys = map.remove self.old.columns.keys (id.now, key.now) })) }
         ensures err { OnErr result (self.new ≡ self.old) }
     {
-        let place = keys::owner_key(self.alloc, id, key)?;
-        let found = self.store.remove(place.inner())?;
+        let slot = keys::owner_key(self.alloc, id, key)?;
+        let found = self.store.remove(slot.inner())?;
         Ok(found)
     }
 

@@ -93,7 +93,7 @@ impl<S: Store> Columns<S> {
         self.store.mark();
     }
 
-    /// Drops the newest checkpoint and keeps the changes since then.
+    /// Commits the newest checkpoint: drops it, and keeps the changes since then.
     pub fn keep(&mut self)
         requires { 0 < length self.old.marks }
         ensures columns { self.new.columns ≡ self.old.columns }
@@ -103,7 +103,7 @@ impl<S: Store> Columns<S> {
         self.store.keep();
     }
 
-    /// Drops the newest checkpoint and undoes the changes since then.
+    /// Rolls back to the newest checkpoint: undoes the changes since then, and drops it.
     pub fn back(&mut self)
         requires { 0 < length self.old.marks }
         ensures marks { self.old.marks ≡ self.new.columns ∷ self.new.marks }

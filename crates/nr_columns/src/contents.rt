@@ -3,6 +3,7 @@
 ghost use Rattle.std.specs.Prelude.{◌≡◌, IfOk, OnOk, OnErr, is_some};
 ghost use Rattle.std.specs.Option.{option_copied};
 ghost use Rattle.std.specs.FinMap as map;
+ghost use Rattle.nr_records.specs.Ids.{IsId};
 ghost use Rattle.nr_columns.specs.View.{with_columns, without_owner};
 
 use crate::columns::Columns;
@@ -24,6 +25,7 @@ impl<S: Store> Columns<S> {
     /// Writes an account's code.
     pub fn set_code(&mut self, id: &AccountId, code: &[u8]) -> Result<(), AllocError>
         ensures ok { OnOk result (self.new ≡ with_columns self.old (record self.old.columns { code = map.insert self.old.columns.code id.now code.now })) }
+        ensures fits { OnOk result (IsId id.now) }
         ensures err { OnErr result (self.new ≡ self.old) }
     {
         let key = keys::code_key(self.alloc, id)?;
@@ -46,17 +48,18 @@ impl<S: Store> Columns<S> {
     pub fn datum(&self, id: &AccountId, key: &[u8]) -> Result<Option<&[u8]>, AllocError>
         ensures { IfOk result (λ found. option_copied found ≡ map.get self.now.columns.data_of (id.now, key.now)) }
     {
-        let place = keys::pair_key(self.alloc, keys::DATUM, id, key)?;
-        Ok(self.store.get(place.inner()))
+        let slot = keys::pair_key(self.alloc, keys::DATUM, id, key)?;
+        Ok(self.store.get(slot.inner()))
     }
 
     /// Writes a datum of an account.
     pub fn set_datum(&mut self, id: &AccountId, key: &[u8], value: &[u8]) -> Result<(), AllocError>
         ensures ok { OnOk result (self.new ≡ with_columns self.old (record self.old.columns { data_of = map.insert self.old.columns.data_of (id.now, key.now) value.now })) }
+        ensures fits { OnOk result (IsId id.now) }
         ensures err { OnErr result (self.new ≡ self.old) }
     {
-        let place = keys::pair_key(self.alloc, keys::DATUM, id, key)?;
-        self.store.set(place.inner(), value)?;
+        let slot = keys::pair_key(self.alloc, keys::DATUM, id, key)?;
+        self.store.set(slot.inner(), value)?;
         Ok(())
     }
 
@@ -66,8 +69,8 @@ impl<S: Store> Columns<S> {
         ensures ok { OnOk result (self.new ≡ with_columns self.old (record self.old.columns { data_of = map.remove self.old.columns.data_of (id.now, key.now) })) }
         ensures err { OnErr result (self.new ≡ self.old) }
     {
-        let place = keys::pair_key(self.alloc, keys::DATUM, id, key)?;
-        let found = self.store.remove(place.inner())?;
+        let slot = keys::pair_key(self.alloc, keys::DATUM, id, key)?;
+        let found = self.store.remove(slot.inner())?;
         Ok(found)
     }
 

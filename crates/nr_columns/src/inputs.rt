@@ -2,6 +2,10 @@
 
 ghost use Rattle.std.specs.Prelude.{◌≡◌, IfOk, OnOk, OnErr, is_some};
 ghost use Rattle.std.specs.FinMap as map;
+ghost use Rattle.nr_bytes.specs.Spelling.{IsCounted};
+ghost use Rattle.nr_records.specs.Options.{IsOption};
+ghost use Rattle.nr_records.specs.Ids.{IsId};
+ghost use Rattle.nr_ids.specs.Keys.{IsHash};
 ghost use Rattle.nr_columns.specs.View.{with_columns};
 
 use crate::columns::Columns;
@@ -34,6 +38,7 @@ impl<S: Store> Columns<S> {
         bytes: &Option<Blob>,
     ) -> Result<(), AllocError>
         ensures ok { OnOk result (self.new ≡ with_columns self.old (record self.old.columns { received = map.insert self.old.columns.received (receiver.now, data_id.now.0) bytes.now })) }
+        ensures fits { OnOk result (IsId receiver.now × (IsHash data_id.now × IsOption IsCounted bytes.now)) }
         ensures err { OnErr result (self.new ≡ self.old) }
     {
         let key = keys::pair_key(self.alloc, keys::RECEIVED, receiver, &data_id.0)?;

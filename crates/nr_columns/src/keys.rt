@@ -3,7 +3,7 @@
 ghost use Rattle.std.specs.Prelude.{◌≡◌, ◌∷◌, ◌++◌, IfOk, OnOk, Some, None, []};
 ghost use Rattle.nr_bytes.specs.Numbers.{little, number};
 ghost use Rattle.nr_ids.specs.Grammar.{id_fault};
-ghost use Rattle.nr_ids.specs.Keys.{key_bytes};
+ghost use Rattle.nr_ids.specs.Keys.{key_bytes, IsKey};
 ghost use Rattle.nr_columns.specs.Keys.{account_key, code_key, access_key_key, datum_key, column_key, delayed_key};
 ghost use Rattle.nr_columns.specs.View.{at_first, key_of_rest};
 
@@ -13,7 +13,7 @@ use nr_records::Spelled;
 use std::alloc::{AllocError, Global};
 
 /// The byte before the id in the key of an account.
-const ACCOUNT: u8 = 0;
+pub(crate) const ACCOUNT: u8 = 0;
 
 /// The byte before the id in the key of an account's code.
 const CODE: u8 = 1;
@@ -46,7 +46,8 @@ pub(crate) const DATUM: u8 = 9;
 ///
 /// Where memory ran out.
 pub fn account_key(alloc: Global, id: &AccountId) -> Result<Blob, AllocError>
-    ensures { IfOk result (λ text. text ≡ account_key id.now) }
+    ensures text { IfOk result (λ text. text ≡ account_key id.now) }
+    ensures valid { OnOk result (id_fault id.now ≡ None) }
 {
     let mut writer = Writer::new(alloc);
     writer.put_u8(ACCOUNT)?;
@@ -60,7 +61,8 @@ pub fn account_key(alloc: Global, id: &AccountId) -> Result<Blob, AllocError>
 ///
 /// Where memory ran out.
 pub fn code_key(alloc: Global, id: &AccountId) -> Result<Blob, AllocError>
-    ensures { IfOk result (λ text. text ≡ code_key id.now) }
+    ensures text { IfOk result (λ text. text ≡ code_key id.now) }
+    ensures valid { OnOk result (id_fault id.now ≡ None) }
 {
     let mut writer = Writer::new(alloc);
     writer.put_u8(CODE)?;
@@ -92,10 +94,12 @@ pub fn datum_key(alloc: Global, id: &AccountId, key: &[u8]) -> Result<Blob, Allo
 }
 
 /// The key of an access key, from which the owner and the public key can be told.
-#[tactic(auto, using(crate::proofs::Places::rest_there))]
+#[tactic(auto, using(crate::proofs::ReadBack::rest_there))]
 pub(crate) fn owner_key(alloc: Global, id: &AccountId, key: &PublicKey) -> Result<Blob, AllocError>
     ensures text { IfOk result (λ text. text ≡ access_key_key (id.now, key.now)) }
     ensures there { OnOk result (key_of_rest (id.now ++ 2 ∷ key_bytes key.now) ≡ Some (id.now, key.now)) }
+    ensures valid { OnOk result (id_fault id.now ≡ None) }
+    ensures fits { OnOk result (IsKey key.now) }
 {
     let mut writer = Writer::new(alloc);
     writer.put_u8(ACCESS)?;
@@ -106,7 +110,7 @@ pub(crate) fn owner_key(alloc: Global, id: &AccountId, key: &PublicKey) -> Resul
 }
 
 /// A column's byte, an id, a comma and the rest. The id and the rest can be told from it.
-#[tactic(auto, using(crate::proofs::Places::comma_there))]
+#[tactic(auto, using(crate::proofs::ReadBack::comma_there))]
 pub(crate) fn pair_key(
     alloc: Global,
     column: u8,
@@ -115,6 +119,7 @@ pub(crate) fn pair_key(
 ) -> Result<Blob, AllocError>
     ensures text { IfOk result (λ text. text ≡ column_key column id.now rest.now) }
     ensures there { OnOk result (at_first 44 (id.now ++ 44 ∷ rest.now) ≡ Some (id.now, rest.now)) }
+    ensures valid { OnOk result (id_fault id.now ≡ None) }
 {
     let mut writer = Writer::new(alloc);
     writer.put_u8(column)?;
@@ -137,13 +142,13 @@ pub(crate) fn front(alloc: Global, column: u8, id: &AccountId, mark: u8) -> Resu
 }
 
 /// The key of a delayed receipt, from which its number can be told.
-#[tactic(auto, using(crate::proofs::Places::number_there))]
-pub(crate) fn delayed_key(alloc: Global, place: u64) -> Result<Blob, AllocError>
-    ensures text { IfOk result (λ text. text ≡ delayed_key place) }
-    ensures there { Some (number (little 8 place)) ≡ Some place }
+#[tactic(auto, using(crate::proofs::ReadBack::number_there))]
+pub(crate) fn delayed_key(alloc: Global, ordinal: u64) -> Result<Blob, AllocError>
+    ensures text { IfOk result (λ text. text ≡ delayed_key ordinal) }
+    ensures there { Some (number (little 8 ordinal)) ≡ Some ordinal }
 {
     let mut writer = Writer::new(alloc);
     writer.put_u8(DELAYED)?;
-    writer.put_u64(place)?;
+    writer.put_u64(ordinal)?;
     Ok(writer.finish())
 }

@@ -7,12 +7,15 @@ mod contents;
 mod entry;
 mod inputs;
 pub mod keys;
+pub mod laws;
+mod listing;
 mod lists;
 mod numbers;
 mod receipts;
 mod stored;
 #[cfg(test)]
 mod tests;
+mod threads;
 
 pub use columns::Columns;
 pub use entry::Entry;

@@ -20,7 +20,7 @@ fn count_text(alloc: Global, count: u32) -> Result<Blob, AllocError>
 }
 
 /// The count that the bytes are, if they are four.
-#[tactic(auto, unfolding(nr_records::specs::Reading::all_of))]
+#[tactic(auto, unfolding(nr_bytes::specs::Fields::all_of))]
 fn count_in(bytes: &[u8]) -> Option<u32>
     ensures { result ≡ count_of bytes.now }
 {
@@ -38,7 +38,7 @@ pub(crate) fn stored_count<S: Store>(store: &S, key: &[u8]) -> Option<u32>
 }
 
 /// Writes a count at a key.
-#[tactic(auto, using(crate::proofs::Places::count_back))]
+#[tactic(auto, using(crate::proofs::ReadBack::count_back))]
 pub(crate) fn put_count<S: Store>(
     alloc: Global,
     store: &mut S,
@@ -67,7 +67,7 @@ fn queue_text(alloc: Global, served: u64, next: u64) -> Result<Blob, AllocError>
 }
 
 /// The two numbers that the bytes are, if they are sixteen.
-#[tactic(auto, unfolding(nr_records::specs::Reading::all_of))]
+#[tactic(auto, unfolding(nr_bytes::specs::Fields::all_of))]
 fn queue_in(bytes: &[u8]) -> Option<(u64, u64)>
     ensures { result ≡ queue_of bytes.now }
 {
@@ -86,7 +86,7 @@ pub(crate) fn stored_queue<S: Store>(store: &S, key: &[u8]) -> Option<(u64, u64)
 }
 
 /// Writes the queue's numbers at a key.
-#[tactic(auto, using(crate::proofs::Places::queue_back))]
+#[tactic(auto, using(crate::proofs::ReadBack::queue_back))]
 pub(crate) fn put_queue<S: Store>(
     alloc: Global,
     store: &mut S,

@@ -2,6 +2,9 @@
 
 ghost use Rattle.std.specs.Prelude.{◌≡◌, IfOk, OnOk, OnErr, is_some, Some};
 ghost use Rattle.std.specs.FinMap as map;
+ghost use Rattle.nr_records.specs.Receipts.{IsReceipt};
+ghost use Rattle.nr_records.specs.Ids.{IsId};
+ghost use Rattle.nr_ids.specs.Keys.{IsHash};
 ghost use Rattle.nr_columns.specs.View.{with_columns};
 
 use crate::columns::Columns;
@@ -34,6 +37,7 @@ impl<S: Store> Columns<S> {
         receipt: &Receipt,
     ) -> Result<(), AllocError>
         ensures ok { OnOk result (self.new ≡ with_columns self.old (record self.old.columns { postponed = map.insert self.old.columns.postponed (receiver.now, receipt_id.now.0) receipt.now })) }
+        ensures fits { OnOk result (IsId receiver.now × (IsHash receipt_id.now × IsReceipt receipt.now)) }
         ensures err { OnErr result (self.new ≡ self.old) }
     {
         let key = keys::pair_key(self.alloc, keys::POSTPONED, receiver, &receipt_id.0)?;
@@ -84,6 +88,7 @@ impl<S: Store> Columns<S> {
     /// Writes a delayed receipt under its number.
     pub fn set_delayed(&mut self, number: u64, receipt: &Receipt) -> Result<(), AllocError>
         ensures ok { OnOk result (self.new ≡ with_columns self.old (record self.old.columns { delayed = map.insert self.old.columns.delayed number receipt.now })) }
+        ensures fits { OnOk result (IsReceipt receipt.now) }
         ensures err { OnErr result (self.new ≡ self.old) }
     {
         let key = keys::delayed_key(self.alloc, number)?;

@@ -43,6 +43,7 @@ pub(crate) fn put<S: Store, T: Spelled>(
 ) -> Result<(), AllocError>
     ensures ok { OnOk result (S.contents store.new ≡ map.insert (S.contents store.old) key.now (T.spelling value.now)) }
     ensures back { OnOk result (all_of T.reading (T.spelling value.now) ≡ Ok value.now) }
+    ensures fits { OnOk result (T.fits value.now) }
     ensures err { OnErr result (S.contents store.new ≡ S.contents store.old) }
     ensures marks { S.marks store.new ≡ S.marks store.old }
     ensures spare { S.spare store.new ≡ S.spare store.old }

@@ -4,7 +4,8 @@ use Rattle.std.proofs.lemmas.List.{append-nil, drop_more, drop_all, take_all, ta
 use Rattle.serde_json.specs.Data.{Data}
 use Rattle.serde_json.specs.Find.{get}
 use Rattle.nr_config.specs.Rows.{row_of}
-use Rattle.nr_config.specs.Reading.{◌>>=◌, named, numbers}
+use Rattle.nr_bytes.specs.Reading.{◌>>=◌}
+use Rattle.nr_config.specs.Reading.{named, numbers}
 use Rattle.nr_config.specs.declared.fault.ConfigFault.{ConfigFault}
 use Rattle.nr_config.specs.declared.table.Row as code
 

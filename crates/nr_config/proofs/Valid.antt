@@ -6,8 +6,9 @@ use Rattle.std.specs.Prelude.{option_and_then}
 use Rattle.serde_json.specs.Data.{Data}
 use Rattle.serde_json.specs.Find.{get, as_number, as_u64}
 use Rattle.nr_config.specs.Table.{Row, table}
-use Rattle.nr_config.specs.Config.{Config, entry, least, greatest, IsValidConfig}
-use Rattle.nr_config.specs.Reading.{◌>>=◌, bounded, named, numbers}
+use Rattle.nr_config.specs.Config.{Config, reward_numerator, reward_denominator, least, greatest, IsValidConfig}
+use Rattle.nr_bytes.specs.Reading.{◌>>=◌}
+use Rattle.nr_config.specs.Reading.{bounded, named, numbers}
 use Rattle.nr_config.specs.declared.fault.ConfigFault.{ConfigFault}
 
 -- each number is within the bounds of its row
@@ -49,7 +50,7 @@ length-table : length table ≡ 75
 unfolding table
 length-table = refl
 
-pub valid : (c : Config) → AreWithin table c → entry c 11 ≤ entry c 12 → IsValidConfig c
+pub valid : (c : Config) → AreWithin table c → reward_numerator c ≤ reward_denominator c → IsValidConfig c
 unfolding least greatest
 valid c h reward = record {
   whole = within-length table c h ∙ length-table;
@@ -84,5 +85,5 @@ numbers-within n [] d (x ∷ xs) e = cc
 numbers-within n (r ∷ rs) d c e =
     more-within r rs (named n r (get r.name d)) (numbers (n + 1) rs d) c (λ x. named-within n r (get r.name d) x) (λ xs. numbers-within (n + 1) rs d xs) e
 
-pub valid_from_read : (c : Config) (d : Data) → numbers 1 table d ≡ Ok c → entry c 11 ≤ entry c 12 → IsValidConfig c
+pub valid_from_read : (c : Config) (d : Data) → numbers 1 table d ≡ Ok c → reward_numerator c ≤ reward_denominator c → IsValidConfig c
 valid_from_read c d e reward = valid c (numbers-within 1 table d c e) reward

@@ -1,19 +1,14 @@
 -- The configuration that a JSON text is (RFC 8259, as the crate `serde_json` reads it), or why it is none. This project's own.
-use Rattle.std.specs.Prelude.{◌≡◌, ◌≢◌, ℕ, ◌+◌, List, [], ◌∷◌, is_some, Option, Some, None, option_and_then, Result, Ok, Err, nat_lt, ◌||◌, if◌then◌else◌}
+use Rattle.std.specs.Prelude.{ℕ, ◌+◌, List, [], ◌∷◌, is_some, Option, Some, None, option_and_then, Result, Ok, Err, nat_lt, ◌||◌, if◌then◌else◌}
 use Rattle.std.specs.Str.{is_utf8}
 use Rattle.serde_json.specs.Data.{Data}
 use Rattle.serde_json.specs.Find.{get, as_object, as_number, as_u64}
 use Rattle.serde_json.specs.Read.{read}
 use Rattle.nr_config.specs.Table.{Row, table}
-use Rattle.nr_config.specs.Config.{Config, entry}
+use Rattle.nr_bytes.specs.Reading.{◌>>=◌}
+use Rattle.nr_config.specs.Config.{Config, reward_numerator, reward_denominator}
 use Rattle.nr_config.specs.declared.fault.ConfigFault.{ConfigFault}
-use Rattle.nr_config.specs.declared.fault.ConfigFault.TheVariants.{NotJson, Missing, NotWhole, OutOfRange, Memory}
-
--- the answer that the first answer leads to, unless that is a fault
-infixl 10 ◌>>=◌
-abbrev pub ◌>>=◌ : {A B : Type 0} → Result A ConfigFault → (A → Result B ConfigFault) → Result B ConfigFault
-(Ok x) >>= f = f x
-(Err e) >>= f = Err e
+use Rattle.nr_config.specs.declared.fault.ConfigFault.TheVariants.{NotJson, Missing, NotWhole, OutOfRange}
 
 -- a whole number within the bounds of its entry, which is the n-th
 abbrev pub bounded : ℕ → Row → Option ℕ → Result ℕ ConfigFault
@@ -35,7 +30,7 @@ numbers n (r ∷ rs) d = do
 
 -- the part of burnt gas that is a reward is at most the whole
 abbrev pub with_reward : Config → Result Config ConfigFault
-with_reward c = if nat_lt (entry c 12) (entry c 11) then Err (OutOfRange 11) else Ok c
+with_reward c = if nat_lt (reward_denominator c) (reward_numerator c) then Err (OutOfRange 11) else Ok c
 
 -- the object that a JSON text is
 abbrev pub object_of : Option Data → Result Data ConfigFault
@@ -51,8 +46,3 @@ configuration bytes = do
   d ← object_in bytes
   c ← numbers 1 table d
   with_reward c
-
--- The answer is that one, unless memory ran out.
-abbrev pub Gives : {X : Type 0} → Result X ConfigFault → Result X ConfigFault → Type 0
-Gives (Ok x) answer = answer ≡ Ok x
-Gives (Err e) answer = e ≢ Memory → answer ≡ Err e

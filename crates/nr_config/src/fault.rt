@@ -2,8 +2,8 @@
 
 use thiserror::Error;
 
-/// Why some bytes are no configuration. An entry is told by its place in the order of the
-/// entries, from 1 to 75, and the first faulty one is told.
+/// Why some bytes are no configuration. An entry is told by its number, from 1
+/// to 75, and the first faulty one is told.
 #[derive(Clone, Copy, Debug, PartialEq, Eq, Error)]
 pub enum ConfigFault {
     /// The bytes are no JSON text, or its value is no object.
@@ -15,8 +15,8 @@ pub enum ConfigFault {
     /// The entry is no whole number from 0 to 2^64 - 1.
     #[error("entry {entry} is no whole number")]
     NotWhole { entry: u32 },
-    /// The entry is below its least or above its greatest number. Of entry 11 also where it is
-    /// above entry 12, and nothing else is faulty.
+    /// The entry is below its least or above its greatest number. Of the numerator of the reward also
+    /// where it is above the denominator, and nothing else is faulty.
     #[error("entry {entry} is out of its range")]
     OutOfRange { entry: u32 },
     /// Memory ran out.

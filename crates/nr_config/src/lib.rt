@@ -2,6 +2,7 @@
 #![tactic(auto)]
 
 mod config;
+pub mod entries;
 mod fault;
 mod reading;
 mod table;

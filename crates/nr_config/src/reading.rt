@@ -1,8 +1,9 @@
 //! From JSON to the numbers of a configuration.
 
-ghost use Rattle.std.specs.Prelude.{◌≡◌, ◌≢◌, map, IfOk, IfErr};
+ghost use Rattle.std.specs.Prelude.{◌≡◌, map};
 ghost use Rattle.serde_json.specs.Find.{get};
 ghost use Rattle.serde_json.specs.View.{view};
+ghost use Rattle.nr_bytes.specs.Answers.{GivesAs};
 ghost use Rattle.nr_config.specs.Table.{table};
 ghost use Rattle.nr_config.specs.Rows.{row_of};
 ghost use Rattle.nr_config.specs.Reading.{object_in, named, numbers};
@@ -15,8 +16,7 @@ use std::alloc::Global;
 
 /// The object that the bytes spell.
 pub(crate) fn json_of(alloc: Global, bytes: &[u8]) -> Result<Value, ConfigFault>
-    ensures ok { IfOk result (λ v. object_in bytes.now ≡ Ok (view v)) }
-    ensures err { IfErr result (λ e. e ≢ Memory → object_in bytes.now ≡ Err e) }
+    ensures { GivesAs Memory view result (object_in bytes.now) }
 {
     match Value::from_slice(alloc, bytes) {
         Ok(value) if value.is_object() => Ok(value),

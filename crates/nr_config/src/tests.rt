@@ -1,3 +1,4 @@
+use crate::entries::*;
 use crate::table::rows;
 use crate::{Config, ConfigFault};
 use std::alloc::Global;
@@ -157,14 +158,56 @@ fn entries_are_as_written(rt: HostRuntime) {
     }
 }
 
+#[test]
+fn named_entries_have_their_numbers(rt: HostRuntime) {
+    for (number, name) in [
+        (GAS_PRICE, "gas_price"),
+        (STORAGE_PRICE, "storage_price"),
+        (CHUNK_GAS_LIMIT, "chunk_gas_limit"),
+        (REGULAR_OP_COST, "regular_op_cost"),
+        (MAX_ACTIONS, "max_actions"),
+        (MAX_PREPAID_GAS, "max_prepaid_gas"),
+        (ACCOUNT_BYTES, "account_bytes"),
+        (EXTRA_RECORD_BYTES, "extra_record_bytes"),
+        (TOP_LEVEL_MIN_LEN, "top_level_min_len"),
+        (DELETE_STATE_LIMIT, "delete_state_limit"),
+        (REWARD_NUMERATOR, "reward_numerator"),
+        (REWARD_DENOMINATOR, "reward_denominator"),
+        (MAX_CODE, "max_code"),
+        (MAX_PAGES, "max_pages"),
+        (MAX_CALL_DEPTH, "max_call_depth"),
+        (MAX_STACK_VALUES, "max_stack_values"),
+        (MAX_REGISTERS, "max_registers"),
+        (MAX_REGISTER_BYTES, "max_register_bytes"),
+        (MAX_ALL_REGISTER_BYTES, "max_all_register_bytes"),
+        (MAX_LOGS, "max_logs"),
+        (MAX_LOG_BYTES, "max_log_bytes"),
+        (MAX_KEY_BYTES, "max_key_bytes"),
+        (MAX_VALUE_BYTES, "max_value_bytes"),
+        (MAX_RETURN_BYTES, "max_return_bytes"),
+        (MAX_PROMISES, "max_promises"),
+        (LOAD_BASE, "load_base"),
+        (LOAD_BYTE, "load_byte"),
+        (HOST_BASE, "host_base"),
+        (HOST_BYTE, "host_byte"),
+        (STORAGE_BASE, "storage_base"),
+        (STORAGE_BYTE, "storage_byte"),
+        (SHA_BASE, "sha_base"),
+        (SHA_BYTE, "sha_byte"),
+    ] {
+        let row = WRITTEN.get((number as usize).saturating_sub(1));
+        assert_eq!(rt; row.map(|row| row.0), Some(name));
+    }
+}
+
 /// The JSON text of a configuration, with some members in place of one entry's.
-fn text(alloc: Global, config: &Config, place: usize, members: &str) -> Result<String, Fail> {
+fn text(alloc: Global, config: &Config, entry: usize, members: &str) -> Result<String, Fail> {
     let mut text = String::from_str(alloc, "{")?;
     for (i, (name, ..)) in WRITTEN.iter().enumerate() {
         if i > 0 {
             text.push_str(", ")?;
         }
-        if i + 1 == place {
+        if i + 1 == entry {
             text.push_str(members)?;
         } else {
             let number = config.entry(i as u32 + 1);
@@ -176,8 +219,8 @@ fn text(alloc: Global, config: &Config, place: usize, members: &str) -> Result<S
 }
 
 /// What is read where some members stand in place of one entry's in the generated configuration.
-fn changed(alloc: Global, place: usize, members: &str) -> Result<Result<u64, ConfigFault>, Fail> {
-    let text = text(alloc, &Config::generated(), place, members)?;
+fn changed(alloc: Global, entry: usize, members: &str) -> Result<Result<u64, ConfigFault>, Fail> {
+    let text = text(alloc, &Config::generated(), entry, members)?;
     Ok(Config::read(alloc, text.as_bytes()).map(|config| config.entry(1)))
 }
 
@@ -193,11 +236,11 @@ fn built_in_configurations_are_read(rt: HostRuntime) -> Result<(), Fail> {
 fn is_refused(
     rt: &impl Abort,
     alloc: Global,
-    place: usize,
+    entry: usize,
     members: &str,
     fault: ConfigFault,
 ) -> Result<(), Fail> {
-    assert_eq!(rt; changed(alloc, place, members)?, Err(fault), "{members}");
+    assert_eq!(rt; changed(alloc, entry, members)?, Err(fault), "{members}");
     Ok(())
 }
 
@@ -215,7 +258,7 @@ fn first_faulty_entry_is_told(rt: HostRuntime) -> Result<(), Fail> {
     ] {
         is_refused(&rt, alloc, 1, members, ConfigFault::NotWhole { entry: 1 })?;
     }
-    for (place, members) in [
+    for (entry, members) in [
         (4, "\"regular_op_cost\": 0"),
         (9, "\"top_level_min_len\": 66"),
         (12, "\"reward_denominator\": 0"),
@@ -224,10 +267,10 @@ fn first_faulty_entry_is_told(rt: HostRuntime) -> Result<(), Fail> {
         is_refused(
             &rt,
             alloc,
-            place,
+            entry,
             members,
             ConfigFault::OutOfRange {
-                entry: place as u32,
+                entry: entry as u32,
             },
         )?;
     }

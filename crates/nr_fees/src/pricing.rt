@@ -7,16 +7,14 @@ ghost use Rattle.nr_fees.specs.Fees.{FitsIn, fee, with_bytes, method_bytes, key_
 use crate::table::{Fee, Payment, column_of, number_of};
 use nr_bytes::Text;
 use nr_config::Config;
+use nr_config::entries::FIRST_FEE;
 use nr_records::{Action, Permission};
-
-/// The entry of the configuration in which the fees begin.
-const FIRST_ENTRY: u32 = 34;
 
 /// A fee, in gas: the entry of the configuration that it stands in.
 pub fn fee_of(config: &Config, payment: Payment, which: Fee) -> u64
     ensures { result ≡ fee config.now payment which }
 {
-    config.entry(FIRST_ENTRY + 3 * number_of(which) + column_of(payment))
+    config.entry(FIRST_FEE + 3 * number_of(which) + column_of(payment))
 }
 
 /// A fee, and another one for each of `count` bytes.

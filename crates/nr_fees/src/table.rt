@@ -45,7 +45,7 @@ pub enum Fee {
     DeleteAccount,
 }
 
-/// The place of a fee, from 0 to 13.
+/// The number of a fee, from 0 to 13.
 pub(crate) fn number_of(fee: Fee) -> u32
     ensures value { result ≡ number fee }
     ensures in_table { result < 14 }
@@ -68,7 +68,7 @@ pub(crate) fn number_of(fee: Fee) -> u32
     }
 }
 
-/// The place of a payment, from 0 to 2.
+/// The column of a payment, from 0 to 2.
 pub(crate) fn column_of(payment: Payment) -> u32
     ensures value { result ≡ column payment }
     ensures in_table { result < 3 }

@@ -1,4 +1,4 @@
--- Hashes and keys that compare as equal are the same.
+-- Hashes and keys that compare as equal are the same, and a derived hash has 32 bytes.
 use Rattle.std.proofs.Common.{◌≡◌, ℕ, List, ap}
 use Rattle.std.proofs.lemmas.Map.Lookups.{exact_bytes}
 use Rattle.std.specs.Cmp.Lexicographic.{slice_cmp}
@@ -7,7 +7,9 @@ use Rattle.std.specs.FinMap.{IsAntisymmetric}
 use Rattle.nr_ids.specs.declared.key.Hash32.{Hash32}
 use Rattle.nr_ids.specs.declared.key.PublicKey.{PublicKey}
 use Rattle.nr_ids.specs.declared.key.PublicKey.TheVariants.{Ed25519, Secp256k1}
-use Rattle.nr_ids.specs.Keys.{hash_bytes, key_bytes}
+use Rattle.sha2.proofs.Facts256.{length-sha256}
+use Rattle.nr_ids.specs.Derive.{derived}
+use Rattle.nr_ids.specs.Keys.{hash_bytes, key_bytes, IsHash}
 
 pub same_hash : (a b : Hash32) → hash_bytes a ≡ hash_bytes b → a ≡ b
 same_hash a b e = ap (λ (bytes : List ℕ). record { 0 = bytes }) e
@@ -23,3 +25,7 @@ exact_hash a b e = same_hash a b (exact_bytes (hash_bytes a) (hash_bytes b) e)
 
 pub exact_key : IsAntisymmetric (on key_bytes (slice_cmp nat_cmp))
 exact_key a b e = same_key a b (exact_bytes (key_bytes a) (key_bytes b) e)
+
+pub derived_is_hash : (parent : Hash32) (height ordinal : ℕ) → IsHash (derived parent height ordinal)
+unfolding derived
+derived_is_hash parent height ordinal = length-sha256 _

@@ -1,5 +1,5 @@
 pub mod Ids
 pub mod Keys
-pub mod LowFirst
 pub mod Places
 pub mod SubIds
+pub mod System

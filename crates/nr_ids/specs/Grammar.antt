@@ -68,5 +68,9 @@ is_hex_digit b = is_ascii_digit b || (is_ascii_lowercase b && nat_lt b 103)
 unfoldable pub is_implicit : List ℕ → Bool
 is_implicit id = (length id == 64) && list_all is_hex_digit id
 
+-- the id of the system account
+abbrev pub system : List ℕ
+system = codes "system"
+
 unfoldable pub is_system : List ℕ → Bool
-is_system id = pointwise ◌==◌ id (codes "system")
+is_system id = pointwise ◌==◌ id system

@@ -1,6 +1,6 @@
 ghost use Rattle.std.specs.Prelude.{◌≡◌, IfOk, IsTrue, ◌↔◌, ◌<◌, ◌≤◌, length, not};
 ghost use Rattle.std.specs.List.{position, list_all};
-ghost use Rattle.nr_ids.specs.Grammar.{Judges, id_fault, is_id_byte, is_separator, is_dot, is_bad_separator, first_bad_separator, is_hex_digit, is_top, is_system, is_implicit, is_sub_of, IsSubOf};
+ghost use Rattle.nr_ids.specs.Grammar.{Judges, id_fault, is_id_byte, is_separator, is_dot, is_bad_separator, first_bad_separator, is_hex_digit, is_top, is_system, system, is_implicit, is_sub_of, IsSubOf};
 
 use crate::fault::IdFault;
 use std::alloc::{AllocError, Global};
@@ -129,6 +129,19 @@ impl AccountId {
                 Ok(AccountId { bytes })
             }
         }
+    }
+
+    /// The id `system`, the sender of receipts that no account sends.
+    ///
+    /// # Errors
+    ///
+    /// Where there is no memory for it.
+    #[tactic(auto, using(crate::proofs::System::system_is_id))]
+    pub fn system(alloc: Global) -> Result<AccountId, AllocError>
+        ensures { IfOk result (λ id. id ≡ system) }
+    {
+        let bytes = Vec::from_slice(alloc, b"system")?;
+        Ok(AccountId { bytes })
     }
 
     /// Another id of the same bytes.

@@ -9,7 +9,6 @@ use sha2::{Digest, Sha256};
 /// `parent`, then `height` and `ordinal` as 8 bytes each, the lowest first.
 ///
 /// It takes no memory and always answers.
-#[tactic(auto, using(crate::proofs::LowFirst::low_first_8))]
 pub fn derive(parent: &Hash32, height: Height, ordinal: u64) -> Hash32
     ensures { result ≡ derived parent.now height.0 ordinal }
 {

@@ -8,6 +8,7 @@ mod key;
 mod key_order;
 mod number;
 mod order;
+mod threads;
 
 pub use account_id::AccountId;
 pub use derivation::derive;

@@ -38,6 +38,10 @@ fn an_id_and_its_copy_have_the_bytes(rt: HostRuntime) -> Result<(), Fail> {
     let copy = id.duplicate(rt.alloc())?;
     assert_eq!(rt; copy.bytes(), b"alice.near".as_slice());
     assert!(rt; id == copy);
+    assert_eq!(rt;
+        AccountId::system(rt.alloc())?.bytes(),
+        b"system".as_slice()
+    );
     Ok(())
 }
 

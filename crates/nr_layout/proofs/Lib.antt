@@ -1,3 +1,3 @@
+pub mod Boundaries
 pub mod Counting
-pub mod Loop
 pub mod Parts

@@ -1,7 +1,9 @@
 ghost use Rattle.std.specs.Prelude.{◌≡◌, ◌+◌, ◌≤◌, length, IfOk, OnErr};
-ghost use Rattle.nr_records.specs.Reading.{Gives};
+ghost use Rattle.nr_bytes.specs.Answers.{GivesRead};
 ghost use Rattle.nr_layout.specs.Layout.{shard_of, parts, IsLayout};
-ghost use Rattle.nr_layout.specs.Reading.{layout_at, layout_bytes, FitsLayout, layout_law};
+ghost use Rattle.nr_layout.specs.Reading.{layout_at, layout_bytes, FitsLayout};
+ghost use Rattle.nr_layout.specs.LayoutLaw.{layout_law};
+ghost use Rattle.nr_records.specs.declared.fault.RecordFault.TheVariants.{Memory};
 
 use crate::reading::boundaries_of;
 use crate::routing::{count_up_to, routed};
@@ -41,9 +43,9 @@ impl Layout {
     /// it. Otherwise the fault of the first field that can't be read: `Short`, `BadUtf8` or
     /// `BadAccountId`. Of these the first one in reading order comes. `Memory` where memory ran out.
     /// The reader then stands where it stood.
-    #[tactic(auto, using(crate::proofs::Loop::layout_is_read), unfolding(crate::specs::Reading::layout_at))]
+    #[tactic(auto, using(crate::proofs::Boundaries::layout_is_read), unfolding(crate::specs::Reading::layout_at))]
     pub fn read(alloc: Global, reader: &mut Reader<'_>) -> Result<Layout, RecordFault>
-        ensures gives { Gives result reader.new (layout_at reader.old) }
+        ensures gives { GivesRead Memory result reader.new (layout_at reader.old) }
         ensures refused { OnErr result (reader.new ≡ reader.old) }
         ensures layout { IfOk result IsLayout }
     {

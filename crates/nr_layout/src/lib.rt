@@ -6,5 +6,6 @@ mod reading;
 mod routing;
 #[cfg(test)]
 mod tests;
+mod threads;
 
 pub use layout::Layout;

@@ -1,7 +1,8 @@
 //! Boundaries one after the other.
 
 ghost use Rattle.std.specs.Prelude.{◌≡◌, ◌-◌, length, slice_get, None};
-ghost use Rattle.nr_records.specs.Reading.{Gives, GivesItems};
+ghost use Rattle.nr_bytes.specs.Answers.{GivesRead, GivesAs};
+ghost use Rattle.nr_records.specs.declared.fault.RecordFault.TheVariants.{Memory};
 ghost use Rattle.nr_layout.specs.Layout.{is_above};
 ghost use Rattle.nr_layout.specs.Reading.{boundary_at, boundaries_at};
 
@@ -26,7 +27,7 @@ fn boundary_of(
     boundaries: &[AccountId],
     reader: &mut Reader<'_>,
 ) -> Result<AccountId, RecordFault>
-    ensures { Gives result reader.new (boundary_at (slice_get boundaries.now (length boundaries.now - 1)) reader.old) }
+    ensures { GivesRead Memory result reader.new (boundary_at (slice_get boundaries.now (length boundaries.now - 1)) reader.old) }
 {
     let at = reader.at();
     let id = AccountId::read(alloc, reader)?;
@@ -43,7 +44,7 @@ pub(crate) fn boundaries_of(
     count: u32,
     reader: &mut Reader<'_>,
 ) -> Result<Vec<AccountId>, RecordFault>
-    ensures { GivesItems result reader.new (boundaries_at None count reader.old) }
+    ensures { GivesAs Memory (λ v. (v.items, reader.new)) result (boundaries_at None count reader.old) }
 {
     let mut boundaries = Vec::new(alloc);
     for _ in 0..count {

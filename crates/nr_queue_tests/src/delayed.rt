@@ -29,21 +29,21 @@ fn receipt_of(alloc: Global, id: &Hash32) -> Result<Receipt, AllocError> {
 }
 
 /// Delays a receipt with this id.
-fn delay(state: &mut State, alloc: Global, id: &Hash32) -> Result<(), AllocError>
+fn delay(alloc: Global, state: &mut State, id: &Hash32) -> Result<(), AllocError>
     requires { state.old.whole ≡ true }
     ensures { OnOk result (state.new.whole ≡ true) }
 {
     let receipt = receipt_of(alloc, id)?;
-    queues::add_delayed(state, &receipt)?;
+    queues::add_delayed(alloc, state, &receipt)?;
     Ok(())
 }
 
 /// Takes the receipt at the front, and answers its id.
-fn serve(state: &mut State) -> Result<Option<Hash32>, AllocError>
+fn serve(alloc: Global, state: &mut State) -> Result<Option<Hash32>, AllocError>
     requires { state.old.whole ≡ true }
     ensures { OnOk result (state.new.whole ≡ true) }
 {
-    match queues::take_delayed(state)? {
+    match queues::take_delayed(alloc, state)? {
         Some(receipt) => Ok(Some(receipt.receipt_id)),
         None => Ok(None),
     }
@@ -54,8 +54,8 @@ fn two_delayed(alloc: Global) -> Result<State, AllocError>
     ensures { IfOk result (λ state. state.whole ≡ true) }
 {
     let mut state = empty_state(alloc);
-    delay(&mut state, alloc, &A)?;
-    delay(&mut state, alloc, &B)?;
+    delay(alloc, &mut state, &A)?;
+    delay(alloc, &mut state, &B)?;
     Ok(state)
 }
 
@@ -64,15 +64,15 @@ fn two_served(alloc: Global) -> Result<State, AllocError>
     ensures { IfOk result (λ state. state.whole ≡ true) }
 {
     let mut state = two_delayed(alloc)?;
-    serve(&mut state)?;
-    serve(&mut state)?;
+    serve(alloc, &mut state)?;
+    serve(alloc, &mut state)?;
     Ok(state)
 }
 
 #[test]
 fn an_empty_queue_serves_nothing(rt: HostRuntime) -> Result<(), Fail> {
     let mut state = empty_state(rt.alloc());
-    assert_eq!(rt; serve(&mut state)?, None);
+    assert_eq!(rt; serve(rt.alloc(), &mut state)?, None);
     assert_eq!(rt; size(&state)?, 0);
     Ok(())
 }
@@ -80,9 +80,9 @@ fn an_empty_queue_serves_nothing(rt: HostRuntime) -> Result<(), Fail> {
 #[test]
 fn receipts_are_served_in_order(rt: HostRuntime) -> Result<(), Fail> {
     let mut state = two_delayed(rt.alloc())?;
-    assert_eq!(rt; serve(&mut state)?, Some(A));
-    assert_eq!(rt; serve(&mut state)?, Some(B));
-    assert_eq!(rt; serve(&mut state)?, None);
+    assert_eq!(rt; serve(rt.alloc(), &mut state)?, Some(A));
+    assert_eq!(rt; serve(rt.alloc(), &mut state)?, Some(B));
+    assert_eq!(rt; serve(rt.alloc(), &mut state)?, None);
     Ok(())
 }
 
@@ -91,7 +91,7 @@ fn delayed_receipts_stand_under_their_numbers(rt: HostRuntime) -> Result<(), Fai
     let mut state = two_delayed(rt.alloc())?;
     assert!(rt; holds(&state, b"\x07", b"\0\0\0\0\0\0\0\0\x02\0\0\0\0\0\0\0")?);
     assert!(rt; holds(&state, b"\x07\x01\0\0\0\0\0\0\0", &RECEIPT)?);
-    assert_eq!(rt; serve(&mut state)?, Some(A));
+    assert_eq!(rt; serve(rt.alloc(), &mut state)?, Some(A));
     assert!(rt; holds(&state, b"\x07", b"\x01\0\0\0\0\0\0\0\x02\0\0\0\0\0\0\0")?);
     Ok(())
 }
@@ -108,7 +108,7 @@ fn the_numbers_stand_once_all_are_served(rt: HostRuntime) -> Result<(), Fail> {
 fn a_later_receipt_has_the_next_number(rt: HostRuntime) -> Result<(), Fail> {
     let alloc = rt.alloc();
     let mut state = two_served(alloc)?;
-    delay(&mut state, alloc, &B)?;
+    delay(alloc, &mut state, &B)?;
     assert!(rt; holds(&state, b"\x07\x02\0\0\0\0\0\0\0", &RECEIPT)?);
     assert!(rt; holds(&state, b"\x07", b"\x02\0\0\0\0\0\0\0\x03\0\0\0\0\0\0\0")?);
     Ok(())

@@ -37,25 +37,36 @@ fn body_of(alloc: Global, signer: AccountId, inputs: List<Hash32>) -> Body
 }
 
 /// Whether no postponed receipt at a receiver has this id.
-fn is_new(state: &State, receiver: &AccountId, id: &Hash32) -> Result<bool, AllocError>
+fn is_new(
+    alloc: Global,
+    state: &State,
+    receiver: &AccountId,
+    id: &Hash32,
+) -> Result<bool, AllocError>
     requires { state.now.whole ≡ true }
     ensures { IfOk result (λ new. is_some (map.get state.now.world.postponed (receiver.now, id.now.0)) ≡ not new) }
 {
-    let found = queues::missing(state, receiver, id)?;
+    let found = queues::missing(alloc, state, receiver, id)?;
     Ok(found.is_none())
 }
 
 /// Whether no postponed receipt at a receiver has this input.
-fn is_free(state: &State, receiver: &AccountId, input: &Hash32) -> Result<bool, AllocError>
+fn is_free(
+    alloc: Global,
+    state: &State,
+    receiver: &AccountId,
+    input: &Hash32,
+) -> Result<bool, AllocError>
     requires { state.now.whole ≡ true }
     ensures { IfOk result (λ free. is_some (awaited_by state.now.world receiver.now input.now) ≡ not free) }
 {
-    let found = queues::awaited(state, receiver, input)?;
+    let found = queues::awaited(alloc, state, receiver, input)?;
     Ok(found.is_none())
 }
 
 /// Adds a receipt with these two inputs, where it may be.
 fn postpone(
+    alloc: Global,
     state: &mut State,
     receipt: &Receipt,
     first: &Hash32,
@@ -67,12 +78,13 @@ fn postpone(
     ensures { OnOk result (state.new.whole ≡ true) }
 {
     let receiver = &receipt.receiver;
-    let is_new = is_new(state, receiver, &receipt.receipt_id)?;
-    let are_free = is_free(state, receiver, first)? && is_free(state, receiver, second)?;
+    let is_new = is_new(alloc, state, receiver, &receipt.receipt_id)?;
+    let are_free = is_free(alloc, state, receiver, first)?
+        && is_free(alloc, state, receiver, second)?;
     if first == second || !is_new || !are_free {
         return Err(AllocError);
     }
-    queues::add_postponed(state, receipt)?;
+    queues::add_postponed(alloc, state, receipt)?;
     Ok(())
 }
 
@@ -97,8 +109,8 @@ pub(crate) fn receipt_of(
 
 /// Adds such a receipt.
 pub(crate) fn put(
-    state: &mut State,
     alloc: Global,
+    state: &mut State,
     id: &Hash32,
     first: &Hash32,
     second: &Hash32,
@@ -107,6 +119,6 @@ pub(crate) fn put(
     ensures { OnOk result (state.new.whole ≡ true) }
 {
     let receipt = receipt_of(alloc, id, first, second)?;
-    postpone(state, &receipt, first, second)?;
+    postpone(alloc, state, &receipt, first, second)?;
     Ok(())
 }

@@ -24,13 +24,14 @@ fn waiting(alloc: Global, receiver: &AccountId) -> Result<State, AllocError>
     ensures { IfOk result (λ state. state.whole ≡ true) }
 {
     let mut state = empty_state(alloc);
-    add(&mut state, receiver, &A, &None)?;
-    put(&mut state, alloc, &R, &A, &B)?;
+    add(alloc, &mut state, receiver, &A, &None)?;
+    put(alloc, &mut state, &R, &A, &B)?;
     Ok(state)
 }
 
 /// How many inputs the receipt lacks once a datum came.
 fn missing_with(
+    alloc: Global,
     state: &mut State,
     receiver: &AccountId,
     id: &Hash32,
@@ -38,13 +39,14 @@ fn missing_with(
     requires { state.old.whole ≡ true }
     ensures { OnOk result (state.new.whole ≡ true) }
 {
-    add(state, receiver, id, &None)?;
-    let count = queues::missing(state, receiver, &R)?;
+    add(alloc, state, receiver, id, &None)?;
+    let count = queues::missing(alloc, state, receiver, &R)?;
     Ok(count)
 }
 
 /// How many inputs the receipt lacks once a datum is taken out.
 fn missing_without(
+    alloc: Global,
     state: &mut State,
     receiver: &AccountId,
     id: &Hash32,
@@ -52,8 +54,8 @@ fn missing_without(
     requires { state.old.whole ≡ true }
     ensures { OnOk result (state.new.whole ≡ true) }
 {
-    queues::remove_received(state, receiver, id)?;
-    let count = queues::missing(state, receiver, &R)?;
+    queues::remove_received(alloc, state, receiver, id)?;
+    let count = queues::missing(alloc, state, receiver, &R)?;
     Ok(count)
 }
 
@@ -62,21 +64,22 @@ fn a_receipt_lacks_what_did_not_come(rt: HostRuntime) -> Result<(), Fail> {
     let alloc = rt.alloc();
     let id = ab(alloc)?;
     let mut state = waiting(alloc, &id)?;
-    assert_eq!(rt; queues::missing(&state, &id, &R)?, Some(1));
-    assert_eq!(rt; missing_with(&mut state, &id, &B)?, Some(0));
-    assert_eq!(rt; missing_without(&mut state, &id, &B)?, Some(1));
+    assert_eq!(rt; queues::missing(alloc, &state, &id, &R)?, Some(1));
+    assert_eq!(rt; missing_with(alloc, &mut state, &id, &B)?, Some(0));
+    assert_eq!(rt; missing_without(alloc, &mut state, &id, &B)?, Some(1));
     Ok(())
 }
 
 /// Whether it is the receipt that has this input; `None` where none has it.
 fn is_awaited(
+    alloc: Global,
     state: &State,
     receiver: &AccountId,
     input: &Hash32,
 ) -> Result<Option<bool>, AllocError>
     requires { state.now.whole ≡ true }
 {
-    match queues::awaited(state, receiver, input)? {
+    match queues::awaited(alloc, state, receiver, input)? {
         Some(by) => Ok(Some(by == R)),
         None => Ok(None),
     }
@@ -87,9 +90,9 @@ fn both_inputs_are_awaited(rt: HostRuntime) -> Result<(), Fail> {
     let alloc = rt.alloc();
     let id = ab(alloc)?;
     let state = waiting(alloc, &id)?;
-    assert_eq!(rt; is_awaited(&state, &id, &A)?, Some(true));
-    assert_eq!(rt; is_awaited(&state, &id, &B)?, Some(true));
-    assert_eq!(rt; is_awaited(&state, &id, &R)?, None);
+    assert_eq!(rt; is_awaited(alloc, &state, &id, &A)?, Some(true));
+    assert_eq!(rt; is_awaited(alloc, &state, &id, &B)?, Some(true));
+    assert_eq!(rt; is_awaited(alloc, &state, &id, &R)?, None);
     Ok(())
 }
 
@@ -123,11 +126,11 @@ fn is_put(alloc: Global, receipt: &Receipt) -> Result<bool, AllocError> {
 }
 
 /// Takes the receipt out: whether it was there, and whether it is the one that was put.
-fn take(state: &mut State, alloc: Global, receiver: &AccountId) -> Result<[bool; 2], AllocError>
+fn take(alloc: Global, state: &mut State, receiver: &AccountId) -> Result<[bool; 2], AllocError>
     requires { state.old.whole ≡ true }
     ensures { OnOk result (state.new.whole ≡ true) }
 {
-    let Some(receipt) = queues::take_postponed(state, receiver, &R)? else {
+    let Some(receipt) = queues::take_postponed(alloc, state, receiver, &R)? else {
         return Ok([false; 2]);
     };
     Ok([true, is_put(alloc, &receipt)?])
@@ -138,8 +141,8 @@ fn a_receipt_that_is_taken_leaves_nothing(rt: HostRuntime) -> Result<(), Fail> {
     let alloc = rt.alloc();
     let id = ab(alloc)?;
     let mut state = waiting(alloc, &id)?;
-    assert_eq!(rt; take(&mut state, alloc, &id)?, [true; 2]);
+    assert_eq!(rt; take(alloc, &mut state, &id)?, [true; 2]);
     assert_eq!(rt; size(&state)?, 1);
-    assert_eq!(rt; take(&mut state, alloc, &id)?, [false; 2]);
+    assert_eq!(rt; take(alloc, &mut state, &id)?, [false; 2]);
     Ok(())
 }

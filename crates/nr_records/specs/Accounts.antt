@@ -1,12 +1,13 @@
 -- Nomicon, DataStructures, Account: what the ledger holds of an account, spelled by Borsh 1.0.
-use Rattle.std.proofs.Common.{ℕ, ◌^◌, ◌<◌, List, ◌++◌, refl}
+use Rattle.std.specs.Prelude.{ℕ, ◌^◌, ◌<◌, List, ◌++◌}
 use Rattle.nr_bytes.specs.Numbers.{little}
 use Rattle.nr_bytes.specs.Reading.{Input}
 use Rattle.nr_ids.specs.declared.key.Hash32.{Hash32}
 use Rattle.nr_records.specs.declared.account.Account.{Account}
 use Rattle.nr_records.specs.Reading.{Read, nat_at}
-use Rattle.nr_records.specs.Laws.{IsRead, nat_law, pair, pair_law, mapped, mapped_law}
-use Rattle.nr_records.specs.Ids.{hash_at, hash_bytes, IsHash, hash_law}
+use Rattle.nr_bytes.specs.Fields.{pair, mapped}
+use Rattle.nr_records.specs.Ids.{hash_at}
+use Rattle.nr_ids.specs.Keys.{hash_bytes, IsHash}
 
 abbrev pub account_bytes : Account → List ℕ
 account_bytes a = little 16 a.amount ++ (little 16 a.locked ++ (hash_bytes a.code_hash ++ little 8 a.storage_usage))
@@ -25,13 +26,3 @@ fields_at = pair (nat_at 16) (pair (nat_at 16) (pair hash_at (nat_at 8)))
 
 unfoldable pub account_at : Input → Read Account
 account_at = mapped account_of fields_at
-
--- ---- the law
-
-abbrev fields_of : Account → Fields
-fields_of a = (a.amount, (a.locked, (a.code_hash, a.storage_usage)))
-
-pub account_law : IsRead account_at account_bytes IsAccount
-unfolding account_at
-account_law = mapped_law account_of fields_of (λ _. refl) (λ _. refl) _ _ _
-    (pair_law _ _ _ _ _ _ (nat_law 16) (pair_law _ _ _ _ _ _ (nat_law 16) (pair_law _ _ _ _ _ _ hash_law (nat_law 8))))

@@ -1,7 +1,5 @@
 pub mod Fault
 pub mod Reading
-pub mod Spelling
-pub mod Laws
 pub mod Ids
 pub mod Options
 pub mod Accounts
@@ -9,3 +7,10 @@ pub mod AccessKeys
 pub mod Actions
 pub mod Transactions
 pub mod Receipts
+pub mod IdLaws
+pub mod OptionLaw
+pub mod AccessKeyLaws
+pub mod ActionLaw
+pub mod AccountLaw
+pub mod TransactionLaw
+pub mod ReceiptLaws

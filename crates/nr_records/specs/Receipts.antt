@@ -1,6 +1,6 @@
 -- Nomicon, RuntimeSpec, Receipts: what goes from account to account, spelled by Borsh 1.0.
-use Rattle.std.proofs.Common.{◌≡◌, ℕ, zero, suc, ◌^◌, ◌<◌, List, ◌∷◌, ◌++◌, Option, Ok, Err, refl, arith}
-use Rattle.nr_bytes.specs.Numbers.{little, IsBytes}
+use Rattle.std.specs.Prelude.{ℕ, zero, suc, ◌^◌, ◌<◌, List, ◌∷◌, ◌++◌, Option, Err}
+use Rattle.nr_bytes.specs.Numbers.{little}
 use Rattle.nr_bytes.specs.Reading.{Input}
 use Rattle.nr_bytes.specs.Writing.{counted_bytes}
 use Rattle.nr_ids.specs.declared.key.Hash32.{Hash32}
@@ -13,12 +13,13 @@ use Rattle.nr_records.specs.declared.receipt.DataReceipt.{DataReceipt}
 use Rattle.nr_records.specs.declared.receipt.DataReceiver.{DataReceiver}
 use Rattle.nr_records.specs.declared.receipt.Receipt.{Receipt}
 use Rattle.nr_records.specs.declared.fault.RecordFault.TheVariants.{BadOrdinal}
-use Rattle.nr_records.specs.Reading.{Read, nat_at, blob_at, account_id_at, list_at}
-use Rattle.nr_records.specs.Spelling.{list, FitsList}
-use Rattle.nr_records.specs.Laws.{IsRead, IsRead-spelled, nat_law, blob_law, IsCounted, list_law, pair, pair_law, mapped, mapped_law, mapped_case, choice, choice_law, tagged, IsArm, before, behind}
-use Rattle.nr_records.specs.Options.{option_at, option_bytes, IsOption, option_law}
-use Rattle.nr_records.specs.Ids.{IsId, id_law, hash_at, hash_bytes, IsHash, hash_law, key_at, key_bytes, IsKey, key_law}
-use Rattle.nr_records.specs.Actions.{action_at, action_bytes, IsAction, action_law}
+use Rattle.nr_records.specs.Reading.{Read, nat_at, blob_at, account_id_at, list_at, choice}
+use Rattle.nr_bytes.specs.Spelling.{list, FitsList, IsCounted}
+use Rattle.nr_bytes.specs.Fields.{pair, mapped}
+use Rattle.nr_records.specs.Options.{option_at, option_bytes, IsOption}
+use Rattle.nr_records.specs.Ids.{IsId, hash_at, key_at}
+use Rattle.nr_ids.specs.Keys.{hash_bytes, IsHash, key_bytes, IsKey}
+use Rattle.nr_records.specs.Actions.{action_at, action_bytes, IsAction}
 
 -- ---- who gets the result of a receipt
 
@@ -34,13 +35,6 @@ data_receiver_of f = record { data_id = f.0; receiver = f.1 }
 unfoldable pub data_receiver_at : Input → Read DataReceiver
 data_receiver_at = mapped data_receiver_of (pair hash_at account_id_at)
 
-abbrev data_receiver_fields : DataReceiver → Hash32 × List ℕ
-data_receiver_fields d = (d.data_id, d.receiver)
-
-pub data_receiver_law : IsRead data_receiver_at data_receiver_bytes IsDataReceiver
-unfolding data_receiver_at
-data_receiver_law = mapped_law data_receiver_of data_receiver_fields (λ _. refl) (λ _. refl) _ _ _ (pair_law _ _ _ _ _ _ hash_law id_law)
-
 -- ---- a receipt of a datum
 
 abbrev pub data_receipt_bytes : DataReceipt → List ℕ
@@ -54,13 +48,6 @@ data_receipt_of f = record { data_id = f.0; bytes = f.1 }
 
 unfoldable pub data_receipt_at : Input → Read DataReceipt
 data_receipt_at = mapped data_receipt_of (pair hash_at (option_at blob_at))
-
-abbrev data_receipt_fields : DataReceipt → Hash32 × Option (List ℕ)
-data_receipt_fields d = (d.data_id, d.bytes)
-
-pub data_receipt_law : IsRead data_receipt_at data_receipt_bytes IsDataReceipt
-unfolding data_receipt_at
-data_receipt_law = mapped_law data_receipt_of data_receipt_fields (λ _. refl) (λ _. refl) _ _ _ (pair_law _ _ _ _ _ _ hash_law (option_law _ _ _ blob_law))
 
 -- ---- a receipt of actions
 
@@ -83,15 +70,6 @@ action_fields_at = pair account_id_at (pair key_at (pair (nat_at 16) (pair (list
 unfoldable pub action_receipt_at : Input → Read ActionReceipt
 action_receipt_at = mapped action_receipt_of action_fields_at
 
-abbrev action_fields_of : ActionReceipt → ActionFields
-action_fields_of a = (a.signer, (a.signer_key, (a.gas_price, (a.outputs, (a.inputs, a.actions)))))
-
-pub action_receipt_law : IsRead action_receipt_at action_receipt_bytes IsActionReceipt
-unfolding action_receipt_at
-action_receipt_law = mapped_law action_receipt_of action_fields_of (λ _. refl) (λ _. refl) _ _ _
-    (pair_law _ _ _ _ _ _ id_law (pair_law _ _ _ _ _ _ key_law (pair_law _ _ _ _ _ _ (nat_law 16) (pair_law _ _ _ _ _ _ (list_law _ _ _ data_receiver_law)
-    (pair_law _ _ _ _ _ _ (list_law _ _ _ hash_law) (list_law _ _ _ action_law))))))
-
 -- ---- what a receipt is of
 
 abbrev pub body_bytes : Body → List ℕ
@@ -110,35 +88,6 @@ body_body at (suc (suc b)) = λ s. Err (BadOrdinal at)
 
 unfoldable pub body_at : Input → Read Body
 body_at = choice body_body
-
-abbrev ordinal : Body → ℕ
-ordinal (Act a) = 0
-ordinal (Datum d) = 1
-
-abbrev inner : Body → List ℕ
-inner (Act a) = action_receipt_bytes a
-inner (Datum d) = data_receipt_bytes d
-
-arms : (at n : ℕ) (s : Input) (p : Body × Input) → IsBytes s.left → body_body at n s ≡ Ok p → IsArm ordinal inner IsBody n s p
-arms at zero s p fits e = mapped_case (λ a. Act a) action_receipt_at action_receipt_bytes IsActionReceipt action_receipt_law (IsArm ordinal inner IsBody 0 s) s p fits (λ x t ok takes. record { ordinal = refl; fits = ok; takes = takes }) e
-arms at (suc zero) s p fits e = mapped_case (λ d. Datum d) data_receipt_at data_receipt_bytes IsDataReceipt data_receipt_law (IsArm ordinal inner IsBody 1 s) s p fits (λ x t ok takes. record { ordinal = refl; fits = ok; takes = takes }) e
-arms at (suc (suc b)) s p fits e = absurd cc
-
-again : (at : ℕ) (v : Body) (here : ℕ) (rest : List ℕ) → IsBody v → body_body at (ordinal v) (before (inner v) here rest) ≡ Ok (v, behind (inner v) here rest)
-again at (Act a) here rest fits = rw (action_receipt_law.again a here rest fits) refl
-again at (Datum d) here rest fits = rw (data_receipt_law.again d here rest fits) refl
-
-low : (v : Body) → ordinal v < 256
-low (Act a) = omega arith
-low (Datum d) = omega arith
-
-spelled : (v : Body) → body_bytes v ≡ tagged ordinal inner v
-spelled (Act a) = refl
-spelled (Datum d) = refl
-
-pub body_law : IsRead body_at body_bytes IsBody
-unfolding body_at
-body_law = IsRead-spelled (choice body_body) body_bytes (tagged ordinal inner) IsBody spelled (choice_law body_body ordinal inner IsBody low arms again)
 
 -- ---- a receipt
 
@@ -159,10 +108,3 @@ fields_at = pair account_id_at (pair account_id_at (pair hash_at body_at))
 
 unfoldable pub receipt_at : Input → Read Receipt
 receipt_at = mapped receipt_of fields_at
-
-abbrev fields_of : Receipt → Fields
-fields_of r = (r.predecessor, (r.receiver, (r.receipt_id, r.body)))
-
-pub receipt_law : IsRead receipt_at receipt_bytes IsReceipt
-unfolding receipt_at
-receipt_law = mapped_law receipt_of fields_of (λ _. refl) (λ _. refl) _ _ _ (pair_law _ _ _ _ _ _ id_law (pair_law _ _ _ _ _ _ id_law (pair_law _ _ _ _ _ _ hash_law body_law)))

@@ -1,5 +1,5 @@
 -- Nomicon, DataStructures, Transaction: what a signer sends, without the signature, spelled by Borsh 1.0.
-use Rattle.std.proofs.Common.{ℕ, ◌^◌, ◌<◌, List, ◌++◌, refl}
+use Rattle.std.specs.Prelude.{ℕ, ◌^◌, ◌<◌, List, ◌++◌}
 use Rattle.nr_bytes.specs.Numbers.{little}
 use Rattle.nr_bytes.specs.Reading.{Input}
 use Rattle.nr_bytes.specs.Writing.{counted_bytes}
@@ -8,10 +8,11 @@ use Rattle.nr_ids.specs.declared.key.PublicKey.{PublicKey}
 use Rattle.nr_records.specs.declared.action.Action.{Action}
 use Rattle.nr_records.specs.declared.transaction.Transaction.{Transaction}
 use Rattle.nr_records.specs.Reading.{Read, nat_at, account_id_at, list_at}
-use Rattle.nr_records.specs.Spelling.{list, FitsList}
-use Rattle.nr_records.specs.Laws.{IsRead, nat_law, list_law, pair, pair_law, mapped, mapped_law}
-use Rattle.nr_records.specs.Ids.{IsId, id_law, hash_at, hash_bytes, IsHash, hash_law, key_at, key_bytes, IsKey, key_law}
-use Rattle.nr_records.specs.Actions.{action_at, action_bytes, IsAction, action_law}
+use Rattle.nr_bytes.specs.Spelling.{list, FitsList}
+use Rattle.nr_bytes.specs.Fields.{pair, mapped}
+use Rattle.nr_records.specs.Ids.{IsId, hash_at, key_at}
+use Rattle.nr_ids.specs.Keys.{hash_bytes, IsHash, key_bytes, IsKey}
+use Rattle.nr_records.specs.Actions.{action_at, action_bytes, IsAction}
 
 abbrev pub transaction_bytes : Transaction → List ℕ
 transaction_bytes t =
@@ -31,14 +32,3 @@ fields_at = pair account_id_at (pair key_at (pair (nat_at 8) (pair account_id_at
 
 unfoldable pub transaction_at : Input → Read Transaction
 transaction_at = mapped transaction_of fields_at
-
--- ---- the law
-
-abbrev fields_of : Transaction → Fields
-fields_of t = (t.signer, (t.public_key, (t.nonce, (t.receiver, (t.block_hash, t.actions)))))
-
-pub transaction_law : IsRead transaction_at transaction_bytes IsTransaction
-unfolding transaction_at
-transaction_law = mapped_law transaction_of fields_of (λ _. refl) (λ _. refl) _ _ _
-    (pair_law _ _ _ _ _ _ id_law (pair_law _ _ _ _ _ _ key_law (pair_law _ _ _ _ _ _ (nat_law 8) (pair_law _ _ _ _ _ _ id_law
-    (pair_law _ _ _ _ _ _ hash_law (list_law _ _ _ action_law))))))

@@ -1,5 +1,6 @@
 ghost use Rattle.std.specs.Prelude.{◌≡◌};
-ghost use Rattle.nr_records.specs.AccessKeys.{call_permission_at, call_permission_bytes, IsCallPermission, call_permission_law, permission_at, permission_bytes, IsPermission, permission_law, access_key_at, access_key_bytes, IsAccessKey, access_key_law};
+ghost use Rattle.nr_records.specs.AccessKeys.{call_permission_at, call_permission_bytes, IsCallPermission, permission_at, permission_bytes, IsPermission, access_key_at, access_key_bytes, IsAccessKey};
+ghost use Rattle.nr_records.specs.AccessKeyLaws.{call_permission_law, permission_law, access_key_law};
 
 use crate::fault::RecordFault;
 use crate::fields::u8_of;

@@ -1,5 +1,6 @@
 ghost use Rattle.std.specs.Prelude.{◌≡◌};
-ghost use Rattle.nr_records.specs.Accounts.{account_at, account_bytes, IsAccount, account_law};
+ghost use Rattle.nr_records.specs.Accounts.{account_at, account_bytes, IsAccount};
+ghost use Rattle.nr_records.specs.AccountLaw.{account_law};
 
 use crate::fault::RecordFault;
 use crate::spelled::Spelled;

@@ -1,7 +1,9 @@
 ghost use Rattle.std.specs.Prelude.{◌≡◌, ◌++◌, ◌∷◌, OnOk};
-ghost use Rattle.nr_records.specs.Actions.{action_at, action_bytes, IsAction, action_law, call_of, call_at};
-ghost use Rattle.nr_records.specs.Laws.{mapped};
-ghost use Rattle.nr_records.specs.Reading.{Gives};
+ghost use Rattle.nr_records.specs.Actions.{action_at, action_bytes, IsAction, call_of, call_at};
+ghost use Rattle.nr_records.specs.ActionLaw.{action_law};
+ghost use Rattle.nr_bytes.specs.Fields.{mapped};
+ghost use Rattle.nr_bytes.specs.Answers.{GivesRead};
+ghost use Rattle.nr_records.specs.declared.fault.RecordFault.TheVariants.{Memory};
 
 use crate::access_key::AccessKey;
 use crate::fault::RecordFault;
@@ -47,7 +49,7 @@ pub enum Action {
 }
 
 fn read_call(alloc: Global, reader: &mut Reader<'_>) -> Result<Action, RecordFault>
-    ensures { Gives result reader.new (mapped call_of call_at reader.old) }
+    ensures { GivesRead Memory result reader.new (mapped call_of call_at reader.old) }
 {
     let method = Text::read(alloc, reader)?;
     let args = Blob::read(alloc, reader)?;

@@ -73,6 +73,9 @@ pub struct ChunkResult {
     pub gas: u64,
     /// What was burnt of the ledger's supply, in its smallest unit.
     pub burnt: u128,
+    /// How many of its transactions became a receipt whose signer is its receiver, which no line
+    /// tells.
+    pub local: u64,
     /// What happened, in order.
     pub lines: List<ChunkLine>,
 }

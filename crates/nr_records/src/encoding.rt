@@ -1,4 +1,4 @@
-ghost use Rattle.std.specs.Prelude.{◌≡◌, IfOk};
+ghost use Rattle.std.specs.Prelude.{◌≡◌, IfOk, OnOk};
 ghost use Rattle.nr_records.specs.Reading.{all_of};
 
 use crate::spelled::Spelled;
@@ -12,6 +12,7 @@ use std::alloc::{AllocError, Global};
 /// Where there is no memory for it, or a count in it would be 2^32 or more.
 pub fn encode<T: Spelled>(alloc: Global, value: &T) -> Result<Blob, AllocError>
     ensures spelled { IfOk result (λ bytes. bytes ≡ T.spelling value.now) }
+    ensures fits { OnOk result (T.fits value.now) }
     // All of these bytes are read as the value.
     ensures back { IfOk result (λ bytes. all_of T.reading bytes ≡ Ok value.now) }
 {

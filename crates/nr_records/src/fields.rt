@@ -3,8 +3,12 @@
 ghost use Rattle.std.specs.Prelude.{◌≡◌, ◌++◌, ◌^◌, OnOk};
 ghost use Rattle.nr_bytes.specs.Numbers.{little};
 ghost use Rattle.nr_bytes.specs.Writing.{counted_bytes};
-ghost use Rattle.nr_records.specs.Reading.{Gives, nat_at, raw_at, blob_at, string_at};
-ghost use Rattle.nr_records.specs.Laws.{Below, nat_law, IsCounted, blob_law, IsString, string_law};
+ghost use Rattle.nr_records.specs.Reading.{nat_at, raw_at, blob_at, string_at};
+ghost use Rattle.nr_bytes.specs.Answers.{GivesRead};
+ghost use Rattle.nr_bytes.specs.Spelling.{Below, IsCounted, IsString};
+ghost use Rattle.nr_bytes.proofs.Fields.{nat_law, blob_law, string_law};
+ghost use Rattle.nr_records.specs.Fault.{record_fault};
+ghost use Rattle.nr_records.specs.declared.fault.RecordFault.TheVariants.{Memory};
 
 use crate::fault::RecordFault;
 use crate::spelled::Spelled;
@@ -13,19 +17,19 @@ use std::alloc::{AllocError, Global};
 
 /// An ordinal or a flag.
 pub(crate) fn u8_of(reader: &mut Reader<'_>) -> Result<u8, RecordFault>
-    ensures { Gives result reader.new (nat_at 1 reader.old) }
+    ensures { GivesRead Memory result reader.new (nat_at 1 reader.old) }
 {
     Ok(reader.u8()?)
 }
 
 pub(crate) fn u32_of(reader: &mut Reader<'_>) -> Result<u32, RecordFault>
-    ensures { Gives result reader.new (nat_at 4 reader.old) }
+    ensures { GivesRead Memory result reader.new (nat_at 4 reader.old) }
 {
     Ok(reader.u32()?)
 }
 
 pub(crate) fn fixed_of<const N: usize>(reader: &mut Reader<'_>) -> Result<[u8; N], RecordFault>
-    ensures { Gives result reader.new (raw_at N reader.old) }
+    ensures { GivesRead Memory result reader.new (raw_at N reader.old) }
 {
     Ok(reader.fixed::<N>()?)
 }
@@ -48,7 +52,7 @@ impl Spelled for u64 {
 
     ghost reading = { nat_at 8 };
 
-    ghost law = { nat_law 8 };
+    ghost law = { nat_law record_fault 8 };
 
     fn read(_alloc: Global, reader: &mut Reader<'_>) -> Result<u64, RecordFault> {
         Ok(reader.u64()?)
@@ -70,7 +74,7 @@ impl Spelled for u128 {
 
     ghost reading = { nat_at 16 };
 
-    ghost law = { nat_law 16 };
+    ghost law = { nat_law record_fault 16 };
 
     fn read(_alloc: Global, reader: &mut Reader<'_>) -> Result<u128, RecordFault> {
         Ok(reader.u128()?)
@@ -92,7 +96,7 @@ impl Spelled for Blob {
 
     ghost reading = { blob_at };
 
-    ghost law = { blob_law };
+    ghost law = { blob_law record_fault };
 
     fn read(alloc: Global, reader: &mut Reader<'_>) -> Result<Blob, RecordFault> {
         Ok(reader.bytes(alloc)?)
@@ -114,7 +118,7 @@ impl Spelled for Text {
 
     ghost reading = { string_at };
 
-    ghost law = { string_law };
+    ghost law = { string_law record_fault };
 
     fn read(alloc: Global, reader: &mut Reader<'_>) -> Result<Text, RecordFault> {
         Ok(reader.text(alloc)?)

@@ -1,7 +1,9 @@
 ghost use Rattle.std.specs.Prelude.{◌≡◌};
 ghost use Rattle.nr_bytes.specs.Writing.{counted_bytes};
 ghost use Rattle.nr_records.specs.Reading.{account_id_at};
-ghost use Rattle.nr_records.specs.Ids.{IsId, id_law, hash_at, hash_bytes, IsHash, hash_law, key_at, key_bytes, IsKey, key_law};
+ghost use Rattle.nr_records.specs.Ids.{IsId, hash_at, key_at};
+ghost use Rattle.nr_records.specs.IdLaws.{id_law, hash_law, key_law};
+ghost use Rattle.nr_ids.specs.Keys.{hash_bytes, IsHash, key_bytes, IsKey};
 
 use crate::fault::RecordFault;
 use crate::fields::{fixed_of, u8_of};

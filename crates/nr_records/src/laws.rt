@@ -1,9 +1,8 @@
 ghost use Rattle.std.specs.Prelude.{◌≡◌, ◌++◌, List, ℕ, []};
 ghost use Rattle.nr_bytes.specs.Numbers.{IsBytes};
 ghost use Rattle.nr_bytes.specs.Reading.{Input};
-ghost use Rattle.nr_records.specs.Laws.{before, behind};
+ghost use Rattle.nr_bytes.specs.Spelling.{before, behind, Takes};
 ghost use Rattle.nr_records.specs.Reading.{all_of};
-ghost use Rattle.nr_records.specs.Spelling.{Takes};
 
 use crate::spelled::Spelled;
 

@@ -21,6 +21,7 @@ mod receipt;
 mod spelled;
 #[cfg(test)]
 mod tests;
+mod threads;
 mod transaction;
 
 pub use access_key::{AccessKey, CallPermission, Permission};

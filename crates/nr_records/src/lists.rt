@@ -1,8 +1,12 @@
 ghost use Rattle.std.specs.Prelude.{◌≡◌, IfOk, OnOk, ◌++◌};
 ghost use Rattle.std.specs.List.{flat_map, AllByRecursion};
-ghost use Rattle.nr_records.specs.Reading.{GivesItems, items_at, list_at};
-ghost use Rattle.nr_records.specs.Spelling.{list, FitsList};
-ghost use Rattle.nr_records.specs.Laws.{list_law};
+ghost use Rattle.nr_records.specs.Reading.{list_at};
+ghost use Rattle.nr_bytes.specs.Answers.{GivesAs};
+ghost use Rattle.nr_bytes.specs.Fields.{items_at};
+ghost use Rattle.nr_bytes.specs.Spelling.{list, FitsList};
+ghost use Rattle.nr_bytes.proofs.Combined.{list_law};
+ghost use Rattle.nr_records.specs.Fault.{record_fault};
+ghost use Rattle.nr_records.specs.declared.fault.RecordFault.TheVariants.{Memory};
 
 use crate::fault::RecordFault;
 use crate::fields::u32_of;
@@ -15,7 +19,7 @@ fn items_of<T: Spelled>(
     count: u32,
     reader: &mut Reader<'_>,
 ) -> Result<Vec<T>, RecordFault>
-    ensures { GivesItems result reader.new (items_at T.reading count reader.old) }
+    ensures { GivesAs Memory (λ v. (v.items, reader.new)) result (items_at T.reading count reader.old) }
 {
     let mut items = Vec::new(alloc);
     for _ in 0..count {
@@ -52,9 +56,9 @@ impl<T: Spelled> Spelled for List<T> {
 
     ghost reading = { list_at T.reading };
 
-    ghost law = { list_law T.reading T.spelling T.fits T.law };
+    ghost law = { list_law record_fault T.reading T.spelling T.fits T.law };
 
-    #[tactic(auto, unfolding(crate::specs::Reading::list_at))]
+    #[tactic(auto, unfolding(nr_bytes::specs::Fields::list_at))]
     fn read(alloc: Global, reader: &mut Reader<'_>) -> Result<List<T>, RecordFault> {
         let mut ahead = reader.fork();
         let count = u32_of(&mut ahead)?;

@@ -1,5 +1,6 @@
 ghost use Rattle.std.specs.Prelude.{◌≡◌};
-ghost use Rattle.nr_records.specs.Options.{option_at, option_bytes, IsOption, option_law};
+ghost use Rattle.nr_records.specs.Options.{option_at, option_bytes, IsOption};
+ghost use Rattle.nr_records.specs.OptionLaw.{option_law};
 
 use crate::fault::RecordFault;
 use crate::fields::u8_of;

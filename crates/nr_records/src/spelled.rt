@@ -1,5 +1,6 @@
 ghost use Rattle.std.specs.Prelude.{◌≡◌, ◌++◌, OnOk, OnErr, IfOk};
-ghost use Rattle.nr_records.specs.Reading.{Gives};
+ghost use Rattle.nr_bytes.specs.Answers.{GivesRead};
+ghost use Rattle.nr_records.specs.declared.fault.RecordFault.TheVariants.{Memory};
 
 use crate::fault::RecordFault;
 use nr_bytes::{Reader, Writer};
@@ -11,7 +12,7 @@ pub trait Spelled: Sized + Drop {
     ghost use Rattle.std.specs.Prelude.{List, ℕ};
     ghost use Rattle.nr_bytes.specs.Reading.{Input};
     ghost use Rattle.nr_records.specs.Reading.{Read};
-    ghost use Rattle.nr_records.specs.Laws.{IsRead};
+    ghost use Rattle.nr_bytes.specs.Spelling.{IsRead};
 
     /// The bytes that spell it.
     ghost spelling: { Self → List ℕ };
@@ -29,7 +30,7 @@ pub trait Spelled: Sized + Drop {
     /// The fault of the first field that can't be read, or `Memory`. The reader then stands where
     /// it stood.
     fn read(alloc: Global, reader: &mut Reader<'_>) -> Result<Self, RecordFault>
-        ensures gives { Gives result reader.new (reading reader.old) }
+        ensures gives { GivesRead Memory result reader.new (reading reader.old) }
         ensures refused { OnErr result (reader.new ≡ reader.old) };
 
     /// Appends the spelling.

@@ -1,5 +1,6 @@
 ghost use Rattle.std.specs.Prelude.{◌≡◌};
-ghost use Rattle.nr_records.specs.Transactions.{transaction_at, transaction_bytes, IsTransaction, transaction_law};
+ghost use Rattle.nr_records.specs.Transactions.{transaction_at, transaction_bytes, IsTransaction};
+ghost use Rattle.nr_records.specs.TransactionLaw.{transaction_law};
 
 use crate::action::Action;
 use crate::fault::RecordFault;

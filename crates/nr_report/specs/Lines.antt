@@ -40,10 +40,17 @@ run_line o status = line (codes "run" ∷ hash_word o.receipt_id ∷ run_words o
 abbrev pub log_line : List ℕ → List ℕ
 log_line bytes = line (codes "log" ∷ bytes_word bytes ∷ [])
 
+-- the logs that have lines: none of a receipt that failed or clashed, since its changes don't stand
+abbrev pub told_logs : RunStatus → List (List ℕ) → List (List ℕ)
+told_logs (Value bytes) logs = logs
+told_logs (Promise id) logs = logs
+told_logs (Failure index kind part) logs = []
+told_logs Clash logs = []
+
 abbrev pub line_text : ChunkLine → List ℕ
 line_text (TxOk hash id) = line (codes "tx" ∷ hash_word hash ∷ codes "ok" ∷ hash_word id ∷ [])
 line_text (TxRefused hash number first second) = line (codes "tx" ∷ hash_word hash ∷ codes "refused" ∷ decimal number ∷ decimal first ∷ decimal second ∷ [])
-line_text (Run o) = run_line o o.status ++ flat_map log_line o.logs
+line_text (Run o) = run_line o o.status ++ flat_map log_line (told_logs o.status o.logs)
 line_text (Postponed id) = line (codes "post" ∷ hash_word id ∷ [])
 line_text (Received id) = line (codes "data" ∷ hash_word id ∷ [])
 line_text (Lost id) = line (codes "lost" ∷ hash_word id ∷ [])

@@ -4,7 +4,7 @@ ghost use Rattle.std.specs.Prelude.{◌≡◌, [], ◌∷◌, ◌++◌, IfOk, On
 ghost use Rattle.std.specs.List.{flat_map};
 ghost use Rattle.nr_records.specs.declared.chunk_result.RunStatus.TheVariants.{Value, Promise, Failure, Clash};
 ghost use Rattle.nr_records.specs.declared.chunk_result.ChunkLine.TheVariants.{TxOk, TxRefused, Sent};
-ghost use Rattle.nr_report.specs.Lines.{line, hash_word, bytes_word, run_line, log_line, line_text, chunk_line, chunk_text, total_line, places_words, tokens_text, totals_text};
+ghost use Rattle.nr_report.specs.Lines.{line, hash_word, bytes_word, run_line, log_line, told_logs, line_text, chunk_line, chunk_text, total_line, places_words, tokens_text, totals_text};
 
 use crate::totals::Totals;
 use nr_bytes::Blob;
@@ -151,6 +151,22 @@ fn print_logs(alloc: Global, logs: &[Blob], text: &mut String) -> Result<(), All
     Ok(())
 }
 
+/// The lines of a run's logs; where the receipt failed or clashed there are none.
+fn print_told_logs(alloc: Global, outcome: &Outcome, text: &mut String) -> Result<(), AllocError>
+    ensures { OnOk result (string_bytes text.new ≡ string_bytes text.old ++ flat_map log_line (told_logs outcome.now.status outcome.now.logs)) }
+{
+    match &outcome.status {
+        RunStatus::Value(_) => print_logs(alloc, outcome.logs.inner(), text),
+        RunStatus::Promise(_) => print_logs(alloc, outcome.logs.inner(), text),
+        RunStatus::Failure {
+            index: _,
+            kind: _,
+            part: _,
+        } => Ok(()),
+        RunStatus::Clash => Ok(()),
+    }
+}
+
 fn print_sent(
     alloc: Global,
     dest: ShardId,
@@ -180,7 +196,7 @@ fn print_line(alloc: Global, line: &ChunkLine, text: &mut String) -> Result<(), 
         } => print_refused(alloc, hash, *number, *first, *second, text),
         ChunkLine::Run(outcome) => {
             print_run(alloc, outcome, text)?;
-            print_logs(alloc, outcome.logs.inner(), text)
+            print_told_logs(alloc, outcome, text)
         }
         ChunkLine::Postponed(id) => print_receipt(alloc, "post", id, text),
         ChunkLine::Received(id) => print_receipt(alloc, "data", id, text),

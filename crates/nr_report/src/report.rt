@@ -8,7 +8,8 @@ use nr_records::ChunkResult;
 use std::alloc::{AllocError, Global};
 
 /// Adds the text of a chunk to `out`. It has a line for the chunk and then a line for each of its
-/// lines, with the logs of a run behind the run. After want of memory `out` is as before.
+/// lines, with the logs of a run behind the run; a run that failed or clashed has no lines for its
+/// logs. After want of memory `out` is as before.
 pub fn write_chunk(alloc: Global, chunk: &ChunkResult, out: &mut Blob) -> Result<(), AllocError>
     ensures ok { OnOk result (out.new ≡ out.old ++ chunk_text chunk.now) }
     ensures err { OnErr result (out.new ≡ out.old) }

@@ -24,6 +24,7 @@ fn reads(alloc: Global, line: ChunkLine, text: &str) -> Result<bool, Fail> {
         root: id(0xfe),
         gas: u64::MAX,
         burnt: u128::MAX,
+        local: 9,
         lines: List::of(lines),
     };
     let mut out = Blob::of(Vec::new(alloc));
@@ -104,6 +105,21 @@ fn other_ends_are_written(rt: HostRuntime) -> Result<(), Fail> {
 }
 
 #[test]
+fn failed_runs_have_no_log_lines(rt: HostRuntime) -> Result<(), Fail> {
+    let mut logs = Vec::new(rt.alloc());
+    logs.push(Blob::of(Vec::from_slice(rt.alloc(), b"hi")?))?;
+    let status = RunStatus::Failure {
+        index: 0,
+        kind: 4,
+        part: 1,
+    };
+    let text =
+        "run a1a1a1a1a1a1a1a1a1a1a1a1a1a1a1a1a1a1a1a1a1a1a1a1a1a1a1a1a1a1a1a1 failure 0 4 1 12 34\n";
+    assert!(rt; reads(rt.alloc(), run(status, logs), text)?);
+    Ok(())
+}
+
+#[test]
 fn receipts_are_written(rt: HostRuntime) -> Result<(), Fail> {
     let text = "post a1a1a1a1a1a1a1a1a1a1a1a1a1a1a1a1a1a1a1a1a1a1a1a1a1a1a1a1a1a1a1a1\n";
     assert!(rt; reads(rt.alloc(), ChunkLine::Postponed(id(0xa1)), text)?);
@@ -135,6 +151,7 @@ fn lines_follow_what_was_written_in_order(rt: HostRuntime) -> Result<(), Fail> {
         root: id(0x0d),
         gas: 2,
         burnt: 3,
+        local: 4,
         lines: List::of(lines),
     };
     let mut out = Blob::of(Vec::from_slice(rt.alloc(), b"front\n")?);

@@ -1,8 +1,8 @@
 -- Lemmas behind the answers.
-pub mod Whole
+pub mod WholeStates
 pub mod CodeWrites
-pub mod Numbered
-pub mod Moves
+pub mod QueueNumbers
+pub mod WorldChanges
 pub mod Queue
 pub mod Awaiting
 pub mod Missing
@@ -14,3 +14,7 @@ pub mod ValidTokens
 pub mod ValidWorlds
 pub mod ValidQueues
 pub mod ValidCalls
+pub mod KeyCosts
+pub mod OwnInputs
+pub mod Worlds
+pub mod ShownWorlds

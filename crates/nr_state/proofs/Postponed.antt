@@ -20,7 +20,7 @@ use Rattle.nr_state.specs.Repeats.{has_repeat}
 use Rattle.nr_state.specs.View.{has_input, IsPostponed, ArePostponed}
 use Rattle.nr_state.proofs.Awaiting.{Key, Held, pair_total, pair_exact, same_key, key_is, key_itself, has_waits, is_one, waits, find-awaits, either, find-both, all_awaits, awaited_at, waiter, no_waiter, one_waiter}
 use Rattle.nr_state.proofs.Missing.{missing_at}
-use Rattle.nr_state.proofs.Moves.{Follows}
+use Rattle.nr_state.proofs.WorldChanges.{Follows}
 use Rattle.nr_state.proofs.Received.{absent, put_back, not_there}
 
 -- ---- the columns of awaited data
@@ -83,7 +83,7 @@ put_awaits x k r (e ∷ es) new h =
     ] new
 
 -- nobody waits for what the receipt waits for
-abbrev IsFree : World → Receipt → Type 0
+abbrev pub IsFree : World → Receipt → Type 0
 IsFree w r = (x : Key) → waits x r ≡ true → get (awaited_in w) x ≡ None
 
 abbrev key_of : Receipt → Key
@@ -155,7 +155,7 @@ more_postponed_are w r are free distinct = record {
     alone k s id is same h g =
         false≢true (sym (no_waiter w (r.receiver, id.0) (free (r.receiver, id.0) (has_waits r.receiver id r refl g)) k s is) ∙ has_waits r.receiver id s same h)
 
-free_of : (w : World) (r : Receipt) → list_any (λ input. is_some (get (awaited_in w) (r.receiver, input.0))) (inputs_of r.body) ≡ false → IsFree w r
+pub free_of : (w : World) (r : Receipt) → list_any (λ input. is_some (get (awaited_in w) (r.receiver, input.0))) (inputs_of r.body) ≡ false → IsFree w r
 free_of w r h x is = each (inputs_of r.body) h is
   where
     none_of : (o : Option Hash32) → is_some o ≡ false → o ≡ None

@@ -11,9 +11,9 @@ use Rattle.nr_state.specs.World.{World}
 use Rattle.nr_state.specs.Flat.{columns_of, numbered, queue_in}
 use Rattle.nr_state.specs.View.{ArePostponed}
 use Rattle.nr_state.specs.Changes.{with_delayed, served_front}
-use Rattle.nr_state.specs.Queues.{front_in, more_delayed, less_delayed}
-use Rattle.nr_state.proofs.Moves.{Follows}
-use Rattle.nr_state.proofs.Numbered.{same, before_all, after_all, numbered-push}
+use Rattle.nr_state.specs.Queues.{next_in, front_in, more_delayed, less_delayed}
+use Rattle.nr_state.proofs.WorldChanges.{Follows}
+use Rattle.nr_state.proofs.QueueNumbers.{same, before_all, after_all, numbered-push}
 
 -- ---- a receipt at the end
 abbrev pair : ℕ → ℕ → Option (ℕ × ℕ)
@@ -114,3 +114,10 @@ delayed_less w are = record { columns = less_columns w; postponed = still w.dela
     still : (rs : List Receipt) → ArePostponed (served_front w rs)
     still [] = are
     still (r ∷ rs) = record { each = are.each; apart = are.apart }
+
+-- the next number follows those that were served and those that wait
+pub next_there : (w : World) → next_in (queue_in w) ≡ w.served + length w.delayed
+next_there w = by (w.served + length w.delayed) refl
+  where
+    by : (n : ℕ) → w.served + length w.delayed ≡ n → next_in (cond (eqb n 0) None (Some (w.served, n))) ≡ n
+    by n e = elim (eqb n 0) as (λ b. eqb n 0 ≡ b → next_in (cond b None (Some (w.served, n))) ≡ n) [ true ↦ λ t. grind (arith, nat_tests) | false ↦ λ t. refl ] refl

@@ -10,7 +10,7 @@ use Rattle.nr_state.specs.Queues.{more_received, less_received}
 use Rattle.nr_state.specs.View.{ArePostponed}
 use Rattle.nr_state.proofs.Awaiting.{Key, pair_total, pair_exact, same_key, key_is, key_itself, waits}
 use Rattle.nr_state.proofs.Missing.{one_if, lacks_one_less, with_data, counts_follow}
-use Rattle.nr_state.proofs.Moves.{Follows}
+use Rattle.nr_state.proofs.WorldChanges.{Follows}
 
 one_less : (b : Bool) (before after : ℕ) → before ≡ after + one_if b → after ≡ cond b (before - 1) before
 one_less true before after h = omega arith

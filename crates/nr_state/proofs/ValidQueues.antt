@@ -12,7 +12,8 @@ use Rattle.nr_records.specs.declared.receipt.Receipt.{Receipt}
 use Rattle.nr_state.specs.Changes.{with_received, without_received, with_postponed, without_postponed, with_delayed, served_front}
 use Rattle.nr_state.specs.Flat.{inputs_of, is_missing}
 use Rattle.nr_state.specs.Keeping.{HasOwnInputs, IsWithin}
-use Rattle.nr_state.specs.Valid.{IsValidWorld, AreAccounts, IsAction, IsBounded, Waits}
+use Rattle.nr_state.specs.Queues.{is_act}
+use Rattle.nr_state.specs.Valid.{IsValidWorld, AreAccounts, IsBounded, Waits}
 use Rattle.nr_state.specs.View.{IsPostponed, has_input}
 use Rattle.nr_state.specs.World.{World, no_world, bytes_cmp, pair_cmp, key_cmp, account_tokens}
 use Rattle.nr_state.proofs.ValidSums.{equal}
@@ -106,13 +107,13 @@ module _ (c : Config) (w : World) (v : IsValidWorld c w) where
           ]
         ]
 
-    pub postponed_kept : IsAction r.body → Waits w r → HasOwnInputs w r → IsBounded c r → IsWithin c (with_postponed w r) → IsValidWorld c (with_postponed w r)
+    pub postponed_kept : is_act r.body ≡ true → Waits w r → HasOwnInputs w r → IsBounded c r → IsWithin c (with_postponed w r) → IsValidWorld c (with_postponed w r)
     postponed_kept act waits own bounded tokens =
         let l = v.waiting in record {
           accounts = accounts_same _ _ _ _;
           waiting = record {
             postponed = record { each = either IsPostponed (record { keyed = refl; distinct = own.distinct }) l.postponed.each; apart = apart_new own };
-            actions = either (λ k q. IsAction q.body) act l.actions;
+            actions = either (λ k q. is_act q.body ≡ true) act l.actions;
             waits = either (λ k q. Waits w q) waits l.waits;
             bounded = either (λ k q. IsBounded c q) bounded l.bounded;
             delayed = l.delayed;

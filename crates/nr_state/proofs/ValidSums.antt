@@ -77,6 +77,13 @@ module _ {K X : Type 0} {R : K → K → Ordering} (o : IsTotalOrder R) (same : 
   insert_twice m k v w = same_map o same _ _ (λ q. get-insert o (insert m k v) k w q ∙ ap (cond (eq_by_cmp R q k) (Some w)) (get-insert o m k v q) ∙
       elim (eq_by_cmp R q k) as (λ b. cond b (Some w) (cond b (Some v) (get m q)) ≡ cond b (Some w) (get m q)) [ true ↦ refl | false ↦ refl ] ∙ sym (get-insert o m k w q))
 
+  pub insert_same : (m : FinMap R X) (k : K) (v : X) → get m k ≡ Some v → insert m k v ≡ m
+  insert_same m k v is = same_map o same _ _ (λ q. get-insert o m k v q ∙
+      elim (eq_by_cmp R q k) as (λ b. eq_by_cmp R q k ≡ b → cond b (Some v) (get m q) ≡ get m q) [
+        | true ↦ λ t. sym is ∙ ap (get m) (sym (same q k (equal _ t)))
+        | false ↦ λ t. refl
+      ] refl)
+
   removed_at : (m : FinMap R X) (k : K) → get (remove m k) k ≡ None
   removed_at m k = get-remove o m k k ∙ ap (λ b. cond b None (get m k)) ((eq_by_cmp_equiv o).refl k)
 

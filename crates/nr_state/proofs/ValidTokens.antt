@@ -12,8 +12,8 @@ use Rattle.nr_records.specs.declared.account.Account.{Account}
 use Rattle.nr_records.specs.declared.receipt.Receipt.{Receipt}
 use Rattle.nr_triedef.specs.Node.{digest}
 use Rattle.nr_state.specs.Changes.{moved, with_moved, with_code_hash, with_code, usage_of_key, usage_of_code, usage_of_datum, without_account, without_postponed, served_front}
-use Rattle.nr_state.specs.Keeping.{MovesTokens}
-use Rattle.nr_state.specs.Tokens.{world_tokens}
+use Rattle.nr_state.specs.Keeping.{MovesTokens, MovesReceipts, KeepsWaiting, OwnsApart}
+use Rattle.nr_state.specs.Tokens.{world_tokens, delayed_sum}
 use Rattle.nr_state.specs.Usage.{key_usage, datum_usage}
 use Rattle.nr_state.specs.World.{World, with_account, with_key, account_tokens}
 use Rattle.nr_state.proofs.ValidSums.{values-insert, values-remove}
@@ -66,14 +66,50 @@ pub moves_tokens : (c : Config) (w : World) → MovesTokens c w
 moves_tokens c w = record {
   key_set = λ id key access. moved_tokens c (with_key w id key access) id (usage_of_key c w id key) (key_usage c key access);
   key_removed = λ id key. moved_tokens c (record w { keys = remove w.keys (id, key) }) id (usage_of_key c w id key) 0;
+  key_again = λ id key access. refl;
   code_set = λ id code. moved_tokens c (with_code w id code) id (usage_of_code w id) (length code) ∙ hashed_tokens c (record w { code = insert w.code id code }) id (digest code);
   datum_set = λ id key value. moved_tokens c (record w { data_of = insert w.data_of (id, key) value }) id (usage_of_datum c w id key) (datum_usage c key value);
   datum_removed = λ id key. moved_tokens c (record w { data_of = remove w.data_of (id, key) }) id (usage_of_datum c w id key) 0;
   account_changed = changed_tokens c w;
   account_made = made_tokens c w;
   account_removed = λ id old is. omega (arith, removed_tokens c w id, ap (tokens_at account_tokens) is);
+  received = λ id data_id bytes. refl;
+  used = λ id data_id. refl;
   postponed = λ r new. omega (arith, values-insert pair_total exact_data (receipt_tokens c) w.postponed (r.receiver, r.receipt_id.0) r, ap (tokens_at (receipt_tokens c)) new);
   released = λ id receipt_id r is. omega (arith, released_tokens c w id receipt_id, ap (tokens_at (receipt_tokens c)) is);
   delayed = λ r. omega (arith, sum_by_push (receipt_tokens c) w.delayed r);
   served = λ r rest e. ap (λ list. world_tokens c (served_front w list) + receipt_tokens c r) e ∙ served_tokens c w r rest e;
+}
+
+-- ---- any amount of receipts
+pub moves_receipts : (f : Receipt → ℕ) (w : World) → MovesReceipts f w
+moves_receipts f w = record {
+  postponed = λ r new. omega (arith, values-insert pair_total exact_data f w.postponed (r.receiver, r.receipt_id.0) r, ap (tokens_at f) new);
+  released = λ id receipt_id r is. omega (arith, values-remove pair_total exact_data f w.postponed (id, receipt_id.0), ap (tokens_at f) is);
+  delayed = λ r. sum_by_push f w.delayed r;
+  served = λ r rest e. ap (λ list. delayed_sum f (served_front w list) + f r) e ∙ omega (arith, ap (sum_by f) e, sum_by-cons f r rest);
+}
+
+-- ---- what accounts own is apart from what waits
+moved_waiting : (w : World) (id : List ℕ) (less more : ℕ) (o : Option Account) → KeepsWaiting w (with_moved w id less more o)
+moved_waiting w id less more None = record { received = refl; postponed = refl; delayed = refl; served = refl }
+moved_waiting w id less more (Some old) = record { received = refl; postponed = refl; delayed = refl; served = refl }
+
+hashed_waiting : (w : World) (id : List ℕ) (hash : Hash32) (o : Option Account) → KeepsWaiting w (with_code_hash w id hash o)
+hashed_waiting w id hash None = record { received = refl; postponed = refl; delayed = refl; served = refl }
+hashed_waiting w id hash (Some old) = record { received = refl; postponed = refl; delayed = refl; served = refl }
+
+both_waiting : {u v w : World} → KeepsWaiting u v → KeepsWaiting v w → KeepsWaiting u w
+both_waiting a b = record { received = b.received ∙ a.received; postponed = b.postponed ∙ a.postponed; delayed = b.delayed ∙ a.delayed; served = b.served ∙ a.served }
+
+pub owns_apart : (c : Config) (w : World) → OwnsApart c w
+owns_apart c w = record {
+  key_set = λ id key access. let k = moved_waiting (with_key w id key access) id (usage_of_key c w id key) (key_usage c key access) (get w.accounts id) in record { received = k.received; postponed = k.postponed; delayed = k.delayed; served = k.served };
+  key_removed = λ id key. let k = moved_waiting (record w { keys = remove w.keys (id, key) }) id (usage_of_key c w id key) 0 (get w.accounts id) in record { received = k.received; postponed = k.postponed; delayed = k.delayed; served = k.served };
+  code_set = λ id code.
+      let h = hashed_waiting (record w { code = insert w.code id code }) id (digest code) (get w.accounts id) in
+      let k = moved_waiting (with_code w id code) id (usage_of_code w id) (length code) (get (with_code w id code).accounts id) in
+      both_waiting (record { received = h.received; postponed = h.postponed; delayed = h.delayed; served = h.served }) k;
+  datum_set = λ id key value. let k = moved_waiting (record w { data_of = insert w.data_of (id, key) value }) id (usage_of_datum c w id key) (datum_usage c key value) (get w.accounts id) in record { received = k.received; postponed = k.postponed; delayed = k.delayed; served = k.served };
+  datum_removed = λ id key. let k = moved_waiting (record w { data_of = remove w.data_of (id, key) }) id (usage_of_datum c w id key) 0 (get w.accounts id) in record { received = k.received; postponed = k.postponed; delayed = k.delayed; served = k.served };
 }

@@ -1,4 +1,5 @@
 pub mod World
+pub mod Worlds
 pub mod Flat
 pub mod Usage
 pub mod Changes

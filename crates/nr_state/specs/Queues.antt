@@ -1,6 +1,7 @@
 -- What waits in a state: who waits for a datum, and what each change of it is in the columns. After the Nomicon, Runtime Specification, Receipts; the columns are this project's.
-use Rattle.std.specs.Prelude.{◌≡◌, ℕ, ◌+◌, ◌-◌, Bool, true, false, cond, List, [], ◌∷◌, Option, Some, None, nat_lt}
+use Rattle.std.specs.Prelude.{◌≡◌, ℕ, ◌+◌, ◌-◌, Bool, true, false, cond, List, [], ◌∷◌, Option, Some, None, is_some, nat_lt}
 use Rattle.std.specs.FinMap.{get, insert, remove}
+use Rattle.std.specs.List.{list_any}
 use Rattle.nr_ids.specs.declared.key.Hash32.{Hash32}
 use Rattle.nr_records.specs.declared.receipt.Body.{Body}
 use Rattle.nr_records.specs.declared.receipt.Body.TheVariants.{Act, Datum}
@@ -18,6 +19,10 @@ awaited_by w receiver id = get (awaited_in w) (receiver, id.0)
 abbrev pub WaitsFor : World → List ℕ → Hash32 → Option Hash32 → Type 0
 WaitsFor w receiver id None = (k : List ℕ × List ℕ) (r : Receipt) → get w.postponed k ≡ Some r → r.receiver ≡ receiver → has_input r id ≡ false
 WaitsFor w receiver id (Some by) = (r : Receipt) × ((get w.postponed (receiver, by.0) ≡ Some r) × (has_input r id ≡ true))
+
+-- one of the inputs of a receipt is one of a postponed receipt at its receiver
+abbrev pub has_awaited : World → Receipt → Bool
+has_awaited w r = list_any (λ input. is_some (awaited_by w r.receiver input)) (inputs_of r.body)
 
 -- a receipt of actions
 abbrev pub is_act : Body → Bool
@@ -78,6 +83,11 @@ less_postponed k receiver id (Some r) = without_postponed_at (none_awaited k rec
 abbrev pub more_delayed : Columns → Option (ℕ × ℕ) → Receipt → Columns
 more_delayed k None r = record k { delayed = insert k.delayed 0 r; queue = Some (0, 1) }
 more_delayed k (Some q) r = record k { delayed = insert k.delayed q.1 r; queue = Some (q.0, q.1 + 1) }
+
+-- the number that the next delayed receipt gets
+abbrev pub next_in : Option (ℕ × ℕ) → ℕ
+next_in None = 0
+next_in (Some q) = q.1
 
 -- the receipt at the front, in the columns
 abbrev pub front_in : Columns → Option (ℕ × ℕ) → Option Receipt

@@ -9,6 +9,13 @@ use Rattle.nr_state.specs.World.{World, accounts_tokens}
 abbrev pub list_tokens : Config → List Receipt → ℕ
 list_tokens c list = sum_by (receipt_tokens c) list
 
+-- an amount that receipts have, of the postponed and of the delayed ones
+abbrev pub postponed_sum : (Receipt → ℕ) → World → ℕ
+postponed_sum f w = sum_by f (values w.postponed)
+
+abbrev pub delayed_sum : (Receipt → ℕ) → World → ℕ
+delayed_sum f w = sum_by f w.delayed
+
 -- of the postponed and the delayed receipts
 abbrev pub waiting_tokens : Config → World → ℕ
 waiting_tokens c w = list_tokens c (values w.postponed) + list_tokens c w.delayed

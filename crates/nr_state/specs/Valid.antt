@@ -10,12 +10,11 @@ use Rattle.nr_ids.specs.Grammar.{is_system}
 use Rattle.nr_ids.specs.declared.key.Hash32.{Hash32}
 use Rattle.nr_ids.specs.declared.key.PublicKey.{PublicKey}
 use Rattle.nr_records.specs.declared.account.Account.{Account}
-use Rattle.nr_records.specs.declared.receipt.Body.{Body}
-use Rattle.nr_records.specs.declared.receipt.Body.TheVariants.{Act, Datum}
 use Rattle.nr_records.specs.declared.receipt.Receipt.{Receipt}
 use Rattle.nr_triedef.specs.Node.{digest}
 use Rattle.nr_state.specs.Changes.{usage_of_code}
 use Rattle.nr_state.specs.Flat.{inputs_of, is_missing}
+use Rattle.nr_state.specs.Queues.{is_act}
 use Rattle.nr_state.specs.Tokens.{world_tokens}
 use Rattle.nr_state.specs.Usage.{zero_hash, key_usage, datum_usage}
 use Rattle.nr_state.specs.View.{ArePostponed}
@@ -60,10 +59,6 @@ pub record AreAccounts (c : Config) (w : World) : Type 0 where
 abbrev pub Waits : World → Receipt → Type 0
 Waits w r = list_any (is_missing w r.receiver) (inputs_of r.body) ≡ true
 
-abbrev pub IsAction : Body → Type 0
-IsAction (Act act) = Unit {0}
-IsAction (Datum d) = ⊥
-
 -- its gas price and its prepaid gas fit in 64 bits
 pub record IsBounded (c : Config) (r : Receipt) : Type 0 where
   pub price : price_of r < 2 ^ 64
@@ -72,7 +67,7 @@ pub record IsBounded (c : Config) (r : Receipt) : Type 0 where
 pub record AreWaiting (c : Config) (w : World) : Type 0 where
   -- each postponed receipt is kept under its receiver and id, and waits for inputs of its own
   pub postponed : ArePostponed w
-  pub actions : (k : List ℕ × List ℕ) (r : Receipt) → get w.postponed k ≡ Some r → IsAction r.body
+  pub actions : (k : List ℕ × List ℕ) (r : Receipt) → get w.postponed k ≡ Some r → is_act r.body ≡ true
   pub waits : (k : List ℕ × List ℕ) (r : Receipt) → get w.postponed k ≡ Some r → Waits w r
   pub bounded : (k : List ℕ × List ℕ) (r : Receipt) → get w.postponed k ≡ Some r → IsBounded c r
   pub delayed : AllByRecursion (IsBounded c) w.delayed

@@ -2,6 +2,10 @@
 
 ghost use Rattle.std.specs.Prelude.{◌≡◌, true, IfOk, OnOk, OnErr, IsSome, is_some};
 ghost use Rattle.std.specs.FinMap as map;
+ghost use Rattle.nr_records.specs.AccessKeys.{IsAccessKey};
+ghost use Rattle.nr_records.specs.Accounts.{IsAccount};
+ghost use Rattle.nr_records.specs.Ids.{IsId};
+ghost use Rattle.nr_ids.specs.Keys.{IsKey};
 ghost use Rattle.nr_columns.specs.View.{with_columns, without_owner};
 ghost use Rattle.nr_state.specs.World.{with_account};
 ghost use Rattle.nr_state.specs.View.{with_world, world_in};
@@ -72,6 +76,7 @@ fn write_key<S: Store>(
     owner: &Account,
 ) -> Result<(), AllocError>
     ensures ok { OnOk result (columns.new ≡ with_columns columns.old (with_owner (record columns.old.columns { keys = map.insert columns.old.columns.keys (id.now, key.now) access.now }) id.now owner.now)) }
+    ensures fits { OnOk result (IsId id.now × (IsAccount owner.now × (IsKey key.now × IsAccessKey access.now))) }
     ensures marks { columns.new.marks ≡ columns.old.marks }
 {
     columns.set_access_key(id, key, access)?;
@@ -87,6 +92,7 @@ fn take_key<S: Store>(
 ) -> Result<bool, AllocError>
     ensures found { IfOk result (λ found. found ≡ is_some (map.get columns.old.columns.keys (id.now, key.now))) }
     ensures ok { OnOk result (columns.new ≡ with_columns columns.old (with_owner (record columns.old.columns { keys = map.remove columns.old.columns.keys (id.now, key.now) }) id.now owner.now)) }
+    ensures fits { OnOk result (IsId id.now × IsAccount owner.now) }
     ensures marks { columns.new.marks ≡ columns.old.marks }
 {
     let found = columns.remove_access_key(id, key)?;

@@ -3,6 +3,8 @@
 ghost use Rattle.std.specs.Prelude.{◌≡◌, true, IfOk, OnOk, IsSome, is_some};
 ghost use Rattle.std.specs.Option.{option_copied};
 ghost use Rattle.std.specs.FinMap as map;
+ghost use Rattle.nr_records.specs.Accounts.{IsAccount};
+ghost use Rattle.nr_records.specs.Ids.{IsId};
 ghost use Rattle.nr_columns.specs.View.{with_columns};
 ghost use Rattle.nr_state.specs.View.{with_world, world_in};
 ghost use Rattle.nr_state.specs.Changes.{usage_of_code, set_code, usage_of_datum, set_datum, removed_datum};
@@ -10,7 +12,7 @@ ghost use Rattle.nr_state.specs.Owners.{IsMoved, HasCode, with_owner};
 ghost use Rattle.nr_state.specs.Usage.{datum_usage};
 
 use crate::state::ShardState;
-use crate::usage::{datum_usage, moved_owner};
+use crate::usage::{code_usage, datum_usage, moved_owner};
 use nr_columns::Columns;
 use nr_config::Config;
 use nr_ids::{AccountId, Hash32};
@@ -24,7 +26,7 @@ fn usage_of_code<S: Store>(columns: &Columns<S>, id: &AccountId) -> Result<u64, 
     ensures { IfOk result (λ usage. usage ≡ usage_of_code (world_in columns.now.columns) id.now) }
 {
     match columns.code(id)? {
-        Some(code) => Ok(code.len() as u64),
+        Some(code) => Ok(code_usage(code)),
         None => Ok(0),
     }
 }
@@ -38,7 +40,7 @@ fn owner_with_code<S: Store>(
     ensures { IfOk result (HasCode (world_in columns.now.columns) id.now code.now) }
 {
     let before = usage_of_code(columns, id)?;
-    let mut owner = moved_owner(columns, id, before, code.len() as u64)?;
+    let mut owner = moved_owner(columns, id, before, code_usage(code))?;
     owner.code_hash = Hash32(Sha256::digest(code));
     Ok(owner)
 }
@@ -50,6 +52,7 @@ fn write_code<S: Store>(
     owner: &Account,
 ) -> Result<(), AllocError>
     ensures ok { OnOk result (columns.new ≡ with_columns columns.old (with_owner (record columns.old.columns { code = map.insert columns.old.columns.code id.now code.now }) id.now owner.now)) }
+    ensures fits { OnOk result (IsId id.now × IsAccount owner.now) }
     ensures marks { columns.new.marks ≡ columns.old.marks }
 {
     columns.set_code(id, code)?;
@@ -108,6 +111,7 @@ fn write_datum<S: Store>(
     owner: &Account,
 ) -> Result<(), AllocError>
     ensures ok { OnOk result (columns.new ≡ with_columns columns.old (with_owner (record columns.old.columns { data_of = map.insert columns.old.columns.data_of (id.now, key.now) value.now }) id.now owner.now)) }
+    ensures fits { OnOk result (IsId id.now × IsAccount owner.now) }
     ensures marks { columns.new.marks ≡ columns.old.marks }
 {
     columns.set_datum(id, key, value)?;
@@ -123,6 +127,7 @@ fn take_datum<S: Store>(
 ) -> Result<bool, AllocError>
     ensures found { IfOk result (λ found. found ≡ is_some (map.get columns.old.columns.data_of (id.now, key.now))) }
     ensures ok { OnOk result (columns.new ≡ with_columns columns.old (with_owner (record columns.old.columns { data_of = map.remove columns.old.columns.data_of (id.now, key.now) }) id.now owner.now)) }
+    ensures fits { OnOk result (IsId id.now × IsAccount owner.now) }
     ensures marks { columns.new.marks ≡ columns.old.marks }
 {
     let found = columns.remove_datum(id, key)?;

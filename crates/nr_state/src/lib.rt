@@ -5,10 +5,12 @@ mod accounts;
 mod calls;
 mod contents;
 pub mod laws;
+pub mod listings;
 mod place;
 pub mod queues;
 mod state;
-mod usage;
+mod threads;
+pub mod usage;
 
 pub use calls::{CallContext, CallEnd, CallStop, Caller, Returned};
 pub use nr_columns::{Entry, keys};

@@ -1,18 +1,22 @@
 //! What waits in a state: data that came, receipts that lack data, and receipts that were delayed.
 //!
 //! Each call fails only where memory ran out, or where a number that is kept or counted would pass its
-//! bits. Nothing is said of a state in which a change failed.
+//! bits. Nothing is said of a state in which a change failed. What a state keeps grows on the
+//! allocator that it was made with.
 
-ghost use Rattle.std.specs.Prelude.{◌≡◌, ◌+◌, ◌-◌, ℕ, true, false, IfOk, OnOk, None, is_some, count_by, slice_get, map as each};
+ghost use Rattle.std.specs.Prelude.{◌≡◌, ◌+◌, ◌-◌, ◌^◌, ◌<◌, ℕ, true, false, IfOk, OnOk, None, is_some, count_by, slice_get};
 ghost use Rattle.std.specs.FinMap as map;
-ghost use Rattle.std.specs.List.{list_any};
 ghost use Rattle.std.specs.Option.{option_map};
+ghost use Rattle.nr_records.specs.Ids.{IsId};
+ghost use Rattle.nr_ids.specs.Keys.{IsHash};
+ghost use Rattle.nr_bytes.specs.Spelling.{IsCounted};
+ghost use Rattle.nr_records.specs.Options.{IsOption};
+ghost use Rattle.nr_records.specs.Receipts.{IsReceipt};
 ghost use Rattle.nr_columns.specs.View.{with_columns};
 ghost use Rattle.nr_state.specs.Changes.{with_received, without_received, with_postponed, without_postponed, with_delayed, served_front};
 ghost use Rattle.nr_state.specs.Flat.{inputs_of, is_missing, missing_inputs, missing_in};
-ghost use Rattle.nr_state.specs.Queues.{is_act, awaited_by, WaitsFor, front_in, more_delayed, less_delayed, with_count, more_received, less_received, all_awaited, none_awaited, more_postponed, less_postponed};
-ghost use Rattle.nr_state.specs.Repeats.{has_repeat};
-ghost use Rattle.nr_state.specs.View.{world_in, with_world};
+ghost use Rattle.nr_state.specs.Queues.{is_act, awaited_by, has_awaited, WaitsFor, next_in, front_in, more_delayed, less_delayed, with_count, more_received, less_received, all_awaited, none_awaited, more_postponed, less_postponed};
+ghost use Rattle.nr_state.specs.View.{repeats_input, world_in, with_world};
 
 use crate::state::ShardState;
 use nr_bytes::Blob;
@@ -20,11 +24,12 @@ use nr_columns::Columns;
 use nr_ids::{AccountId, Hash32};
 use nr_records::{Body, Receipt};
 use nr_triedef::Store;
-use std::alloc::AllocError;
+use std::alloc::{AllocError, Global};
 
 /// A datum that a receiver has received, `Some(None)` for one that has no bytes, as its sender
 /// failed; `None` where none came.
 pub fn received<S: Store>(
+    _alloc: Global,
     state: &ShardState<S>,
     receiver: &AccountId,
     data_id: &Hash32,
@@ -37,6 +42,7 @@ pub fn received<S: Store>(
 /// Adds a datum that came, where the receiver has none under this id. A postponed receipt that
 /// waits for it then lacks one input fewer.
 pub fn add_received<S: Store>(
+    _alloc: Global,
     state: &mut ShardState<S>,
     receiver: &AccountId,
     data_id: &Hash32,
@@ -55,6 +61,7 @@ pub fn add_received<S: Store>(
 /// Takes a datum out; `false` where it wasn't there. A postponed receipt that waits for it then
 /// lacks it again.
 pub fn remove_received<S: Store>(
+    _alloc: Global,
     state: &mut ShardState<S>,
     receiver: &AccountId,
     data_id: &Hash32,
@@ -71,6 +78,7 @@ pub fn remove_received<S: Store>(
 
 /// The id of the postponed receipt that has this input; `None` where none has it.
 pub fn awaited<S: Store>(
+    _alloc: Global,
     state: &ShardState<S>,
     receiver: &AccountId,
     data_id: &Hash32,
@@ -85,6 +93,7 @@ pub fn awaited<S: Store>(
 /// How many of its inputs the postponed receipt with this id hasn't received; `None` where there is
 /// none with this id.
 pub fn missing<S: Store>(
+    _alloc: Global,
     state: &ShardState<S>,
     receiver: &AccountId,
     receipt_id: &Hash32,
@@ -99,14 +108,15 @@ pub fn missing<S: Store>(
 /// Adds a receipt of actions that waits for data. Its inputs are distinct, and no postponed receipt
 /// at its receiver has its id or one of its inputs.
 pub fn add_postponed<S: Store>(
+    _alloc: Global,
     state: &mut ShardState<S>,
     receipt: &Receipt,
 ) -> Result<(), AllocError>
     requires whole { state.old.whole ≡ true }
     requires act { is_act receipt.now.body ≡ true }
-    requires distinct { has_repeat (each (λ input. input.0) (inputs_of receipt.now.body)) ≡ false }
+    requires distinct { repeats_input receipt.now ≡ false }
     requires id { map.get state.old.world.postponed (receipt.now.receiver, receipt.now.receipt_id.0) ≡ None }
-    requires inputs { list_any (λ input. is_some (awaited_by state.old.world receipt.now.receiver input)) (inputs_of receipt.now.body) ≡ false }
+    requires inputs { has_awaited state.old.world receipt.now ≡ false }
     ensures ok { OnOk result (state.new ≡ with_world state.old (with_postponed state.old.world receipt.now)) }
 {
     state.whole = false;
@@ -117,6 +127,7 @@ pub fn add_postponed<S: Store>(
 
 /// Takes a postponed receipt out; `None` where it wasn't there.
 pub fn take_postponed<S: Store>(
+    _alloc: Global,
     state: &mut ShardState<S>,
     receiver: &AccountId,
     receipt_id: &Hash32,
@@ -132,7 +143,11 @@ pub fn take_postponed<S: Store>(
 }
 
 /// Puts a receipt at the end of the delayed queue.
-pub fn add_delayed<S: Store>(state: &mut ShardState<S>, receipt: &Receipt) -> Result<(), AllocError>
+pub fn add_delayed<S: Store>(
+    _alloc: Global,
+    state: &mut ShardState<S>,
+    receipt: &Receipt,
+) -> Result<(), AllocError>
     requires whole { state.old.whole ≡ true }
     ensures ok { OnOk result (state.new ≡ with_world state.old (with_delayed state.old.world receipt.now)) }
 {
@@ -143,7 +158,10 @@ pub fn add_delayed<S: Store>(state: &mut ShardState<S>, receipt: &Receipt) -> Re
 }
 
 /// Takes the receipt at the front of the delayed queue; `None` where the queue is empty.
-pub fn take_delayed<S: Store>(state: &mut ShardState<S>) -> Result<Option<Receipt>, AllocError>
+pub fn take_delayed<S: Store>(
+    _alloc: Global,
+    state: &mut ShardState<S>,
+) -> Result<Option<Receipt>, AllocError>
     requires whole { state.old.whole ≡ true }
     ensures found { IfOk result (λ found. found ≡ slice_get state.old.world.delayed 0) }
     ensures ok { OnOk result (state.new ≡ with_world state.old (served_front state.old.world state.old.world.delayed)) }
@@ -161,6 +179,7 @@ fn put_received<S: Store>(
     bytes: &Option<Blob>,
 ) -> Result<(), AllocError>
     ensures ok { OnOk result (columns.new ≡ with_columns columns.old (more_received columns.old.columns receiver.now data_id.now bytes.now)) }
+    ensures fits { OnOk result (IsId receiver.now × (IsHash data_id.now × IsOption IsCounted bytes.now)) }
     ensures marks { columns.new.marks ≡ columns.old.marks }
 {
     columns.set_received(receiver, data_id, bytes)?;
@@ -235,6 +254,7 @@ fn inputs(receipt: &Receipt) -> &[Hash32]
 
 fn put_postponed<S: Store>(columns: &mut Columns<S>, receipt: &Receipt) -> Result<(), AllocError>
     ensures ok { OnOk result (columns.new ≡ with_columns columns.old (more_postponed columns.old.columns receipt.now)) }
+    ensures fits { OnOk result (IsReceipt receipt.now) }
     ensures marks { columns.new.marks ≡ columns.old.marks }
 {
     let inputs = inputs(receipt);
@@ -311,6 +331,8 @@ fn remove_all_awaited<S: Store>(
 
 fn put_delayed<S: Store>(columns: &mut Columns<S>, receipt: &Receipt) -> Result<(), AllocError>
     ensures ok { OnOk result (columns.new ≡ with_columns columns.old (more_delayed columns.old.columns columns.old.columns.queue receipt.now)) }
+    ensures fits { OnOk result (IsReceipt receipt.now) }
+    ensures room { OnOk result (next_in columns.old.columns.queue + 1 < 2 ^ 64) }
     ensures marks { columns.new.marks ≡ columns.old.marks }
 {
     let (served, next) = columns.queue()?.unwrap_or((0, 0));

@@ -119,7 +119,7 @@ impl<S: Store> ShardState<S> {
         self.columns.mark();
     }
 
-    /// Drops the newest checkpoint and keeps the changes since then.
+    /// Commits: drops the newest checkpoint and keeps the changes since then.
     pub fn keep(&mut self)
         requires whole { self.old.whole ≡ true }
         requires room { 0 < length self.old.marks }
@@ -132,7 +132,7 @@ impl<S: Store> ShardState<S> {
         self.columns.keep();
     }
 
-    /// Drops the newest checkpoint and undoes the changes since then.
+    /// Rolls back: drops the newest checkpoint and undoes the changes since then.
     pub fn back(&mut self)
         requires whole { self.old.whole ≡ true }
         requires room { 0 < length self.old.marks }

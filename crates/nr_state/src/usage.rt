@@ -1,6 +1,6 @@
-//! What records cost their owner.
+//! The storage that the records of an account are counted as.
 
-ghost use Rattle.std.specs.Prelude.{◌≡◌, IfOk};
+ghost use Rattle.std.specs.Prelude.{◌≡◌, IfOk, length};
 ghost use Rattle.nr_state.specs.Changes.{moved};
 ghost use Rattle.nr_state.specs.Owners.{IsMoved};
 ghost use Rattle.nr_state.specs.View.{world_in};
@@ -8,15 +8,26 @@ ghost use Rattle.nr_state.specs.Usage.{key_usage, datum_usage};
 
 use nr_columns::Columns;
 use nr_config::Config;
+use nr_config::entries::EXTRA_RECORD_BYTES;
 use nr_ids::{AccountId, PublicKey};
 use nr_records::{AccessKey, Account, encode};
 use nr_triedef::Store;
 use std::alloc::{AllocError, Global};
 
-/// The entry of a configuration that counts the bytes of each record beside its key and value.
-const EXTRA_RECORD_BYTES: u32 = 8;
+/// The bytes that code is counted as: its own.
+pub fn code_usage(code: &[u8]) -> u64
+    ensures { result ≡ length code.now }
+{
+    code.len() as u64
+}
 
-pub(crate) fn datum_usage(config: &Config, key: &[u8], value: &[u8]) -> Result<u64, AllocError>
+/// The bytes that a datum is counted as: those of its key and its value, and the entry
+/// `extra_record_bytes` of the configuration.
+///
+/// # Errors
+///
+/// Where they are 2^64 or more.
+pub fn datum_usage(config: &Config, key: &[u8], value: &[u8]) -> Result<u64, AllocError>
     ensures { IfOk result (λ usage. usage ≡ datum_usage config.now key.now value.now) }
 {
     (key.len() as u64)
@@ -25,7 +36,13 @@ pub(crate) fn datum_usage(config: &Config, key: &[u8], value: &[u8]) -> Result<u
         .ok_or(AllocError)
 }
 
-pub(crate) fn key_usage(
+/// The bytes that an access key is counted as: those of the spellings of its public key and of its
+/// access key, and the entry `extra_record_bytes` of the configuration.
+///
+/// # Errors
+///
+/// Where there is no memory to spell them, or the bytes are 2^64 or more.
+pub fn key_usage(
     alloc: Global,
     config: &Config,
     key: &PublicKey,

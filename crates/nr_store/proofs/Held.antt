@@ -1,4 +1,4 @@
--- What the places hold after a change of one of them.
+-- What the slots hold after a change of one of them.
 use Rattle.std.proofs.Common.{◌≡◌, ℕ, Bool, true, false, cond, List, [], ◌∷◌, Option, Some, None, Ordering, sym, refl, ap, ◌∙◌, subst}
 use mathlib.Core.Bool.{false≢true}
 use Rattle.std.specs.Prelude.{IsSome, is_some, unwrap_or}
@@ -18,8 +18,8 @@ use Rattle.std.proofs.lemmas.Map.Keys.{IsDistinct-from_sorted}
 use Rattle.std.proofs.lemmas.Map.Lookups.{exact_bytes}
 use Rattle.nr_triedef.specs.Root.{Contents}
 use Rattle.std.specs.Prelude.{IsNone}
-use Rattle.nr_store.specs.Plain.{Text, text_of, keyed, put_back, held, held_in, place_at, value_before, HasPlace}
-use Rattle.nr_store.specs.declared.places.Undo.{Undo}
+use Rattle.nr_store.specs.Plain.{Text, text_of, keyed, put_back, held, held_in, slot_at, value_before, HasSlot}
+use Rattle.nr_store.specs.declared.slots.Undo.{Undo}
 
 abbrev pub R : List ℕ → List ℕ → Ordering
 R = slice_cmp nat_cmp
@@ -43,7 +43,7 @@ get-held (e ∷ es) q =
     pushed true w o = refl
     pushed false w o = refl
 
--- places that differ from es at one key, where they have w
+-- slots that differ from es at one key, where they have w
 pub held-changed : (es fs : List (List ℕ × Option (List ℕ))) (k : List ℕ) (w : Option (List ℕ)) → ((q : List ℕ) → lookup (is_at (R q)) fs ≡ cond (eq_by_cmp R q k) (Some w) (lookup (is_at (R q)) es)) → held fs ≡ put_back (held es) k w
 held-changed es fs k w h =
     same_map nat_list_cmp_total exact_bytes _ _ (λ q.
@@ -150,7 +150,7 @@ turned k q x y = ap (λ b. cond b x y) ((eq_by_cmp_equiv nat_list_cmp_total).sym
 pub held_in-insert : (es : List (Text × Option Text)) (k : Text) (w : Option Text) → held_in (insert_entry C es k w) ≡ put_back (held_in es) k.items (text_of w)
 held_in-insert es k w = held-changed (keyed es) _ k.items (text_of w) (λ q. ap (lookup (is_at (R q))) (keyed-insert_entry es k w) ∙ lookup-insert_entry (keyed es) k.items (text_of w) q)
 
-pub held_in-write : (es : List (Text × Option Text)) (k : List ℕ) (w : Option Text) → HasPlace es k → held_in (set_value (is_at (at_bytes k)) es w) ≡ put_back (held_in es) k (text_of w)
+pub held_in-write : (es : List (Text × Option Text)) (k : List ℕ) (w : Option Text) → HasSlot es k → held_in (set_value (is_at (at_bytes k)) es w) ≡ put_back (held_in es) k (text_of w)
 held_in-write es k w h = held-changed (keyed es) _ k (text_of w) (λ q. ap (lookup (is_at (R q))) (keyed-set_value es k w) ∙ lookup-set_value (eq_by_cmp_equiv nat_list_cmp_total) (is_at (R k)) (one_key k) q (text_of w) (keyed es) h ∙ turned k q _ _)
 
 pub held_in-remove : (es : List (Text × Option Text)) (k : List ℕ) → IsStrictlySortedBy C (keys_of es) → held_in (remove_entry (is_at (at_bytes k)) es) ≡ remove (held_in es) k
@@ -160,25 +160,25 @@ held_in-remove es k s = held-removed (keyed es) _ k (λ q. ap (lookup (is_at (R 
 pub get-held_in : (es : List (Text × Option Text)) (q : List ℕ) → get (held_in es) q ≡ joined (option_map text_of (lookup (is_at (at_bytes q)) es))
 get-held_in es q = get-held (keyed es) q ∙ ap joined (lookup-keyed es q)
 
-pub HasPlace-found : (es : List (Text × Option Text)) (q : List ℕ) (w : Option Text) → Some w ≡ lookup (is_at (at_bytes q)) es → HasPlace es q
-HasPlace-found es q w e = subst IsSome (ap (option_map text_of) e ∙ sym (lookup-keyed es q)) refl
+pub HasSlot-found : (es : List (Text × Option Text)) (q : List ℕ) (w : Option Text) → Some w ≡ lookup (is_at (at_bytes q)) es → HasSlot es q
+HasSlot-found es q w e = subst IsSome (ap (option_map text_of) e ∙ sym (lookup-keyed es q)) refl
 
-pub none-not_found : (es : List (Text × Option Text)) (q : List ℕ) → None ≡ lookup (is_at (at_bytes q)) es → HasPlace es q → ⊥
+pub none-not_found : (es : List (Text × Option Text)) (q : List ℕ) → None ≡ lookup (is_at (at_bytes q)) es → HasSlot es q → ⊥
 none-not_found es q e h = false≢true (subst IsSome (lookup-keyed es q ∙ ap (option_map text_of) (sym e)) h)
 
 one_more : {A : Type 0} (b : Bool) (w : A) (o : Option A) → IsSome o → IsSome (cond b (Some w) o)
 one_more true w o h = refl
 one_more false w o h = h
 
-pub HasPlace-insert : (es : List (Text × Option Text)) (k : Text) (w : Option Text) (q : List ℕ) → HasPlace es q → HasPlace (insert_entry C es k w) q
-HasPlace-insert es k w q h = subst IsSome (sym (ap (lookup (is_at (R q))) (keyed-insert_entry es k w) ∙ lookup-insert_entry (keyed es) k.items (text_of w) q)) (one_more (eq_by_cmp R q k.items) (text_of w) _ h)
+pub HasSlot-insert : (es : List (Text × Option Text)) (k : Text) (w : Option Text) (q : List ℕ) → HasSlot es q → HasSlot (insert_entry C es k w) q
+HasSlot-insert es k w q h = subst IsSome (sym (ap (lookup (is_at (R q))) (keyed-insert_entry es k w) ∙ lookup-insert_entry (keyed es) k.items (text_of w) q)) (one_more (eq_by_cmp R q k.items) (text_of w) _ h)
 
-pub HasPlace-inserted : (es : List (Text × Option Text)) (k : Text) (w : Option Text) → HasPlace (insert_entry C es k w) k.items
-HasPlace-inserted es k w =
+pub HasSlot-inserted : (es : List (Text × Option Text)) (k : Text) (w : Option Text) → HasSlot (insert_entry C es k w) k.items
+HasSlot-inserted es k w =
     subst IsSome (sym (ap (lookup (is_at (R k.items))) (keyed-insert_entry es k w) ∙ lookup-insert_entry (keyed es) k.items (text_of w) k.items ∙ ap (λ b. cond b (Some (text_of w)) (lookup (is_at (R k.items)) (keyed es))) ((eq_by_cmp_equiv nat_list_cmp_total).refl k.items))) refl
 
-pub HasPlace-write : (es : List (Text × Option Text)) (k : List ℕ) (w : Option Text) (q : List ℕ) → HasPlace es k → HasPlace es q → HasPlace (set_value (is_at (at_bytes k)) es w) q
-HasPlace-write es k w q p h = subst IsSome (sym (ap (lookup (is_at (R q))) (keyed-set_value es k w) ∙ lookup-set_value (eq_by_cmp_equiv nat_list_cmp_total) (is_at (R k)) (one_key k) q (text_of w) (keyed es) p)) (one_more (is_at (R k) q) (text_of w) _ h)
+pub HasSlot-write : (es : List (Text × Option Text)) (k : List ℕ) (w : Option Text) (q : List ℕ) → HasSlot es k → HasSlot es q → HasSlot (set_value (is_at (at_bytes k)) es w) q
+HasSlot-write es k w q p h = subst IsSome (sym (ap (lookup (is_at (R q))) (keyed-set_value es k w) ∙ lookup-set_value (eq_by_cmp_equiv nat_list_cmp_total) (is_at (R k)) (one_key k) q (text_of w) (keyed es) p)) (one_more (is_at (R k) q) (text_of w) _ h)
 
 -- a key without a value
 pub remove-absent : (m : Contents) (k : List ℕ) → get m k ≡ None → remove m k ≡ m
@@ -190,12 +190,12 @@ remove-absent m k e =
       | Greater ↦ λ s. refl
     ] refl)
 
-is_some-map : {A B : Type 0} (f : A → B) (o : Option A) → is_some (option_map f o) ≡ is_some o
+pub is_some-map : {A B : Type 0} (f : A → B) (o : Option A) → is_some (option_map f o) ≡ is_some o
 is_some-map f None = refl
 is_some-map f (Some x) = refl
 
-pub HasPlace-is_some : (es : List (Text × Option Text)) (q : List ℕ) → is_some (lookup (is_at (at_bytes q)) es) ≡ true → HasPlace es q
-HasPlace-is_some es q h = ap is_some (lookup-keyed es q) ∙ is_some-map text_of _ ∙ h
+pub HasSlot-is_some : (es : List (Text × Option Text)) (q : List ℕ) → is_some (lookup (is_at (at_bytes q)) es) ≡ true → HasSlot es q
+HasSlot-is_some es q h = ap is_some (lookup-keyed es q) ∙ is_some-map text_of _ ∙ h
 
 none_of : {A : Type 0} (o : Option A) → is_some o ≡ false → o ≡ None
 none_of None h = refl
@@ -205,21 +205,21 @@ pub get-not_held : (es : List (Text × Option Text)) (q : List ℕ) → is_some 
 get-not_held es q h = get-held_in es q ∙ ap (λ o. joined (option_map text_of o)) (none_of _ h)
 
 -- ---- what a change found
-pub value_found : (es : List (Text × Option Text)) (u : Undo) (k : List ℕ) → option_map text_of u.before ≡ place_at es k → value_before u ≡ get (held_in es) k
+pub value_found : (es : List (Text × Option Text)) (u : Undo) (k : List ℕ) → option_map text_of u.before ≡ slot_at es k → value_before u ≡ get (held_in es) k
 value_found es u k e = joined_map u.before ∙ ap joined e ∙ sym (get-held (keyed es) k)
   where
     joined_map : (o : Option (Option Text)) → text_of (unwrap_or o None) ≡ joined (option_map text_of o)
     joined_map None = refl
     joined_map (Some w) = refl
 
-pub new_place : (es : List (Text × Option Text)) (u : Undo) (k : List ℕ) → u.key.items ≡ k → option_map text_of u.before ≡ place_at es k → IsNone u.before → HasPlace es u.key.items → ⊥
-new_place es u k f e n h =
-    let some : is_some u.before ≡ true = sym (is_some-map text_of u.before) ∙ ap is_some (e ∙ ap (place_at es) (sym f)) ∙ h in
+pub new_slot : (es : List (Text × Option Text)) (u : Undo) (k : List ℕ) → u.key.items ≡ k → option_map text_of u.before ≡ slot_at es k → IsNone u.before → HasSlot es u.key.items → ⊥
+new_slot es u k f e n h =
+    let some : is_some u.before ≡ true = sym (is_some-map text_of u.before) ∙ ap is_some (e ∙ ap (slot_at es) (sym f)) ∙ h in
     false≢true (sym n ∙ some)
 
--- ---- a place taken out
-pub HasPlace-remove : (es : List (Text × Option Text)) (k : List ℕ) → IsStrictlySortedBy C (keys_of es) → (q : List ℕ) → (q ≡ k → ⊥) → HasPlace es q → HasPlace (remove_entry (is_at (at_bytes k)) es) q
-HasPlace-remove es k s q ne h =
+-- ---- a slot taken out
+pub HasSlot-remove : (es : List (Text × Option Text)) (k : List ℕ) → IsStrictlySortedBy C (keys_of es) → (q : List ℕ) → (q ≡ k → ⊥) → HasSlot es q → HasSlot (remove_entry (is_at (at_bytes k)) es) q
+HasSlot-remove es k s q ne h =
     subst IsSome (sym (ap (lookup (is_at (R q))) (keyed-remove_entry es k) ∙ lookup-remove_entry (eq_by_cmp_equiv nat_list_cmp_total) (is_at (R k)) (one_key k) q (keyed es) (IsDistinct-from_sorted R _ (sorted-keyed es s))))
     (elim (R k q) as (λ r. R k q ≡ r → IsSome (cond (is_eq r) None (lookup (is_at (R q)) (keyed es)))) [
       | Less ↦ λ p. h
@@ -240,5 +240,5 @@ joined_some : (o : Option (Option (List ℕ))) → is_some (joined o) ≡ true �
 joined_some None h = h
 joined_some (Some w) h = refl
 
-pub HasPlace-got : (es : List (Text × Option Text)) (q : List ℕ) → is_some (get (held_in es) q) ≡ true → HasPlace es q
-HasPlace-got es q h = joined_some (place_at es q) (ap is_some (sym (get-held (keyed es) q)) ∙ h)
+pub HasSlot-got : (es : List (Text × Option Text)) (q : List ℕ) → is_some (get (held_in es) q) ≡ true → HasSlot es q
+HasSlot-got es q h = joined_some (slot_at es q) (ap is_some (sym (get-held (keyed es) q)) ∙ h)

@@ -1,8 +1,11 @@
 -- Lemmas behind the answers.
 pub mod Held
 pub mod Rewind
-pub mod Fronts
-pub mod Levels
 pub mod Links
+pub mod Orders
+pub mod Levels
 pub mod Listed
 pub mod Prefixes
+pub mod Nibbles
+pub mod Waiting
+pub mod Sizes

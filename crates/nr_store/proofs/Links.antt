@@ -10,15 +10,25 @@ use Rattle.nr_ids.specs.declared.key.Hash32.{Hash32}
 use Rattle.nr_triedef.specs.declared.hash.Summary.{Summary}
 use Rattle.nr_triedef.specs.Node.{IsNibbles, links}
 use Rattle.nr_triedef.specs.Root.{Paths, common, front, behind, under, value_here, value_field, hash_below, sixteen, trie}
-use Rattle.nr_store.specs.Tries.{Differ, CanStand}
+
+-- no two keys are the same
+abbrev pub Differ : Paths → Type 0
+Differ [] = Unit {0}
+Differ (p ∷ ps) = AllByRecursion (λ (q : List ℕ × List ℕ). p.0 ≡ q.0 → ⊥) ps × Differ ps
+
+-- keys of nibbles, of which each has fewer than the depth, and no two are the same
+pub record CanStand (depth : ℕ) (ps : Paths) : Type 0 where
+  pub short : AllByRecursion (λ (p : List ℕ × List ℕ). length p.0 < depth) ps
+  pub small : AllByRecursion (λ (p : List ℕ × List ℕ). IsNibbles p.0) ps
+  pub differ : Differ ps
 
 -- ---- a key begins with another
-abbrev Begins : List ℕ → List ℕ → Type 0
+abbrev pub Begins : List ℕ → List ℕ → Type 0
 Begins [] k = Unit {0}
 Begins (x ∷ s) [] = ⊥
 Begins (x ∷ s) (y ∷ k) = (x ≡ y) × Begins s k
 
-abbrev AllBegin : List ℕ → Paths → Type 0
+abbrev pub AllBegin : List ℕ → Paths → Type 0
 AllBegin s ps = AllByRecursion (λ (p : List ℕ × List ℕ). Begins s p.0) ps
 
 begins_itself : (s : List ℕ) → Begins s s
@@ -45,7 +55,7 @@ all_weaker : {A : Type 0} (P Q : A → Type 0) → ((x : A) → P x → Q x) →
 all_weaker P Q f [] h = tt
 all_weaker P Q f (x ∷ xs) h = (f x h.0, all_weaker P Q f xs h.1)
 
-front_begins : (ps : Paths) → AllBegin (front ps) ps
+pub front_begins : (ps : Paths) → AllBegin (front ps) ps
 front_begins [] = tt
 front_begins (p ∷ []) = (begins_itself p.0, tt)
 front_begins (p ∷ q ∷ ps) = (
@@ -96,11 +106,11 @@ same_rest (x ∷ s) (y ∷ a) (z ∷ b) h g e =
     let rest : a ≡ b = same_rest s a b h.1 g.1 e in
     λ i. first i ∷ rest i
 
-all_behind : (n : ℕ) (P Q : List ℕ → Type 0) → ((k : List ℕ) → P k → Q (drop n k)) → (ps : Paths) → AllByRecursion (λ (p : List ℕ × List ℕ). P p.0) ps → AllByRecursion (λ (p : List ℕ × List ℕ). Q p.0) (behind n ps)
+pub all_behind : (n : ℕ) (P Q : List ℕ → Type 0) → ((k : List ℕ) → P k → Q (drop n k)) → (ps : Paths) → AllByRecursion (λ (p : List ℕ × List ℕ). P p.0) ps → AllByRecursion (λ (p : List ℕ × List ℕ). Q p.0) (behind n ps)
 all_behind n P Q f [] h = tt
 all_behind n P Q f (p ∷ ps) h = (f p.0 h.0, all_behind n P Q f ps h.1)
 
-small_drop : (n : ℕ) (k : List ℕ) → IsNibbles k → IsNibbles (drop n k)
+pub small_drop : (n : ℕ) (k : List ℕ) → IsNibbles k → IsNibbles (drop n k)
 small_drop zero k h = h
 small_drop (suc n) [] h = h
 small_drop (suc n) (x ∷ k) h = small_drop n k (λ i. h (suc i))
@@ -122,7 +132,7 @@ stands_behind n ps rest shared e f h =
       differ = differ_behind (front ps) ps h.differ (front_begins ps);
     })
 
-all_under : (n : ℕ) (P Q : List ℕ → Type 0) → ((k : List ℕ) → P (n ∷ k) → Q k) → (ps : Paths) → AllByRecursion (λ (p : List ℕ × List ℕ). P p.0) ps → AllByRecursion (λ (p : List ℕ × List ℕ). Q p.0) (under n ps)
+pub all_under : (n : ℕ) (P Q : List ℕ → Type 0) → ((k : List ℕ) → P (n ∷ k) → Q k) → (ps : Paths) → AllByRecursion (λ (p : List ℕ × List ℕ). P p.0) ps → AllByRecursion (λ (p : List ℕ × List ℕ). Q p.0) (under n ps)
 all_under n P Q f [] h = tt
 all_under n P Q f (([], v) ∷ ps) h = all_under n P Q f ps h.1
 all_under n P Q f ((x ∷ k, v) ∷ ps) h =
@@ -235,7 +245,7 @@ two_links_of n ((x ∷ k, v) ∷ q ∷ ps) many h none =
       ]
     ]
 
-length_behind : (n : ℕ) (ps : Paths) → length (behind n ps) ≡ length ps
+pub length_behind : (n : ℕ) (ps : Paths) → length (behind n ps) ≡ length ps
 length_behind n [] = refl
 length_behind n (p ∷ ps) = ap suc (length_behind n ps)
 

@@ -1,11 +1,11 @@
 -- The keys that begin with a prefix stand next to each other in the order of the bytes, from the prefix on.
-use Rattle.std.proofs.Common.{◌≡◌, ◌==◌, ◌<◌, ℕ, Bool, true, false, cond, ◌&&◌, List, [], ◌∷◌, ◌++◌, append-nil, append_assoc, is_some, map, Option, Some, None, refl, ap, sym, ◌∙◌, subst, ◌⊎◌, inl, inr, eq-eqb, arith}
+use Rattle.std.proofs.Common.{◌≡◌, ◌==◌, ◌<◌, ℕ, Bool, true, false, cond, ◌&&◌, List, [], ◌∷◌, ◌++◌, append-nil, append_assoc, is_some, map, Option, Some, None, refl, ap, sym, ◌∙◌, subst, inl, inr, eq-eqb, arith}
 use mathlib.Core.Bool.{false≢true}
 use Rattle.std.specs.List.{AllByRecursion, filter, starts_with}
 use Rattle.std.specs.List.Sorted.{IsStrictlySortedBy}
 use Rattle.std.specs.declared.cmp.Ordering.TheVariants.{Less, Equal, Greater}
 use Rattle.std.specs.declared.ops.Bound.TheVariants.{Included, Unbounded}
-use Rattle.std.specs.Ordering.{nat_cmp, is_le, is_lt, ordering_then}
+use Rattle.std.specs.Ordering.{nat_cmp, is_le, ordering_then}
 use Rattle.std.specs.Cmp.{ranked}
 use Rattle.std.specs.Map.{keys_of}
 use Rattle.std.specs.BTreeMap.Range.{entries_between}
@@ -13,6 +13,7 @@ use Rattle.std.proofs.lemmas.Bool.{ne_eqb, and_left, and_right}
 use Rattle.nr_triedef.specs.Stores.{keys_below}
 use Rattle.nr_store.specs.Plain.{Text, keyed, filled, held_in}
 use Rattle.nr_store.proofs.Held.{R, C}
+use Rattle.nr_store.proofs.Orders.{heads}
 use Rattle.nr_store.proofs.Listed.{entries-held_in}
 
 abbrev pub begins : List ℕ → List ℕ → Bool
@@ -28,14 +29,6 @@ before (x ∷ p) (y ∷ k) h =
       | Less ↦ λ e le. absurd (false≢true (sym le))
       | Equal ↦ λ e le. and_right (x == y) (begins p k) (before p k le)
       | Greater ↦ λ e le. let lt : y < x = ranked x y Greater e in and_left (x == y) (begins p k) (ne_eqb x y (λ same. omega arith))
-    ] refl h
-
-heads : (y z : ℕ) (k j : List ℕ) → R (y ∷ k) (z ∷ j) ≡ Less → (y < z) ⊎ ((y ≡ z) × (R k j ≡ Less))
-heads y z k j h =
-    elim (nat_cmp y z) as (λ r. r ≡ nat_cmp y z → ordering_then r (R k j) ≡ Less → (y < z) ⊎ ((y ≡ z) × (R k j ≡ Less))) [
-      | Less ↦ λ e l. inl (ranked y z Less e)
-      | Equal ↦ λ e l. inr (ranked y z Equal e, l)
-      | Greater ↦ λ e l. absurd (false≢true (ap is_lt l))
     ] refl h
 
 past : (p k j : List ℕ) → is_le (R p k) ≡ true → begins p k ≡ false → R k j ≡ Less → begins p j ≡ false

@@ -10,8 +10,8 @@ use Rattle.std.proofs.lemmas.Map.Lookups.{exact_bytes}
 use Rattle.nr_triedef.specs.Root.{Contents}
 use Rattle.std.specs.List.{AllByRecursion}
 use Rattle.std.specs.Prelude.{IsNone}
-use Rattle.nr_store.specs.Plain.{Text, value_before, put_back, rewound, HasPlace, NeedsPlace, HavePlaces, IsApart, AreApart, seen, InOrder}
-use Rattle.nr_store.specs.declared.places.Undo.{Undo}
+use Rattle.nr_store.specs.Plain.{Text, value_before, put_back, rewound, HasSlot, NeedsSlot, HaveSlots, IsApart, AreApart, seen, InOrder}
+use Rattle.nr_store.specs.declared.slots.Undo.{Undo}
 use Rattle.nr_store.proofs.Held.{R, get-put_back}
 
 -- the value before, put back
@@ -31,17 +31,17 @@ rewound-push m (v ∷ us) u = ap (λ n. put_back n v.key.items (value_before v))
 pub rewound-drop_push : (m : Contents) (us : List Undo) (u : Undo) (n : ℕ) → n ≤ length us → rewound m (drop n (us ++ u ∷ [])) ≡ rewound (put_back m u.key.items (value_before u)) (drop n us)
 rewound-drop_push m us u n h = ap (rewound m) (drop-append-le n us (u ∷ []) h) ∙ rewound-push m (drop n us) u
 
-pub HavePlaces-kept : (es fs : List (Text × Option Text)) → ((q : List ℕ) → HasPlace es q → HasPlace fs q) → (us : List Undo) → HavePlaces es us → HavePlaces fs us
-HavePlaces-kept es fs h [] p = tt
-HavePlaces-kept es fs h (u ∷ us) p = (λ s. h u.key.items (p.0 s), HavePlaces-kept es fs h us p.1)
+pub HaveSlots-kept : (es fs : List (Text × Option Text)) → ((q : List ℕ) → HasSlot es q → HasSlot fs q) → (us : List Undo) → HaveSlots es us → HaveSlots fs us
+HaveSlots-kept es fs h [] p = tt
+HaveSlots-kept es fs h (u ∷ us) p = (λ s. h u.key.items (p.0 s), HaveSlots-kept es fs h us p.1)
 
-pub HavePlaces-push : (es : List (Text × Option Text)) (us : List Undo) (u : Undo) → HavePlaces es us → NeedsPlace es u → HavePlaces es (us ++ u ∷ [])
-HavePlaces-push es [] u p q = (q, tt)
-HavePlaces-push es (v ∷ us) u p q = (p.0, HavePlaces-push es us u p.1 q)
+pub HaveSlots-push : (es : List (Text × Option Text)) (us : List Undo) (u : Undo) → HaveSlots es us → NeedsSlot es u → HaveSlots es (us ++ u ∷ [])
+HaveSlots-push es [] u p q = (q, tt)
+HaveSlots-push es (v ∷ us) u p q = (p.0, HaveSlots-push es us u p.1 q)
 
-pub HavePlaces-last : (es : List (Text × Option Text)) (us : List Undo) (u : Undo) → HavePlaces es (us ++ u ∷ []) → HavePlaces es us × NeedsPlace es u
-HavePlaces-last es [] u p = (tt, p.0)
-HavePlaces-last es (v ∷ us) u p = let r = HavePlaces-last es us u p.1 in ((p.0, r.0), r.1)
+pub HaveSlots-last : (es : List (Text × Option Text)) (us : List Undo) (u : Undo) → HaveSlots es (us ++ u ∷ []) → HaveSlots es us × NeedsSlot es u
+HaveSlots-last es [] u p = (tt, p.0)
+HaveSlots-last es (v ∷ us) u p = let r = HaveSlots-last es us u p.1 in ((p.0, r.0), r.1)
 
 -- the last change is apart from the earlier ones
 all_push : {A : Type 0} (P : A → Type 0) (us : List A) (u : A) → AllByRecursion P us → P u → AllByRecursion P (us ++ u ∷ [])
@@ -63,15 +63,15 @@ AreApart-last (v ∷ us) u p =
     let s = all_last (λ w. IsApart w v) us u p.0 in
     ((s.0, r.0), (s.1, r.1))
 
--- a change that made a place is apart from those that have theirs
-apart_from_all : (es : List (Text × Option Text)) (us : List Undo) (u : Undo) → (IsNone u.before → HasPlace es u.key.items → ⊥) → HavePlaces es us → AllByRecursion (IsApart u) us
+-- a change that made a slot is apart from those that have theirs
+apart_from_all : (es : List (Text × Option Text)) (us : List Undo) (u : Undo) → (IsNone u.before → HasSlot es u.key.items → ⊥) → HaveSlots es us → AllByRecursion (IsApart u) us
 apart_from_all es [] u h p = tt
-apart_from_all es (v ∷ us) u h p = (λ n s e. h n (subst (HasPlace es) e (p.0 s)), apart_from_all es us u h p.1)
+apart_from_all es (v ∷ us) u h p = (λ n s e. h n (subst (HasSlot es) e (p.0 s)), apart_from_all es us u h p.1)
 
--- the places that the earlier changes need stay when the last one is taken back
-pub HavePlaces-undone : (es fs : List (Text × Option Text)) (us : List Undo) (u : Undo) → ((q : List ℕ) → HasPlace es q → (IsNone u.before → q ≡ u.key.items → ⊥) → HasPlace fs q) → HavePlaces es us → AllByRecursion (IsApart u) us → HavePlaces fs us
-HavePlaces-undone es fs [] u h p a = tt
-HavePlaces-undone es fs (v ∷ us) u h p a = (λ s. h v.key.items (p.0 s) (λ n e. a.0 n s e), HavePlaces-undone es fs us u h p.1 a.1)
+-- the slots that the earlier changes need stay when the last one is taken back
+pub HaveSlots-undone : (es fs : List (Text × Option Text)) (us : List Undo) (u : Undo) → ((q : List ℕ) → HasSlot es q → (IsNone u.before → q ≡ u.key.items → ⊥) → HasSlot fs q) → HaveSlots es us → AllByRecursion (IsApart u) us → HaveSlots fs us
+HaveSlots-undone es fs [] u h p a = tt
+HaveSlots-undone es fs (v ∷ us) u h p a = (λ s. h v.key.items (p.0 s) (λ n e. a.0 n s e), HaveSlots-undone es fs us u h p.1 a.1)
 
 pub seen-same : (m n : Contents) (log new : List Undo) (starts : List ℕ) (count end : ℕ) → InOrder starts count end → ((k : ℕ) → k ≤ end → rewound n (drop k new) ≡ rewound m (drop k log)) → seen n new starts count ≡ seen m log starts count
 seen-same m n log new starts zero end o h = refl
@@ -106,10 +106,10 @@ pub seen-noted : (m n : Contents) (log old new : List Undo) (u : Undo) (starts :
 seen-noted m n log old new u starts count o d e back =
     seen-same m n log new starts count (length log) o (λ k l. ap (λ t. rewound n (drop k t)) (e ∙ ap (λ t. t ++ u ∷ []) d) ∙ rewound-drop_push n log u k l ∙ ap (λ t. rewound t (drop k log)) back)
 
-pub HavePlaces-noted : (es fs : List (Text × Option Text)) (log old new : List Undo) (u : Undo) → old ≡ log → new ≡ old ++ u ∷ [] → ((q : List ℕ) → HasPlace es q → HasPlace fs q) → NeedsPlace fs u → HavePlaces es log → HavePlaces fs new
-HavePlaces-noted es fs log old new u d e h p ps = subst (HavePlaces fs) (sym (e ∙ ap (λ t. t ++ u ∷ []) d)) (HavePlaces-push fs log u (HavePlaces-kept es fs h log ps) p)
+pub HaveSlots-noted : (es fs : List (Text × Option Text)) (log old new : List Undo) (u : Undo) → old ≡ log → new ≡ old ++ u ∷ [] → ((q : List ℕ) → HasSlot es q → HasSlot fs q) → NeedsSlot fs u → HaveSlots es log → HaveSlots fs new
+HaveSlots-noted es fs log old new u d e h p ps = subst (HaveSlots fs) (sym (e ∙ ap (λ t. t ++ u ∷ []) d)) (HaveSlots-push fs log u (HaveSlots-kept es fs h log ps) p)
 
-pub AreApart-noted : (es : List (Text × Option Text)) (log old new : List Undo) (u : Undo) → old ≡ log → new ≡ old ++ u ∷ [] → (IsNone u.before → HasPlace es u.key.items → ⊥) → HavePlaces es log → AreApart log → AreApart new
+pub AreApart-noted : (es : List (Text × Option Text)) (log old new : List Undo) (u : Undo) → old ≡ log → new ≡ old ++ u ∷ [] → (IsNone u.before → HasSlot es u.key.items → ⊥) → HaveSlots es log → AreApart log → AreApart new
 AreApart-noted es log old new u d e h ps a = subst AreApart (sym (e ∙ ap (λ t. t ++ u ∷ []) d)) (AreApart-push log u a (apart_from_all es log u h ps))
 
 pub InOrder-noted : (starts : List ℕ) (count : ℕ) (log old new : List Undo) (u : Undo) → old ≡ log → new ≡ old ++ u ∷ [] → InOrder starts count (length log) → InOrder starts count (length new)
@@ -135,3 +135,23 @@ seen-back m n log new starts (suc c) end h o e older =
     let first : n ≡ rewound m (drop (get_or starts c 0) log) = e ∙ ap (λ i. rewound m (drop (get_or starts i 0) log)) is in
     let rest : seen n new starts c ≡ seen m log starts c = seen-same m n log new starts c (get_or starts c 0) o.1 (λ k l. older k (subst (λ i. k ≤ get_or starts i 0) (sym is) l)) in
     (λ i. sym first i ∷ sym rest i) ∙ ap (λ i. n ∷ seen n new starts i) (sym is)
+
+-- one checkpoint fewer
+pub InOrder-none : (starts : List ℕ) (count end : ℕ) → count ≡ 0 → InOrder starts count end
+InOrder-none starts zero end e = tt
+InOrder-none starts (suc n) end e = absurd (omega arith)
+
+pub InOrder-older : (starts : List ℕ) (count end : ℕ) → InOrder starts count end → InOrder starts (count - 1) end
+InOrder-older starts zero end o = tt
+InOrder-older starts (suc n) end o = let is : n ≡ suc n - 1 = omega arith in subst (λ k. InOrder starts k end) is (InOrder-later starts n (get_or starts n 0) end o.0 o.1)
+
+pub InOrder-back : (starts : List ℕ) (count end k : ℕ) → 0 < count → k ≡ get_or starts (count - 1) 0 → InOrder starts count end → InOrder starts (count - 1) k
+InOrder-back starts zero end k some e o = absurd (omega arith)
+InOrder-back starts (suc n) end k some e o =
+    let is : n ≡ suc n - 1 = omega arith in
+    let at : get_or starts n 0 ≡ k = ap (λ m. get_or starts m 0) is ∙ sym e in
+    subst (λ m. InOrder starts m k) is (subst (InOrder starts n) at o.1)
+
+pub newest_within : (starts : List ℕ) (count end : ℕ) → 0 < count → InOrder starts count end → get_or starts (count - 1) 0 ≤ end
+newest_within starts zero end some o = absurd (omega arith)
+newest_within starts (suc n) end some o = let is : n ≡ suc n - 1 = omega arith in subst (λ m. get_or starts m 0 ≤ end) is o.0

@@ -1,4 +1,5 @@
 pub mod Contents
+pub mod Forks
 pub mod Plain
 pub mod PlainView
 pub mod Tries

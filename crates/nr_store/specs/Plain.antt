@@ -1,4 +1,4 @@
--- How a plain store keeps its contents: places with or without a value, and a log of what each change found. This project's own.
+-- How a plain store keeps its contents: slots with or without a value, and a log of what each change found. This project's own.
 use Rattle.std.specs.Prelude.{ℕ, zero, suc, ◌≡◌, ◌≤◌, List, [], ◌∷◌, Option, Some, None, drop, Vec, IsSome, IsNone, slice_index, unwrap_or}
 use Rattle.std.specs.Option.{option_map}
 use Rattle.std.specs.List.{AllByRecursion}
@@ -9,7 +9,7 @@ use Rattle.std.specs.Map.{lookup}
 use Rattle.std.specs.BTreeMap.{is_at}
 use Rattle.std.specs.declared.alloc.Global.{Global}
 use Rattle.nr_triedef.specs.Root.{Contents}
-use Rattle.nr_store.specs.declared.places.Undo.{Undo}
+use Rattle.nr_store.specs.declared.slots.Undo.{Undo}
 
 abbrev pub Text : Type 0
 Text = Vec ℕ Global
@@ -17,7 +17,7 @@ Text = Vec ℕ Global
 abbrev pub text_of : Option Text → Option (List ℕ)
 text_of o = option_map (λ v. v.items) o
 
--- the places, by the bytes of their keys
+-- the slots, by the bytes of their keys
 abbrev pub keyed : List (Text × Option Text) → List (List ℕ × Option (List ℕ))
 keyed [] = []
 keyed (e ∷ es) = (e.0.items, text_of e.1) ∷ keyed es
@@ -27,7 +27,7 @@ abbrev pub put_back : Contents → List ℕ → Option (List ℕ) → Contents
 put_back m k None = remove m k
 put_back m k (Some v) = insert m k v
 
--- what the places hold
+-- what the slots hold
 abbrev pub held : List (List ℕ × Option (List ℕ)) → Contents
 held [] = empty
 held (e ∷ es) = put_back (held es) e.0 e.1
@@ -35,18 +35,18 @@ held (e ∷ es) = put_back (held es) e.0 e.1
 abbrev pub held_in : List (Text × Option Text) → Contents
 held_in es = held (keyed es)
 
--- the entries of the places that have a value
+-- the entries of the slots that have a value
 abbrev pub filled : List (List ℕ × Option (List ℕ)) → List (List ℕ × List ℕ)
 filled [] = []
 filled ((k, None) ∷ es) = filled es
 filled ((k, Some v) ∷ es) = (k, v) ∷ filled es
 
--- what a key's place holds, where it has one
-abbrev pub place_at : List (Text × Option Text) → List ℕ → Option (Option (List ℕ))
-place_at es q = lookup (is_at (slice_cmp nat_cmp q)) (keyed es)
+-- what a key's slot holds, where it has one
+abbrev pub slot_at : List (Text × Option Text) → List ℕ → Option (Option (List ℕ))
+slot_at es q = lookup (is_at (slice_cmp nat_cmp q)) (keyed es)
 
-abbrev pub HasPlace : List (Text × Option Text) → List ℕ → Type 0
-HasPlace es q = IsSome (place_at es q)
+abbrev pub HasSlot : List (Text × Option Text) → List ℕ → Type 0
+HasSlot es q = IsSome (slot_at es q)
 
 -- the value that a change found
 abbrev pub value_before : Undo → Option (List ℕ)
@@ -57,14 +57,14 @@ abbrev pub rewound : Contents → List Undo → Contents
 rewound m [] = m
 rewound m (u ∷ us) = put_back (rewound m us) u.key.items (value_before u)
 
--- a change that found a place has one still
-abbrev pub NeedsPlace : List (Text × Option Text) → Undo → Type 0
-NeedsPlace es u = IsSome u.before → HasPlace es u.key.items
+-- a change that found a slot has one still
+abbrev pub NeedsSlot : List (Text × Option Text) → Undo → Type 0
+NeedsSlot es u = IsSome u.before → HasSlot es u.key.items
 
-abbrev pub HavePlaces : List (Text × Option Text) → List Undo → Type 0
-HavePlaces es us = AllByRecursion (NeedsPlace es) us
+abbrev pub HaveSlots : List (Text × Option Text) → List Undo → Type 0
+HaveSlots es us = AllByRecursion (NeedsSlot es) us
 
--- where the later change u found no place, the earlier one v had none at that key
+-- where the later change u found no slot, the earlier one v had none at that key
 abbrev pub IsApart : Undo → Undo → Type 0
 IsApart u v = IsNone u.before → IsSome v.before → v.key.items ≡ u.key.items → ⊥
 

@@ -1,12 +1,15 @@
 //! A store in memory, with checkpoints and the root of the state trie.
 #![tactic(auto)]
 
-mod paths;
-mod places;
+mod fork;
+mod nodes;
 mod plain;
 mod root;
+mod slots;
+mod span;
 #[cfg(test)]
 mod tests;
+mod threads;
 mod trie;
 
 pub use plain::PlainStore;

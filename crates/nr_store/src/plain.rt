@@ -3,8 +3,8 @@
 ghost use Rattle.std.specs.Prelude.{◌≡◌, []};
 ghost use Rattle.std.specs.FinMap as map;
 
-use crate::places::{Places, Undo, below, clear, drop_empty_places, drop_place, put, undo_to};
 use crate::root::root;
+use crate::slots::{Slots, Undo, below, clear, drop_empty_slots, drop_slot, fits, put, undo_to};
 use nr_bytes::{Blob, List};
 use nr_triedef::{NodeHash, Steps, Store};
 use std::alloc::{AllocError, Global};
@@ -17,26 +17,25 @@ use std::sync::ledger::Ledger;
 /// Contracts see what it holds, what each standing checkpoint saw (the newest first), and how many
 /// more checkpoints it can make without memory.
 ///
-/// While a checkpoint stands, a key that is taken out keeps its place without a value, and a log
+/// While a checkpoint stands, a key that is taken out keeps its slot without a value, and a log
 /// notes what each change found. So `mark`, `keep` and `back` take no memory. When the last
-/// checkpoint goes, no place without a value stays.
+/// checkpoint goes, no slot without a value stays.
 ///
-/// A key of more than 70,000,000 bytes, a value of 2^32 bytes or more, and a new key where 2^26 keys
-/// have a place count as want of memory for `set`. So do a part of 2^32 bytes or more and a usage
-/// above u64 for `root`.
+/// A new key where 2^26 keys have a slot counts as want of memory for `set`, as an entry past the
+/// store's sizes does. So do a part of 2^32 bytes or more and a usage above u64 for `root`.
 ///
-/// With n places, `get`, `set` and `remove` cost what the ordered map does, which is in the order
+/// With n slots, `get`, `set` and `remove` cost what the ordered map does, which is in the order
 /// of log n comparisons of keys, and `set` and `remove` copy the key and the value. `mark` costs the
-/// same however much the store holds, and so does `keep`, save that of the last checkpoint: it goes
-/// over the changes since that checkpoint, at log n each. `back` takes the changes since its
-/// checkpoint back, at log n each. `below` finds the prefix, at log n, and goes over the keys that
-/// begin with it. `root` makes each node of the trie once; it goes over all keys and values, and at
-/// each branch over the keys below it, once for each nibble. Its recursion is at most two branches
-/// deep for each byte that keys share.
+/// same however much the store holds, and so does `keep` (commit), save that of the last checkpoint:
+/// it goes over the changes since that checkpoint, at log n each. `back` (roll back) undoes the
+/// changes since its checkpoint, at log n each. `below` finds the prefix, at log n, and goes over the
+/// keys that begin with it. `root` makes each node of the trie once: it lists the keys, hashes each
+/// value, and finds by halving which keys go on below a branch. It copies no key as a whole, and what
+/// waits at the branches above stands on the heap.
 #[derive(Drop)]
 pub struct PlainStore {
     alloc: Global,
-    places: Places,
+    slots: Slots,
     // What each change since the oldest checkpoint found, the newest change last.
     log: Vec<Undo>,
     // Where in the log each checkpoint begins.
@@ -68,7 +67,7 @@ impl PlainStore {
     {
         PlainStore {
             alloc,
-            places: BTreeMap::new(alloc),
+            slots: BTreeMap::new(alloc),
             log: Vec::new(alloc),
             starts: [0; 8],
             standing: 0,
@@ -76,18 +75,11 @@ impl PlainStore {
         }
     }
 
-    /// How many keys have a place, with a value or without.
+    /// How many keys have a slot, with a value or without.
     #[cfg(test)]
-    pub(crate) fn count_of_places(&self) -> usize {
-        self.places.len()
+    pub(crate) fn count_of_slots(&self) -> usize {
+        self.slots.len()
     }
-}
-
-// Whether an entry would pass one of the store's sizes.
-fn is_too_large(places: &Places, key: &[u8], value: &[u8]) -> bool {
-    key.len() > 70_000_000
-        || value.len() >= 1 << 32
-        || (places.len() >= 1 << 26 && !places.contains_key(key))
 }
 
 impl Store for PlainStore {
@@ -98,26 +90,31 @@ impl Store for PlainStore {
     ghost spare = { λ s. s.spare };
 
     fn get(&self, key: &[u8]) -> Option<&[u8]> {
-        match self.places.get(key) {
+        match self.slots.get(key) {
             Some(Some(value)) => Some(value.as_slice()),
             Some(None) => None,
             None => None,
         }
     }
 
+    fn sizes(&self) {
+        // The fields are named so that the proof sees the type's own promise.
+        let _spare = self.spare;
+    }
+
     fn set(&mut self, key: &[u8], value: &[u8]) -> Result<(), AllocError> {
-        if is_too_large(&self.places, key, value) {
+        if !fits(&self.slots, key, value) {
             return Err(AllocError);
         }
         let stored = Vec::from_slice(self.alloc, key)?;
         let held = Vec::from_slice(self.alloc, value)?;
         if self.standing == 0 {
-            put(&mut self.places, stored, held)?;
+            put(&mut self.slots, stored, held)?;
             return Ok(());
         }
         let noted = Vec::from_slice(self.alloc, key)?;
         self.log.reserve(1)?;
-        let before = put(&mut self.places, stored, held)?;
+        let before = put(&mut self.slots, stored, held)?;
         self.log.push(Undo { key: noted, before })?;
         Ok(())
     }
@@ -127,12 +124,12 @@ impl Store for PlainStore {
             return Ok(false);
         }
         if self.standing == 0 {
-            drop_place(&mut self.places, key);
+            drop_slot(&mut self.slots, key);
             return Ok(true);
         }
         let noted = Vec::from_slice(self.alloc, key)?;
         self.log.reserve(1)?;
-        let value = clear(&mut self.places, key);
+        let value = clear(&mut self.slots, key);
         self.log.push(Undo {
             key: noted,
             before: Some(value),
@@ -155,7 +152,7 @@ impl Store for PlainStore {
         self.standing -= 1;
         self.spare += 1;
         if self.standing == 0 {
-            drop_empty_places(&mut self.places, &self.log);
+            drop_empty_slots(&mut self.slots, &self.log);
             self.log.clear();
         }
     }
@@ -164,17 +161,17 @@ impl Store for PlainStore {
         self.standing -= 1;
         self.spare += 1;
         let start = self.starts[self.standing];
-        undo_to(&mut self.places, &mut self.log, start);
+        undo_to(&mut self.slots, &mut self.log, start);
         if self.standing == 0 {
             self.log.clear();
         }
     }
 
     fn below(&self, prefix: &[u8]) -> Result<List<Blob>, AllocError> {
-        below(self.alloc, &self.places, prefix)
+        below(self.alloc, &self.slots, prefix)
     }
 
     fn root<L: Ledger>(&mut self, steps: &mut Steps<L>) -> Result<NodeHash, AllocError> {
-        root(self.alloc, &self.places, steps)
+        root(self.alloc, &self.slots, steps)
     }
 }

@@ -1,54 +1,32 @@
-//! The root of what the places hold.
+//! The root of what the slots hold.
 
 ghost use Rattle.std.specs.Prelude.{◌≡◌, IfOk};
 ghost use Rattle.std.specs.FinMap as map;
-ghost use Rattle.std.specs.List.{AllByRecursion};
-ghost use Rattle.nr_triedef.specs.Node.{IsNibbles};
-ghost use Rattle.nr_triedef.specs.Root.{Paths, paths, depth, root_of};
+ghost use Rattle.nr_triedef.specs.Root.{paths, root_of};
 ghost use Rattle.nr_store.specs.Plain.{held_in};
+ghost use Rattle.nr_store.specs.Tries.{CanWalk};
 
-use crate::paths::{Entry, Path};
-use crate::places::Places;
+use crate::slots::Slots;
+use crate::span::{Entry, Span};
 use crate::trie::trie;
 use nr_triedef::{NodeHash, Steps, empty_root};
 use std::alloc::{AllocError, Global};
 use std::sync::ledger::Ledger;
 
-fn entries_of(alloc: Global, places: &Places) -> Result<Vec<Entry<'_>>, AllocError>
-    ensures { IfOk result (λ entries. entries.items ≡ paths (map.entries (held_in places.now.entries))) }
+fn entries_of(alloc: Global, slots: &Slots) -> Result<Vec<Entry<'_>>, AllocError>
+    ensures value { IfOk result (λ entries. entries.items ≡ paths (map.entries (held_in slots.now.entries))) }
+    ensures order { IfOk result (λ entries. CanWalk entries.items) }
 {
     let mut entries = Vec::new(alloc);
-    for (key, place) in places.iter() {
-        if let Some(value) = place {
-            entries.push(Entry::of(alloc, key, value)?)?;
+    for (key, slot) in slots.iter() {
+        if let Some(value) = slot {
+            entries.push(Entry::of(key, value))?;
         }
     }
     Ok(entries)
 }
 
-fn paths_of<'a>(alloc: Global, entries: &'a [Entry<'_>]) -> Result<Vec<Path<'a>>, AllocError>
-    ensures value { IfOk result (λ list. list.items ≡ entries.now) }
-    ensures small { IfOk result (λ list. AllByRecursion (λ p. IsNibbles p.0) list.items) }
-{
-    let mut list = Vec::new(alloc);
-    for entry in entries {
-        list.push(entry.path())?;
-    }
-    Ok(list)
-}
-
-// More than the nibbles of each key.
-fn depth_of(list: &[Path<'_>]) -> usize
-    ensures { result ≡ depth list.now }
-{
-    let mut longest = 1;
-    for i in (0..list.len()).rev() {
-        longest = (list[i].key().len() + 1).max(longest);
-    }
-    longest
-}
-
-/// The root of the trie of the places that have a value: 32 zero bytes where there are none. Each
+/// The root of the trie of the slots that have a value: 32 zero bytes where there are none. Each
 /// node of the trie counts as one step.
 ///
 /// Besides memory, the refusal is for a value of 2^32 bytes or more, for a key whose part has so
@@ -56,14 +34,13 @@ fn depth_of(list: &[Path<'_>]) -> usize
 #[tactic(auto, unfolding(nr_triedef::specs::Root::root_of_entries))]
 pub(crate) fn root<L: Ledger>(
     alloc: Global,
-    places: &Places,
+    slots: &Slots,
     steps: &mut Steps<L>,
 ) -> Result<NodeHash, AllocError>
-    ensures { IfOk result (λ root. root ≡ (root_of (held_in places.now.entries)).hash) }
+    ensures { IfOk result (λ root. root ≡ (root_of (held_in slots.now.entries)).hash) }
 {
-    let entries = entries_of(alloc, places)?;
-    let list = paths_of(alloc, &entries)?;
-    let found = trie(alloc, depth_of(&list), &list, steps)?;
+    let entries = entries_of(alloc, slots)?;
+    let found = trie(alloc, Span::of(&entries), steps)?;
     match found {
         None => Ok(empty_root()),
         Some(summary) => Ok(summary.hash),

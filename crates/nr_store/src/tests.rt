@@ -137,7 +137,7 @@ fn checkpoints(rt: HostRuntime) -> Result<(), Fail> {
 }
 
 /// Under a checkpoint takes `a` out, sets `c` and takes it out; then drops the checkpoint.
-fn leave_empty_places<S: Store>(store: &mut S) -> Result<(), AllocError>
+fn leave_empty_slots<S: Store>(store: &mut S) -> Result<(), AllocError>
     requires { S.marks store.old ≡ [] }
 {
     store.reserve_marks(1)?;
@@ -150,13 +150,13 @@ fn leave_empty_places<S: Store>(store: &mut S) -> Result<(), AllocError>
 }
 
 #[test]
-fn no_place_stays_empty(rt: HostRuntime) -> Result<(), Fail> {
+fn no_slot_stays_empty(rt: HostRuntime) -> Result<(), Fail> {
     let mut store = PlainStore::new(rt.alloc());
     set_three(&mut store)?;
     change_and_back(&mut store)?;
-    assert_eq!(rt; store.count_of_places(), 3);
-    leave_empty_places(&mut store)?;
-    assert_eq!(rt; store.count_of_places(), 2);
+    assert_eq!(rt; store.count_of_slots(), 3);
+    leave_empty_slots(&mut store)?;
+    assert_eq!(rt; store.count_of_slots(), 2);
     Ok(())
 }
 

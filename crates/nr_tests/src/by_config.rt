@@ -173,7 +173,7 @@ const REFUSED: [Refused; 8] = [
         changes: PRICED,
         genesis: worked::GENESIS,
         blocks: worked::TRANSFER,
-        status: Status::NotBuilt { form: 3 },
+        status: Status::Unsupported { form: 3 },
         asked: ALL,
     },
     Refused {
@@ -192,7 +192,7 @@ const REFUSED: [Refused; 8] = [
         changes: PRICED,
         genesis: "4e52473101000000020000006d6d00000000",
         blocks: worked::TRANSFER,
-        status: Status::NotBuilt { form: 1 },
+        status: Status::Unsupported { form: 1 },
         asked: NO_BLOCKS,
     },
     Refused {
@@ -206,7 +206,7 @@ const REFUSED: [Refused; 8] = [
         changes: PRICED,
         genesis: worked::NO_GENESIS,
         blocks: worked::TRANSFER,
-        status: Status::NotBuilt { form: 2 },
+        status: Status::Unsupported { form: 2 },
         asked: ALL,
     },
     // The configuration counts the usage.
@@ -226,7 +226,7 @@ const REFUSED: [Refused; 8] = [
         changes: &[&[("chunk_gas_limit", "1")], &FEES],
         genesis: worked::GENESIS,
         blocks: worked::TRANSFER,
-        status: Status::NotBuilt { form: 3 },
+        status: Status::Unsupported { form: 3 },
         asked: ALL,
     },
     // The gas of one transaction comes to 4.
@@ -234,7 +234,7 @@ const REFUSED: [Refused; 8] = [
         changes: &[&[("chunk_gas_limit", "4")], &FEES],
         genesis: worked::GENESIS,
         blocks: worked::TRANSFER,
-        status: Status::NotBuilt { form: 3 },
+        status: Status::Unsupported { form: 3 },
         asked: ALL,
     },
 ];

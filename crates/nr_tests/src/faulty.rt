@@ -205,11 +205,11 @@ const SPLIT_GENESES: [Pieces; 2] = [
 ];
 
 #[test]
-fn boundaries_are_not_built(rt: HostRuntime) -> Result<(), Fail> {
+fn boundaries_are_not_supported(rt: HostRuntime) -> Result<(), Fail> {
     for pieces in SPLIT_GENESES {
         let genesis = text_of(rt.alloc(), pieces)?;
         let ended = run(rt.alloc(), genesis.as_str(), "")?;
-        assert_eq!(rt; ended.status, Status::NotBuilt { form: 1 });
+        assert_eq!(rt; ended.status, Status::Unsupported { form: 1 });
         assert!(rt; ended.wrote_nothing(rt.alloc(), GENESIS)?);
     }
     Ok(())
@@ -279,7 +279,7 @@ fn faulty_blocks_are_refused(rt: HostRuntime) -> Result<(), Fail> {
     Ok(())
 }
 
-/// Blocks without a fault whose runs aren't built.
+/// Blocks without a fault whose runs aren't supported.
 const OTHER_BLOCKS: [Pieces; 8] = [
     // A chunk is missing.
     &[
@@ -309,11 +309,11 @@ const OTHER_BLOCKS: [Pieces; 8] = [
 ];
 
 #[test]
-fn other_blocks_are_not_built(rt: HostRuntime) -> Result<(), Fail> {
+fn other_blocks_are_not_supported(rt: HostRuntime) -> Result<(), Fail> {
     for pieces in OTHER_BLOCKS {
         let blocks = text_of(rt.alloc(), pieces)?;
         let ended = run(rt.alloc(), worked::GENESIS_OF_ALL_KINDS, blocks.as_str())?;
-        assert_eq!(rt; ended.status, Status::NotBuilt { form: 2 });
+        assert_eq!(rt; ended.status, Status::Unsupported { form: 2 });
         assert!(rt; ended.wrote_nothing(rt.alloc(), BOTH)?);
     }
     Ok(())

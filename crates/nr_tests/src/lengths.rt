@@ -9,34 +9,6 @@ use std::test::Fail;
 /// The most bytes of a genesis.
 const GENESIS_LIMIT: usize = 67_108_864;
 
-/// The least and the greatest lengths to which the blocks of one transfer are cut, and the place of
-/// the field that is then cut.
-const CUTS: [(usize, usize, u64); 8] = [
-    (126, 126, 126),
-    (127, 142, 127),
-    (143, 150, 143),
-    (151, 158, 151),
-    (159, 162, 159),
-    (163, 163, 163),
-    (164, 167, 164),
-    (0, 3, 0),
-];
-
-#[test]
-fn cut_blocks_tell_the_place(rt: HostRuntime) -> Result<(), Fail> {
-    for (least, greatest, a) in CUTS {
-        for length in least..=greatest {
-            let genesis = hex::decode(rt.alloc(), worked::GENESIS)?;
-            let mut blocks = hex::decode(rt.alloc(), worked::TRANSFER)?;
-            blocks.truncate(length);
-            let ended = run_files(rt.alloc(), genesis, blocks)?;
-            assert_eq!(rt; ended.status, Status::Blocks { kind: 1, a });
-            assert!(rt; ended.sink.bytes().is_empty());
-        }
-    }
-    Ok(())
-}
-
 #[test]
 fn geneses_have_a_greatest_length(rt: HostRuntime) -> Result<(), Fail> {
     let genesis = vec![in rt.alloc(); 0; GENESIS_LIMIT + 1]?;

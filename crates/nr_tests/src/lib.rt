@@ -6,6 +6,8 @@ mod by_config;
 #[cfg(test)]
 mod config_text;
 #[cfg(test)]
+mod ends;
+#[cfg(test)]
 mod faulty;
 #[cfg(test)]
 mod lengths;

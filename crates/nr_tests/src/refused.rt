@@ -55,7 +55,7 @@ fn later_commands_load_nothing(rt: HostRuntime) -> Result<(), Fail> {
     ];
     for row in rows {
         let ended = answer_to(rt.alloc(), row)?;
-        assert_eq!(rt; ended.status, Status::NotBuilt { form: 0 });
+        assert_eq!(rt; ended.status, Status::Unsupported { form: 0 });
         assert!(rt; ended.wrote_nothing(rt.alloc(), "None")?);
     }
     Ok(())

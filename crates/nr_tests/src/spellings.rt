@@ -9,7 +9,7 @@ use std::test::Fail;
 fn genesis_files_are_written_back_alike(rt: HostRuntime) -> Result<(), Fail> {
     let bytes = hex::decode(rt.alloc(), worked::GENESIS)?;
     let file: GenesisFile = decode(rt.alloc(), &bytes)?;
-    assert_eq!(rt; file.boundaries.inner().len(), 0);
+    assert_eq!(rt; file.layout.shards(), 1);
     assert_eq!(rt; file.entries.inner().len(), 3);
     assert_eq!(rt; encode(rt.alloc(), &file)?.inner(), bytes.as_slice());
     assert_eq!(rt; file.duplicate(rt.alloc())?, file);

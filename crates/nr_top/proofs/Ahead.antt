@@ -5,16 +5,17 @@ use Rattle.std.proofs.Math.Nat.{mul-suc}
 use Rattle.std.specs.FinMap.{get}
 use Rattle.std.specs.List.{list_all}
 use Rattle.std.proofs.lemmas.List.Sums.{sum_by-cons}
+use Rattle.nr_ids.specs.Grammar.{system as system_id}
+use Rattle.nr_records.specs.declared.chunk_result.ChunkResult.{ChunkResult}
 use Rattle.nr_records.specs.declared.receipt.Receipt.{Receipt}
 use Rattle.nr_records.specs.declared.transaction.Transaction.{Transaction}
-use Rattle.nr_top.specs.Blocks.{is_one_transfer, has_full_key, is_built_transaction, is_built_chunk, are_built_chunks, most_gas, chunk_gas, block_gas, blocks_gas}
-use Rattle.nr_top.specs.Chunk.{Working, ChunkReport}
+use Rattle.nr_top.specs.Blocks.{is_one_transfer, has_full_key, is_supported_transaction, is_supported_chunk, are_supported_chunks, most_gas, chunk_gas, block_gas, blocks_gas}
+use Rattle.nr_top.specs.Chunk.{Working}
 use Rattle.nr_config.specs.Config.{Config, chunk_gas_limit}
-use Rattle.nr_top.specs.Execution.{system as system_id}
 use Rattle.nr_report.specs.Lines.{chunk_text}
 use Rattle.nr_top.specs.Run.{routed_in, executed_in}
 use Rattle.nr_state.specs.Tokens.{list_tokens}
-use Rattle.nr_top.specs.Straight.{are_built_from, IsReady, IsKept, IsNext, IsAhead, transactions_of, work_at, sent_from, report_at, reports_from, reports_text, left_by}
+use Rattle.nr_top.specs.Straight.{are_supported_from, IsReady, IsKept, IsNext, IsAhead, transactions_of, work_at, sent_from, report_at, reports_from, reports_text, left_by}
 use Rattle.nr_top.specs.Transfers.{AreTransfers, IsSettled, IsIdle, has_system, running_gas, transaction_gas}
 use Rattle.nr_state.specs.World.{World, accounts_tokens}
 use Rattle.nr_blocks.specs.declared.block.Block.{Block}
@@ -32,55 +33,55 @@ transfers_back c old new (r ∷ rs) same h =
 pub settled_on : (a b c : World) → IsSettled a b → IsSettled b c → IsSettled a c
 settled_on a b c one two = record { accounts = λ id. two.accounts id ∙ one.accounts id; keys = λ key. two.keys key ∙ one.keys key; postponed = two.postponed ∙ one.postponed; delayed = two.delayed ∙ one.delayed }
 
-built_transaction : (old new : World) (tx : Transaction) → IsSettled old new → is_built_transaction new tx ≡ is_built_transaction old tx
-built_transaction old new tx same =
+supported_transaction : (old new : World) (tx : Transaction) → IsSettled old new → is_supported_transaction new tx ≡ is_supported_transaction old tx
+supported_transaction old new tx same =
     ap (λ b. is_one_transfer tx.actions && b && is_some (get new.accounts tx.receiver)) (same.keys (tx.signer, tx.public_key))
     ∙ ap (λ b. is_one_transfer tx.actions && has_full_key (get old.keys (tx.signer, tx.public_key)) && b) (same.accounts tx.receiver)
 
-built_transactions : (old new : World) (txs : List Transaction) → IsSettled old new → list_all (is_built_transaction new) txs ≡ list_all (is_built_transaction old) txs
-built_transactions old new [] same = refl
-built_transactions old new (tx ∷ txs) same =
-    ap (λ b. b && list_all (is_built_transaction new) txs) (built_transaction old new tx same)
-    ∙ ap (λ b. is_built_transaction old tx && b) (built_transactions old new txs same)
+supported_transactions : (old new : World) (txs : List Transaction) → IsSettled old new → list_all (is_supported_transaction new) txs ≡ list_all (is_supported_transaction old) txs
+supported_transactions old new [] same = refl
+supported_transactions old new (tx ∷ txs) same =
+    ap (λ b. b && list_all (is_supported_transaction new) txs) (supported_transaction old new tx same)
+    ∙ ap (λ b. is_supported_transaction old tx && b) (supported_transactions old new txs same)
 
-built_chunk : (old new : World) (chunk : Option (List Transaction)) → IsSettled old new → is_built_chunk new chunk ≡ is_built_chunk old chunk
-built_chunk old new None same = refl
-built_chunk old new (Some txs) same = built_transactions old new txs same
+supported_chunk : (old new : World) (chunk : Option (List Transaction)) → IsSettled old new → is_supported_chunk new chunk ≡ is_supported_chunk old chunk
+supported_chunk old new None same = refl
+supported_chunk old new (Some txs) same = supported_transactions old new txs same
 
-built_chunks : (old new : World) (chunks : List (Option (List Transaction))) → IsSettled old new → are_built_chunks new chunks ≡ are_built_chunks old chunks
-built_chunks old new [] same = refl
-built_chunks old new (chunk ∷ []) same = built_chunk old new chunk same
-built_chunks old new (chunk ∷ next ∷ chunks) same = refl
+supported_chunks : (old new : World) (chunks : List (Option (List Transaction))) → IsSettled old new → are_supported_chunks new chunks ≡ are_supported_chunks old chunks
+supported_chunks old new [] same = refl
+supported_chunks old new (chunk ∷ []) same = supported_chunk old new chunk same
+supported_chunks old new (chunk ∷ next ∷ chunks) same = refl
 
--- ---- the gas of transactions that are built
-list_gas : (c : Config) (w : World) (txs : List Transaction) → list_all (is_built_transaction w) txs ≡ true → sum_by (most_gas c) txs ≡ transaction_gas c * length txs
+-- ---- the gas of transactions that are supported
+list_gas : (c : Config) (w : World) (txs : List Transaction) → list_all (is_supported_transaction w) txs ≡ true → sum_by (most_gas c) txs ≡ transaction_gas c * length txs
 list_gas c w [] e =
     let none : transaction_gas c * 0 ≡ 0 = omega arith in
     sym none
 list_gas c w (tx ∷ txs) e =
-    let built = both_left (is_built_transaction w tx) (list_all (is_built_transaction w) txs) e in
-    let one : is_one_transfer tx.actions ≡ true = both_left (is_one_transfer tx.actions) (has_full_key (get w.keys (tx.signer, tx.public_key))) (both_left (is_one_transfer tx.actions && has_full_key (get w.keys (tx.signer, tx.public_key))) (is_some (get w.accounts tx.receiver)) built) in
-    omega (arith, sum_by-cons (most_gas c) tx txs, most_is c tx one, list_gas c w txs (both_right (is_built_transaction w tx) (list_all (is_built_transaction w) txs) e), mul-suc (transaction_gas c) (length txs))
+    let supported = both_left (is_supported_transaction w tx) (list_all (is_supported_transaction w) txs) e in
+    let one : is_one_transfer tx.actions ≡ true = both_left (is_one_transfer tx.actions) (has_full_key (get w.keys (tx.signer, tx.public_key))) (both_left (is_one_transfer tx.actions && has_full_key (get w.keys (tx.signer, tx.public_key))) (is_some (get w.accounts tx.receiver)) supported) in
+    omega (arith, sum_by-cons (most_gas c) tx txs, most_is c tx one, list_gas c w txs (both_right (is_supported_transaction w tx) (list_all (is_supported_transaction w) txs) e), mul-suc (transaction_gas c) (length txs))
 
-pub block_gas_is : (c : Config) (w : World) (b : Block) → are_built_chunks w b.chunks ≡ true → block_gas c b ≡ transaction_gas c * length (transactions_of b)
+pub block_gas_is : (c : Config) (w : World) (b : Block) → are_supported_chunks w b.chunks ≡ true → block_gas c b ≡ transaction_gas c * length (transactions_of b)
 block_gas_is c w b e = of_chunks b.chunks e
   where
-    of_chunks : (chunks : List (Option (List Transaction))) → are_built_chunks w chunks ≡ true → sum_by (chunk_gas c) chunks ≡ transaction_gas c * length (unwrap_or (unwrap_or (slice_get chunks 0) None) [])
+    of_chunks : (chunks : List (Option (List Transaction))) → are_supported_chunks w chunks ≡ true → sum_by (chunk_gas c) chunks ≡ transaction_gas c * length (unwrap_or (unwrap_or (slice_get chunks 0) None) [])
     of_chunks [] e = absurd cc
     of_chunks (None ∷ []) e = absurd cc
     of_chunks (Some txs ∷ []) e = omega (arith, sum_by-cons (chunk_gas c) (Some txs) [], list_gas c w txs e)
     of_chunks (chunk ∷ next ∷ chunks) e = absurd cc
 
 -- ---- the next block
-pub chunks_built : (w : World) (h : ℕ) (b : Block) (rest : List Block) → are_built_from w h (b ∷ rest) ≡ true → are_built_chunks w b.chunks ≡ true
-chunks_built w h b rest e = both_right (b.height.0 == h) (are_built_chunks w b.chunks) (both_left ((b.height.0 == h) && are_built_chunks w b.chunks) (are_built_from w (h + 1) rest) e)
+pub chunks_supported : (w : World) (h : ℕ) (b : Block) (rest : List Block) → are_supported_from w h (b ∷ rest) ≡ true → are_supported_chunks w b.chunks ≡ true
+chunks_supported w h b rest e = both_right (b.height.0 == h) (are_supported_chunks w b.chunks) (both_left ((b.height.0 == h) && are_supported_chunks w b.chunks) (are_supported_from w (h + 1) rest) e)
 
-pub ready_on : (c : Config) (w v : World) (inbox : List Receipt) (h : ℕ) (b : Block) (rest : List Block) → IsIdle w → has_system w ≡ false → are_built_from w h (b ∷ rest) ≡ true → IsSettled w v → AreTransfers c w inbox
+pub ready_on : (c : Config) (w v : World) (inbox : List Receipt) (h : ℕ) (b : Block) (rest : List Block) → IsIdle w → has_system w ≡ false → are_supported_from w h (b ∷ rest) ≡ true → IsSettled w v → AreTransfers c w inbox
     → accounts_tokens v + list_tokens c inbox ≤ 2 ^ 127 → running_gas c * length inbox + blocks_gas c (b ∷ rest) < chunk_gas_limit c → IsReady c v inbox b
-ready_on c w v inbox h b rest idle system built settled transfers few gas =
-    let chunks : are_built_chunks w b.chunks ≡ true = chunks_built w h b rest built in
+ready_on c w v inbox h b rest idle system supported settled transfers few gas =
+    let chunks : are_supported_chunks w b.chunks ≡ true = chunks_supported w h b rest supported in
     record {
-      chunks = built_chunks w v b.chunks settled ∙ chunks;
+      chunks = supported_chunks w v b.chunks settled ∙ chunks;
       system = settled.accounts system_id ∙ system;
       delayed = settled.delayed ∙ idle.delayed;
       transfers = still_transfers c w v inbox settled transfers;
@@ -90,7 +91,7 @@ ready_on c w v inbox h b rest idle system built settled transfers few gas =
 
 pub is_ready : (c : Config) (w : World) (blocks : List Block) (h : ℕ) (b : Block) (rest : List Block) (p : Progress) → IsIdle w → has_system w ≡ false → accounts_tokens w ≤ 2 ^ 127 → IsAhead c w blocks h (b ∷ rest) p → IsReady c p.state.world p.inbox.items b
 is_ready c w blocks h b rest p idle system few ahead =
-    ready_on c w p.state.world p.inbox.items h b rest idle system ahead.built ahead.settled ahead.transfers (omega (arith, ahead.tokens, few)) ahead.gas
+    ready_on c w p.state.world p.inbox.items h b rest idle system ahead.supported ahead.settled ahead.transfers (omega (arith, ahead.tokens, few)) ahead.gas
 
 pub has_room : (c : Config) (w : World) (blocks : List Block) (h : ℕ) (rest : List Block) (p : Progress) → accounts_tokens w ≤ 2 ^ 127 → IsAhead c w blocks h rest p → accounts_tokens p.state.world + list_tokens c p.inbox.items + p.burnt ≤ 2 ^ 127
 has_room c w blocks h rest p few ahead = omega (arith, ahead.tokens, few)
@@ -106,9 +107,9 @@ summed : (before more now rest whole : ℕ) → now ≡ before + more → before
 summed before more now rest whole e f = omega arith
 
 -- the sums of one block and of those behind it
-summed_next : (f : ChunkReport → ℕ) (k : Working) (before now whole : ℕ) (others rest : List ChunkReport) → others ≡ rest → now ≡ before + f (report_at k) → before + sum_by f (report_at k ∷ rest) ≡ whole → now + sum_by f others ≡ whole
+summed_next : (f : ChunkResult → ℕ) (k : Working) (before now whole : ℕ) (others rest : List ChunkResult) → others ≡ rest → now ≡ before + f (report_at k) → before + sum_by f (report_at k ∷ rest) ≡ whole → now + sum_by f others ≡ whole
 summed_next f k before now whole others rest same next e =
-    ap (λ (rs : List ChunkReport). now + sum_by f rs) same
+    ap (λ (rs : List ChunkResult). now + sum_by f rs) same
     ∙ summed before (f (report_at k)) now (sum_by f rest) whole next (ap (λ n. before + n) (sym (sum_by-cons f (report_at k) rest)) ∙ e)
 
 pub one_more : (c : Config) (w : World) (blocks : List Block) (h : ℕ) (b : Block) (rest : List Block) (p q : Progress) → IsAhead c w blocks h (b ∷ rest) p
@@ -117,16 +118,16 @@ one_more c w blocks h b rest p q ahead next kept =
     let k = work_at c p.state.world p.inbox.items b in
     let reports : reports_from c q.state.world q.inbox.items rest ≡ reports_from c k.world (sent_from k) rest = after_next (λ v list. reports_from c v list rest) k p q next in
     record {
-      built = both_right ((b.height.0 == h) && are_built_chunks w b.chunks) (are_built_from w (h + 1) rest) ahead.built;
+      supported = both_right ((b.height.0 == h) && are_supported_chunks w b.chunks) (are_supported_from w (h + 1) rest) ahead.supported;
       left = after_next (λ v list. left_by c v list rest) k p q next ∙ ahead.left;
-      text = ap (λ (rs : List ChunkReport). q.text ++ reports_text rs) reports ∙ ap (λ (t : List ℕ). t ++ reports_text (reports_from c k.world (sent_from k) rest)) next.text
-          ∙ regroup p.text (chunk_text (report_at k).result) (reports_text (reports_from c k.world (sent_from k) rest)) _ ahead.text;
+      text = ap (λ (rs : List ChunkResult). q.text ++ reports_text rs) reports ∙ ap (λ (t : List ℕ). t ++ reports_text (reports_from c k.world (sent_from k) rest)) next.text
+          ∙ regroup p.text (chunk_text (report_at k)) (reports_text (reports_from c k.world (sent_from k) rest)) _ ahead.text;
       routed = summed_next routed_in k p.routed q.routed _ _ _ reports next.routed ahead.routed;
       executed = summed_next executed_in k p.executed q.executed _ _ _ reports next.executed ahead.executed;
-      burnt = summed_next (λ r. r.result.burnt) k p.burnt q.burnt _ _ _ reports next.burnt ahead.burnt;
+      burnt = summed_next (λ r. r.burnt) k p.burnt q.burnt _ _ _ reports next.burnt ahead.burnt;
       settled = settled_on w p.state.world q.state.world ahead.settled (subst (IsSettled p.state.world) (sym next.world) kept.settled);
       whole = next.whole;
       transfers = subst (AreTransfers c w) (sym next.inbox) (transfers_back c w p.state.world (sent_from k) ahead.settled kept.transfers);
       tokens = omega (arith, ap accounts_tokens next.world, ap (list_tokens c) next.inbox, next.burnt, kept.tokens, ahead.tokens);
-      gas = omega (arith, ap (λ (list : List Receipt). running_gas c * length list) next.inbox, kept.gas, ahead.gas, sum_by-cons (block_gas c) b rest, block_gas_is c w b (chunks_built w h b rest ahead.built));
+      gas = omega (arith, ap (λ (list : List Receipt). running_gas c * length list) next.inbox, kept.gas, ahead.gas, sum_by-cons (block_gas c) b rest, block_gas_is c w b (chunks_supported w h b rest ahead.supported));
     }

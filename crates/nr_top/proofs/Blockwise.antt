@@ -3,7 +3,7 @@ use Rattle.std.proofs.Common.{◌≡◌, ℕ, ◌+◌, ◌*◌, ◌<◌, ◌≤�
 use Rattle.std.specs.Prelude.{slice_get, unwrap_or}
 use Rattle.nr_records.specs.declared.receipt.Receipt.{Receipt}
 use Rattle.nr_records.specs.declared.transaction.Transaction.{Transaction}
-use Rattle.nr_top.specs.Chunk.{Working, open_chunk, take_list, report_of, lists_of}
+use Rattle.nr_top.specs.Chunk.{Working, open_chunk, take_list, result_of, lists_of}
 use Rattle.nr_config.specs.Config.{Config, chunk_gas_limit}
 use Rattle.nr_layout.specs.Layout.{out_to}
 use Rattle.nr_state.specs.Tokens.{list_tokens}
@@ -26,10 +26,10 @@ work_is c w inbox b place txs list opened fed chunks there all first then =
     let same : transactions_of b ≡ txs = ap (λ (cs : List (Option (List Transaction))). unwrap_or (unwrap_or (slice_get cs 0) None) []) chunks in
     then ∙ ap (λ k. take_list c k inbox) (first ∙ ap (λ p. open_chunk c w p list) there ∙ ap (open_chunk c w (place_of c b)) (all ∙ sym same))
 
-pub is_seal : (k work : Working) (s : Sealed) → work ≡ k → s.result ≡ (report_of [] first_shard work).result → s.local ≡ (report_of [] first_shard work).local → s.state.world ≡ work.world → s.state.whole ≡ true
+pub is_seal : (k work : Working) (s : Sealed) → work ≡ k → s.result ≡ result_of [] first_shard work → s.state.world ≡ work.world → s.state.whole ≡ true
     → lists_of [] 1 work ≡ s.outgoing.items ∷ [] → IsSeal k s
-is_seal k work s e result local world whole lists =
-    subst (λ t. IsSeal t s) e (record { report = result; local = local; world = world; whole = whole; sent = sym (first_of (out_to [] 0 work.outgoing) s.outgoing.items lists) })
+is_seal k work s e result world whole lists =
+    subst (λ t. IsSeal t s) e (record { report = result; world = world; whole = whole; sent = sym (first_of (out_to [] 0 work.outgoing) s.outgoing.items lists) })
 
 -- the transactions of a block, as they were had
 pub listed : (b : Block) (txs list : List Transaction) → b.chunks ≡ Some txs ∷ [] → list ≡ txs → list ≡ transactions_of b

@@ -18,7 +18,7 @@ use Rattle.nr_records.specs.declared.receipt.Body.{Body}
 use Rattle.nr_records.specs.declared.receipt.Body.TheVariants.{Act, Datum}
 use Rattle.nr_records.specs.declared.receipt.Receipt.{Receipt}
 use Rattle.nr_records.specs.declared.transaction.Transaction.{Transaction}
-use Rattle.nr_top.specs.Blocks.{is_one_transfer, most_gas, blocks_gas, is_built_config}
+use Rattle.nr_top.specs.Blocks.{is_one_transfer, most_gas, blocks_gas, is_supported_config}
 use Rattle.nr_top.specs.Conversion.{is_local, sending_gas, whole_gas}
 use Rattle.nr_top.specs.Transfers.{transfer_gas, running_gas, transaction_gas, is_transfer_act, is_transfer_body}
 use Rattle.nr_top.proofs.Both.{both_left, both_right}
@@ -108,8 +108,8 @@ pub transfer_counts : (c : Config) (r : Receipt) → IsValidConfig c → is_tran
 transfer_counts c r v t fits n = body_counts c (is_system r.predecessor) r.body v t fits n
 
 -- ---- blocks whose gas passes its type
-pub too_dear : (c : Config) (blocks : List Block) → IsValidConfig c → 2 ^ 64 ≤ blocks_gas c blocks → false ≡ is_built_config c blocks
-unfolding is_built_config
+pub too_dear : (c : Config) (blocks : List Block) → IsValidConfig c → 2 ^ 64 ≤ blocks_gas c blocks → false ≡ is_supported_config c blocks
+unfolding is_supported_config
 too_dear c blocks v le =
     let above : nat_lt (blocks_gas c blocks) (chunk_gas_limit c) ≡ false = le-ltb (blocks_gas c blocks) (chunk_gas_limit c) (omega (arith, le, (chunk_gas_limit-bounds c v).1)) in
     rw above (sym (and_false (storage_price c == 0)))

@@ -5,12 +5,12 @@ use Rattle.std.specs.FinMap.{get}
 use Rattle.std.specs.List.{list_all, AllByRecursion}
 use Rattle.std.proofs.Math.Nat.{mul-suc, mul-add, add-mul, mul-le-mul_left, mul-le-mul_right}
 use Rattle.std.proofs.lemmas.Bool.{ltb-false, eq-eqb}
-use Rattle.std.proofs.lemmas.Slice.Eq.{bytes_eq-Decides}
 use Rattle.std.proofs.lemmas.List.{drop_all, length-append}
 use Rattle.std.proofs.lemmas.List.Sums.{sum_by-cons, sum_by-append}
 use Rattle.sha2.specs.Sha256.{sha256}
 use Rattle.nr_config.specs.Config.{Config, IsValidConfig, gas_price, chunk_gas_limit}
-use Rattle.nr_ids.specs.Grammar.{is_system}
+use Rattle.nr_ids.proofs.System.{only_system}
+use Rattle.nr_ids.specs.Grammar.{is_system, system}
 use Rattle.nr_ids.specs.declared.key.Hash32.{Hash32}
 use Rattle.nr_records.specs.Transactions.{transaction_bytes}
 use Rattle.nr_records.specs.declared.access_key.AccessKey.{AccessKey}
@@ -19,10 +19,9 @@ use Rattle.nr_records.specs.declared.chunk_result.ChunkLine.{ChunkLine}
 use Rattle.nr_records.specs.declared.chunk_result.ChunkLine.TheVariants.{TxOk}
 use Rattle.nr_records.specs.declared.receipt.Receipt.{Receipt}
 use Rattle.nr_records.specs.declared.transaction.Transaction.{Transaction}
-use Rattle.nr_top.specs.Blocks.{is_one_transfer, is_built_transaction}
+use Rattle.nr_top.specs.Blocks.{is_one_transfer, is_supported_transaction}
 use Rattle.nr_top.specs.Chunk.{Working, Opening, begun, spent, serve, convert_next, by_conversion, routed, with_line, open_chunk, serve_delayed, serve_queue}
 use Rattle.nr_top.specs.Conversion.{Conversion, convert, is_local, transaction_hash, receipt_of, charged, by_key, by_signer, unless_refused, first_refusal, refusals, sending_gas, whole_gas, whole_cost, converted}
-use Rattle.nr_top.specs.Execution.{system}
 use Rattle.nr_fees.specs.Fees.{deposits, body_tokens, receipt_tokens}
 use Rattle.nr_top.specs.Phases.{Converts, IsConverting}
 use Rattle.nr_top.specs.Refusal.{refused}
@@ -89,24 +88,23 @@ pub was_accepted : (c : Config) (w new : World) (tx : Transaction) (place : Plac
 was_accepted c w new tx place made e = subst (IsVerdict c w tx place) e (verdict c w tx place)
 
 -- ---- the receipt that it becomes
-pub one_built : (w : World) (tx : Transaction) → is_built_transaction w tx ≡ true → is_one_transfer tx.actions ≡ true
-one_built w tx e = both_left _ _ (both_left _ _ e)
+pub one_supported : (w : World) (tx : Transaction) → is_supported_transaction w tx ≡ true → is_one_transfer tx.actions ≡ true
+one_supported w tx e = both_left _ _ (both_left _ _ e)
 
-receiver_built : (w : World) (tx : Transaction) → is_built_transaction w tx ≡ true → is_some (get w.accounts tx.receiver) ≡ true
-receiver_built w tx e = both_right _ _ e
+receiver_supported : (w : World) (tx : Transaction) → is_supported_transaction w tx ≡ true → is_some (get w.accounts tx.receiver) ≡ true
+receiver_supported w tx e = both_right _ _ e
 
 no_system : (w : World) (id : List ℕ) (b : Bool) → is_system id ≡ b → has_system w ≡ false → is_some (get w.accounts id) ≡ true → b ≡ false
-unfolding is_system
 no_system w id false e none stands = refl
 no_system w id true e none stands =
-    let same : id ≡ system = (bytes_eq-Decides id system).0 e in
+    let same : id ≡ system = only_system id e in
     absurd (let there : is_some (get w.accounts system) ≡ true = ap (λ i. is_some (get w.accounts i)) (sym same) ∙ stands in cc (none, there))
 
-becomes : (c : Config) (w : World) (tx : Transaction) (place : Place) → has_system w ≡ false → is_built_transaction w tx ≡ true → place.price ≡ gas_price c → is_some (get w.accounts tx.signer) ≡ true → IsTransfer c w (receipt_of tx place)
-becomes c w tx place none built price signer = record {
-  body = rw (one_built w tx built, price) (eq-eqb (gas_price c) (gas_price c) refl);
+becomes : (c : Config) (w : World) (tx : Transaction) (place : Place) → has_system w ≡ false → is_supported_transaction w tx ≡ true → place.price ≡ gas_price c → is_some (get w.accounts tx.signer) ≡ true → IsTransfer c w (receipt_of tx place)
+becomes c w tx place none supported price signer = record {
+  body = rw (one_supported w tx supported, price) (eq-eqb (gas_price c) (gas_price c) refl);
   sender = no_system w tx.signer (is_system tx.signer) refl none signer;
-  receiver = receiver_built w tx built;
+  receiver = receiver_supported w tx supported;
 }
 
 -- ---- the cost goes into the gas that is burnt and into the receipt
@@ -156,22 +154,22 @@ less_spent gas more = below (gas + more)
     below : (n : ℕ) → min n (2 ^ 64 - 1) ≤ n
     below n = omega arith
 
-by_verdict : (c : Config) (w : World) (total most : ℕ) (o : Opening) (tx : Transaction) (v : Conversion) → has_system w ≡ false → is_built_transaction w tx ≡ true → IsConverting c w total most o → IsVerdict c o.working.world tx o.working.place v → IsConverting c w total (most + transaction_gas c) (by_conversion o tx v)
-by_verdict c w total most o tx (Err fault) none built k v = record { price = k.price; settled = k.settled; outgoing = k.outgoing; local = k.local; tokens = k.tokens; gas = omega (arith, k.gas) }
-by_verdict c w total most o tx (Ok p) none built k v =
+by_verdict : (c : Config) (w : World) (total most : ℕ) (o : Opening) (tx : Transaction) (v : Conversion) → has_system w ≡ false → is_supported_transaction w tx ≡ true → IsConverting c w total most o → IsVerdict c o.working.world tx o.working.place v → IsConverting c w total (most + transaction_gas c) (by_conversion o tx v)
+by_verdict c w total most o tx (Err fault) none supported k v = record { price = k.price; settled = k.settled; outgoing = k.outgoing; local = k.local; tokens = k.tokens; gas = omega (arith, k.gas) }
+by_verdict c w total most o tx (Ok p) none supported k v =
     let r : Receipt = receipt_of tx o.working.place in
     let gas : ℕ = sending_gas c tx in
     let mid : Working = record o.working { world = p.0; gas = spent o.working.gas gas; burnt = o.working.burnt + gas * o.working.place.price; lines = o.working.lines ++ TxOk (transaction_hash tx) r.receipt_id ∷ [] } in
     let signer : is_some (get w.accounts tx.signer) ≡ true = sym (k.settled.accounts tx.signer) ∙ v.signer in
-    let one : IsTransfer c w r = becomes c w tx o.working.place none built k.price signer in
+    let one : IsTransfer c w r = becomes c w tx o.working.place none supported k.price signer in
     rw v.made
     (routes c w total (most + transaction_gas c) mid o.local r (is_local tx) k.price (settled_then w o.working.world p.0 k.settled v.settled) k.outgoing k.local one
-    (omega (arith, k.tokens, v.tokens, cost_parts c tx o.working.place (one_built w tx built) one.sender))
-    (omega (arith, k.gas, less_spent o.working.gas gas, sending_small c tx (one_built w tx built))))
+    (omega (arith, k.tokens, v.tokens, cost_parts c tx o.working.place (one_supported w tx supported) one.sender))
+    (omega (arith, k.gas, less_spent o.working.gas gas, sending_small c tx (one_supported w tx supported))))
 
-pub converts_next : (c : Config) (w : World) (total most : ℕ) (o : Opening) (tx : Transaction) → has_system w ≡ false → is_built_transaction w tx ≡ true → IsConverting c w total most o → IsConverting c w total (most + transaction_gas c) (convert_next c o tx)
+pub converts_next : (c : Config) (w : World) (total most : ℕ) (o : Opening) (tx : Transaction) → has_system w ≡ false → is_supported_transaction w tx ≡ true → IsConverting c w total most o → IsConverting c w total (most + transaction_gas c) (convert_next c o tx)
 unfolding convert_next
-converts_next c w total most o tx none built k = by_verdict c w total most o tx (convert c o.working.world tx o.working.place) none built k (verdict c o.working.world tx o.working.place)
+converts_next c w total most o tx none supported k = by_verdict c w total most o tx (convert c o.working.world tx o.working.place) none supported k (verdict c o.working.world tx o.working.place)
 
 pub convert_begins : (c : Config) (w : World) (place : Place) → place.price ≡ gas_price c → IsConverting c w (accounts_tokens w) (transaction_gas c * 0) (record { working = begun w place; local = [] })
 convert_begins c w place price =
@@ -181,19 +179,19 @@ convert_begins c w place price =
 -- ---- the transactions at work
 pub record IsAmid (c : Config) (w : World) (begin now : Opening) (txs : List Transaction) (i : ℕ) : Type 0 where
   pub left : fold (convert_next c) now (drop i txs) ≡ fold (convert_next c) begin txs
-  pub built : list_all (is_built_transaction w) (drop i txs) ≡ true
+  pub supported : list_all (is_supported_transaction w) (drop i txs) ≡ true
   pub kept : IsConverting c w (accounts_tokens w) (transaction_gas c * i) now
 
-pub amid_begins : (c : Config) (w : World) (place : Place) (k : Working) (txs : List Transaction) → place.price ≡ gas_price c → list_all (is_built_transaction w) txs ≡ true → k ≡ begun w place
+pub amid_begins : (c : Config) (w : World) (place : Place) (k : Working) (txs : List Transaction) → place.price ≡ gas_price c → list_all (is_supported_transaction w) txs ≡ true → k ≡ begun w place
     → IsAmid c w (record { working = k; local = [] }) (record { working = k; local = [] }) txs 0
-amid_begins c w place k txs price built fresh = record {
+amid_begins c w place k txs price supported fresh = record {
   left = refl;
-  built = built;
+  supported = supported;
   kept = subst (λ (x : Working). IsConverting c w (accounts_tokens w) (transaction_gas c * 0) (record { working = x; local = [] })) (sym fresh) (convert_begins c w place price);
 }
 
 pub amid_next : (c : Config) (w : World) (begin now : Opening) (txs : List Transaction) (i : ℕ) (tx : Transaction) → i < length txs → tx ≡ get_or txs i tx → IsAmid c w begin now txs i → is_one_transfer tx.actions ≡ true
-amid_next c w begin now txs i tx lt is u = one_built w tx (both_left _ _ (ap (list_all (is_built_transaction w)) (sym (front_of txs i tx lt is)) ∙ u.built))
+amid_next c w begin now txs i tx lt is u = one_supported w tx (both_left _ _ (ap (list_all (is_supported_transaction w)) (sym (front_of txs i tx lt is)) ∙ u.supported))
 
 pub amid_room : (c : Config) (w : World) (begin now : Opening) (txs : List Transaction) (i : ℕ) → accounts_tokens w ≤ 2 ^ 127 → IsAmid c w begin now txs i → accounts_tokens now.working.world + now.working.burnt ≤ 2 ^ 127
 amid_room c w begin now txs i le u = omega (arith, le, u.kept.tokens)
@@ -205,12 +203,12 @@ amid_gas c w begin now txs i lt below u =
 
 pub amid_goes_on : (c : Config) (w : World) (begin now : Opening) (txs : List Transaction) (i : ℕ) (tx : Transaction) → has_system w ≡ false → i < length txs → tx ≡ get_or txs i tx → IsAmid c w begin now txs i → IsAmid c w begin (convert_next c now tx) txs (i + 1)
 amid_goes_on c w begin now txs i tx none lt is u =
-    let built : list_all (is_built_transaction w) (tx ∷ drop (i + 1) txs) ≡ true = ap (list_all (is_built_transaction w)) (sym (front_of txs i tx lt is)) ∙ u.built in
+    let supported : list_all (is_supported_transaction w) (tx ∷ drop (i + 1) txs) ≡ true = ap (list_all (is_supported_transaction w)) (sym (front_of txs i tx lt is)) ∙ u.supported in
     let more : transaction_gas c * i + transaction_gas c ≡ transaction_gas c * (i + 1) = omega (arith, mul-suc (transaction_gas c) i, ap (λ n. transaction_gas c * n) (add-one i)) in
     record {
       left = ap (fold (convert_next c) now) (sym (front_of txs i tx lt is)) ∙ u.left;
-      built = both_right _ _ built;
-      kept = subst (λ most. IsConverting c w (accounts_tokens w) most (convert_next c now tx)) more (converts_next c w (accounts_tokens w) (transaction_gas c * i) now tx none (both_left _ _ built) u.kept);
+      supported = both_right _ _ supported;
+      kept = subst (λ most. IsConverting c w (accounts_tokens w) most (convert_next c now tx)) more (converts_next c w (accounts_tokens w) (transaction_gas c * i) now tx none (both_left _ _ supported) u.kept);
     }
 
 pub amid_ends : (c : Config) (w : World) (begin now : Opening) (txs : List Transaction) (i : ℕ) → length txs ≤ i → IsAmid c w begin now txs i → now ≡ fold (convert_next c) begin txs

@@ -15,12 +15,12 @@ use Rattle.nr_blocks.specs.declared.fault.BlocksFault.{BlocksFault}
 use Rattle.nr_blocks.specs.declared.fault.BlocksFault.TheVariants.{TooMany}
 use Rattle.nr_blocks.specs.declared.genesis.Genesis.{Genesis}
 use Rattle.nr_top.specs.Answers.{AsksFront}
-use Rattle.nr_top.specs.Blocks.{are_built_chunks, are_built_blocks, blocks_gas, is_built_config}
+use Rattle.nr_top.specs.Blocks.{are_supported_chunks, are_supported_blocks, blocks_gas, is_supported_config}
 use Rattle.nr_top.specs.Founding.{IsFounded}
 use Rattle.nr_top.specs.Input.{Report, Refused, chain, by_blocks}
 use Rattle.nr_top.specs.Run.{report_text}
-use Rattle.nr_top.specs.Straight.{are_built_from, straight_text}
-use Rattle.nr_top.specs.declared.status.Status.TheVariants.{NotBuilt}
+use Rattle.nr_top.specs.Straight.{are_supported_from, straight_text}
+use Rattle.nr_top.specs.declared.status.Status.TheVariants.{Unsupported}
 use Rattle.nr_top.proofs.Both.{both_left, both_right}
 use Rattle.nr_top.proofs.Straightened.{report_is_straight, chain_of}
 
@@ -38,13 +38,13 @@ first_height : (b : Block) (n : ℕ) (rest : Result (Unit {0}) BlocksFault) (rig
 first_height b n rest true is e = (refl, rw is at e)
 first_height b n rest false is e = absurd (let wrong = rw is at e in cc)
 
-built_from_height : (w : World) (n : ℕ) (bs : List Block) → each_from has_height n bs ≡ Ok tt → list_all (λ b. are_built_chunks w b.chunks) bs ≡ true → are_built_from w (n + 1) bs ≡ true
+supported_from_height : (w : World) (n : ℕ) (bs : List Block) → each_from has_height n bs ≡ Ok tt → list_all (λ b. are_supported_chunks w b.chunks) bs ≡ true → are_supported_from w (n + 1) bs ≡ true
 unfolding each_from
-built_from_height w n [] e built = refl
-built_from_height w n (b ∷ bs) e built =
+supported_from_height w n [] e supported = refl
+supported_from_height w n (b ∷ bs) e supported =
     let first = first_height b n (each_from has_height (n + 1) bs) (b.height.0 == n + 1) refl e in
-    let here : are_built_chunks w b.chunks ≡ true = both_left (are_built_chunks w b.chunks) (list_all (λ x. are_built_chunks w x.chunks) bs) built in
-    let rest : are_built_from w ((n + 1) + 1) bs ≡ true = built_from_height w (n + 1) bs first.1 (both_right (are_built_chunks w b.chunks) (list_all (λ x. are_built_chunks w x.chunks) bs) built) in
+    let here : are_supported_chunks w b.chunks ≡ true = both_left (are_supported_chunks w b.chunks) (list_all (λ x. are_supported_chunks w x.chunks) bs) supported in
+    let rest : are_supported_from w ((n + 1) + 1) bs ≡ true = supported_from_height w (n + 1) bs first.1 (both_right (are_supported_chunks w b.chunks) (list_all (λ x. are_supported_chunks w x.chunks) bs) supported) in
     rw (first.0, here) rest
 
 heights_of : (a b c : Result (Unit {0}) BlocksFault) → (a >>= λ x. b >>= λ y. c) ≡ Ok tt → b ≡ Ok tt
@@ -56,34 +56,34 @@ heights_pass : (shards : ℕ) (bs : List Block) → ordered shards bs ≡ Ok tt 
 unfolding ordered
 heights_pass shards bs e = heights_of (each (has_chunks shards) bs) (each has_height bs) (if nat_le (length bs) 256 then Ok tt else Err TooMany) e
 
-pub built_from : (w : World) (shards : ℕ) (bs : List Block) → AreBlocks shards bs → true ≡ are_built_blocks w bs → are_built_from w 1 bs ≡ true
-unfolding are_built_blocks
-built_from w shards bs are e = built_from_height w 0 bs (heights_pass shards bs are.ordered) (sym e)
+pub supported_from : (w : World) (shards : ℕ) (bs : List Block) → AreBlocks shards bs → true ≡ are_supported_blocks w bs → are_supported_from w 1 bs ≡ true
+unfolding are_supported_blocks
+supported_from w shards bs are e = supported_from_height w 0 bs (heights_pass shards bs are.ordered) (sym e)
 
 -- ---- the report, or why there is none
-same_built : (c : Config) (g : Genesis) (s : StateView) (bs : List Block) (answer : Bool) → IsFounded c g s → answer ≡ are_built_blocks s.world bs → are_built_blocks (genesis_world g.entries) bs ≡ answer
-same_built c g s bs answer founded e = sym (e ∙ ap (λ w. are_built_blocks w bs) founded.world)
+same_supported : (c : Config) (g : Genesis) (s : StateView) (bs : List Block) (answer : Bool) → IsFounded c g s → answer ≡ are_supported_blocks s.world bs → are_supported_blocks (genesis_world g.entries) bs ≡ answer
+same_supported c g s bs answer founded e = sym (e ∙ ap (λ w. are_supported_blocks w bs) founded.world)
 
-pub blocks_unbuilt : (c : Config) (g : Genesis) (s : StateView) (bs : List Block) → IsFounded c g s → false ≡ are_built_blocks s.world bs → by_blocks c g bs ≡ Refused (NotBuilt 2)
+pub blocks_unsupported : (c : Config) (g : Genesis) (s : StateView) (bs : List Block) → IsFounded c g s → false ≡ are_supported_blocks s.world bs → by_blocks c g bs ≡ Refused (Unsupported 2)
 unfolding by_blocks
-blocks_unbuilt c g s bs founded fails = rw (same_built c g s bs false founded fails) refl
+blocks_unsupported c g s bs founded fails = rw (same_supported c g s bs false founded fails) refl
 
-pub blocks_too_dear : (c : Config) (g : Genesis) (s : StateView) (bs : List Block) → IsFounded c g s → true ≡ are_built_blocks s.world bs → false ≡ is_built_config c bs → by_blocks c g bs ≡ Refused (NotBuilt 3)
+pub blocks_too_dear : (c : Config) (g : Genesis) (s : StateView) (bs : List Block) → IsFounded c g s → true ≡ are_supported_blocks s.world bs → false ≡ is_supported_config c bs → by_blocks c g bs ≡ Refused (Unsupported 3)
 unfolding by_blocks
-blocks_too_dear c g s bs founded holds fails = rw (same_built c g s bs true founded holds, sym fails) refl
+blocks_too_dear c g s bs founded holds fails = rw (same_supported c g s bs true founded holds, sym fails) refl
 
-pub blocks_reported : (c : Config) (g : Genesis) (s : StateView) (bs : List Block) (text : List ℕ) → IsFounded c g s → AreBlocks 1 bs → true ≡ are_built_blocks s.world bs → true ≡ is_built_config c bs
+pub blocks_reported : (c : Config) (g : Genesis) (s : StateView) (bs : List Block) (text : List ℕ) → IsFounded c g s → AreBlocks 1 bs → true ≡ are_supported_blocks s.world bs → true ≡ is_supported_config c bs
     → text ≡ straight_text c s.world bs → by_blocks c g bs ≡ Report text
 unfolding by_blocks
 blocks_reported c g s bs text founded are holds fits made =
-    let built = same_built c g s bs true founded holds in
+    let supported = same_supported c g s bs true founded holds in
     let tokens : supply g.entries ≡ accounts_tokens (genesis_world g.entries) = sym founded.counted ∙ sym founded.tokens ∙ ap accounts_tokens founded.world in
-    let straight = report_is_straight c g.entries bs (built_from (genesis_world g.entries) 1 bs are (sym built)) tokens in
+    let straight = report_is_straight c g.entries bs (supported_from (genesis_world g.entries) 1 bs are (sym supported)) tokens in
     let here : report_text c (chain g bs) ≡ report_text c (chain_of g.entries bs) = ap (λ (boundaries : List (List ℕ)). report_text c (record { boundaries = boundaries; entries = g.entries; blocks = bs })) founded.one in
     let is : report_text c (chain g bs) ≡ text = here ∙ straight ∙ sym (made ∙ ap (λ w. straight_text c w bs) founded.world) in
-    rw (built, sym fits) (ap (λ (t : List ℕ). Report t) is)
+    rw (supported, sym fits) (ap (λ (t : List ℕ). Report t) is)
 
--- what a configuration that is built says
-pub gas_below : (c : Config) (bs : List Block) → true ≡ is_built_config c bs → blocks_gas c bs < chunk_gas_limit c
-unfolding is_built_config
+-- what a configuration that is supported says
+pub gas_below : (c : Config) (bs : List Block) → true ≡ is_supported_config c bs → blocks_gas c bs < chunk_gas_limit c
+unfolding is_supported_config
 gas_below c bs e = ltb-true (blocks_gas c bs) (chunk_gas_limit c) (both_right _ (ltb (blocks_gas c bs) (chunk_gas_limit c)) (sym e))

@@ -5,10 +5,11 @@ use Rattle.std.specs.List.{range_with_len}
 use Rattle.std.proofs.lemmas.Bool.{eqb-true}
 use Rattle.std.proofs.lemmas.List.{length-append}
 use Rattle.std.specs.FinMap.{len}
+use Rattle.nr_records.specs.declared.chunk_result.ChunkResult.{ChunkResult}
 use Rattle.nr_records.specs.declared.receipt.Receipt.{Receipt}
 use Rattle.nr_records.specs.declared.transaction.Transaction.{Transaction}
-use Rattle.nr_top.specs.Blocks.{are_built_chunks}
-use Rattle.nr_top.specs.Chunk.{Working, ChunkReport, open_chunk, take_list}
+use Rattle.nr_top.specs.Blocks.{are_supported_chunks}
+use Rattle.nr_top.specs.Chunk.{Working, open_chunk, take_list}
 use Rattle.nr_config.specs.Config.{Config, gas_price}
 use Rattle.nr_blocks.specs.Genesis.{genesis_world, supply}
 use Rattle.nr_blocks.proofs.Founded.{one_shard}
@@ -16,7 +17,7 @@ use Rattle.nr_report.specs.Lines.{totals_text}
 use Rattle.nr_top.specs.Run.{Chain, transactions_at, timestamp_at, place_at, rules_of, routed_in, executed_in, totals_from, reports, last_worlds, totals, report_text}
 use Rattle.nr_state.specs.Tokens.{list_tokens, waiting_tokens}
 use Rattle.nr_top.specs.Serial.{Rules, Sealing, in_flight}
-use Rattle.nr_top.specs.Straight.{are_built_from, place_of, transactions_of, work_at, sent_from, report_at, reports_from, left_by, reports_text, straight_totals, straight_text}
+use Rattle.nr_top.specs.Straight.{are_supported_from, place_of, transactions_of, work_at, sent_from, report_at, reports_from, left_by, reports_text, straight_totals, straight_text}
 use Rattle.nr_state.specs.World.{World, accounts_tokens}
 use Rattle.nr_blocks.specs.declared.block.Block.{Block}
 use Rattle.nr_blocks.specs.declared.genesis_entry.GenesisEntry.{GenesisEntry}
@@ -35,12 +36,12 @@ at_end : (done : List Block) (b : Block) (rest : List Block) → slice_get (done
 at_end [] b rest = refl
 at_end (d ∷ done) b rest = at_end done b rest
 
--- a block that is built has its height's number, and one chunk
+-- a block that is supported has its height's number, and one chunk
 pub record IsBlockAt (n : ℕ) (b : Block) : Type 0 where
   pub height : b.height.0 ≡ suc n
   pub there : is_some (unwrap_or (slice_get b.chunks 0) None) ≡ true
 
-chunk_there : (w : World) (chunks : List (Option (List Transaction))) → are_built_chunks w chunks ≡ true → is_some (unwrap_or (slice_get chunks 0) None) ≡ true
+chunk_there : (w : World) (chunks : List (Option (List Transaction))) → are_supported_chunks w chunks ≡ true → is_some (unwrap_or (slice_get chunks 0) None) ≡ true
 chunk_there w [] e = absurd cc
 chunk_there w (None ∷ []) e = absurd cc
 chunk_there w (Some txs ∷ []) e = refl
@@ -51,15 +52,15 @@ pub AreBlocksFrom : ℕ → List Block → Type 0
 AreBlocksFrom n [] = Unit {0}
 AreBlocksFrom n (b ∷ bs) = IsBlockAt n b × AreBlocksFrom (suc n) bs
 
-pub blocks_from : (w : World) (n : ℕ) (bs : List Block) → are_built_from w (suc n) bs ≡ true → AreBlocksFrom n bs
+pub blocks_from : (w : World) (n : ℕ) (bs : List Block) → are_supported_from w (suc n) bs ≡ true → AreBlocksFrom n bs
 unfolding AreBlocksFrom
 blocks_from w n [] e = tt
 blocks_from w n (b ∷ bs) e =
-    let front = both_left (eqb b.height.0 (suc n) && are_built_chunks w b.chunks) (are_built_from w (suc n + 1) bs) e in
-    let rest = both_right (eqb b.height.0 (suc n) && are_built_chunks w b.chunks) (are_built_from w (suc n + 1) bs) e in
+    let front = both_left (eqb b.height.0 (suc n) && are_supported_chunks w b.chunks) (are_supported_from w (suc n + 1) bs) e in
+    let rest = both_right (eqb b.height.0 (suc n) && are_supported_chunks w b.chunks) (are_supported_from w (suc n + 1) bs) e in
     let next : suc n + 1 ≡ suc (suc n) = omega arith in (
-      record { height = eqb-true _ _ (both_left (eqb b.height.0 (suc n)) (are_built_chunks w b.chunks) front); there = chunk_there w b.chunks (both_right (eqb b.height.0 (suc n)) (are_built_chunks w b.chunks) front) },
-      blocks_from w (suc n) bs (subst (λ h. are_built_from w h bs ≡ true) next rest),
+      record { height = eqb-true _ _ (both_left (eqb b.height.0 (suc n)) (are_supported_chunks w b.chunks) front); there = chunk_there w b.chunks (both_right (eqb b.height.0 (suc n)) (are_supported_chunks w b.chunks) front) },
+      blocks_from w (suc n) bs (subst (λ h. are_supported_from w h bs ≡ true) next rest),
     )
 
 -- ---- the chain is a line
@@ -93,7 +94,7 @@ place_found c es blocks n b found is =
 transactions_found : (es : List GenesisEntry) (blocks : List Block) (n : ℕ) (b : Block) → slice_get blocks (suc n - 1) ≡ Some b → transactions_at (chain_of es blocks) 0 (suc n) ≡ transactions_of b
 transactions_found es blocks n b found = ap (λ (o : Option Block). unwrap_or (option_and_then (λ (block : Block). unwrap_or (slice_get block.chunks 0) None) o) []) found
 
-abbrev rules_for : (c : Config) → List GenesisEntry → List Block → Rules World Working (List Receipt) ChunkReport
+abbrev rules_for : (c : Config) → List GenesisEntry → List Block → Rules World Working (List Receipt) ChunkResult
 rules_for c es blocks = rules_of c (chain_of es blocks)
 
 abbrev line_of : (c : Config) → List GenesisEntry → List Block → ℕ → World × List Receipt
@@ -109,10 +110,10 @@ work_found c es blocks n b found is =
     ∙ ap (λ txs. take_list c (open_chunk c w (place_of c b) txs) inbox) (transactions_found es blocks n b found)
 
 -- ---- all blocks behind some others
-abbrev seal_report : Sealing World (List Receipt) ChunkReport → ChunkReport
+abbrev seal_report : Sealing World (List Receipt) ChunkResult → ChunkResult
 seal_report s = s.report
 
-abbrev sealed_from : (c : Config) (es : List GenesisEntry) (blocks : List Block) → ℕ → ℕ → List ChunkReport
+abbrev sealed_from : (c : Config) (es : List GenesisEntry) (blocks : List Block) → ℕ → ℕ → List ChunkResult
 sealed_from c es blocks n count = map seal_report (map (seal (rules_for c es blocks) sent_from []) (range_with_len n count))
 
 record IsSame (c : Config) (es : List GenesisEntry) (blocks : List Block) (n : ℕ) (rest : List Block) : Type 0 where
@@ -137,7 +138,7 @@ same_from c es blocks done (b ∷ bs) e is =
       reports =
           ap (λ (v : Working). report_at v ∷ sealed_from c es blocks (n + 1) (length bs)) k
           ∙ ap (λ m. report_at (work_at c (line_of c es blocks n).0 (line_of c es blocks n).1 b) ∷ sealed_from c es blocks m (length bs)) next
-          ∙ ap (λ (rs : List ChunkReport). report_at (work_at c (line_of c es blocks n).0 (line_of c es blocks n).1 b) ∷ rs)
+          ∙ ap (λ (rs : List ChunkResult). report_at (work_at c (line_of c es blocks n).0 (line_of c es blocks n).1 b) ∷ rs)
           (others.reports ∙ ap (λ m. reports_from c (line_of c es blocks m).0 (line_of c es blocks m).1 bs) longer ∙ ap (λ (p : World × List Receipt). reports_from c p.0 p.1 bs) here);
       left =
           ap (line_of c es blocks) end ∙ others.left
@@ -187,13 +188,13 @@ worlds_last c es blocks is =
     ∙ ap (λ (p : World × List Receipt). p.0 ∷ []) (end_is c es blocks is)
 
 -- totals depend on the lists in flight by two sums alone
-abbrev totals_with : (c : Config) → ℕ → List World → List ChunkReport → ℕ → ℕ → Totals
+abbrev totals_with : (c : Config) → ℕ → List World → List ChunkResult → ℕ → ℕ → Totals
 totals_with c given worlds rs tokens count =
     record {
       supply = given;
       accounts = sum_by accounts_tokens worlds;
       receipts = sum_by (waiting_tokens c) worlds + tokens;
-      burnt = sum_by (λ (r : ChunkReport). r.result.burnt) rs;
+      burnt = sum_by (λ (r : ChunkResult). r.burnt) rs;
       places = sum_by routed_in rs ∷ sum_by executed_in rs ∷ sum_by (λ (w : World). len w.postponed) worlds ∷ sum_by (λ (w : World). length w.delayed) worlds ∷ count ∷ [];
     }
 
@@ -205,9 +206,9 @@ totals_are c es blocks is same =
     ∙ ap (λ n. totals_with c (accounts_tokens (genesis_world es)) ((left_by c (genesis_world es) [] blocks).0 ∷ []) (reports_from c (genesis_world es) [] blocks) n (sum_by length (in_flight (rules_for c es blocks)))) (flight_sum c (list_tokens c) refl es blocks is)
     ∙ ap (totals_with c (accounts_tokens (genesis_world es)) ((left_by c (genesis_world es) [] blocks).0 ∷ []) (reports_from c (genesis_world es) [] blocks) (sum_by (list_tokens c) ((left_by c (genesis_world es) [] blocks).1 ∷ []))) (flight_sum c length refl es blocks is)
 
-pub report_is_straight : (c : Config) (es : List GenesisEntry) (blocks : List Block) → are_built_from (genesis_world es) 1 blocks ≡ true → supply es ≡ accounts_tokens (genesis_world es) → report_text c (chain_of es blocks) ≡ straight_text c (genesis_world es) blocks
+pub report_is_straight : (c : Config) (es : List GenesisEntry) (blocks : List Block) → are_supported_from (genesis_world es) 1 blocks ≡ true → supply es ≡ accounts_tokens (genesis_world es) → report_text c (chain_of es blocks) ≡ straight_text c (genesis_world es) blocks
 unfolding report_text straight_text
-report_is_straight c es blocks built same =
-    let is = blocks_from (genesis_world es) 0 blocks built in
+report_is_straight c es blocks supported same =
+    let is = blocks_from (genesis_world es) 0 blocks supported in
     ap (λ rs. reports_text rs ++ totals_text (totals c (chain_of es blocks))) (reports_are c es blocks is)
     ∙ ap (λ t. reports_text (reports_from c (genesis_world es) [] blocks) ++ totals_text t) (totals_are c es blocks is same)

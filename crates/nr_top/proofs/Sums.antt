@@ -3,8 +3,8 @@ use Rattle.std.proofs.Common.{◌≡◌, ℕ, ◌+◌, List, [], ◌∷◌, ◌+
 use Rattle.std.specs.Prelude.{sum_by}
 use Rattle.std.specs.FinMap.{FinMap, empty, entries, values, len, len-empty, len-entries}
 use Rattle.std.proofs.lemmas.List.{nil_from_length, append-nil}
+use Rattle.nr_records.specs.declared.chunk_result.ChunkResult.{ChunkResult}
 use Rattle.nr_records.specs.declared.receipt.Receipt.{Receipt}
-use Rattle.nr_top.specs.Chunk.{ChunkReport}
 use Rattle.nr_config.specs.Config.{Config}
 use Rattle.nr_report.specs.Lines.{totals_text}
 use Rattle.nr_top.specs.Run.{routed_in, executed_in, totals_from}
@@ -57,12 +57,12 @@ totals_kept c w blocks h supply p idle same ahead =
     ap (λ n. made n (accounts_tokens v) (list_tokens c list) p.burnt p.routed p.executed 0 0 (length list)) same
     ∙ ap (λ n. made (accounts_tokens w) n (list_tokens c list) p.burnt p.routed p.executed 0 0 (length list)) (plain (accounts_tokens v))
     ∙ ap (λ n. made (accounts_tokens w) (sum_by accounts_tokens (v ∷ [])) n p.burnt p.routed p.executed 0 0 (length list)) (besides (list_tokens c list) (waiting_tokens c v) (none_waiting c v still))
-    ∙ ap (λ n. made (accounts_tokens w) (sum_by accounts_tokens (v ∷ [])) (sum_by (waiting_tokens c) (v ∷ []) + sum_by (list_tokens c) (list ∷ [])) n p.routed p.executed 0 0 (length list)) (same_sum p.burnt (sum_by (λ (r : ChunkReport). r.result.burnt) rs) 0 ahead.burnt)
-    ∙ ap (λ n. made (accounts_tokens w) (sum_by accounts_tokens (v ∷ [])) (sum_by (waiting_tokens c) (v ∷ []) + sum_by (list_tokens c) (list ∷ [])) (sum_by (λ (r : ChunkReport). r.result.burnt) rs) n p.executed 0 0 (length list)) (same_sum p.routed (sum_by routed_in rs) 0 ahead.routed)
-    ∙ ap (λ n. made (accounts_tokens w) (sum_by accounts_tokens (v ∷ [])) (sum_by (waiting_tokens c) (v ∷ []) + sum_by (list_tokens c) (list ∷ [])) (sum_by (λ (r : ChunkReport). r.result.burnt) rs) (sum_by routed_in rs) n 0 0 (length list)) (same_sum p.executed (sum_by executed_in rs) 0 ahead.executed)
-    ∙ ap (λ n. made (accounts_tokens w) (sum_by accounts_tokens (v ∷ [])) (sum_by (waiting_tokens c) (v ∷ []) + sum_by (list_tokens c) (list ∷ [])) (sum_by (λ (r : ChunkReport). r.result.burnt) rs) (sum_by routed_in rs) (sum_by executed_in rs) n 0 (length list)) (sym (ap (λ n. 0 + n) (ap (len {X = Receipt} {R = pair_cmp}) still.postponed ∙ none_postponed)))
-    ∙ ap (λ n. made (accounts_tokens w) (sum_by accounts_tokens (v ∷ [])) (sum_by (waiting_tokens c) (v ∷ []) + sum_by (list_tokens c) (list ∷ [])) (sum_by (λ (r : ChunkReport). r.result.burnt) rs) (sum_by routed_in rs) (sum_by executed_in rs) (sum_by (λ (u : World). len u.postponed) (v ∷ [])) n (length list)) (sym (ap (λ (waiting : List Receipt). 0 + length waiting) still.delayed))
-    ∙ ap (λ n. made (accounts_tokens w) (sum_by accounts_tokens (v ∷ [])) (sum_by (waiting_tokens c) (v ∷ []) + sum_by (list_tokens c) (list ∷ [])) (sum_by (λ (r : ChunkReport). r.result.burnt) rs) (sum_by routed_in rs) (sum_by executed_in rs) (sum_by (λ (u : World). len u.postponed) (v ∷ [])) (sum_by (λ (u : World). length u.delayed) (v ∷ [])) n) (plain (length list))
+    ∙ ap (λ n. made (accounts_tokens w) (sum_by accounts_tokens (v ∷ [])) (sum_by (waiting_tokens c) (v ∷ []) + sum_by (list_tokens c) (list ∷ [])) n p.routed p.executed 0 0 (length list)) (same_sum p.burnt (sum_by (λ (r : ChunkResult). r.burnt) rs) 0 ahead.burnt)
+    ∙ ap (λ n. made (accounts_tokens w) (sum_by accounts_tokens (v ∷ [])) (sum_by (waiting_tokens c) (v ∷ []) + sum_by (list_tokens c) (list ∷ [])) (sum_by (λ (r : ChunkResult). r.burnt) rs) n p.executed 0 0 (length list)) (same_sum p.routed (sum_by routed_in rs) 0 ahead.routed)
+    ∙ ap (λ n. made (accounts_tokens w) (sum_by accounts_tokens (v ∷ [])) (sum_by (waiting_tokens c) (v ∷ []) + sum_by (list_tokens c) (list ∷ [])) (sum_by (λ (r : ChunkResult). r.burnt) rs) (sum_by routed_in rs) n 0 0 (length list)) (same_sum p.executed (sum_by executed_in rs) 0 ahead.executed)
+    ∙ ap (λ n. made (accounts_tokens w) (sum_by accounts_tokens (v ∷ [])) (sum_by (waiting_tokens c) (v ∷ []) + sum_by (list_tokens c) (list ∷ [])) (sum_by (λ (r : ChunkResult). r.burnt) rs) (sum_by routed_in rs) (sum_by executed_in rs) n 0 (length list)) (sym (ap (λ n. 0 + n) (ap (len {X = Receipt} {R = pair_cmp}) still.postponed ∙ none_postponed)))
+    ∙ ap (λ n. made (accounts_tokens w) (sum_by accounts_tokens (v ∷ [])) (sum_by (waiting_tokens c) (v ∷ []) + sum_by (list_tokens c) (list ∷ [])) (sum_by (λ (r : ChunkResult). r.burnt) rs) (sum_by routed_in rs) (sum_by executed_in rs) (sum_by (λ (u : World). len u.postponed) (v ∷ [])) n (length list)) (sym (ap (λ (waiting : List Receipt). 0 + length waiting) still.delayed))
+    ∙ ap (λ n. made (accounts_tokens w) (sum_by accounts_tokens (v ∷ [])) (sum_by (waiting_tokens c) (v ∷ []) + sum_by (list_tokens c) (list ∷ [])) (sum_by (λ (r : ChunkResult). r.burnt) rs) (sum_by routed_in rs) (sum_by executed_in rs) (sum_by (λ (u : World). len u.postponed) (v ∷ [])) (sum_by (λ (u : World). length u.delayed) (v ∷ [])) n) (plain (length list))
     ∙ ap (λ (q : World × List Receipt). totals_from c (accounts_tokens w) (q.0 ∷ []) rs (q.1 ∷ [])) ahead.left
 
 pub totals_given : (c : Config) (w : World) (blocks : List Block) (h supply accounts receipts count : ℕ) (p : Progress) → accounts + receipts + p.burnt ≡ supply → receipts ≡ list_tokens c p.inbox.items → count ≡ length p.inbox.items

@@ -101,7 +101,7 @@ abbrev pub transferred : Config → World → Frame → ℕ → Option Account �
 transferred c w f deposit None = cond (makes_account f) (Acts (with_implicit c w f.receiver deposit) f) (Fails no_account 0 f.call_burnt)
 transferred c w f deposit (Some account) = Acts (refunded (with_account w f.receiver (record account { amount = account.amount + deposit })) f deposit) f
 
--- An action of the frame's receipt. Kind 0 is no failure: it stands for the actions that aren't built, and no run that is built has one.
+-- An action of the frame's receipt. Kind 0 is no failure: it stands for the actions that aren't supported, and no run that is supported has one.
 unfoldable pub act : Config → World → Frame → Action → Acted
 act c w f (Transfer deposit) = transferred c w f deposit (get w.accounts f.receiver)
 act c w f action = Fails 0 0 f.call_burnt

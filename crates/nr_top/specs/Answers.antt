@@ -9,7 +9,7 @@ use Rattle.nr_blocks.specs.declared.fault.GenesisFault.{GenesisFault}
 use Rattle.nr_blocks.specs.declared.genesis.Genesis.{Genesis}
 use Rattle.nr_state.specs.View.{StateView}
 use Rattle.nr_top.specs.declared.status.Status.{Status}
-use Rattle.nr_top.specs.declared.status.Status.TheVariants.{Done, Usage, Config as faulty_config, Genesis as faulty_genesis, Blocks as faulty_blocks, NotBuilt, ReadFault, WriteFault, NoMemory}
+use Rattle.nr_top.specs.declared.status.Status.TheVariants.{Done, Usage, Config as faulty_config, Genesis as faulty_genesis, Blocks as faulty_blocks, Unsupported, ReadFault, WriteFault, NoMemory}
 
 -- What the sink holds grew by a front of these bytes, where it tells.
 abbrev pub GrewInPart : Option (List ℕ) → Option (List ℕ) → List ℕ → Type 0
@@ -39,9 +39,9 @@ Serves (faulty_genesis kind a b c) Untold old new = new ≡ old
 Serves (faulty_blocks kind a) (Report text) old new = ⊥
 Serves (faulty_blocks kind a) (Refused status) old new = (status ≡ faulty_blocks kind a) × (new ≡ old)
 Serves (faulty_blocks kind a) Untold old new = new ≡ old
-Serves (NotBuilt form) (Report text) old new = ⊥
-Serves (NotBuilt form) (Refused status) old new = (status ≡ NotBuilt form) × (new ≡ old)
-Serves (NotBuilt form) Untold old new = new ≡ old
+Serves (Unsupported form) (Report text) old new = ⊥
+Serves (Unsupported form) (Refused status) old new = (status ≡ Unsupported form) × (new ≡ old)
+Serves (Unsupported form) Untold old new = new ≡ old
 Serves ReadFault given old new = new ≡ old
 Serves NoMemory given old new = new ≡ old
 
@@ -62,7 +62,7 @@ cause NoMemory = Failing
 cause (faulty_config kind entry) = Refusing
 cause (faulty_genesis kind a b c) = Refusing
 cause (faulty_blocks kind a) = Refusing
-cause (NotBuilt form) = Refusing
+cause (Unsupported form) = Refusing
 cause Usage = Other
 cause Done = Other
 cause WriteFault = Other

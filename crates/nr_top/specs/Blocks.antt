@@ -1,4 +1,4 @@
--- Which blocks of a file without fault are built over a genesis of one shard: each chunk is there and has transfers alone, by keys of the genesis that may do all, to accounts of the genesis; and under which configurations. This project's own.
+-- Which blocks of a file without fault are supported over a genesis of one shard: each chunk is there and has transfers alone, by keys of the genesis that may do all, to accounts of the genesis; and under which configurations. This project's own.
 use Rattle.std.specs.Prelude.{ℕ, ◌+◌, ◌*◌, ◌==◌, ◌&&◌, Bool, true, false, List, [], ◌∷◌, length, Option, Some, None, nat_lt, is_some, sum_by}
 use Rattle.std.specs.FinMap.{get}
 use Rattle.std.specs.List.{list_all}
@@ -36,21 +36,21 @@ has_full_key None = false
 has_full_key (Some access) = is_full access.permission
 
 -- one transfer, by a key that may do all, to an account that stands
-abbrev pub is_built_transaction : World → Transaction → Bool
-is_built_transaction w tx = is_one_transfer tx.actions && has_full_key (get w.keys (tx.signer, tx.public_key)) && is_some (get w.accounts tx.receiver)
+abbrev pub is_supported_transaction : World → Transaction → Bool
+is_supported_transaction w tx = is_one_transfer tx.actions && has_full_key (get w.keys (tx.signer, tx.public_key)) && is_some (get w.accounts tx.receiver)
 
-abbrev pub is_built_chunk : World → Option (List Transaction) → Bool
-is_built_chunk w None = false
-is_built_chunk w (Some txs) = list_all (is_built_transaction w) txs
+abbrev pub is_supported_chunk : World → Option (List Transaction) → Bool
+is_supported_chunk w None = false
+is_supported_chunk w (Some txs) = list_all (is_supported_transaction w) txs
 
 -- one chunk, which is there
-abbrev pub are_built_chunks : World → List (Option (List Transaction)) → Bool
-are_built_chunks w [] = false
-are_built_chunks w (chunk ∷ []) = is_built_chunk w chunk
-are_built_chunks w (chunk ∷ next ∷ chunks) = false
+abbrev pub are_supported_chunks : World → List (Option (List Transaction)) → Bool
+are_supported_chunks w [] = false
+are_supported_chunks w (chunk ∷ []) = is_supported_chunk w chunk
+are_supported_chunks w (chunk ∷ next ∷ chunks) = false
 
-unfoldable pub are_built_blocks : World → List Block → Bool
-are_built_blocks w blocks = list_all (λ b. are_built_chunks w b.chunks) blocks
+unfoldable pub are_supported_blocks : World → List Block → Bool
+are_supported_blocks w blocks = list_all (λ b. are_supported_chunks w b.chunks) blocks
 
 -- ---- the gas that all transactions together can burn, however they are sent
 abbrev pub all_fees : Config → Fee → ℕ
@@ -70,5 +70,5 @@ abbrev pub blocks_gas : Config → List Block → ℕ
 blocks_gas c blocks = sum_by (block_gas c) blocks
 
 -- storage costs nothing, and no chunk can come to its limit
-unfoldable pub is_built_config : Config → List Block → Bool
-is_built_config c blocks = (storage_price c == 0) && nat_lt (blocks_gas c blocks) (chunk_gas_limit c)
+unfoldable pub is_supported_config : Config → List Block → Bool
+is_supported_config c blocks = (storage_price c == 0) && nat_lt (blocks_gas c blocks) (chunk_gas_limit c)

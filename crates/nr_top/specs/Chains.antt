@@ -1,4 +1,4 @@
--- What blocks and receipts of what is built look like, whatever the world.
+-- What blocks and receipts of what is supported look like, whatever the world.
 use Rattle.std.specs.Prelude.{◌≡◌, Bool, true, false, List, [], ◌∷◌, Option, Some, None}
 use Rattle.nr_config.specs.Config.{Config}
 use Rattle.nr_records.specs.declared.receipt.Receipt.{Receipt}

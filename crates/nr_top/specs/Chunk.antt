@@ -57,7 +57,7 @@ with_run k e =
       lines = k.lines ++ Run e.outcome ∷ [];
     }
 
--- Receipts that wait for data, and data, join here; no run that is built has any.
+-- Receipts that wait for data, and data, join here; no run that is supported has any.
 abbrev pub offered : Config → Working → Receipt → Body → Working
 offered c k r (Act a) = with_run k (execute c k.world r a [] k.place)
 offered c k r (Datum d) = k
@@ -133,16 +133,9 @@ result_of boundaries shard k =
       root = (root_of (flat k.world)).hash;
       gas = k.gas;
       burnt = k.burnt;
+      local = k.local;
       lines = k.lines ++ map (sent boundaries) k.outgoing;
     }
-
--- the result, with the count that no line tells
-pub record ChunkReport : Type 0 where
-  pub result : ChunkResult
-  pub local : ℕ
-
-abbrev pub report_of : List (List ℕ) → ShardId → Working → ChunkReport
-report_of boundaries shard k = record { result = result_of boundaries shard k; local = k.local }
 
 abbrev pub lists_of : List (List ℕ) → ℕ → Working → List (List Receipt)
 lists_of boundaries shards k = map (λ shard. out_to boundaries shard k.outgoing) (range_with_len 0 shards)

@@ -66,17 +66,17 @@ command (a ∷ b ∷ c ∷ d ∷ []) = four_words a b c d
 command (a ∷ b ∷ c ∷ d ∷ e ∷ []) = five_words a b c d e
 command (a ∷ b ∷ c ∷ d ∷ e ∷ f ∷ words) = None
 
--- ---- what is built
+-- ---- what is supported
 -- the configuration, the genesis and the blocks of a replay
 pub record Names : Type 0 where
   pub config : List ℕ
   pub genesis : List ℕ
   pub blocks : List ℕ
 
-abbrev pub built_files : Command → Option Names
-built_files (Run config genesis blocks) = Some (record { config = config; genesis = genesis; blocks = blocks })
-built_files (Check config genesis blocks schedule) = None
-built_files (Generate start shards blocks) = None
+abbrev pub supported_files : Command → Option Names
+supported_files (Run config genesis blocks) = Some (record { config = config; genesis = genesis; blocks = blocks })
+supported_files (Check config genesis blocks schedule) = None
+supported_files (Generate start shards blocks) = None
 
 -- the built-in configuration loads no file
 abbrev pub is_free : List ℕ → Bool

@@ -1,6 +1,6 @@
--- How a receipt is executed: its actions in order, what they burn, and the refunds. Rewards, data for other receipts and the check of storage are not yet built; no run that is built has any. After the Nomicon, Runtime Specification, Receipts and Refunds.
-use Rattle.std.specs.Prelude.{ℕ, ◌+◌, ◌-◌, ◌*◌, ◌==◌, cond, List, [], ◌∷◌, ◌++◌, length, replicate, Option, codes}
-use Rattle.nr_ids.specs.Grammar.{is_system}
+-- How a receipt is executed: its actions in order, what they burn, and the refunds. Rewards, data for other receipts and the check of storage are not yet supported; no run that is supported has any. After the Nomicon, Runtime Specification, Receipts and Refunds.
+use Rattle.std.specs.Prelude.{ℕ, ◌+◌, ◌-◌, ◌*◌, ◌==◌, cond, List, [], ◌∷◌, ◌++◌, length, replicate, Option}
+use Rattle.nr_ids.specs.Grammar.{is_system, system}
 use Rattle.nr_ids.specs.Derive.{derived}
 use Rattle.nr_ids.specs.declared.key.Hash32.{Hash32}
 use Rattle.nr_ids.specs.declared.key.PublicKey.{PublicKey}
@@ -26,9 +26,6 @@ pub record Execution : Type 0 where
   pub world : World
   pub outcome : Outcome
   pub made : List Receipt
-
-abbrev pub system : List ℕ
-system = codes "system"
 
 abbrev pub no_key : PublicKey
 no_key = Ed25519 (replicate 32 0)

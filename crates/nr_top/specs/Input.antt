@@ -2,8 +2,8 @@
 use Rattle.std.specs.Prelude.{ℕ, ◌+◌, ◌==◌, List, [], ◌∷◌, ◌++◌, map, Bool, cond, Option, Some, None, Result, Ok, Err, nat_lt, string_bytes, length}
 use Rattle.std.specs.Global.{Global}
 use Rattle.std.specs.declared.string.String.{String}
-use Rattle.nr_top.specs.Blocks.{are_built_blocks, is_built_config}
-use Rattle.nr_top.specs.Command.{Command, Names, command, built_files, is_free}
+use Rattle.nr_top.specs.Blocks.{are_supported_blocks, is_supported_config}
+use Rattle.nr_top.specs.Command.{Command, Names, command, supported_files, is_free}
 use Rattle.nr_config.specs.Config.{Config, free}
 use Rattle.nr_config.specs.Reading.{configuration}
 use Rattle.nr_config.specs.declared.fault.ConfigFault.{ConfigFault}
@@ -18,12 +18,12 @@ use Rattle.nr_blocks.specs.declared.fault.GenesisFault.TheVariants as genesis
 use Rattle.nr_blocks.specs.declared.genesis.Genesis.{Genesis}
 use Rattle.nr_top.specs.Run.{Chain, report_text}
 use Rattle.nr_top.specs.declared.status.Status.{Status}
-use Rattle.nr_top.specs.declared.status.Status.TheVariants.{Usage, NotBuilt, Config as faulty_config, Genesis as faulty_genesis, Blocks as faulty_blocks, NoMemory}
+use Rattle.nr_top.specs.declared.status.Status.TheVariants.{Usage, Unsupported, Config as faulty_config, Genesis as faulty_genesis, Blocks as faulty_blocks, NoMemory}
 
 abbrev pub texts : List (String Global) → List (List ℕ)
 texts words = map (λ word. string_bytes word) words
 
--- the files that a command loads, in order; one that isn't built loads none
+-- the files that a command loads, in order; one that isn't supported loads none
 abbrev pub config_files : List ℕ → List (List ℕ)
 config_files word = cond (is_free word) [] (word ∷ [])
 
@@ -33,7 +33,7 @@ loads_of (Some names) = config_files names.config ++ names.genesis ∷ names.blo
 
 abbrev pub files_of : Option Command → List (List ℕ)
 files_of None = []
-files_of (Some c) = loads_of (built_files c)
+files_of (Some c) = loads_of (supported_files c)
 
 -- ---- files: at most 1 MiB of configuration, 64 MiB of genesis and 256 MiB of blocks
 abbrev pub config_limit : ℕ
@@ -100,7 +100,7 @@ too_long_genesis = faulty_genesis 0 0 0 0
 abbrev pub has_one_shard : Genesis → Bool
 has_one_shard g = length g.layout == 0
 
--- ---- the blocks: their faults, by kind and number; then whether they are built, and under this configuration
+-- ---- the blocks: their faults, by kind and number; then whether they are supported, and under this configuration
 abbrev pub blocks_status : BlocksFault → Status
 blocks_status (blocks.Spelling at) = faulty_blocks 1 at
 blocks_status (blocks.ShardCount height) = faulty_blocks 2 height
@@ -115,11 +115,11 @@ too_long_blocks = faulty_blocks 0 0
 abbrev pub chain : Genesis → List Block → Chain
 chain g bs = record { boundaries = g.layout; entries = g.entries; blocks = bs }
 
-abbrev pub by_built_blocks : Config → Genesis → List Block → Given
-by_built_blocks c g bs = cond (is_built_config c bs) (Report (report_text c (chain g bs))) (Refused (NotBuilt 3))
+abbrev pub by_supported_blocks : Config → Genesis → List Block → Given
+by_supported_blocks c g bs = cond (is_supported_config c bs) (Report (report_text c (chain g bs))) (Refused (Unsupported 3))
 
 unfoldable pub by_blocks : Config → Genesis → List Block → Given
-by_blocks c g bs = cond (are_built_blocks (genesis_world g.entries) bs) (by_built_blocks c g bs) (Refused (NotBuilt 2))
+by_blocks c g bs = cond (are_supported_blocks (genesis_world g.entries) bs) (by_supported_blocks c g bs) (Refused (Unsupported 2))
 
 abbrev pub by_blocks_read : Config → Genesis → Result (List Block) BlocksFault → Given
 by_blocks_read c g (Ok bs) = by_blocks c g bs
@@ -129,7 +129,7 @@ abbrev pub by_blocks_file : Config → Genesis → Option (List ℕ) → Given
 by_blocks_file c g bytes = by_file blocks_limit too_long_blocks (λ file. by_blocks_read c g (blocks_read (length g.layout + 1) file)) bytes
 
 abbrev pub by_genesis : Config → Genesis → Option (List ℕ) → Given
-by_genesis c g blocks = cond (has_one_shard g) (by_blocks_file c g blocks) (Refused (NotBuilt 1))
+by_genesis c g blocks = cond (has_one_shard g) (by_blocks_file c g blocks) (Refused (Unsupported 1))
 
 abbrev pub by_genesis_read : Config → Result Genesis GenesisFault → Option (List ℕ) → Given
 by_genesis_read c (Ok g) blocks = by_genesis c g blocks
@@ -144,13 +144,13 @@ by_configured (By c) genesis blocks = by_files c genesis blocks
 by_configured (Bars status) genesis blocks = Refused status
 by_configured Unknown genesis blocks = Untold
 
-abbrev pub by_built : Option Names → (List ℕ → Option (List ℕ)) → Given
-by_built None held = Refused (NotBuilt 0)
-by_built (Some names) held = by_configured (configured names.config (held names.config)) (held names.genesis) (held names.blocks)
+abbrev pub by_supported : Option Names → (List ℕ → Option (List ℕ)) → Given
+by_supported None held = Refused (Unsupported 0)
+by_supported (Some names) held = by_configured (configured names.config (held names.config)) (held names.genesis) (held names.blocks)
 
 abbrev pub by_command : Option Command → (List ℕ → Option (List ℕ)) → Given
 by_command None held = Refused Usage
-by_command (Some c) held = by_built (built_files c) held
+by_command (Some c) held = by_supported (supported_files c) held
 
 abbrev pub input : List (List ℕ) → (List ℕ → Option (List ℕ)) → Given
 input words held = by_command (command words) held

@@ -16,3 +16,4 @@ pub mod Straight
 pub mod Founding
 pub mod Answers
 pub mod Words
+pub mod Exit

@@ -2,11 +2,12 @@
 use Rattle.std.specs.Prelude.{◌≡◌, ℕ, ◌+◌, ◌-◌, Bool, true, false, List, [], ◌∷◌, ◌++◌, length, map, Option, slice_get, sum_by, count_by, is_some, unwrap_or, option_map, option_and_then, None}
 use Rattle.std.specs.FinMap.{len}
 use Rattle.std.specs.List.{flat_map}
+use Rattle.nr_records.specs.declared.chunk_result.ChunkResult.{ChunkResult}
 use Rattle.nr_records.specs.declared.chunk_result.ChunkLine.{ChunkLine}
 use Rattle.nr_records.specs.declared.chunk_result.ChunkLine.TheVariants.{Run, Received, Lost, Sent}
 use Rattle.nr_records.specs.declared.receipt.Receipt.{Receipt}
 use Rattle.nr_records.specs.declared.transaction.Transaction.{Transaction}
-use Rattle.nr_top.specs.Chunk.{Working, ChunkReport, open_chunk, take_list, report_of, lists_of}
+use Rattle.nr_top.specs.Chunk.{Working, open_chunk, take_list, result_of, lists_of}
 use Rattle.nr_config.specs.Config.{Config, gas_price}
 use Rattle.nr_blocks.specs.Genesis.{genesis_world, entries_of, supply}
 use Rattle.nr_report.specs.Lines.{chunk_text, totals_text}
@@ -41,15 +42,15 @@ abbrev pub place_at : Config → Chain → ℕ → Place
 place_at c run height = record { height = record { 0 = height }; timestamp = timestamp_at run height; price = gas_price c }
 
 -- ---- the phases of its chunks
-abbrev pub sealing_of : Chain → ℕ → Working → Sealing World (List Receipt) ChunkReport
+abbrev pub sealing_of : Chain → ℕ → Working → Sealing World (List Receipt) ChunkResult
 sealing_of run shard k =
     record {
       world = k.world;
-      report = report_of run.boundaries (record { 0 = shard }) k;
+      report = result_of run.boundaries (record { 0 = shard }) k;
       lists = lists_of run.boundaries (shards run) k;
     }
 
-unfoldable pub rules_of : Config → Chain → Rules World Working (List Receipt) ChunkReport
+unfoldable pub rules_of : Config → Chain → Rules World Working (List Receipt) ChunkResult
 rules_of c run =
     record {
       shards = shards run;
@@ -72,19 +73,19 @@ is_execution (Received id) = true
 is_execution (Lost id) = true
 is_execution line = false
 
-abbrev pub routed_in : ChunkReport → ℕ
-routed_in r = r.local + count_by is_sent r.result.lines
+abbrev pub routed_in : ChunkResult → ℕ
+routed_in r = r.local + count_by is_sent r.lines
 
-abbrev pub executed_in : ChunkReport → ℕ
-executed_in r = count_by is_execution r.result.lines
+abbrev pub executed_in : ChunkResult → ℕ
+executed_in r = count_by is_execution r.lines
 
-abbrev pub totals_from : Config → ℕ → List World → List ChunkReport → List (List Receipt) → Totals
+abbrev pub totals_from : Config → ℕ → List World → List ChunkResult → List (List Receipt) → Totals
 totals_from c supply worlds reports flight =
     record {
       supply = supply;
       accounts = sum_by accounts_tokens worlds;
       receipts = sum_by (waiting_tokens c) worlds + sum_by (list_tokens c) flight;
-      burnt = sum_by (λ r. r.result.burnt) reports;
+      burnt = sum_by (λ r. r.burnt) reports;
       places =
           sum_by routed_in reports ∷ sum_by executed_in reports
           ∷ sum_by (λ w. len w.postponed) worlds ∷ sum_by (λ w. length w.delayed) worlds
@@ -92,7 +93,7 @@ totals_from c supply worlds reports flight =
     }
 
 -- ---- the whole of it
-abbrev pub reports : Config → Chain → List ChunkReport
+abbrev pub reports : Config → Chain → List ChunkResult
 reports c run = map (λ s. s.report) (sealings (rules_of c run))
 
 abbrev pub last_worlds : Config → Chain → List World
@@ -106,4 +107,4 @@ abbrev pub AddsUp : Totals → Type 0
 AddsUp t = t.accounts + t.receipts + t.burnt ≡ t.supply
 
 unfoldable pub report_text : Config → Chain → List ℕ
-report_text c run = flat_map (λ r. chunk_text r.result) (reports c run) ++ totals_text (totals c run)
+report_text c run = flat_map chunk_text (reports c run) ++ totals_text (totals c run)

@@ -2,7 +2,7 @@
 use Rattle.std.specs.Prelude.{◌≡◌, ℕ, ◌+◌, ◌*◌, ◌≤◌, ◌==◌, ◌&&◌, Bool, true, false, List, [], length, is_some}
 use Rattle.std.specs.FinMap.{empty, get}
 use Rattle.std.specs.List.{AllByRecursion}
-use Rattle.nr_ids.specs.Grammar.{is_system}
+use Rattle.nr_ids.specs.Grammar.{is_system, system}
 use Rattle.nr_ids.specs.declared.key.PublicKey.{PublicKey}
 use Rattle.nr_records.specs.declared.receipt.ActionReceipt.{ActionReceipt}
 use Rattle.nr_records.specs.declared.receipt.Body.{Body}
@@ -15,7 +15,6 @@ use Rattle.nr_fees.specs.Fees.{fee}
 use Rattle.nr_fees.specs.declared.table.Fee.TheVariants.{ActionReceipt as action_receipt, Transfer as transfer}
 use Rattle.nr_fees.specs.declared.table.Payment.{Payment}
 use Rattle.nr_fees.specs.declared.table.Payment.TheVariants.{SendLocal, SendRemote, Execute}
-use Rattle.nr_top.specs.Execution.{system}
 use Rattle.nr_state.specs.Tokens.{list_tokens}
 use Rattle.nr_state.specs.World.{World, accounts_tokens}
 

@@ -2,8 +2,8 @@
 
 ghost use Rattle.std.specs.Prelude.{◌≡◌, ◌≢◌, true, false, ◌≤◌, ◌<◌, ◌+◌, ◌*◌, ◌^◌, [], ◌∷◌, ◌++◌, IfOk, OnOk, fold, length, map};
 ghost use Rattle.std.specs.List.{list_all};
-ghost use Rattle.nr_top.specs.Blocks.{is_built_transaction, is_one_transfer};
-ghost use Rattle.nr_top.specs.Chunk.{open_chunk, take_list, report_of, lists_of, serve, begun, convert_next, routed, with_line, sent};
+ghost use Rattle.nr_top.specs.Blocks.{is_supported_transaction, is_one_transfer};
+ghost use Rattle.nr_top.specs.Chunk.{open_chunk, take_list, result_of, lists_of, serve, begun, convert_next, routed, with_line, sent};
 ghost use Rattle.nr_config.specs.Config.{gas_price, chunk_gas_limit};
 ghost use Rattle.nr_top.specs.Conversion.{is_local};
 ghost use Rattle.nr_fees.specs.Fees.{receipt_tokens};
@@ -24,6 +24,7 @@ use crate::state::State;
 use crate::tx_fault::TxFault;
 use nr_bytes::List;
 use nr_config::Config;
+use nr_config::entries::GAS_PRICE;
 use nr_ids::{Hash32, ShardId};
 use nr_records::{ChunkLine, ChunkResult, Receipt, Transaction, hash_of};
 use nr_state::Place;
@@ -73,7 +74,7 @@ pub(crate) fn take_list(
     ensures whole { OnOk result (work.new.state.whole ≡ true) }
 {
     // The price is only read for the bounds of the configuration.
-    let _ = config.entry(1);
+    let _ = config.entry(GAS_PRICE);
     for receipt in list {
         serve(work, alloc, config, receipt)?;
     }
@@ -151,7 +152,7 @@ fn convert_next(
     ensures whole { OnOk result (work.new.state.whole ≡ true) }
 {
     // The price is only read for the bounds of the configuration.
-    let _ = config.entry(1);
+    let _ = config.entry(GAS_PRICE);
     let hash = hash_of(alloc, tx)?;
     match convert(&mut work.state, alloc, config, tx, &work.place) {
         Ok(made) => {
@@ -175,7 +176,7 @@ fn convert_all(
 ) -> Result<Vec<Receipt>, AllocError>
     requires whole { work.old.state.whole ≡ true }
     requires price { work.old.place.price ≡ gas_price config.now }
-    requires built { list_all (is_built_transaction work.old.state.world) txs.now ≡ true }
+    requires supported { list_all (is_supported_transaction work.old.state.world) txs.now ≡ true }
     requires system { has_system work.old.state.world ≡ false }
     requires fresh { work_of work.old ≡ begun work.old.state.world work.old.place }
     requires room { accounts_tokens work.old.state.world ≤ 2 ^ 127 }
@@ -207,7 +208,7 @@ pub(crate) fn open_chunk(
     requires whole { state.whole ≡ true }
     requires delayed { state.world.delayed ≡ [] }
     requires price { place.price ≡ gas_price config.now }
-    requires built { list_all (is_built_transaction state.world) txs.now ≡ true }
+    requires supported { list_all (is_supported_transaction state.world) txs.now ≡ true }
     requires system { has_system state.world ≡ false }
     requires room { accounts_tokens state.world ≤ 2 ^ 127 }
     requires gas { transaction_gas config.now * length txs.now < chunk_gas_limit config.now }
@@ -216,7 +217,7 @@ pub(crate) fn open_chunk(
     ensures whole { IfOk result (λ work. work.state.whole ≡ true) }
 {
     // The price is only read for the bounds of the configuration.
-    let _ = config.entry(1);
+    let _ = config.entry(GAS_PRICE);
     let mut work = begin(alloc, state, place);
     let local = convert_all(&mut work, alloc, config, txs)?;
     take_list(&mut work, alloc, config, &local)?;
@@ -257,8 +258,7 @@ fn with_sent(
 /// Where there is no memory.
 pub(crate) fn seal_chunk(alloc: Global, work: ChunkWork) -> Result<Sealed, AllocError>
     requires whole { work.state.whole ≡ true }
-    ensures result { IfOk result (λ sealed. sealed.result ≡ (report_of [] (record { 0 = 0 }) (work_of work)).result) }
-    ensures local { IfOk result (λ sealed. sealed.local ≡ (report_of [] (record { 0 = 0 }) (work_of work)).local) }
+    ensures result { IfOk result (λ sealed. sealed.result ≡ result_of [] (record { 0 = 0 }) (work_of work)) }
     ensures world { IfOk result (λ sealed. sealed.state.world ≡ (work_of work).world) }
     ensures lists { IfOk result (λ sealed. lists_of [] 1 (work_of work) ≡ sealed.outgoing.items ∷ []) }
     ensures whole { IfOk result (λ sealed. sealed.state.whole ≡ true) }
@@ -274,9 +274,9 @@ pub(crate) fn seal_chunk(alloc: Global, work: ChunkWork) -> Result<Sealed, Alloc
             root,
             gas: work.gas,
             burnt: work.burnt,
+            local: work.local,
             lines: List::of(lines),
         },
-        local: work.local,
         outgoing: work.outgoing,
     })
 }

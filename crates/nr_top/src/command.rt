@@ -2,7 +2,7 @@
 
 ghost use Rattle.std.specs.Prelude.{◌≡◌, option_map};
 ghost use Rattle.std.specs.List.{list_all};
-ghost use Rattle.nr_top.specs.Command.{command, built_files, four_words, five_words, run_of, check_of, generate_of, number_in, is_plain, is_digit, has_no_leading_zero, is_numeral, is_free};
+ghost use Rattle.nr_top.specs.Command.{command, supported_files, four_words, five_words, run_of, check_of, generate_of, number_in, is_plain, is_digit, has_no_leading_zero, is_numeral, is_free};
 ghost use Rattle.nr_top.specs.Input.{texts};
 ghost use Rattle.nr_top.specs.Words.{names_in, command_in};
 
@@ -186,8 +186,8 @@ pub(crate) fn command_of(words: &[String]) -> Option<Words<'_>>
 }
 
 /// The names of the files of a replay.
-pub(crate) fn built_files<'a>(words: &Words<'a>) -> Option<FileNames<'a>>
-    ensures { option_map names_in result ≡ built_files (command_in words.now) }
+pub(crate) fn supported_files<'a>(words: &Words<'a>) -> Option<FileNames<'a>>
+    ensures { option_map names_in result ≡ supported_files (command_in words.now) }
 {
     match words {
         Words::RunFiles {

@@ -12,6 +12,7 @@ use crate::fees::{deposit_of, price_of, running_gas};
 use crate::state::State;
 use nr_bytes::{Blob, List};
 use nr_config::Config;
+use nr_config::entries::GAS_PRICE;
 use nr_ids::AccountId;
 use nr_records::{Account, Body, Outcome, Receipt, RunStatus};
 use std::alloc::{AllocError, Global};
@@ -69,7 +70,7 @@ pub(crate) fn execute(
         receipt_id: receipt.receipt_id,
         status: RunStatus::Value(Blob::of(Vec::new(alloc))),
         gas,
-        burnt: price_of(gas, config.entry(1)),
+        burnt: price_of(gas, config.entry(GAS_PRICE)),
         logs: List::of(Vec::new(alloc)),
     })
 }

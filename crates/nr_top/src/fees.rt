@@ -8,6 +8,7 @@ ghost use Rattle.nr_top.specs.Conversion.{sending_gas, whole_gas, whole_cost};
 ghost use Rattle.nr_top.specs.Transfers.{transfer_gas, running_gas};
 
 use nr_config::Config;
+use nr_config::entries::GAS_PRICE;
 use nr_fees::{Fee, Payment, fee_of};
 use nr_records::{Action, Transaction};
 use nr_state::Place;
@@ -20,7 +21,7 @@ pub(crate) fn transfer_gas(config: &Config, payment: Payment) -> u64
     ensures valid { IsValidConfig config.now }
 {
     // The price is only read for the bounds of the configuration.
-    let _ = config.entry(1);
+    let _ = config.entry(GAS_PRICE);
     fee_of(config, payment, Fee::ActionReceipt) + fee_of(config, payment, Fee::Transfer)
 }
 

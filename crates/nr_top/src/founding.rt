@@ -16,7 +16,7 @@ use nr_ids::ShardId;
 use nr_store::PlainStore;
 use std::alloc::{AllocError, Global};
 
-const OTHER_GENESIS: Status = Status::NotBuilt { form: 1 };
+const OTHER_GENESIS: Status = Status::Unsupported { form: 1 };
 
 /// The first state of the only shard.
 fn first_state(alloc: Global, config: &Config, genesis: &Genesis) -> Result<State, AllocError>

@@ -1,8 +1,6 @@
 //! The replay of a chain: from the words and the bytes of the files to the bytes of the report.
 #![tactic(auto)]
 
-mod built_blocks;
-mod built_config;
 mod chunk;
 mod chunk_work;
 mod command;
@@ -10,6 +8,7 @@ mod configuration;
 mod conversion;
 mod converted;
 mod execution;
+mod exit;
 mod fees;
 mod founding;
 mod laws;
@@ -22,6 +21,8 @@ mod run;
 mod sealed;
 mod state;
 mod status;
+mod supported_blocks;
+mod supported_config;
 mod tally;
 mod top;
 mod tx_fault;

@@ -8,20 +8,20 @@ ghost use Rattle.nr_top.specs.Founding.{IsFounded};
 ghost use Rattle.nr_top.specs.Input.{by_blocks, by_blocks_read};
 ghost use Rattle.nr_top.specs.declared.status.Status.TheVariants.{ReadFault};
 
-use crate::built_blocks::are_built;
-use crate::built_config::is_built;
 use crate::refused::blocks_status;
 use crate::run::Progress;
 use crate::state::State;
 use crate::status::Status;
+use crate::supported_blocks::are_supported;
+use crate::supported_config::is_supported;
 use nr_blocks::{Block, Genesis, read_blocks};
 use nr_bytes::Blob;
 use nr_config::Config;
 use std::alloc::Global;
 
-const OTHER_BLOCKS: Status = Status::NotBuilt { form: 2 };
+const OTHER_BLOCKS: Status = Status::Unsupported { form: 2 };
 
-const OTHER_CONFIG: Status = Status::NotBuilt { form: 3 };
+const OTHER_CONFIG: Status = Status::Unsupported { form: 3 };
 
 /// The report of blocks without fault.
 fn reported(
@@ -36,12 +36,12 @@ fn reported(
     ensures prepares { Prepares result (by_blocks config.now genesis.now blocks.now) }
     ensures no_fault { result ≢ Err ReadFault }
 {
-    match are_built(&state, blocks) {
+    match are_supported(&state, blocks) {
         Ok(true) => {}
         Ok(false) => return Err(OTHER_BLOCKS),
         Err(_) => return Err(Status::NoMemory),
     }
-    if !is_built(config, blocks) {
+    if !is_supported(config, blocks) {
         return Err(OTHER_CONFIG);
     }
     match Progress::report(alloc, config, state, genesis.supply, blocks) {

@@ -5,7 +5,7 @@ ghost use Rattle.nr_top.specs.Blocks.{blocks_gas};
 ghost use Rattle.nr_top.specs.Chains.{has_one_chunk};
 ghost use Rattle.nr_config.specs.Config.{chunk_gas_limit};
 ghost use Rattle.nr_top.specs.Run.{is_sent, is_execution};
-ghost use Rattle.nr_top.specs.Straight.{are_built_from};
+ghost use Rattle.nr_top.specs.Straight.{are_supported_from};
 ghost use Rattle.nr_top.specs.Transfers.{IsIdle, has_system};
 ghost use Rattle.nr_state.specs.World.{accounts_tokens};
 
@@ -16,6 +16,7 @@ use crate::tally::{execution_lines, sent_lines, tokens_in};
 use nr_blocks::Block;
 use nr_bytes::{Blob, List};
 use nr_config::Config;
+use nr_config::entries::GAS_PRICE;
 use nr_records::{Receipt, Transaction};
 use nr_report::{Totals, write_chunk, write_totals};
 use nr_state::Place;
@@ -68,7 +69,7 @@ impl Progress {
         Place {
             height: block.height,
             timestamp: block.timestamp,
-            price: config.entry(1),
+            price: config.entry(GAS_PRICE),
         }
     }
 
@@ -112,7 +113,7 @@ impl Progress {
         let sealed = Progress::seal(alloc, config, state, &inbox, block)?;
         write_chunk(alloc, &sealed.result, &mut text)?;
         let lines = sealed.result.lines.inner();
-        let routed = sum(routed, sent_lines(lines), sealed.local)?;
+        let routed = sum(routed, sent_lines(lines), sealed.result.local)?;
         let executed = sum(executed, execution_lines(lines), 0)?;
         Ok(Progress {
             state: sealed.state,
@@ -133,7 +134,7 @@ impl Progress {
     ) -> Result<Progress, AllocError>
         requires whole { state.whole ≡ true }
         requires idle { IsIdle state.world }
-        requires built { are_built_from state.world 1 blocks.now ≡ true }
+        requires supported { are_supported_from state.world 1 blocks.now ≡ true }
         requires system { has_system state.world ≡ false }
         requires tokens { accounts_tokens state.world ≤ 2 ^ 127 }
         requires gas { blocks_gas config.now blocks.now < chunk_gas_limit config.now }
@@ -180,7 +181,7 @@ impl Progress {
     ) -> Result<Blob, AllocError>
         requires whole { state.whole ≡ true }
         requires idle { IsIdle state.world }
-        requires built { are_built_from state.world 1 blocks.now ≡ true }
+        requires supported { are_supported_from state.world 1 blocks.now ≡ true }
         requires system { has_system state.world ≡ false }
         requires supply { supply ≡ accounts_tokens state.world }
         requires tokens { supply ≤ 2 ^ 127 }

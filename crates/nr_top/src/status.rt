@@ -25,9 +25,9 @@ pub enum Status {
     /// height), 4 where there are more than 256 blocks, and 5 where an action of staking stands (`a`
     /// is its place).
     Blocks { kind: u32, a: u64 },
-    /// What was given isn't built yet: 0 the command, 1 the genesis, 2 the blocks, 3 the
+    /// What was given isn't supported yet: 0 the command, 1 the genesis, 2 the blocks, 3 the
     /// configuration.
-    NotBuilt { form: u32 },
+    Unsupported { form: u32 },
     /// A file could not be read.
     ReadFault,
     /// The report could not be written whole.

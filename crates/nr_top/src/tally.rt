@@ -9,6 +9,7 @@ ghost use Rattle.nr_top.specs.Chains.{IsTransferBody};
 ghost use Rattle.nr_top.specs.Transfers.{is_transfer_body};
 
 use nr_config::Config;
+use nr_config::entries::GAS_PRICE;
 use nr_fees::receipt_tokens;
 use nr_records::{ChunkLine, Receipt};
 
@@ -45,7 +46,7 @@ pub(crate) fn tokens_of(config: &Config, receipt: &Receipt) -> u128
     ensures { result ≡ receipt_tokens config.now receipt.now }
 {
     // The price is only read for the bounds of the configuration.
-    let _ = config.entry(1);
+    let _ = config.entry(GAS_PRICE);
     match receipt_tokens(config, receipt) {
         Some(tokens) => tokens,
         None => unreachable!(),

@@ -1,14 +1,14 @@
 //! The top call.
 
-ghost use Rattle.std.specs.Prelude.{◌≡◌, ◌++◌, ◌∷◌, [], Err};
+ghost use Rattle.std.specs.Prelude.{◌≡◌, ◌≢◌, ◌++◌, ◌∷◌, [], Err};
 ghost use Rattle.nr_bytes.specs.Outside.{Rose};
 ghost use Rattle.nr_top.specs.Answers.{Serves, Prepares, AsksFront};
 ghost use Rattle.nr_top.specs.Founding.{IsFounded};
 ghost use Rattle.nr_top.specs.Input.{texts, input, configured, config_files, by_configured, by_files, by_blocks_file, files_of};
 ghost use Rattle.nr_top.specs.Command.{command};
-ghost use Rattle.nr_top.specs.declared.status.Status.TheVariants.{ReadFault, WriteFault};
+ghost use Rattle.nr_top.specs.declared.status.Status.TheVariants.{Done, ReadFault, WriteFault};
 
-use crate::command::{FileNames, built_files, command_of};
+use crate::command::{FileNames, command_of, supported_files};
 use crate::configuration::configuration;
 use crate::founding::found;
 use crate::loading::load;
@@ -104,8 +104,8 @@ fn prepare<S: Shelf>(alloc: Global, names: &FileNames<'_>, shelf: &mut S) -> Res
 ///   numbers that `Status` says; `nr_blocks::read_genesis` gives it. Nothing was written.
 /// - `Blocks`: the blocks are longer than 256 MiB (kind 0), or their first fault, by the kind and the
 ///   number that `Status` says; `nr_blocks::read_blocks` gives it. Nothing was written.
-/// - `NotBuilt`: the words are a command other than `run` (form 0), or the genesis has a boundary
-///   (form 1), or the blocks (form 2) or the configuration (form 3) are none that are built yet.
+/// - `Unsupported`: the words are a command other than `run` (form 0), or the genesis has a boundary
+///   (form 1), or the blocks (form 2) or the configuration (form 3) are none that are supported yet.
 ///   Blocks are where each chunk is there and each transaction is one transfer, by a key of the
 ///   genesis that may do all, to an account of the genesis. A configuration isn't where storage has a
 ///   price, or where the transactions together could come to a chunk's gas limit. Nothing was
@@ -124,6 +124,8 @@ pub fn serial<S: Shelf, K: Sink>(
 ) -> Status
     // The answer is right for the words and files, and the sink took what belongs to it.
     ensures serves { Serves result (input (texts words.now) (S.held shelf.old)) (K.taken sink.old) (K.taken sink.new) }
+    // Before the writing the sink stays as it is, whatever it tells.
+    ensures untouched { result ≢ Done → result ≢ WriteFault → sink.new ≡ sink.old }
     // A fault comes only where a count rose.
     ensures read_fault { result ≡ ReadFault → Rose (S.faults shelf.old) (S.faults shelf.new) }
     ensures write_fault { result ≡ WriteFault → Rose (K.faults sink.old) (K.faults sink.new) }
@@ -133,8 +135,8 @@ pub fn serial<S: Shelf, K: Sink>(
     let Some(command) = command_of(words) else {
         return Status::Usage;
     };
-    let Some(names) = built_files(&command) else {
-        return Status::NotBuilt { form: 0 };
+    let Some(names) = supported_files(&command) else {
+        return Status::Unsupported { form: 0 };
     };
     let report = match prepare(alloc, &names, shelf) {
         Ok(report) => report,

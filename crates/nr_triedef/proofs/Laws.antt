@@ -1,5 +1,5 @@
 -- A node's text: what is read from it is a node with this text, and each node is read from its text.
-use Rattle.std.proofs.Common.{◌≡◌, ℕ, zero, suc, ◌+◌, ◌*◌, ◌/◌, ◌%◌, ◌^◌, ◌<◌, ◌≤◌, Bool, true, false, cond, ◌&&◌, ltb, leb, eqb, List, [], ◌∷◌, ◌++◌, map, length, Option, Some, None, Result, Ok, Err, refl, sym, ap, subst, ◌∙◌, append_assoc, arith}
+use Rattle.std.proofs.Common.{◌≡◌, ℕ, zero, suc, ◌+◌, ◌*◌, ◌/◌, ◌%◌, ◌^◌, ◌<◌, ◌≤◌, Bool, true, false, cond, ◌&&◌, ltb, eqb, List, [], ◌∷◌, ◌++◌, map, length, Option, Some, None, Result, Ok, Err, refl, sym, ap, subst, ◌∙◌, append_assoc, arith}
 use Rattle.std.specs.Prelude.{is_some, count_by, count_ones, IfOk}
 use Rattle.std.specs.List.{AllByRecursion, flat_map}
 use Rattle.std.specs.Simd.Lanes.{mask_l}
@@ -15,58 +15,40 @@ use Rattle.nr_triedef.specs.declared.fault.NodeFault.{NodeFault}
 use Rattle.nr_triedef.specs.declared.node.Node.{Node}
 use Rattle.nr_triedef.specs.declared.node.Node.TheVariants.{Leaf, Extension, Branch}
 use Rattle.nr_triedef.specs.Node.{is_part, nibble_count, links, IsNode, bitmap, child_bytes, children_bytes, node_text}
-use Rattle.nr_triedef.specs.Reading.{Read, GivesAll, lifted, right, nat_at, hash_at, part_at, is_front, value_at, leaf_at, extension_at, child_at, each_at, children_at, branch_at, valued_at, kind_at, whole_at, node_at, IsHash, IsChild, IsValue, Fits}
+use Rattle.nr_triedef.specs.Reading.{node_fault, hash_at, part_at, is_enough, is_front, value_at, leaf_at, extension_at, child_at, each_at, children_at, branch_at, valued_at, kind_at, whole_at, node_at, IsChild, IsValue, Fits}
 use Rattle.nr_triedef.proofs.Parts.{bitmap_bound}
-use Rattle.nr_triedef.proofs.Fields.{Takes, Takes-then, before, behind, bind_ok, ok_is, raw_law, nat_law, blob_law}
+use Rattle.nr_bytes.specs.Answers.{Gives}
+use Rattle.nr_bytes.specs.Fields.{Read, lifted, nat_at, raw_at, blob_at, tested}
+use Rattle.nr_bytes.specs.Spelling.{Takes, IsRead, before, behind, HasLength, Below, IsCounted, Passes, in_turn, Both}
+use Rattle.nr_bytes.proofs.Steps.{Takes-then, bind_ok, ok_is}
+use Rattle.nr_bytes.proofs.Fields.{raw_law, nat_law, blob_law}
+use Rattle.nr_bytes.proofs.Values.{mapped_law, tested_law, pair_law}
+use Rattle.nr_ids.specs.Keys.{hash_of_bytes, IsHash}
+use Rattle.nr_triedef.specs.declared.fault.NodeFault.TheVariants.{BadNode, Memory}
 
--- ---- a hash
-
-hash_taken : (s : Input) (p : Hash32 × Input) → IsBytes s.left → hash_at s ≡ Ok p → IsHash p.0 × Takes s p.0.0 p.1
-hash_taken s p fits e =
-    let x = bind_ok _ _ p e in
-    let one = (raw_law 32).taken s x.0 fits x.1 in
-    subst (λ (p : Hash32 × Input). IsHash p.0 × Takes s p.0.0 p.1) (ok_is (record { 0 = x.0.0 }, x.0.1) p x.2) one
-
-hash_again : (hash : Hash32) (at : ℕ) (rest : List ℕ) → IsHash hash → hash_at (before hash.0 at rest) ≡ Ok (hash, behind hash.0 at rest)
-hash_again hash at rest is = rw ((raw_law 32).again hash.0 at rest is) refl
-
--- ---- a part
-
-right_ok : {X : Type 0} (s : Input) (b : Bool) (x y : X × Input) → right s b x ≡ Ok y → (b ≡ true) × (x ≡ y)
-right_ok s true x y e = (refl, ok_is x y e)
-right_ok s false x y e = absurd cc
-
-part_taken : (form : List ℕ → Bool) (s : Input) (p : List ℕ × Input) → IsBytes s.left → part_at form s ≡ Ok p → (form p.0 ≡ true) × (length p.0 < 2 ^ 32) × Takes s (counted_bytes p.0) p.1
-part_taken form s p fits e =
-    let x = bind_ok _ _ p e in
-    let one = blob_law.taken s x.0 fits x.1 in
-    let g = right_ok s (form x.0.0) x.0 p x.2 in
-    subst (λ (p : List ℕ × Input). (form p.0 ≡ true) × (length p.0 < 2 ^ 32) × Takes s (counted_bytes p.0) p.1) g.1 (g.0, one.0, one.1)
-
-part_again : (form : List ℕ → Bool) (part : List ℕ) (at : ℕ) (rest : List ℕ) → length part < 2 ^ 32 → form part ≡ true → part_at form (before (counted_bytes part) at rest) ≡ Ok (part, behind (counted_bytes part) at rest)
-part_again form part at rest few is = rw (blob_law.again part at rest few, is) refl
-
--- ---- a value
-
+-- ---- fields
 abbrev value_bytes : ℕ × Hash32 → List ℕ
-value_bytes value = little 4 value.0 ++ value.1.0
+value_bytes = in_turn (little 4) (λ (hash : Hash32). hash.0)
 
-value_taken : (s : Input) (p : (ℕ × Hash32) × Input) → IsBytes s.left → value_at s ≡ Ok p → (p.0.0 < 2 ^ 32) × IsHash p.0.1 × Takes s (value_bytes p.0) p.1
-value_taken s p fits e =
-    let x = bind_ok _ _ p e in
-    let y = bind_ok _ _ p x.2 in
-    let one = (nat_law 4).taken s x.0 fits x.1 in
-    let two = hash_taken x.0.1 y.0 one.1.bytes y.1 in
-    subst (λ (p : (ℕ × Hash32) × Input). (p.0.0 < 2 ^ 32) × IsHash p.0.1 × Takes s (value_bytes p.0) p.1) (ok_is ((x.0.0, y.0.0), y.0.1) p y.2)
-    (one.0, two.0, Takes-then s x.0.1 y.0.1 (little 4 x.0.0) y.0.0.0 one.1 two.1)
+hash_law : IsRead hash_at (λ (hash : Hash32). hash.0) IsHash
+hash_law = mapped_law hash_of_bytes (λ (hash : Hash32). hash.0) (λ hash. refl) (λ bytes. refl) (raw_at node_fault 32) (λ bytes. bytes) (HasLength 32) (raw_law node_fault 32)
 
--- what is left, at some place
-abbrev Leaves : {X : Type 0} → Read X → X → List ℕ → Type 0
+part_law : (form : List ℕ → Bool) → IsRead (part_at form) counted_bytes (Passes IsCounted form)
+part_law form = tested_law form BadNode (blob_at node_fault) counted_bytes IsCounted (blob_law node_fault)
+
+value_law : IsRead value_at value_bytes (Both (Below (256 ^ 4)) IsHash)
+value_law = pair_law (nat_at node_fault 4) (little 4) (Below (256 ^ 4)) hash_at (λ (hash : Hash32). hash.0) IsHash (nat_law node_fault 4) hash_law
+
+bits_law : (valued : Bool) → IsRead (tested (is_enough valued) BadNode (nat_at node_fault 2)) (little 2) (Passes (Below (256 ^ 2)) (is_enough valued))
+bits_law valued = tested_law (is_enough valued) BadNode (nat_at node_fault 2) (little 2) (Below (256 ^ 2)) (nat_law node_fault 2)
+
+-- what is left, at some offset
+abbrev Leaves : {X : Type 0} → Read NodeFault X → X → List ℕ → Type 0
 Leaves read x rest = (at : ℕ) × (read ≡ Ok (x, record { left = rest; at = at }))
 
 value_again : (value : ℕ × Hash32) (at : ℕ) (rest : List ℕ) → value.0 < 2 ^ 32 → IsHash value.1 → Leaves (value_at (record { left = little 4 value.0 ++ (value.1.0 ++ rest); at = at })) value rest
 value_again value at rest few is =
-    (at + length (little 4 value.0) + length value.1.0, rw ((nat_law 4).again value.0 at (value.1.0 ++ rest) few, hash_again value.1 (at + length (little 4 value.0)) rest is) refl)
+    (at + length (little 4 value.0) + length value.1.0, rw ((nat_law node_fault 4).again value.0 at (value.1.0 ++ rest) few, hash_law.again value.1 (at + length (little 4 value.0)) rest is) refl)
 
 -- ---- children
 
@@ -76,7 +58,7 @@ child_taken false s p fits e =
     (refl, tt, record { left = refl; at = omega arith; bytes = fits })
 child_taken true s p fits e =
     let x = bind_ok _ _ p e in
-    let one = hash_taken s x.0 fits x.1 in
+    let one = hash_law.taken s x.0 fits x.1 in
     subst (λ (p : Option Hash32 × Input). (is_some p.0 ≡ true) × IsChild p.0 × Takes s (child_bytes p.0) p.1) (ok_is (Some x.0.0, x.0.1) p x.2) (refl, one.0, one.1)
 
 bitmap-cons : (child : Option Hash32) (children : List (Option Hash32)) → bitmap (child ∷ children) ≡ cond (is_some child) 1 0 + 2 * bitmap children
@@ -128,7 +110,7 @@ each_again (Some hash ∷ children) at rest all =
     let low : (1 + 2 * bitmap children) % 2 ≡ 1 = omega arith in
     let half : (1 + 2 * bitmap children) / 2 ≡ bitmap children = omega arith in
     let others = each_again children (at + length hash.0) rest all.1 in
-    (others.0, rw (low, half, append_assoc hash.0 (flat_map child_bytes children) rest, hash_again hash at (flat_map child_bytes children ++ rest) all.0, others.1) refl)
+    (others.0, rw (low, half, append_assoc hash.0 (flat_map child_bytes children) rest, hash_law.again hash at (flat_map child_bytes children ++ rest) all.0, others.1) refl)
 
 bitmap-mask : (children : List (Option Hash32)) → bitmap children ≡ mask_l (map is_some children)
 bitmap-mask [] = refl
@@ -149,12 +131,10 @@ enough_links false n le = omega arith
 children_taken : (value : Option (ℕ × Hash32)) (s : Input) (p : List (Option Hash32) × Input) → IsBytes s.left → children_at (is_some value) s ≡ Ok p → (2 ≤ links value p.0) × (length p.0 ≡ 16) × AllByRecursion IsChild p.0 × Takes s (children_bytes p.0) p.1
 children_taken value s p fits e =
     let x = bind_ok _ _ p e in
-    let y = bind_ok _ _ p x.2 in
-    let one = (nat_law 2).taken s x.0 fits x.1 in
-    let g = right_ok s (leb (cond (is_some value) 1 2) (count_ones x.0.0)) x.0 y.0 y.1 in
-    let all = each_taken 16 x.0.0 x.0.1 p one.1.bytes one.0 (subst (λ (y : ℕ × Input). each_at 16 y.0 y.1 ≡ Ok p) (sym g.1) y.2) in
+    let one = (bits_law (is_some value)).taken s x.0 fits x.1 in
+    let all = each_taken 16 x.0.0 x.0.1 p one.1.bytes one.0.0 x.2 in
     let count : count_ones x.0.0 ≡ count_by is_some p.0 = ap count_ones (sym all.bitmap_is) ∙ ones p.0 in
-    let some : cond (is_some value) 1 2 ≤ count_by is_some p.0 = subst (λ n. cond (is_some value) 1 2 ≤ n) count (leb-true _ _ g.0) in
+    let some : cond (is_some value) 1 2 ≤ count_by is_some p.0 = subst (λ n. cond (is_some value) 1 2 ≤ n) count (leb-true _ _ one.0.1) in
     (two_links (is_some value) (count_by is_some p.0) some, all.full, all.hashes, subst (λ n. Takes s (little 2 n ++ flat_map child_bytes p.0) p.1) (sym all.bitmap_is) (Takes-then s x.0.1 p.1 (little 2 x.0.0) (flat_map child_bytes p.0) one.1 all.takes))
 
 -- ---- nodes
@@ -198,11 +178,11 @@ leaf_taken s p fits e =
     let a = bind_ok _ _ p e in
     let b = bind_ok _ _ p a.2 in
     let u = bind_ok _ _ p b.2 in
-    let one = part_taken (is_part true) s a.0 fits a.1 in
-    let two = value_taken a.0.1 b.0 one.2.bytes b.1 in
-    let three = (nat_law 8).taken b.0.1 u.0 two.2.bytes u.1 in
+    let one = (part_law (is_part true)).taken s a.0 fits a.1 in
+    let two = value_law.taken a.0.1 b.0 one.1.bytes b.1 in
+    let three = (nat_law node_fault 8).taken b.0.1 u.0 two.1.bytes u.1 in
     subst (IsKind 0 s) (ok_is (Leaf a.0.0 b.0.0.0 b.0.0.1 u.0.0, u.0.1) p u.2)
-    (leaf_is s a.0.1 b.0.1 u.0.1 a.0.0 b.0.0 u.0.0 one.0 (one.1, two.0, two.1, three.0) one.2 two.2 three.1)
+    (leaf_is s a.0.1 b.0.1 u.0.1 a.0.0 b.0.0 u.0.0 one.0.1 (one.0.0, two.0.0, two.0.1, three.0) one.1 two.1 three.1)
 
 extension_is : (s m t r : Input) (part : List ℕ) (child : Hash32) (usage : ℕ) → is_front part ≡ true → Fits (Extension part child usage) → Takes s (counted_bytes part) m → Takes m child.0 t → Takes t (little 8 usage) r → IsKind 1 s (Extension part child usage, r)
 extension_is s m t r part child usage form fits one two three =
@@ -215,11 +195,11 @@ extension_taken s p fits e =
     let a = bind_ok _ _ p e in
     let b = bind_ok _ _ p a.2 in
     let u = bind_ok _ _ p b.2 in
-    let one = part_taken is_front s a.0 fits a.1 in
-    let two = hash_taken a.0.1 b.0 one.2.bytes b.1 in
-    let three = (nat_law 8).taken b.0.1 u.0 two.1.bytes u.1 in
+    let one = (part_law is_front).taken s a.0 fits a.1 in
+    let two = hash_law.taken a.0.1 b.0 one.1.bytes b.1 in
+    let three = (nat_law node_fault 8).taken b.0.1 u.0 two.1.bytes u.1 in
     subst (IsKind 1 s) (ok_is (Extension a.0.0 b.0.0 u.0.0, u.0.1) p u.2)
-    (extension_is s a.0.1 b.0.1 u.0.1 a.0.0 b.0.0 u.0.0 one.0 (one.1, two.0, three.0) one.2 two.1 three.1)
+    (extension_is s a.0.1 b.0.1 u.0.1 a.0.0 b.0.0 u.0.0 one.0.1 (one.0.0, two.0, three.0) one.1 two.1 three.1)
 
 record IsBranch (value : Option (ℕ × Hash32)) (s : Input) (p : Node × Input) : Type 0 where
   pub children : List (Option Hash32)
@@ -234,7 +214,7 @@ branch_taken value s p right fits e =
     let a = bind_ok _ _ p e in
     let u = bind_ok _ _ p a.2 in
     let one = children_taken value s a.0 fits a.1 in
-    let two = (nat_law 8).taken a.0.1 u.0 one.3.bytes u.1 in
+    let two = (nat_law node_fault 8).taken a.0.1 u.0 one.3.bytes u.1 in
     subst (IsBranch value s) (ok_is (Branch value a.0.0 u.0.0, u.0.1) p u.2)
     (record { children = a.0.0; usage = u.0.0; is = refl; linked = one.0; fits = (right, one.1, one.2, two.0); takes = Takes-then s a.0.1 u.0.1 (children_bytes a.0.0) (little 8 u.0.0) one.3 two.1 })
 
@@ -255,9 +235,9 @@ valued_is s m r value children usage linked fits one two =
 valued_taken : (s : Input) (p : Node × Input) → IsBytes s.left → valued_at s ≡ Ok p → IsKind 3 s p
 valued_taken s p fits e =
     let a = bind_ok _ _ p e in
-    let one = value_taken s a.0 fits a.1 in
-    let b = branch_taken (Some a.0.0) a.0.1 p (one.0, one.1) one.2.bytes a.2 in
-    subst (λ (node : Node). IsKind 3 s (node, p.1)) b.is (valued_is s a.0.1 p.1 a.0.0 b.children b.usage b.linked b.fits one.2 b.takes)
+    let one = value_law.taken s a.0 fits a.1 in
+    let b = branch_taken (Some a.0.0) a.0.1 p (one.0.0, one.0.1) one.1.bytes a.2 in
+    subst (λ (node : Node). IsKind 3 s (node, p.1)) b.is (valued_is s a.0.1 p.1 a.0.0 b.children b.usage b.linked b.fits one.1 b.takes)
 
 kind_taken : (at kind : ℕ) (s : Input) (p : Node × Input) → IsBytes s.left → kind_at at kind s ≡ Ok p → IsKind kind s p
 kind_taken at zero s p fits e = leaf_taken s p fits e
@@ -266,10 +246,10 @@ kind_taken at (suc (suc zero)) s p fits e = plain_taken s p fits e
 kind_taken at (suc (suc (suc zero))) s p fits e = valued_taken s p fits e
 kind_taken at (suc (suc (suc (suc n)))) s p fits e = absurd cc
 
-ended : (s : Input) (u : Unit {0}) → lifted (end_at s) ≡ Ok u → s.left ≡ []
+ended : (s : Input) (u : Unit {0}) → lifted node_fault (end_at s) ≡ Ok u → s.left ≡ []
 ended s u e = nil_from_length s.left (eqb-true _ _ (is_end (eqb (length s.left) 0) _ u e))
   where
-    is_end : (b : Bool) (f : _) (u : Unit {0}) → lifted (cond b (Ok tt) (Err f)) ≡ Ok u → b ≡ true
+    is_end : (b : Bool) (f : _) (u : Unit {0}) → lifted node_fault (cond b (Ok tt) (Err f)) ≡ Ok u → b ≡ true
     is_end true f u e = refl
     is_end false f u e = absurd cc
 
@@ -291,27 +271,27 @@ node_taken text node fits e =
     let a = bind_ok _ _ node e in
     let b = bind_ok _ _ node a.2 in
     let c = bind_ok _ _ node b.2 in
-    let one = (nat_law 1).taken s a.0 fits a.1 in
+    let one = (nat_law node_fault 1).taken s a.0 fits a.1 in
     let two = kind_taken 0 a.0.0 a.0.1 b.0 one.1.bytes b.1 in
     let first : text ≡ a.0.0 ∷ a.0.1.left = one.1.left ∙ ap (λ (t : List ℕ). t ++ a.0.1.left) (little_one a.0.0 one.0) in
     let nothing = ended b.0.1 c.0 c.1 in
     let whole : text ≡ node_text b.0.0 = first ∙ two.2 ∙ ap (λ (t : List ℕ). node_text b.0.0 ++ t) nothing ∙ append-nil (node_text b.0.0) in
     subst (λ (node : Node). IsNode node × Fits node × (text ≡ node_text node)) (read_is b.0.0 node c.2) (two.0, two.1, whole)
 
-pub is_found : (text : List ℕ) (read : Result Node NodeFault) → IsBytes text → GivesAll read (node_at text) → IfOk read (λ node. IsNode node × Fits node × (text ≡ node_text node))
+pub is_found : (text : List ℕ) (read : Result Node NodeFault) → IsBytes text → Gives Memory read (node_at text) → IfOk read (λ node. IsNode node × Fits node × (text ≡ node_text node))
 is_found text (Ok node) fits given = node_taken text node fits given
 is_found text (Err e) fits given = tt
 
 -- ---- and back
 
-usage_again : (usage at : ℕ) → usage < 2 ^ 64 → Leaves (nat_at 8 (record { left = little 8 usage; at = at })) usage []
+usage_again : (usage at : ℕ) → usage < 2 ^ 64 → Leaves (nat_at node_fault 8 (record { left = little 8 usage; at = at })) usage []
 usage_again usage at few =
-    (at + length (little 8 usage), subst (λ (t : List ℕ). nat_at 8 (record { left = t; at = at }) ≡ Ok (usage, behind (little 8 usage) at [])) (append-nil (little 8 usage)) ((nat_law 8).again usage at [] few))
+    (at + length (little 8 usage), subst (λ (t : List ℕ). nat_at node_fault 8 (record { left = t; at = at }) ≡ Ok (usage, behind (little 8 usage) at [])) (append-nil (little 8 usage)) ((nat_law node_fault 8).again usage at [] few))
 
 leaf_again : (part : List ℕ) (value : ℕ × Hash32) (usage at : ℕ) → is_part true part ≡ true → Fits (Leaf part value.0 value.1 usage)
     → Leaves (leaf_at (record { left = counted_bytes part ++ (little 4 value.0 ++ (value.1.0 ++ little 8 usage)); at = at })) (Leaf part value.0 value.1 usage) []
 leaf_again part value usage at form fits =
-    let one = part_again (is_part true) part at (little 4 value.0 ++ (value.1.0 ++ little 8 usage)) fits.0 form in
+    let one = (part_law (is_part true)).again part at (little 4 value.0 ++ (value.1.0 ++ little 8 usage)) (fits.0, form) in
     let two = value_again value (at + length (counted_bytes part)) (little 8 usage) fits.1 fits.2 in
     let three = usage_again usage two.0 fits.3 in
     (three.0, rw (one, two.1, three.1) refl)
@@ -319,8 +299,8 @@ leaf_again part value usage at form fits =
 extension_again : (part : List ℕ) (child : Hash32) (usage at : ℕ) → is_front part ≡ true → Fits (Extension part child usage)
     → Leaves (extension_at (record { left = counted_bytes part ++ (child.0 ++ little 8 usage); at = at })) (Extension part child usage) []
 extension_again part child usage at form fits =
-    let one = part_again is_front part at (child.0 ++ little 8 usage) fits.0 form in
-    let two = hash_again child (at + length (counted_bytes part)) (little 8 usage) fits.1 in
+    let one = (part_law is_front).again part at (child.0 ++ little 8 usage) (fits.0, form) in
+    let two = hash_law.again child (at + length (counted_bytes part)) (little 8 usage) fits.1 in
     let three = usage_again usage (at + length (counted_bytes part) + length child.0) fits.2 in
     (three.0, rw (one, two, three.1) refl)
 
@@ -328,12 +308,11 @@ children_again : (value : Option (ℕ × Hash32)) (children : List (Option Hash3
     → Leaves (children_at (is_some value) (record { left = little 2 (bitmap children) ++ (flat_map child_bytes children ++ rest); at = at })) children rest
 children_again value children at rest linked full all =
     let low : bitmap children < 256 ^ 2 = subst (λ n. bitmap children < 2 ^ n) full (bitmap_bound children) in
-    let one = (nat_law 2).again (bitmap children) at (flat_map child_bytes children ++ rest) low in
     let some : cond (is_some value) 1 2 ≤ count_ones (bitmap children) = subst (λ n. cond (is_some value) 1 2 ≤ n) (sym (ones children)) (enough_links (is_some value) (count_by is_some children) linked) in
-    let test : leb (cond (is_some value) 1 2) (count_ones (bitmap children)) ≡ true = le-leb _ _ some in
+    let one = (bits_law (is_some value)).again (bitmap children) at (flat_map child_bytes children ++ rest) (low, le-leb _ _ some) in
     let each = each_again children (at + length (little 2 (bitmap children))) rest all in
     let each16 = subst (λ n. each_at n (bitmap children) (record { left = flat_map child_bytes children ++ rest; at = at + length (little 2 (bitmap children)) }) ≡ Ok (children, record { left = rest; at = each.0 })) full each.1 in
-    (each.0, rw (one, test, each16) refl)
+    (each.0, rw (one, each16) refl)
 
 branch_again : (value : Option (ℕ × Hash32)) (children : List (Option Hash32)) (usage at : ℕ) → 2 ≤ links value children → Fits (Branch value children usage)
     → Leaves (branch_at value (record { left = children_bytes children ++ little 8 usage; at = at })) (Branch value children usage) []
@@ -352,7 +331,7 @@ valued_again value children usage at linked fits =
 
 whole_again : (kind : ℕ) (body : List ℕ) (node : Node) → kind < 256 → ((at : ℕ) → Leaves (kind_at 0 kind (record { left = body; at = at })) node []) → whole_at (record { left = kind ∷ body; at = 0 }) ≡ Ok node
 whole_again kind body node low reads =
-    let one : nat_at 1 (record { left = kind ∷ body; at = 0 }) ≡ Ok (kind, behind (kind ∷ []) 0 body) = subst (λ (t : List ℕ). nat_at 1 (before t 0 body) ≡ Ok (kind, behind t 0 body)) (little_one kind low) ((nat_law 1).again kind 0 body low) in
+    let one : nat_at node_fault 1 (record { left = kind ∷ body; at = 0 }) ≡ Ok (kind, behind (kind ∷ []) 0 body) = subst (λ (t : List ℕ). nat_at node_fault 1 (before t 0 body) ≡ Ok (kind, behind t 0 body)) (little_one kind low) ((nat_law node_fault 1).again kind 0 body low) in
     let two = reads (behind (kind ∷ []) 0 body).at in
     rw (one, two.1) refl
 

@@ -1,4 +1,3 @@
 pub mod Parts
 mod Each
-mod Fields
 mod Laws

@@ -1,10 +1,12 @@
 -- The reading of a node's text, field by field: a text that is no node's is refused at the first field that can't be read. The texts are this project's own.
-use Rattle.std.specs.Prelude.{◌≡◌, ◌≢◌, ℕ, zero, suc, ◌/◌, ◌%◌, ◌<◌, ◌^◌, ◌==◌, Bool, true, false, cond, ◌&&◌, nat_lt, nat_le, ⊤, List, [], ◌∷◌, length, Option, Some, None, is_some, Result, Ok, Err, count_ones}
+use Rattle.std.specs.Prelude.{◌≡◌, ℕ, zero, suc, ◌/◌, ◌%◌, ◌<◌, ◌^◌, ◌==◌, Bool, true, false, cond, ◌&&◌, nat_lt, nat_le, ⊤, List, [], ◌∷◌, length, Option, Some, None, is_some, Result, Ok, Err, count_ones}
 use Rattle.std.specs.List.{AllByRecursion}
 use Rattle.nr_bytes.specs.declared.fault.BytesFault.{BytesFault}
 use Rattle.nr_bytes.specs.declared.fault.BytesFault.TheVariants as bytes_faults
-use Rattle.nr_bytes.specs.Reading.{Input, ◌>>=◌, fixed_at, number_at, bytes_at, end_at}
+use Rattle.nr_bytes.specs.Reading.{Input, ◌>>=◌, end_at}
+use Rattle.nr_bytes.specs.Fields.{Read, lifted, nat_at, raw_at, blob_at, mapped, tested, pair}
 use Rattle.nr_ids.specs.declared.key.Hash32.{Hash32}
+use Rattle.nr_ids.specs.Keys.{hash_of_bytes, IsHash}
 use Rattle.nr_triedef.specs.declared.fault.NodeFault.{NodeFault}
 use Rattle.nr_triedef.specs.declared.fault.NodeFault.TheVariants.{BadNode, Memory}
 use Rattle.nr_triedef.specs.declared.node.Node.{Node}
@@ -18,104 +20,73 @@ node_fault (bytes_faults.BadByte at byte) = BadNode at
 node_fault (bytes_faults.BadUtf8 at) = BadNode at
 node_fault bytes_faults.Memory = Memory
 
--- a value and what is left behind it, or the fault at the field that can't be read
-abbrev pub Read : Type 0 → Type 0
-Read X = Result (X × Input) NodeFault
-
--- A call gave what reading gives, unless memory ran out.
-abbrev pub Gives : {X : Type 0} → Result X NodeFault → Input → Read X → Type 0
-Gives (Ok x) new read = read ≡ Ok (x, new)
-Gives (Err e) new read = e ≢ Memory → read ≡ Err e
-
--- the same of a call that reads to the end
-abbrev pub GivesAll : {X : Type 0} → Result X NodeFault → Result X NodeFault → Type 0
-GivesAll (Ok x) read = read ≡ Ok x
-GivesAll (Err e) read = e ≢ Memory → read ≡ Err e
-
--- what the reading of a field gives, with the faults of nodes
-abbrev pub lifted : {A : Type 0} → Result A BytesFault → Result A NodeFault
-lifted (Ok x) = Ok x
-lifted (Err e) = Err (node_fault e)
-
--- a field that is right; one that isn't is refused at its first byte
-abbrev pub right : {X : Type 0} → Input → Bool → X → Result X NodeFault
-right s true x = Ok x
-right s false x = Err (BadNode s.at)
-
-abbrev pub nat_at : ℕ → Input → Read ℕ
-nat_at k s = lifted (number_at k s)
-
-abbrev pub hash_at : Input → Read Hash32
-hash_at s = do
-  bytes ← lifted (fixed_at 32 s)
-  Ok (record { 0 = bytes.0 }, bytes.1)
+abbrev pub hash_at : Input → Read NodeFault Hash32
+hash_at = mapped hash_of_bytes (raw_at node_fault 32)
 
 -- a part: a count, and that many bytes, which have the form
-abbrev pub part_at : (List ℕ → Bool) → Input → Read (List ℕ)
-part_at form s = do
-  part ← lifted (bytes_at s)
-  right s (form part.0) part
+abbrev pub part_at : (List ℕ → Bool) → Input → Read NodeFault (List ℕ)
+part_at form = tested form BadNode (blob_at node_fault)
 
 -- the form of an extension's part, which has at least one nibble
 abbrev pub is_front : List ℕ → Bool
 is_front part = is_part false part && nat_lt 0 (nibble_count part)
 
 -- a value's length and hash
-abbrev pub value_at : Input → Read (ℕ × Hash32)
-value_at s = do
-  size ← nat_at 4 s
-  hash ← hash_at size.1
-  Ok ((size.0, hash.0), hash.1)
+abbrev pub value_at : Input → Read NodeFault (ℕ × Hash32)
+value_at = pair (nat_at node_fault 4) hash_at
 
-abbrev pub leaf_at : Input → Read Node
+abbrev pub leaf_at : Input → Read NodeFault Node
 leaf_at s = do
   part ← part_at (is_part true) s
   value ← value_at part.1
-  usage ← nat_at 8 value.1
+  usage ← nat_at node_fault 8 value.1
   Ok (Leaf part.0 value.0.0 value.0.1 usage.0, usage.1)
 
-abbrev pub extension_at : Input → Read Node
+abbrev pub extension_at : Input → Read NodeFault Node
 extension_at s = do
   part ← part_at is_front s
   child ← hash_at part.1
-  usage ← nat_at 8 child.1
+  usage ← nat_at node_fault 8 child.1
   Ok (Extension part.0 child.0 usage.0, usage.1)
 
 -- a child that is there, or not
-abbrev pub child_at : Bool → Input → Read (Option Hash32)
+abbrev pub child_at : Bool → Input → Read NodeFault (Option Hash32)
 child_at false s = Ok (None, s)
 child_at true s = do
   hash ← hash_at s
   Ok (Some hash.0, hash.1)
 
 -- those of n children whose bits are set, the lowest bit first
-unfoldable pub each_at : ℕ → ℕ → Input → Read (List (Option Hash32))
+unfoldable pub each_at : ℕ → ℕ → Input → Read NodeFault (List (Option Hash32))
 each_at zero bits s = Ok ([], s)
 each_at (suc n) bits s = do
   child ← child_at (bits % 2 == 1) s
   children ← each_at n (bits / 2) child.1
   Ok (child.0 ∷ children.0, children.1)
 
--- a bitmap of at least two children, or of one beside a value, and the hashes of these
-abbrev pub children_at : Bool → Input → Read (List (Option Hash32))
-children_at valued s = do
-  bits ← nat_at 2 s
-  enough ← right s (nat_le (cond valued 1 2) (count_ones bits.0)) bits
-  each_at 16 enough.0 enough.1
+-- at least two children, or one beside a value
+abbrev pub is_enough : Bool → ℕ → Bool
+is_enough valued bits = nat_le (cond valued 1 2) (count_ones bits)
 
-abbrev pub branch_at : Option (ℕ × Hash32) → Input → Read Node
+-- a bitmap of enough children, and the hashes of these
+abbrev pub children_at : Bool → Input → Read NodeFault (List (Option Hash32))
+children_at valued s = do
+  bits ← tested (is_enough valued) BadNode (nat_at node_fault 2) s
+  each_at 16 bits.0 bits.1
+
+abbrev pub branch_at : Option (ℕ × Hash32) → Input → Read NodeFault Node
 branch_at value s = do
   children ← children_at (is_some value) s
-  usage ← nat_at 8 children.1
+  usage ← nat_at node_fault 8 children.1
   Ok (Branch value children.0 usage.0, usage.1)
 
-abbrev pub valued_at : Input → Read Node
+abbrev pub valued_at : Input → Read NodeFault Node
 valued_at s = do
   value ← value_at s
   branch_at (Some value.0) value.1
 
--- what stands behind the kind, which is below 4; the kind has its place
-abbrev pub kind_at : ℕ → ℕ → Input → Read Node
+-- what stands behind the kind, which is below 4; at is where the kind stands
+abbrev pub kind_at : ℕ → ℕ → Input → Read NodeFault Node
 kind_at at zero s = leaf_at s
 kind_at at (suc zero) s = extension_at s
 kind_at at (suc (suc zero)) s = branch_at None s
@@ -125,17 +96,14 @@ kind_at at (suc (suc (suc (suc n)))) s = Err (BadNode at)
 -- a kind, what stands behind it, and the end
 abbrev pub whole_at : Input → Result Node NodeFault
 whole_at s = do
-  kind ← nat_at 1 s
+  kind ← nat_at node_fault 1 s
   node ← kind_at s.at kind.0 kind.1
-  end ← lifted (end_at node.1)
+  end ← lifted node_fault (end_at node.1)
   Ok node.0
 
 -- the node whose text this is, or the fault at the first field that can't be read
 unfoldable pub node_at : List ℕ → Result Node NodeFault
 node_at text = whole_at (record { left = text; at = 0 })
-
-abbrev pub IsHash : Hash32 → Type 0
-IsHash hash = length hash.0 ≡ 32
 
 abbrev pub IsChild : Option Hash32 → Type 0
 IsChild None = ⊤

@@ -10,6 +10,7 @@ mod read;
 mod store;
 #[cfg(test)]
 mod tests;
+mod threads;
 
 pub use fault::NodeFault;
 pub use hash::{NodeHash, Steps, Summary, bytes_of, empty_root, hash_node, value_hash};

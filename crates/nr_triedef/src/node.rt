@@ -15,8 +15,8 @@ use std::alloc::{AllocError, Global};
 /// `usage` is the memory usage of the node and all below it, in bytes.
 #[derive(Debug, Drop)]
 pub enum Node {
-    /// The one value below a place. `part` is the rest of its key, `length` the value's bytes and
-    /// `hash` their SHA-256.
+    /// The one value of the whole trie or below a nibble. `part` is the rest of its key, `length` the
+    /// value's bytes and `hash` their SHA-256.
     Leaf {
         part: Blob,
         length: u32,

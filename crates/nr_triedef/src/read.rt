@@ -1,9 +1,11 @@
 //! Reading of nodes from their texts.
 
 ghost use Rattle.std.specs.Prelude.{◌≡◌, ◌<◌, true, nat_lt, is_some, IfOk, Ok};
+ghost use Rattle.nr_bytes.specs.Answers.{Gives, GivesRead};
 ghost use Rattle.nr_triedef.specs.Node.{IsNode, is_flag, is_part, nibble_count, node_text};
-ghost use Rattle.nr_triedef.specs.Reading.{Gives, GivesAll, Fits, hash_at, is_front, part_at, value_at, leaf_at, extension_at, child_at, each_at, children_at, branch_at, valued_at, kind_at, node_at};
+ghost use Rattle.nr_triedef.specs.Reading.{Fits, hash_at, is_front, part_at, value_at, leaf_at, extension_at, child_at, each_at, children_at, branch_at, valued_at, kind_at, node_at};
 ghost use Rattle.nr_triedef.specs.declared.node.Node.{Node as Nodes};
+ghost use Rattle.nr_triedef.specs.declared.fault.NodeFault.TheVariants.{Memory};
 
 use crate::fault::NodeFault;
 use crate::node::Node;
@@ -47,7 +49,7 @@ fn is_front(part: &[u8]) -> bool
 }
 
 fn read_hash(reader: &mut Reader<'_>) -> Result<Hash32, NodeFault>
-    ensures { Gives result reader.new (hash_at reader.old) }
+    ensures { GivesRead Memory result reader.new (hash_at reader.old) }
 {
     let bytes = reader.fixed::<32>()?;
     Ok(Hash32(bytes))
@@ -55,7 +57,7 @@ fn read_hash(reader: &mut Reader<'_>) -> Result<Hash32, NodeFault>
 
 // The part of a leaf.
 fn read_rest(alloc: Global, reader: &mut Reader<'_>) -> Result<Blob, NodeFault>
-    ensures { Gives result reader.new (part_at (is_part true) reader.old) }
+    ensures { GivesRead Memory result reader.new (part_at (is_part true) reader.old) }
 {
     let at = reader.at();
     let part = reader.bytes(alloc)?;
@@ -67,7 +69,7 @@ fn read_rest(alloc: Global, reader: &mut Reader<'_>) -> Result<Blob, NodeFault>
 
 // The part of an extension.
 fn read_front(alloc: Global, reader: &mut Reader<'_>) -> Result<Blob, NodeFault>
-    ensures { Gives result reader.new (part_at is_front reader.old) }
+    ensures { GivesRead Memory result reader.new (part_at is_front reader.old) }
 {
     let at = reader.at();
     let part = reader.bytes(alloc)?;
@@ -78,7 +80,7 @@ fn read_front(alloc: Global, reader: &mut Reader<'_>) -> Result<Blob, NodeFault>
 }
 
 fn read_value(reader: &mut Reader<'_>) -> Result<(u32, Hash32), NodeFault>
-    ensures { Gives result reader.new (value_at reader.old) }
+    ensures { GivesRead Memory result reader.new (value_at reader.old) }
 {
     let length = reader.u32()?;
     let hash = read_hash(reader)?;
@@ -86,7 +88,7 @@ fn read_value(reader: &mut Reader<'_>) -> Result<(u32, Hash32), NodeFault>
 }
 
 fn read_leaf(alloc: Global, reader: &mut Reader<'_>) -> Result<Node, NodeFault>
-    ensures { Gives result reader.new (leaf_at reader.old) }
+    ensures { GivesRead Memory result reader.new (leaf_at reader.old) }
 {
     let part = read_rest(alloc, reader)?;
     let (length, hash) = read_value(reader)?;
@@ -100,7 +102,7 @@ fn read_leaf(alloc: Global, reader: &mut Reader<'_>) -> Result<Node, NodeFault>
 }
 
 fn read_extension(alloc: Global, reader: &mut Reader<'_>) -> Result<Node, NodeFault>
-    ensures { Gives result reader.new (extension_at reader.old) }
+    ensures { GivesRead Memory result reader.new (extension_at reader.old) }
 {
     let part = read_front(alloc, reader)?;
     let child = read_hash(reader)?;
@@ -109,7 +111,7 @@ fn read_extension(alloc: Global, reader: &mut Reader<'_>) -> Result<Node, NodeFa
 }
 
 fn read_child(there: bool, reader: &mut Reader<'_>) -> Result<Option<Hash32>, NodeFault>
-    ensures { Gives result reader.new (child_at there reader.old) }
+    ensures { GivesRead Memory result reader.new (child_at there reader.old) }
 {
     if !there {
         return Ok(None);
@@ -119,7 +121,7 @@ fn read_child(there: bool, reader: &mut Reader<'_>) -> Result<Option<Hash32>, No
 }
 
 fn read_each(mut bits: u16, reader: &mut Reader<'_>) -> Result<[Option<Hash32>; 16], NodeFault>
-    ensures { Gives result reader.new (each_at 16 bits reader.old) }
+    ensures { GivesRead Memory result reader.new (each_at 16 bits reader.old) }
 {
     let mut children = [None; 16];
     for i in 0..16 {
@@ -130,7 +132,7 @@ fn read_each(mut bits: u16, reader: &mut Reader<'_>) -> Result<[Option<Hash32>; 
 }
 
 fn read_children(valued: bool, reader: &mut Reader<'_>) -> Result<[Option<Hash32>; 16], NodeFault>
-    ensures { Gives result reader.new (children_at valued reader.old) }
+    ensures { GivesRead Memory result reader.new (children_at valued reader.old) }
 {
     let at = reader.at();
     let bits = reader.u16()?;
@@ -142,7 +144,7 @@ fn read_children(valued: bool, reader: &mut Reader<'_>) -> Result<[Option<Hash32
 }
 
 fn read_branch(value: Option<(u32, Hash32)>, reader: &mut Reader<'_>) -> Result<Node, NodeFault>
-    ensures { Gives result reader.new (branch_at value reader.old) }
+    ensures { GivesRead Memory result reader.new (branch_at value reader.old) }
 {
     let children = read_children(value.is_some(), reader)?;
     let usage = reader.u64()?;
@@ -154,7 +156,7 @@ fn read_branch(value: Option<(u32, Hash32)>, reader: &mut Reader<'_>) -> Result<
 }
 
 fn read_valued(reader: &mut Reader<'_>) -> Result<Node, NodeFault>
-    ensures { Gives result reader.new (valued_at reader.old) }
+    ensures { GivesRead Memory result reader.new (valued_at reader.old) }
 {
     let value = read_value(reader)?;
     read_branch(Some(value), reader)
@@ -162,7 +164,7 @@ fn read_valued(reader: &mut Reader<'_>) -> Result<Node, NodeFault>
 
 // What stands behind a kind, which stands at `at`.
 fn read_kind(alloc: Global, kind: u8, at: usize, reader: &mut Reader<'_>) -> Result<Node, NodeFault>
-    ensures { Gives result reader.new (kind_at at kind reader.old) }
+    ensures { GivesRead Memory result reader.new (kind_at at kind reader.old) }
 {
     match kind {
         0 => read_leaf(alloc, reader),
@@ -175,7 +177,7 @@ fn read_kind(alloc: Global, kind: u8, at: usize, reader: &mut Reader<'_>) -> Res
 
 #[tactic(auto, unfolding(crate::specs::Reading::node_at))]
 fn read_whole(alloc: Global, text: &[u8]) -> Result<Node, NodeFault>
-    ensures { GivesAll result (node_at text.now) }
+    ensures { Gives Memory result (node_at text.now) }
 {
     let mut reader = Reader::new(text);
     let kind = reader.u8()?;
@@ -198,9 +200,9 @@ pub fn read_node(alloc: Global, text: &[u8]) -> Result<Node, NodeFault>
     // What is read is a node with this text.
     ensures found { IfOk result (λ node. IsNode node × Fits node × (text.now ≡ node_text node)) }
     // What has this text is read, unless memory runs out.
-    ensures only { (node : Nodes) → IsNode node → Fits node → text.now ≡ node_text node → GivesAll result (Ok node) }
+    ensures only { (node : Nodes) → IsNode node → Fits node → text.now ≡ node_text node → Gives Memory result (Ok node) }
     // Which fault it is.
-    ensures exact { GivesAll result (node_at text.now) }
+    ensures exact { Gives Memory result (node_at text.now) }
 {
     read_whole(alloc, text)
 }

@@ -4,7 +4,7 @@ ghost use Rattle.std.specs.Prelude.{◌≡◌, ℕ, ◌+◌, ◌<◌, ◌≤◌,
 ghost use Rattle.std.specs.Option.{option_copied};
 ghost use Rattle.std.specs.FinMap as map;
 ghost use Rattle.nr_triedef.specs.Root.{Contents, root_of};
-ghost use Rattle.nr_triedef.specs.Stores.{keys_below};
+ghost use Rattle.nr_triedef.specs.Stores.{keys_below, most_entries, IsSizedEntry, IsSized};
 
 use crate::hash::{NodeHash, Steps};
 use nr_bytes::{Blob, List};
@@ -13,11 +13,13 @@ use std::sync::ledger::Ledger;
 
 /// A finite map from keys to values, both byte strings, with nested checkpoints and a Merkle root.
 ///
+/// It holds at most 2^26 entries, each with a key of at most 70,000,000 bytes and a value of fewer
+/// than 2^32 bytes. What a call costs is each store's own matter.
+///
 /// # Errors
 ///
 /// Each error is want of memory. It leaves the contents, the checkpoints and the spare as they
-/// were. A call that would pass one of these limits is refused so too: 2^26 entries, keys of
-/// 70,000,000 bytes, values of 2^32 - 1 bytes. What a call costs is each store's own matter.
+/// were. A `set` that would pass one of the sizes is refused so too.
 pub trait Store {
     /// The entries that it holds.
     ghost contents: { Self → Contents };
@@ -32,9 +34,15 @@ pub trait Store {
     fn get(&self, key: &[u8]) -> Option<&[u8]>
         ensures { option_copied result ≡ map.get (contents self.now) key.now };
 
+    /// Does nothing. It tells that what any store holds, whatever was done before, keeps within the
+    /// sizes.
+    fn sizes(&self)
+        ensures { IsSized (contents self.now) };
+
     /// Puts a value at a key, in place of an earlier one.
     fn set(&mut self, key: &[u8], value: &[u8]) -> Result<(), AllocError>
         ensures ok { OnOk result (contents self.new ≡ map.insert (contents self.old) key.now value.now) }
+        ensures sizes { OnOk result (IsSizedEntry key.now value.now × (length (map.entries (contents self.new)) ≤ most_entries)) }
         ensures err { OnErr result (contents self.new ≡ contents self.old) }
         ensures marks { marks self.new ≡ marks self.old }
         ensures spare { spare self.new ≡ spare self.old };
@@ -63,14 +71,14 @@ pub trait Store {
         ensures marks { marks self.new ≡ contents self.old ∷ marks self.old }
         ensures spare { spare self.new + 1 ≡ spare self.old };
 
-    /// Drops the newest checkpoint and keeps the changes since then (commit).
+    /// Commits the newest checkpoint: drops it, and keeps the changes since then.
     fn keep(&mut self)
         requires { 0 < length (marks self.old) }
         ensures contents { contents self.new ≡ contents self.old }
         ensures marks { marks self.new ≡ drop 1 (marks self.old) }
         ensures spare { spare self.new ≡ spare self.old + 1 };
 
-    /// Drops the newest checkpoint and undoes the changes since then (rollback).
+    /// Rolls back to the newest checkpoint: undoes the changes since then, and drops it.
     fn back(&mut self)
         requires { 0 < length (marks self.old) }
         ensures marks { marks self.old ≡ contents self.new ∷ marks self.new }

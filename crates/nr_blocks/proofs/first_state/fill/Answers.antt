@@ -11,4 +11,4 @@ returns-clause-world g c =
     filled_world (entries_of genesis.layout c.args.shard.0 genesis.entries) _ _ _ (are_owned genesis.layout c.args.shard.0 genesis.entries c.requires.sound.owned) c.new-state.ensures.world c.in_ok-fill_owned.ensures c.in_ok-fill_accounts.ensures
 
 pub returns-clause-valid : goal.returns-clause-valid
-returns-clause-valid g c = subst (IsValidWorld c.args.config.now) (sym (returns-clause-world g c)) (first_valid c.args.config.now c.args.genesis.now c.requires.sound c.args.shard.0)
+returns-clause-valid g c = subst (IsValidWorld c.args.config.now) (sym (returns-clause-world g c)) (first_valid c.args.config.now c.args.genesis.now.entries c.requires.sound c.args.genesis.now.layout c.args.shard.0)

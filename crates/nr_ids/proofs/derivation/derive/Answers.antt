@@ -3,11 +3,11 @@ use Rattle.std.specs.Int.{w64, to_le_bytes}
 use Rattle.sha2.specs.Sha256.{sha256}
 use Rattle.nr_ids.specs.declared.key.Hash32.{Hash32}
 use Rattle.nr_ids.specs.Derive.{derived}
-use Rattle.nr_ids.proofs.LowFirst.{low_first_8}
 use Rattle.nr_ids.proofs.derivation.derive.Goals as goal
 
 digest_is : (digest a b : List ℕ) (parent : Hash32) (h o : ℕ) → digest ≡ sha256 (parent.0 ++ a ++ b) → a ≡ to_le_bytes w64 h → b ≡ to_le_bytes w64 o → derived parent h o ≡ record { 0 = digest }
-digest_is digest a b parent h o e f g = rw (e, f, g, low_first_8 h, low_first_8 o) refl
+unfolding derived
+digest_is digest a b parent h o e f g = rw (e, f, g) refl
 
 pub returns : goal.returns
 returns c =

@@ -1,7 +1,7 @@
 use Rattle.std.proofs.Common.{None}
 use Rattle.std.proofs.lemmas.Result.{err_from_is_err_and}
 use Rattle.nr_layout.specs.Reading.{boundaries_at}
-use Rattle.nr_layout.proofs.Loop.{goes_on, ends, is_done, last_of}
+use Rattle.nr_layout.proofs.Boundaries.{goes_on, ends, is_done, last_of}
 use Rattle.nr_layout.proofs.reading.boundaries_of.Goals as goal
 
 pub returns-in_err-boundary : goal.returns-in_err-boundary

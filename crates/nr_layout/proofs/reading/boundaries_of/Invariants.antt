@@ -1,6 +1,7 @@
 use Rattle.std.proofs.Common.{◌≡◌, ◌-◌, None}
 use Rattle.nr_layout.specs.Reading.{boundaries_at}
-use Rattle.nr_layout.proofs.Loop.{with_front, last_of}
+use Rattle.nr_bytes.proofs.Items.{with_front}
+use Rattle.nr_layout.proofs.Boundaries.{last_of}
 use Rattle.nr_layout.proofs.reading.boundaries_of.Given as goal
 
 abbrev pub invariant-loop : goal.invariant-loop

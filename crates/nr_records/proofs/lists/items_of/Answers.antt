@@ -1,6 +1,6 @@
 use Rattle.std.proofs.lemmas.Result.{err_from_is_err_and}
-use Rattle.nr_records.specs.Reading.{items_at}
-use Rattle.nr_records.proofs.Loop.{goes_on, ends, is_done}
+use Rattle.nr_bytes.specs.Fields.{items_at}
+use Rattle.nr_bytes.proofs.Items.{goes_on, ends, is_done}
 use Rattle.nr_records.proofs.lists.items_of.Goals as goal
 
 pub returns-in_err-item : goal.returns-in_err-item

@@ -1,5 +1,5 @@
 use Rattle.nr_state.proofs.ValidQueues.{empty_valid, received_kept, used_kept, postponed_kept, released_kept, delayed_kept, served_kept}
-use Rattle.nr_state.proofs.ValidWorlds.{set_key_kept, removed_key_kept, set_code_kept, set_datum_kept, removed_datum_kept, with_account_kept, account_made_kept, without_account_kept}
+use Rattle.nr_state.proofs.ValidWorlds.{set_key_kept, key_again_kept, key_alike, removed_key_kept, set_code_kept, set_datum_kept, removed_datum_kept, with_account_kept, account_made_kept, without_account_kept}
 use Rattle.nr_state.proofs.laws.valid_world_laws.Goals as goal
 
 pub returns-clause-empty : goal.returns-clause-empty
@@ -9,6 +9,8 @@ pub returns-clause-kept : goal.returns-clause-kept
 returns-clause-kept c = λ config w v. record {
   key_set = λ id. set_key_kept config w id v;
   key_removed = λ id. removed_key_kept config w id v;
+  key_again = λ id. key_again_kept config w id v;
+  key_alike = λ id. key_alike config w id v;
   code_set = λ id. set_code_kept config w id v;
   datum_set = λ id. set_datum_kept config w id v;
   datum_removed = λ id. removed_datum_kept config w id v;

@@ -3,7 +3,7 @@ use Rattle.std.specs.FinMap as map
 use Rattle.std.proofs.lemmas.Result.{IfOk-weaker}
 use Rattle.nr_state.specs.Queues.{WaitsFor}
 use Rattle.nr_state.proofs.Awaiting.{waits_for}
-use Rattle.nr_state.proofs.Moves.{Shows, columns_shown, are_postponed}
+use Rattle.nr_state.proofs.WorldChanges.{Shows, columns_shown, are_postponed}
 use Rattle.nr_state.proofs.queues.awaited.Goals as goal
 
 pub returns-clause-waits : goal.returns-clause-waits

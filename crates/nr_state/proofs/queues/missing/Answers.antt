@@ -4,7 +4,7 @@ use Rattle.std.specs.Option.{option_map}
 use Rattle.std.proofs.lemmas.Result.{IfOk-weaker}
 use Rattle.nr_state.specs.Flat.{missing_inputs}
 use Rattle.nr_state.proofs.Missing.{missing_at}
-use Rattle.nr_state.proofs.Moves.{Shows, columns_shown}
+use Rattle.nr_state.proofs.WorldChanges.{Shows, columns_shown}
 use Rattle.nr_state.proofs.queues.missing.Goals as goal
 
 pub returns-clause-inputs : goal.returns-clause-inputs

@@ -1,12 +1,16 @@
-use Rattle.std.proofs.Common.{sym, ap, ◌∙◌, subst}
-use Rattle.nr_triedef.specs.Root.{depth}
+use Rattle.std.proofs.Common.{sym, ap, ◌∙◌, Option}
+use Rattle.nr_triedef.specs.declared.hash.Summary.{Summary}
+use Rattle.nr_triedef.specs.Root.{summary_of}
 use Rattle.nr_store.specs.Plain.{held_in}
-use Rattle.nr_store.specs.Tries.{CanStand}
-use Rattle.nr_store.proofs.Listed.{stands_whole}
+use Rattle.nr_store.proofs.Levels.{root_is}
 use Rattle.nr_store.proofs.root.root.Goals as goal
 
-pub trie-requires : goal.trie-requires
-trie-requires g c =
-    let items = c.in_ok-list.list.items in
-    let whole : CanStand (depth items) items = stands_whole (held_in c.args.places.now.entries) items (c.in_ok-list.ensures.value ∙ c.deref.ensures.value ∙ c.in_ok-entries.ensures) c.in_ok-list.ensures.small in
-    subst (λ ps. CanStand c.depth_of.result ps) (sym c.deref-3.ensures.value) (subst (λ d. CanStand d items) (sym (c.depth_of.ensures ∙ ap depth c.deref-2.ensures.value)) whole)
+pub returns-in-None : goal.returns-in-None
+returns-in-None g c =
+    c.empty_root.ensures ∙ ap (λ (o : Option Summary). (summary_of o).hash) (sym c.in-None.is)
+    ∙ ap (λ (s : Summary). s.hash) (root_is (held_in c.args.slots.now.entries) c.of.result c.in_ok-found.found (c.of.ensures ∙ c.deref.ensures.value ∙ c.in_ok-entries.ensures.value) c.in_ok-found.ensures)
+
+pub returns : goal.returns
+returns g c =
+    ap (λ (o : Option Summary). (summary_of o).hash) (sym c.in-Some.is)
+    ∙ ap (λ (s : Summary). s.hash) (root_is (held_in c.args.slots.now.entries) c.of.result c.in_ok-found.found (c.of.ensures ∙ c.deref.ensures.value ∙ c.in_ok-entries.ensures.value) c.in_ok-found.ensures)

@@ -1,6 +1,6 @@
 use Rattle.std.proofs.Common.{◌≡◌, ◌-◌, length, take}
 use Rattle.nr_triedef.specs.Reading.{each_at}
-use Rattle.nr_triedef.proofs.Each.{with_front}
+use Rattle.nr_bytes.proofs.Items.{with_front}
 use Rattle.nr_triedef.proofs.read.read_each.Given as goal
 
 abbrev pub invariant-loop-i : goal.invariant-loop-i

@@ -5,5 +5,5 @@ use Rattle.nr_columns.proofs.columns.Columns.code.Goals as goal
 
 pub returns : goal.returns
 returns g c =
-    c.get.ensures ∙ as_read _ ∙ found code_column _ _ c.args.id.now (c.inner.ensures ∙ c.in_ok-key.ensures) refl
+    c.get.ensures ∙ as_read _ ∙ found code_column _ _ c.args.id.now (c.inner.ensures ∙ c.in_ok-key.ensures.text) refl
     ∙ ap (λ v. map.get v.columns.code c.args.id.now) c.self.view_is

@@ -5,5 +5,5 @@ use Rattle.nr_columns.proofs.columns.Columns.datum.Goals as goal
 
 pub returns : goal.returns
 returns g c =
-    c.get.ensures ∙ as_read _ ∙ found data_column _ _ (c.args.id.now, c.args.key.now) (c.inner.ensures ∙ c.in_ok-place.ensures.text) c.in_ok-place.ensures.there
+    c.get.ensures ∙ as_read _ ∙ found data_column _ _ (c.args.id.now, c.args.key.now) (c.inner.ensures ∙ c.in_ok-slot.ensures.text) c.in_ok-slot.ensures.there
     ∙ ap (λ v. map.get v.columns.data_of (c.args.id.now, c.args.key.now)) c.self.view_is

@@ -7,15 +7,15 @@ use Rattle.nr_columns.proofs.columns.Columns.remove_datum.Goals as goal
 pub invariant_of-self-2 : goal.invariant_of-self-2
 invariant_of-self-2 g c =
     let removed = c.in_ok-found.ensures in
-    stays (took data_column _ _ _ (c.args.id.now, c.args.key.now) removed.ok (c.inner.ensures ∙ c.in_ok-place.ensures.text) c.in_ok-place.ensures.there) c.self.invariant removed.marks
+    stays (took data_column _ _ _ (c.args.id.now, c.args.key.now) removed.ok (c.inner.ensures ∙ c.in_ok-slot.ensures.text) c.in_ok-slot.ensures.there) c.self.invariant removed.marks
 
 pub returns-clause-found : goal.returns-clause-found
 returns-clause-found g c =
     c.in_ok-found.ensures.found
-    ∙ present data_column _ _ (c.args.id.now, c.args.key.now) c.self.invariant.here (c.inner.ensures ∙ c.in_ok-place.ensures.text) c.in_ok-place.ensures.there
+    ∙ present data_column _ _ (c.args.id.now, c.args.key.now) c.self.invariant.here (c.inner.ensures ∙ c.in_ok-slot.ensures.text) c.in_ok-slot.ensures.there
     ∙ ap (λ v. is_some (map.get v.columns.data_of (c.args.id.now, c.args.key.now))) c.self.view_is
 
 pub returns-clause-ok : goal.returns-clause-ok
 returns-clause-ok g c =
     let removed = c.in_ok-found.ensures in
-    shows (took data_column _ _ _ (c.args.id.now, c.args.key.now) removed.ok (c.inner.ensures ∙ c.in_ok-place.ensures.text) c.in_ok-place.ensures.there) c.self.view_is removed.marks removed.spare
+    shows (took data_column _ _ _ (c.args.id.now, c.args.key.now) removed.ok (c.inner.ensures ∙ c.in_ok-slot.ensures.text) c.in_ok-slot.ensures.there) c.self.view_is removed.marks removed.spare

@@ -1,7 +1,7 @@
 use Rattle.std.proofs.Common.{rules, ℕ, List, Result, Ok, Err, subst, OnOk}
 use Rattle.std.specs.Str.{IsUtf8}
 use Rattle.std.proofs.lemmas.Str.{is_utf8-from_IsUtf8}
-use Rattle.nr_records.specs.Laws.{IsCounted, IsString}
+use Rattle.nr_bytes.specs.Spelling.{IsCounted, IsString}
 use Rattle.nr_records.proofs.fields.TextSpelled.write.Goals as goal
 
 in_range : {X E : Type 0} (r : Result X E) (text : List ℕ) → IsUtf8 text → OnOk r (IsCounted text) → OnOk r (IsString text)

@@ -1,7 +1,7 @@
 use Rattle.std.proofs.Common.{◌≡◌, IfOk, sym, subst}
 use Rattle.std.specs.FinMap as map
 use Rattle.nr_columns.specs.Entries.{pairs_of}
-use Rattle.nr_state.proofs.Whole.{flat_here}
+use Rattle.nr_state.proofs.WholeStates.{flat_here}
 use Rattle.nr_state.proofs.state.ShardState.entries.Goals as goal
 
 pub returns : goal.returns

@@ -1,4 +1,4 @@
-use Rattle.nr_state.proofs.Whole.{state_none}
+use Rattle.nr_state.proofs.WholeStates.{state_none}
 use Rattle.nr_state.proofs.state.ShardState.new.Goals as goal
 
 pub invariant_of-result : goal.invariant_of-result

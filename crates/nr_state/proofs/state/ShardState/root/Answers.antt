@@ -1,6 +1,6 @@
 use Rattle.std.proofs.Common.{◌≡◌, IfOk, sym, subst}
 use Rattle.nr_triedef.specs.Root.{root_of}
-use Rattle.nr_state.proofs.Whole.{flat_here}
+use Rattle.nr_state.proofs.WholeStates.{flat_here}
 use Rattle.nr_state.proofs.state.ShardState.root.Goals as goal
 
 pub returns-clause-root : goal.returns-clause-root

@@ -19,7 +19,7 @@ take_list-requires-clause-gas c =
 pub returns-clause-seal : goal.returns-clause-seal
 returns-clause-seal c =
     let made = work_is c.args.config.now c.args.state.world c.args.inbox.now c.args.block.now c.place-place.result c.transactions-txs.result.now c.inner.result.now (work_of c.in_ok-work.work) (work_of c.take_list.new.work) c.transactions-txs.ensures c.place-place.ensures c.inner.ensures c.in_ok-work.ensures.opened c.in_ok-take_list.ensures.taken in
-    is_seal _ (work_of c.take_list.new.work) _ made c.in_ok-sealed.ensures.result c.in_ok-sealed.ensures.local c.in_ok-sealed.ensures.world c.in_ok-sealed.ensures.whole c.in_ok-sealed.ensures.lists
+    is_seal _ (work_of c.take_list.new.work) _ made c.in_ok-sealed.ensures.result c.in_ok-sealed.ensures.world c.in_ok-sealed.ensures.whole c.in_ok-sealed.ensures.lists
 
 pub returns-clause-kept : goal.returns-clause-kept
 returns-clause-kept c =

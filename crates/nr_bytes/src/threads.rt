@@ -1,0 +1,13 @@
+//! What threads may hold and share.
+
+use crate::blob::Blob;
+use crate::list::List;
+use crate::text::Text;
+
+fn is_send_and_sync<T: Send + Sync>() {}
+
+fn _bytes_texts_and_lists<T: Send + Sync>() {
+    is_send_and_sync::<Blob>();
+    is_send_and_sync::<Text>();
+    is_send_and_sync::<List<T>>();
+}

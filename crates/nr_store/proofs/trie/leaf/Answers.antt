@@ -1,6 +1,0 @@
-use Rattle.std.proofs.Common.{true}
-use Rattle.nr_triedef.proofs.Parts.{part_of_nibbles}
-use Rattle.nr_store.proofs.trie.leaf.Goals as goal
-
-pub summarize-requires-clause-form : goal.summarize-requires-clause-form
-summarize-requires-clause-form g c = rw c.in_ok-part.ensures (part_of_nibbles true c.key.result.now (λ i. rw c.key.ensures.value (c.key.ensures.small i)))

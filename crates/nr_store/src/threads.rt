@@ -1,0 +1,9 @@
+//! What threads may hold and share.
+
+use crate::plain::PlainStore;
+
+fn is_send_and_sync<T: Send + Sync>() {}
+
+fn _store() {
+    is_send_and_sync::<PlainStore>();
+}
