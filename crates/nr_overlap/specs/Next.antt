@@ -1,0 +1,65 @@
+-- Which step comes next, and how far the end is. This project's own.
+use Rattle.std.specs.Prelude.{◌≡◌, ℕ, ◌+◌, ◌-◌, ◌<◌, ◌≤◌, cond, List, Option, Some, None, length}
+use Rattle.nr_overlap.specs.Rules.{Rules}
+use Rattle.nr_overlap.specs.Serial.{due_after}
+use Rattle.nr_overlap.specs.Balance.{sum_below}
+use Rattle.nr_overlap.specs.Inside.{IsInside}
+use Rattle.nr_overlap.specs.Positions.{at}
+use Rattle.nr_overlap.specs.Moves.{next_due, refusal, moved}
+use Rattle.nr_overlap.specs.Run.{ending}
+use Rattle.nr_overlap.specs.declared.event.Event.{Event}
+use Rattle.nr_overlap.specs.declared.event.Event.TheVariants.{OpenChunk, TakeList, SealChunk, PublishLists}
+use Rattle.nr_overlap.specs.declared.position.Stage.{Stage}
+use Rattle.nr_overlap.specs.declared.position.Stage.TheVariants.{Idle, Opened, Sealed}
+use Rattle.nr_overlap.specs.declared.position.Position.{Position}
+
+-- the first shard among those with the least published number
+pub record IsSlowest (ps : List Position) (s : ℕ) : Type 0 where
+  pub inside : s < length ps
+  pub least : (j : ℕ) → j < length ps → (at ps s).number ≤ (at ps j).number
+  pub first : (j : ℕ) → j < s → (at ps s).number < (at ps j).number
+
+-- the next due list, or else the seal
+abbrev pub take_or_seal : ℕ → Option (ℕ × ℕ) → Event
+take_or_seal s None = SealChunk (record { 0 = s })
+take_or_seal s (Some pair) = TakeList (record { 0 = s }) (record { 0 = pair.1 }) (record { 0 = pair.0 })
+
+module _ {W K L R : Type 0} (r : Rules W K L R) where
+  -- the step of a shard, where this pair is its next due one
+  abbrev pub event_at : ℕ → Stage → ℕ → Option (ℕ × ℕ) → Event
+  event_at s Idle n next = cond (r.present s (n + 1)) (OpenChunk (record { 0 = s })) (PublishLists (record { 0 = s }))
+  event_at s Opened n next = take_or_seal s next
+  event_at s Sealed n next = PublishLists (record { 0 = s })
+
+  abbrev pub event_of : ℕ → Position → Event
+  event_of s p = event_at s p.stage p.number (next_due r s p)
+
+  -- ---- how many steps a shard has made of those that the heights cost at most
+  abbrev pub cost : ℕ → ℕ → ℕ
+  cost s n = sum_below n (λ h. length (due_after r s h) + 3)
+
+  abbrev pub steps_in : ℕ → Stage → ℕ → ℕ → ℕ
+  steps_in s Idle n taken = 0
+  steps_in s Opened n taken = 1 + taken
+  steps_in s Sealed n taken = 2 + length (due_after r s n)
+
+  abbrev pub steps_of : ℕ → Position → ℕ
+  steps_of s p = cost s p.number + steps_in s p.stage p.number p.taken
+
+  -- how many steps are left at most
+  abbrev pub left : List Position → ℕ
+  left ps = sum_below r.shards (λ s. cost s r.heights - steps_of s (at ps s))
+
+  -- the event is the next step; it is enabled and leads on
+  pub record IsNext (ps : List Position) (e : Event) : Type 0 where
+    pub shard : ℕ
+    pub slowest : IsSlowest ps shard
+    pub event : e ≡ event_of shard (at ps shard)
+    pub inside : IsInside r.shards e
+    pub enabled : refusal r ps e ≡ None
+    pub closer : left (moved ps e) < left ps
+
+  -- the next step, or none where all is published
+  abbrev pub IsNextOf : List Position → Option Event → Type 0
+  IsNextOf ps None = ps ≡ ending r
+  IsNextOf ps (Some e) = IsNext ps e

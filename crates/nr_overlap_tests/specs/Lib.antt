@@ -1,0 +1,5 @@
+pub mod Small
+pub mod Amounts
+pub mod SmallLaws
+pub mod Roll
+pub mod RollLaws
