@@ -1,19 +1,27 @@
 //! Does one operation of the plain store many times over a store of a given size.
 //!
 //! The words are OPERATION, KEYS and TURNS: `fill` does nothing more than fill the store, and `get`,
-//! `set`, `remove`, `keep` and `back` are done TURNS times behind that. A script outside measures
-//! the time. It prints how many turns were done; other words end it with status 1, and want of
-//! memory with status 7.
+//! `set`, `remove`, `keep`, `back` and `root` are done TURNS times behind that. `nested` fills the
+//! store with the keys `a`, `aa` and so on, and computes the root TURNS times. A script outside
+//! measures the time. It prints how many turns were done; other words end it with status 1, and
+//! want of memory with status 7.
+//!
+//! The words `module FILE TURNS` decode and validate the module in a file TURNS times, and print
+//! whether it was valid each time.
 #![tactic(auto)]
+
+mod module;
 
 ghost use Rattle.std.specs.Prelude.{◌≡◌, ◌<◌, [], OnOk};
 
 use nr_store::PlainStore;
-use nr_triedef::Store;
+use nr_triedef::{Steps, Store};
 use std::alloc::{AllocError, Global};
 use std::io;
+use std::marker::Brand;
 use std::process::ExitCode;
-use std::rt::Env;
+use std::rt::{Env, Files};
+use std::sync::ledger::{Blank, Ledger};
 
 /// What is measured.
 #[derive(Clone, Copy, Debug)]
@@ -30,6 +38,10 @@ enum Operation {
     Keep,
     /// A checkpoint, one change, and the change taken back.
     Back,
+    /// The root of the whole.
+    Root,
+    /// The root of keys that each begin with all shorter ones.
+    Nested,
 }
 
 fn operation_of(word: &str) -> Option<Operation> {
@@ -40,6 +52,8 @@ fn operation_of(word: &str) -> Option<Operation> {
         "remove" => Some(Operation::Remove),
         "keep" => Some(Operation::Keep),
         "back" => Some(Operation::Back),
+        "root" => Some(Operation::Root),
+        "nested" => Some(Operation::Nested),
         _ => None,
     }
 }
@@ -56,6 +70,35 @@ fn fill<S: Store>(store: &mut S, keys: u32) -> Result<(), AllocError>
         store.set(&key_of(number), b"value")?;
     }
     Ok(())
+}
+
+/// Fills with the keys `a`, `aa` and so on.
+fn fill_nested<S: Store>(store: &mut S, alloc: Global, keys: u32) -> Result<(), AllocError>
+    ensures { S.marks store.new ≡ S.marks store.old }
+{
+    let mut key = Vec::new(alloc);
+    for _turn in 0..keys {
+        key.push(b'a')?;
+        store.set(key.as_slice(), b"v")?;
+    }
+    Ok(())
+}
+
+fn counted_root<S: Store, L: Ledger>(store: &mut S, blank: Blank) -> Result<(), AllocError>
+    requires name { blank.name ≡ L.name }
+    requires parts { blank.parts ≡ L.parts }
+    requires whole { 0 < blank.parts }
+    ensures marks { S.marks store.new ≡ S.marks store.old }
+{
+    let mut steps = Steps::<L>::new(blank);
+    store.root(&mut steps)?;
+    Ok(())
+}
+
+fn root<S: Store>(store: &mut S) -> Result<(), AllocError>
+    ensures marks { S.marks store.new ≡ S.marks store.old }
+{
+    counted_root::<S, Brand>(store, Blank::new(1))
 }
 
 fn turn<S: Store>(store: &mut S, operation: Operation, key: &[u8]) -> Result<(), AllocError>
@@ -84,6 +127,7 @@ fn turn<S: Store>(store: &mut S, operation: Operation, key: &[u8]) -> Result<(),
             store.set(key, b"other")?;
             store.back();
         }
+        Operation::Root | Operation::Nested => root(store)?,
     }
     Ok(())
 }
@@ -107,7 +151,10 @@ fn run(alloc: Global, operation: Operation, keys: u32, turns: u32) -> Result<(),
     requires { 0 < keys }
 {
     let mut store = PlainStore::new(alloc);
-    fill(&mut store, keys)?;
+    match operation {
+        Operation::Nested => fill_nested(&mut store, alloc, keys)?,
+        _ => fill(&mut store, keys)?,
+    }
     turns_of(&mut store, operation, keys, turns)
 }
 
@@ -133,10 +180,31 @@ fn task_of(words: &[String]) -> Option<(Operation, u32, u32)> {
     }
 }
 
+/// The file and the turns that the words ask for.
+fn module_of(words: &[String]) -> Option<(&str, u32)> {
+    match words {
+        [word, file, turns] if word.as_str() == "module" => {
+            Some((file.as_str(), turns.parse::<u32>().ok()?))
+        }
+        _ => None,
+    }
+}
+
+fn check_module<R: Files + Print>(rt: &R, alloc: Global, file: &str, turns: u32) -> ExitCode {
+    let Some(all) = module::check(rt, alloc, file, turns) else {
+        return ExitCode::from(1);
+    };
+    let _ = println!(rt; "{all}");
+    ExitCode::from(0)
+}
+
 fn main(rt: HostRuntime) -> ExitCode {
     let Ok(words) = words_of(&rt, rt.alloc()) else {
         return ExitCode::from(1);
     };
+    if let Some((file, turns)) = module_of(&words) {
+        return check_module(&rt, rt.alloc(), file, turns);
+    }
     let Some((operation, keys, turns)) = task_of(&words) else {
         return ExitCode::from(1);
     };

@@ -1,0 +1,54 @@
+//! Checks a module: decodes and validates it, and writes a line that says what it is.
+//!
+//! The words are `check CONFIG FILE`, where CONFIG is `free` or the name of a file. The exit status is
+//! 0 after `ok` and 20 after each other line; 1 where the words are no command, 2 where CONFIG is no
+//! configuration, 5 where a file could not be read, 6 where the line could not be written, and 7
+//! where memory ran out. For those a line on standard error has the status, with its numbers.
+#![tactic(auto)]
+
+use nr_bytes::{FileShelf, StdoutSink};
+use nr_module::{Status, check_module};
+use std::alloc::Global;
+use std::io;
+use std::process::ExitCode;
+use std::rt::{Env, Files};
+
+/// The words behind the program's own name.
+fn words_of<R: Env + AllocGlobal>(rt: &R, alloc: Global) -> io::Result<Vec<String>> {
+    let mut words = Vec::new(alloc);
+    for word in std::env::args(rt)?.skip(1) {
+        words.push(word)?;
+    }
+    Ok(words)
+}
+
+/// The answer where the words could not be had: one that isn't UTF-8 makes no command.
+fn refused(error: &io::Error) -> Status {
+    if error.kind() == io::ErrorKind::OutOfMemory {
+        Status::NoMemory
+    } else {
+        Status::Usage
+    }
+}
+
+/// Runs the command of the words over the process's files and output.
+fn run<R: Env + Files + Print + AllocGlobal>(rt: &R, alloc: Global) -> Status {
+    match words_of(rt, alloc) {
+        Ok(words) => {
+            let mut shelf = FileShelf::new(rt);
+            let mut sink = StdoutSink::new(rt);
+            check_module(alloc, &words, &mut shelf, &mut sink)
+        }
+        Err(error) => refused(&error),
+    }
+}
+
+fn main(rt: HostRuntime) -> ExitCode {
+    let status = run(&rt, rt.alloc());
+    let number = status.exit_status();
+    if number > 0 && number != 20 {
+        // A line that can't be printed changes no status.
+        let _ = rt.eprintln(status);
+    }
+    ExitCode::from(number)
+}

@@ -1,0 +1,40 @@
+-- The line that tells what a file is, and the exit status that goes with it. This project's own.
+use Rattle.std.specs.Prelude.{ℕ, List, [], ◌∷◌, ◌++◌, codes, decimal}
+use Rattle.nr_wasmbin.specs.declared.fault.DecodeFault.{DecodeFault}
+use Rattle.nr_wasmbin.specs.declared.fault.DecodeFault.TheVariants as decode
+use Rattle.nr_wasmvalid.specs.declared.fault.ValidFault.{ValidFault}
+use Rattle.nr_wasmvalid.specs.declared.fault.ValidFault.TheVariants as valid
+use Rattle.nr_module.specs.declared.verdict.Verdict.{Verdict}
+use Rattle.nr_module.specs.declared.verdict.Verdict.TheVariants.{Good, Long, Undecoded, Invalid}
+
+-- a kind and numbers in decimal behind a word, parted by single spaces
+abbrev pub decode_line : ℕ → ℕ → List ℕ
+decode_line kind at = codes "decode" ++ 32 ∷ decimal kind ++ 32 ∷ decimal at ++ 10 ∷ []
+
+abbrev pub valid_line : ℕ → ℕ → ℕ → List ℕ
+valid_line kind func place = codes "valid" ++ 32 ∷ decimal kind ++ 32 ∷ decimal func ++ 32 ∷ decimal place ++ 10 ∷ []
+
+-- a fault's kind, and its place
+abbrev pub decode_text : DecodeFault → List ℕ
+decode_text (decode.Short at) = decode_line 1 at
+decode_text (decode.Leb at) = decode_line 2 at
+decode_text (decode.Section at) = decode_line 3 at
+decode_text (decode.Opcode at) = decode_line 4 at
+decode_text (decode.Float at) = decode_line 5 at
+decode_text (decode.Utf8 at) = decode_line 6 at
+decode_text (decode.TooMany at) = decode_line 7 at
+decode_text decode.Memory = []
+
+abbrev pub valid_text : ValidFault → List ℕ
+valid_text (valid.Types func place) = valid_line 11 func place
+valid_text (valid.Index func place) = valid_line 12 func place
+valid_text (valid.Label func place) = valid_line 13 func place
+valid_text (valid.Limit func place) = valid_line 14 func place
+valid_text (valid.Import func place) = valid_line 15 func place
+valid_text valid.Memory = []
+
+abbrev pub verdict_text : Verdict → List ℕ
+verdict_text Good = codes "ok" ++ 10 ∷ []
+verdict_text Long = codes "long" ++ 10 ∷ []
+verdict_text (Undecoded fault) = decode_text fault
+verdict_text (Invalid fault) = valid_text fault

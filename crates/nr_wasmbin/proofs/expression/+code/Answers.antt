@@ -1,0 +1,153 @@
+use Rattle.std.proofs.Common.{List, refl, sym, ap, ◌∙◌, arith}
+use Rattle.std.proofs.lemmas.Result.{err_from_is_err_and}
+use Rattle.nr_wasmtypes.specs.declared.instr.Instr.{Instr}
+use Rattle.nr_wasmtypes.specs.declared.instr.Instr.TheVariants as instr
+use Rattle.nr_wasmtypes.specs.declared.instr.Plain.{Plain}
+use Rattle.nr_wasmtypes.specs.Code.{Then, Block, Loop, Choice, code_of}
+use Rattle.nr_wasmtypes.proofs.Levels.{put_plain}
+use Rattle.nr_bytes.specs.Reading.{◌>>=◌}
+use Rattle.nr_wasmbin.specs.Fields.{Read}
+use Rattle.nr_wasmbin.specs.Expressions.{Sequence, front, onto, instr_at, code_at}
+use Rattle.nr_wasmtypes.specs.declared.opcode.Op.{Op}
+use Rattle.nr_wasmtypes.specs.declared.opcode.Op.TheVariants as op
+use Rattle.nr_wasmbin.proofs.OnCode.{front_nothing, front_push, turn, short, ends_here, else_here, else_refused, block_opens, block_body, loop_opens, loop_body, if_opens, if_body, plain_instr, puts}
+use Rattle.nr_wasmbin.proofs.expression.+code.Goals as goal
+
+pub read_code-loop-items-init : goal.read_code-loop-items-init
+read_code-loop-items-init t c = record {
+  reads = λ turns h. (turns, h, ap (λ (is : List Instr). front (onto is) (code_at turns c.args.depth c.args.may_else c.args.cursor.now)) c.new-items.ensures.items ∙ front_nothing (code_at turns c.args.depth c.args.may_else c.args.cursor.now));
+  shorter = omega arith;
+}
+
+pub read_code-returns-in_err-byte-clause-gives : goal.read_code-returns-in_err-byte-clause-gives
+read_code-returns-in_err-byte-clause-gives t c =
+    let p = err_from_is_err_and c.from_residual.result c.from_residual.ensures.1 in
+    rw (p.1, p.2) (λ turns h other. let so = c.loop-items.invariant.reads turns h in
+    short c.loop-items.items.items so.0 c.args.depth c.args.may_else c.loop-items.cursor _ _ (c.in_err-byte.ensures.gives other) so.2)
+
+pub read_code-returns-in-End-clause-gives : goal.read_code-returns-in-End-clause-gives
+read_code-returns-in-End-clause-gives t c = λ turns h.
+    let so = c.loop-items.invariant.reads turns h in
+    let x = turn c.loop-items.items.items so.0 c.args.depth c.args.may_else c.loop-items.cursor c.byte.new.self c.in_ok-byte.field-0 _ c.at-at.result op.End c.in_ok-byte.ensures.gives c.at-at.ensures c.in-End.ensures so.1 so.2 in
+    x.2 ∙ ends_here c.loop-items.items.items (code_at x.0) c.args.depth c.args.may_else c.at-at.result c.byte.new.self
+
+pub read_code-returns-then-may_else-clause-gives : goal.read_code-returns-then-may_else-clause-gives
+read_code-returns-then-may_else-clause-gives t c = λ turns h.
+    let so = c.loop-items.invariant.reads turns h in
+    let x = turn c.loop-items.items.items so.0 c.args.depth c.args.may_else c.loop-items.cursor c.byte.new.self c.in_ok-byte.field-0 _ c.at-at.result op.Else c.in_ok-byte.ensures.gives c.at-at.ensures c.in-Else.ensures so.1 so.2 in
+    x.2 ∙ else_here c.loop-items.items.items (code_at x.0) c.args.depth c.args.may_else c.at-at.result c.byte.new.self c.if-may_else.true
+
+pub read_code-returns-in-Else-clause-gives : goal.read_code-returns-in-Else-clause-gives
+read_code-returns-in-Else-clause-gives t c = λ turns h _.
+    let so = c.loop-items.invariant.reads turns h in
+    let x = turn c.loop-items.items.items so.0 c.args.depth c.args.may_else c.loop-items.cursor c.byte.new.self c.in_ok-byte.field-0 _ c.at-at.result op.Else c.in_ok-byte.ensures.gives c.at-at.ensures c.in-Else.ensures so.1 so.2 in
+    x.2 ∙ else_refused c.loop-items.items.items (code_at x.0) c.args.depth c.args.may_else c.at-at.result c.byte.new.self c.if-may_else.false
+
+pub read_code-returns-in_err-instr-in_default : goal.read_code-returns-in_err-instr-in_default
+read_code-returns-in_err-instr-in_default t c =
+    let p = err_from_is_err_and c.from_residual-in_err-instr-in_default.result c.from_residual-in_err-instr-in_default.ensures.1 in
+    rw (p.1, p.2) (record {
+      gives = λ turns h other.
+          let so = c.loop-items.invariant.reads turns h in
+          let x = turn c.loop-items.items.items so.0 c.args.depth c.args.may_else c.loop-items.cursor c.byte.new.self c.in_ok-byte.field-0 _ c.at-at.result c.of-op.result c.in_ok-byte.ensures.gives c.at-at.ensures c.of-op.ensures so.1 so.2 in
+          x.2 ∙ ap (front (onto c.loop-items.items.items)) (c.in_err-instr-in_default.ensures.gives x.0 c.args.may_else x.1 other);
+      shorter = tt;
+    })
+
+pub read_code-loop-items-preserved : goal.read_code-loop-items-preserved
+read_code-loop-items-preserved t c = record {
+  reads = λ turns h.
+      let so = c.loop-items.invariant.reads turns h in
+      let x = turn c.loop-items.items.items so.0 c.args.depth c.args.may_else c.loop-items.cursor c.byte.new.self c.in_ok-byte.field-0 _ c.at-at.result c.of-op.result c.in_ok-byte.ensures.gives c.at-at.ensures c.of-op.ensures so.1 so.2 in
+      let left = code_at x.0 c.args.depth c.args.may_else c.read_instr.new.cursor in (
+        x.0,
+        omega (arith, c.in_ok-instr-in_default.ensures.shorter, x.1),
+        ap (λ (is : List Instr). front (onto is) left) c.in_ok-push-in_default.ensures.items
+            ∙ sym (front_push c.loop-items.items.items c.in_ok-instr-in_default.instr left)
+            ∙ ap (front (onto c.loop-items.items.items)) (sym (c.in_ok-instr-in_default.ensures.gives x.0 c.args.may_else x.1))
+            ∙ sym x.2,
+      );
+  shorter = omega (arith, c.in_ok-instr-in_default.ensures.shorter, c.in_ok-byte.ensures.shorter, c.loop-items.invariant.shorter);
+}
+
+pub read_instr-returns-in_err-ty-in-Block-clause-gives : goal.read_instr-returns-in_err-ty-in-Block-clause-gives
+read_instr-returns-in_err-ty-in-Block-clause-gives t c =
+    let p = err_from_is_err_and c.from_residual.result c.from_residual.ensures.1 in
+    rw (p.1, p.2) (λ turns may_else h other. ap (λ (o : Op). instr_at (code_at turns) c.args.depth may_else c.args.at o c.args.cursor.now) c.in-Block.is
+    ∙ block_opens (code_at turns) c.args.depth c.args.at may_else c.args.cursor.now _ (c.in_err-ty-in-Block.ensures.gives other))
+
+pub read_instr-returns-in_err-body-in-Block-clause-gives : goal.read_instr-returns-in_err-body-in-Block-clause-gives
+read_instr-returns-in_err-body-in-Block-clause-gives t c =
+    let p = err_from_is_err_and c.from_residual-in_err-body-in-Block.result c.from_residual-in_err-body-in-Block.ensures.1 in
+    rw (p.1, p.2) (λ turns may_else h other. ap (λ (o : Op). instr_at (code_at turns) c.args.depth may_else c.args.at o c.args.cursor.now) c.in-Block.is
+    ∙ block_body (code_at turns) c.args.depth c.args.at may_else c.args.cursor.now _ _ _ c.in_ok-ty-in-Block.ensures.gives (c.in_err-body-in-Block.ensures.gives turns (omega (arith, c.in_ok-ty-in-Block.ensures.shorter, h)) other))
+
+pub read_instr-returns-in_ok-block-in-Block-clause-gives : goal.read_instr-returns-in_ok-block-in-Block-clause-gives
+read_instr-returns-in_ok-block-in-Block-clause-gives t c = λ turns may_else h.
+    ap (λ (o : Op). instr_at (code_at turns) c.args.depth may_else c.args.at o c.args.cursor.now) c.in-Block.is
+    ∙ block_body (code_at turns) c.args.depth c.args.at may_else c.args.cursor.now _ _ _ c.in_ok-ty-in-Block.ensures.gives (c.in_ok-body-in-Block.ensures.gives turns (omega (arith, c.in_ok-ty-in-Block.ensures.shorter, h)))
+    ∙ puts (Block c.in_ok-ty-in-Block.ty (code_of c.in_ok-body-in-Block.body.items)) c.in_ok-block-in-Block.field-0 (code_at turns c.args.depth may_else c.read_code.new.cursor) (λ rest. sym (c.in_ok-block-in-Block.ensures rest))
+
+pub read_instr-returns-in_err-ty-in-Loop-clause-gives : goal.read_instr-returns-in_err-ty-in-Loop-clause-gives
+read_instr-returns-in_err-ty-in-Loop-clause-gives t c =
+    let p = err_from_is_err_and c.from_residual-in_err-ty-in-Loop.result c.from_residual-in_err-ty-in-Loop.ensures.1 in
+    rw (p.1, p.2) (λ turns may_else h other. ap (λ (o : Op). instr_at (code_at turns) c.args.depth may_else c.args.at o c.args.cursor.now) c.in-Loop.is
+    ∙ loop_opens (code_at turns) c.args.depth c.args.at may_else c.args.cursor.now _ (c.in_err-ty-in-Loop.ensures.gives other))
+
+pub read_instr-returns-in_err-body-in-Loop-clause-gives : goal.read_instr-returns-in_err-body-in-Loop-clause-gives
+read_instr-returns-in_err-body-in-Loop-clause-gives t c =
+    let p = err_from_is_err_and c.from_residual-in_err-body-in-Loop.result c.from_residual-in_err-body-in-Loop.ensures.1 in
+    rw (p.1, p.2) (λ turns may_else h other. ap (λ (o : Op). instr_at (code_at turns) c.args.depth may_else c.args.at o c.args.cursor.now) c.in-Loop.is
+    ∙ loop_body (code_at turns) c.args.depth c.args.at may_else c.args.cursor.now _ _ _ c.in_ok-ty-in-Loop.ensures.gives (c.in_err-body-in-Loop.ensures.gives turns (omega (arith, c.in_ok-ty-in-Loop.ensures.shorter, h)) other))
+
+pub read_instr-returns-in_ok-repeat-in-Loop-clause-gives : goal.read_instr-returns-in_ok-repeat-in-Loop-clause-gives
+read_instr-returns-in_ok-repeat-in-Loop-clause-gives t c = λ turns may_else h.
+    ap (λ (o : Op). instr_at (code_at turns) c.args.depth may_else c.args.at o c.args.cursor.now) c.in-Loop.is
+    ∙ loop_body (code_at turns) c.args.depth c.args.at may_else c.args.cursor.now _ _ _ c.in_ok-ty-in-Loop.ensures.gives (c.in_ok-body-in-Loop.ensures.gives turns (omega (arith, c.in_ok-ty-in-Loop.ensures.shorter, h)))
+    ∙ puts (Loop c.in_ok-ty-in-Loop.ty (code_of c.in_ok-body-in-Loop.body.items)) c.in_ok-repeat-in-Loop.field-0 (code_at turns c.args.depth may_else c.read_code-in-Loop.new.cursor) (λ rest. sym (c.in_ok-repeat-in-Loop.ensures rest))
+
+pub read_instr-returns-in_err-ty-in-If-clause-gives : goal.read_instr-returns-in_err-ty-in-If-clause-gives
+read_instr-returns-in_err-ty-in-If-clause-gives t c =
+    let p = err_from_is_err_and c.from_residual-in_err-ty-in-If.result c.from_residual-in_err-ty-in-If.ensures.1 in
+    rw (p.1, p.2) (λ turns may_else h other. ap (λ (o : Op). instr_at (code_at turns) c.args.depth may_else c.args.at o c.args.cursor.now) c.in-If.is
+    ∙ if_opens (code_at turns) c.args.depth c.args.at may_else c.args.cursor.now _ (c.in_err-ty-in-If.ensures.gives other))
+
+pub read_instr-returns-in_err-one-in-If-clause-gives : goal.read_instr-returns-in_err-one-in-If-clause-gives
+read_instr-returns-in_err-one-in-If-clause-gives t c =
+    let p = err_from_is_err_and c.from_residual-in_err-one-in-If.result c.from_residual-in_err-one-in-If.ensures.1 in
+    rw (p.1, p.2) (λ turns may_else h other. ap (λ (o : Op). instr_at (code_at turns) c.args.depth may_else c.args.at o c.args.cursor.now) c.in-If.is
+    ∙ if_body (code_at turns) c.args.depth c.args.at may_else c.args.cursor.now _ _ _ c.in_ok-ty-in-If.ensures.gives (c.in_err-one-in-If.ensures.gives turns (omega (arith, c.in_ok-ty-in-If.ensures.shorter, h)) other))
+
+pub read_instr-returns-in_err-other-in-If-clause-gives : goal.read_instr-returns-in_err-other-in-If-clause-gives
+read_instr-returns-in_err-other-in-If-clause-gives t c =
+    let p = err_from_is_err_and c.from_residual-in_err-other-in-If.result c.from_residual-in_err-other-in-If.ensures.1 in
+    rw (p.1, p.2) (λ turns may_else h other. ap (λ (o : Op). instr_at (code_at turns) c.args.depth may_else c.args.at o c.args.cursor.now) c.in-If.is
+    ∙ if_body (code_at turns) c.args.depth c.args.at may_else c.args.cursor.now _ _ _ c.in_ok-ty-in-If.ensures.gives (c.in_ok-one-in-If.ensures.gives turns (omega (arith, c.in_ok-ty-in-If.ensures.shorter, h)))
+    ∙ ap (λ (r : Sequence). r >>= λ other. front (Choice c.in_ok-ty-in-If.ty (code_of c.in_ok-one-in-If.one.items) other.0.0) (code_at turns c.args.depth may_else other.1)) (c.in_err-other-in-If.ensures.gives turns (omega (arith, c.in_ok-ty-in-If.ensures.shorter, c.in_ok-one-in-If.ensures.shorter, h)) other))
+
+pub read_instr-returns-in_ok-choice-in-If-clause-gives : goal.read_instr-returns-in_ok-choice-in-If-clause-gives
+read_instr-returns-in_ok-choice-in-If-clause-gives t c = λ turns may_else h.
+    ap (λ (o : Op). instr_at (code_at turns) c.args.depth may_else c.args.at o c.args.cursor.now) c.in-If.is
+    ∙ if_body (code_at turns) c.args.depth c.args.at may_else c.args.cursor.now _ _ _ c.in_ok-ty-in-If.ensures.gives (c.in_ok-one-in-If.ensures.gives turns (omega (arith, c.in_ok-ty-in-If.ensures.shorter, h)))
+    ∙ ap (λ (r : Sequence). r >>= λ other. front (Choice c.in_ok-ty-in-If.ty (code_of c.in_ok-one-in-If.one.items) other.0.0) (code_at turns c.args.depth may_else other.1)) (c.in_ok-other-in-If.ensures.gives turns (omega (arith, c.in_ok-ty-in-If.ensures.shorter, c.in_ok-one-in-If.ensures.shorter, h))).1
+    ∙ puts (Choice c.in_ok-ty-in-If.ty (code_of c.in_ok-one-in-If.one.items) (code_of c.in_ok-other-in-If.other.items)) c.in_ok-choice-in-If.field-0 (code_at turns c.args.depth may_else c.read_other.new.cursor) (λ rest. sym (c.in_ok-choice-in-If.ensures rest))
+
+pub read_instr-returns-in_err-read_plain-in_default : goal.read_instr-returns-in_err-read_plain-in_default
+read_instr-returns-in_err-read_plain-in_default t c =
+    let p = err_from_is_err_and c.from_residual-in_err-read_plain-in_default.result c.from_residual-in_err-read_plain-in_default.ensures.1 in
+    rw (p.1, p.2) (record {
+      gives = λ turns may_else h other.
+          plain_instr (code_at turns) c.args.depth c.args.at may_else c.args.op c.args.cursor.now c.in_default.not-Block c.in_default.not-Loop c.in_default.not-If c.requires.no_end c.requires.no_else
+          ∙ ap (λ (r : Read Plain). r >>= λ p. front (Then p.0) (code_at turns c.args.depth may_else p.1)) (c.in_err-read_plain-in_default.ensures.gives other);
+      shorter = tt;
+    })
+
+pub read_instr-returns-in_ok-read_plain-in_default : goal.read_instr-returns-in_ok-read_plain-in_default
+read_instr-returns-in_ok-read_plain-in_default t c = record {
+  gives = λ turns may_else h.
+      let p = c.in_ok-read_plain-in_default.field-0 in
+      plain_instr (code_at turns) c.args.depth c.args.at may_else c.args.op c.args.cursor.now c.in_default.not-Block c.in_default.not-Loop c.in_default.not-If c.requires.no_end c.requires.no_else
+      ∙ ap (λ (r : Read Plain). r >>= λ p. front (Then p.0) (code_at turns c.args.depth may_else p.1)) c.in_ok-read_plain-in_default.ensures.gives
+      ∙ puts (Then p) (instr.Plain p) (code_at turns c.args.depth may_else c.read_plain.new.cursor) (λ rest. sym (put_plain (instr.Plain p) p rest refl));
+  shorter = c.in_ok-read_plain-in_default.ensures.shorter;
+}

@@ -1,0 +1,6 @@
+pub mod Leb
+pub mod Fields
+pub mod Parts
+pub mod Expressions
+pub mod Modules
+pub mod Grammar

@@ -1,0 +1,18 @@
+//! Decoding of WebAssembly modules (Core 1.0, integers alone).
+#![tactic(auto)]
+
+mod body;
+mod cursor;
+mod expression;
+mod fault;
+mod item;
+mod leb;
+mod module;
+mod parts;
+mod plain;
+mod section;
+#[cfg(test)]
+mod tests;
+
+pub use fault::DecodeFault;
+pub use module::decode;

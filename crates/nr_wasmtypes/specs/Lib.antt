@@ -1,0 +1,6 @@
+pub mod Code
+pub mod Coding
+pub mod Body
+pub mod Tables
+pub mod Opcodes
+pub mod Host

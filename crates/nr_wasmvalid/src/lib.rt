@@ -1,0 +1,22 @@
+//! WebAssembly validation: typing of instruction sequences, the checker that keeps two stacks, and the
+//! rules of a module's parts.
+#![tactic(auto)]
+
+mod body;
+mod demand;
+mod entries;
+mod fault;
+mod frame;
+mod functions;
+mod parts;
+mod plain;
+mod refusal;
+mod stacks;
+#[cfg(test)]
+mod tests;
+mod threads;
+mod typing;
+mod valid;
+
+pub use fault::ValidFault;
+pub use valid::{Valid, running_laws, validate};
