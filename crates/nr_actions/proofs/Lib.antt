@@ -1,0 +1,4 @@
+pub mod Standing
+pub mod Failing
+pub mod Made
+pub mod Doing

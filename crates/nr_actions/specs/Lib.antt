@@ -1,0 +1,7 @@
+pub mod Failures
+pub mod Refunds
+pub mod Accounts
+pub mod Calling
+pub mod Actions
+pub mod Parts
+pub mod Keeping

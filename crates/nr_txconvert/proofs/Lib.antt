@@ -1,0 +1,4 @@
+pub mod Costing
+pub mod Charging
+pub mod Paying
+pub mod Converting

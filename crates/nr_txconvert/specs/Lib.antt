@@ -1,0 +1,5 @@
+pub mod Costs
+pub mod Refusals
+pub mod Conversion
+pub mod Parts
+pub mod Keeping
