@@ -29,8 +29,10 @@ fn status_of(verdict: &Verdict) -> Status
 /// Loads the files, and says what the module's is.
 #[tactic(auto, using(crate::proofs::Steps::configured_prepares))]
 fn prepare<S: Shelf>(alloc: Global, names: &FileNames<'_>, shelf: &mut S) -> Result<Verdict, Status>
-    ensures prepares { Prepares result (configured names.now.config.now (S.held shelf.old names.now.config.now)) (S.held shelf.old names.now.file.now) }
-    ensures asked { AsksFront (S.asked shelf.old) (S.asked shelf.new) (config_files names.now.config.now ++ names.now.file.now ∷ []) }
+    ensures prepares { Prepares result (configured names.now.config.now (S.held shelf.old names.now.config.now))
+        (S.held shelf.old names.now.file.now) }
+    ensures asked { AsksFront (S.asked shelf.old) (S.asked shelf.new)
+        (config_files names.now.config.now ++ names.now.file.now ∷ []) }
     ensures failed { result ≡ Err ReadFault → Rose (S.faults shelf.old) (S.faults shelf.new) }
 {
     let config = configuration(alloc, names.config, shelf)?;
@@ -64,7 +66,8 @@ pub fn check_module<S: Shelf, K: Sink>(
     sink: &mut K,
 ) -> Status
     // The answer is right for the words and files, and the sink took what belongs to it.
-    ensures serves { Serves result (command (texts words.now)) (S.held shelf.old) (K.taken sink.old) (K.taken sink.new) }
+    ensures serves { Serves result (command (texts words.now)) (S.held shelf.old)
+        (K.taken sink.old) (K.taken sink.new) }
     // Before the writing the sink stays as it is, whatever it tells.
     ensures untouched { result ≢ Sound → result ≢ Faulty → result ≢ WriteFault → sink.new ≡ sink.old }
     // A fault comes only where a count rose.

@@ -19,7 +19,8 @@ fn read_code(
     may_else: bool,
 ) -> Result<(Vec<Instr>, bool), DecodeFault>
     requires shallow { depth ≤ 256 }
-    ensures gives { (turns : ℕ) → length cursor.old.left ≤ turns → GivesCode result cursor.new (code_at turns depth may_else cursor.old) }
+    ensures gives { (turns : ℕ) → length cursor.old.left ≤ turns
+        → GivesCode result cursor.new (code_at turns depth may_else cursor.old) }
     ensures shorter { OnOk result (length cursor.new.left < length cursor.old.left) }
 {
     let mut items = Vec::new(alloc);
@@ -51,7 +52,8 @@ fn read_other(
     stands: bool,
 ) -> Result<Vec<Instr>, DecodeFault>
     requires shallow { depth ≤ 256 }
-    ensures gives { (turns : ℕ) → length cursor.old.left ≤ turns → GivesOther result cursor.new (other_side (code_at turns depth false) stands cursor.old) }
+    ensures gives { (turns : ℕ) → length cursor.old.left ≤ turns
+        → GivesOther result cursor.new (other_side (code_at turns depth false) stands cursor.old) }
     ensures shorter { OnOk result (length cursor.new.left ≤ length cursor.old.left) }
 {
     if !stands {
@@ -73,7 +75,9 @@ fn read_instr(
     requires shallow { depth ≤ 256 }
     requires no_end { op ≢ Op.End }
     requires no_else { op ≢ Op.Else }
-    ensures gives { (turns : ℕ) (may_else : Bool) → length cursor.old.left ≤ turns → StepsOn result cursor.new (code_at turns depth may_else) (instr_at (code_at turns) depth may_else at op cursor.old) }
+    ensures gives { (turns : ℕ) (may_else : Bool) → length cursor.old.left ≤ turns
+        → StepsOn result cursor.new (code_at turns depth may_else)
+        (instr_at (code_at turns) depth may_else at op cursor.old) }
     ensures shorter { OnOk result (length cursor.new.left ≤ length cursor.old.left) }
 {
     match op {

@@ -157,7 +157,8 @@ pub fn decode(alloc: Global, bytes: &[u8], config: &Config) -> Result<Module, De
     // What is decoded is spelled by the grammar.
     ensures spelled { IfOk result (λ m. IsModule bytes.now m) }
     // What the grammar spells in at most so many bytes is decoded.
-    ensures found { (m : Modules) → IsModule bytes.now m → length bytes.now ≤ max_code config.now → GivesAll result (Ok m) }
+    ensures found { (m : Modules) → IsModule bytes.now m → length bytes.now ≤ max_code config.now
+        → GivesAll result (Ok m) }
 {
     read_bytes(alloc, bytes, config.entry(MAX_CODE))
 }

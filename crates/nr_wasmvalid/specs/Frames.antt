@@ -3,8 +3,10 @@ use Rattle.std.specs.Prelude.{◌≡◌, ◌≢◌, ℕ, ◌≤◌, List, [], �
 use Rattle.nr_wasmtypes.specs.declared.instr.ValType.{ValType}
 use Rattle.nr_wasmtypes.specs.declared.module.Module.{Module}
 use Rattle.nr_wasmtypes.specs.Code.{Code}
-use Rattle.nr_wasmvalid.specs.Rules.{Types?, Context}
-use Rattle.nr_wasmvalid.specs.Shapes.{Operand, Shape, fresh, judged}
+use Rattle.nr_wasmtypes.specs.declared.instr.Plain.{Plain}
+use Rattle.nr_wasmvalid.specs.Rules.{Types?, Context, rule}
+use Rattle.nr_wasmvalid.specs.Shapes.{Operand, Shape, fresh, asked_all, judged}
+use Rattle.nr_wasmvalid.specs.declared.plain.Scope.{Scope}
 use Rattle.nr_wasmvalid.specs.declared.refusal.Refusal.{Refusal}
 use Rattle.nr_wasmvalid.specs.declared.refusal.Refusal.TheVariants as refusal
 use Rattle.nr_wasmvalid.specs.declared.refusal.BodyFault.{BodyFault}
@@ -37,7 +39,8 @@ label_of f = f.label
 
 -- the innermost block comes first
 abbrev pub frames_of : List Operand → Frame → List Frame → Frames
-frames_of operands f fs = record { shape = shape_at operands f; labels = f.label ∷ map label_of fs; outer = shapes (take f.height operands) fs }
+frames_of operands f fs =
+    record { shape = shape_at operands f; labels = f.label ∷ map label_of fs; outer = shapes (take f.height operands) fs }
 
 -- the blocks around stay, with their operands
 pub record SameAround (old new : Frames) : Type 0 where
@@ -56,7 +59,32 @@ Leaves (Err e) new answer = e ≢ refusal.Memory → answer ≡ Err e
 -- the context of an instruction, from what the function sees and the open blocks
 abbrev pub context : Module → List ℕ → List ValType → Types? → List Types? → Context
 context w funcs locals result labels =
-    record { types = w.types; funcs = funcs; tables = w.tables; memories = w.memories; globals = w.globals; locals = locals; result = result; labels = labels }
+    record {
+      types = w.types;
+      funcs = funcs;
+      tables = w.tables;
+      memories = w.memories;
+      globals = w.globals;
+      locals = locals;
+      result = result;
+      labels = labels;
+    }
+
+-- the context of an instruction, where a function stands and these blocks are open
+abbrev pub in_scope : Scope → List Types? → Context
+in_scope s labels = context s.module.now s.funcs.now s.locals.now s.result labels
+
+-- what an instruction leaves
+abbrev pub left_by : Scope → Frames → Plain → Result Shape Refusal
+left_by s before p = asked_all (rule (in_scope s before.labels) p) before.shape
+
+-- one more block, inside
+abbrev pub entered : Types? → Frames → Frames
+entered label f = record { shape = fresh; labels = label ∷ f.labels; outer = f.shape ∷ f.outer }
+
+-- the same blocks, of which the innermost has no operands
+abbrev pub emptied : Frames → Frames
+emptied f = record f { shape = fresh }
 
 -- A call gave the sequence's end, or its fault, unless memory ran out.
 abbrev pub Judges : {X : Type 0} → Result X BodyFault → Frames → Result Shape BodyFault → Type 0

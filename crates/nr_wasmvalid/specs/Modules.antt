@@ -32,7 +32,8 @@ IsTypedFunc m t b = (sig : FuncType) × (slice_get m.types t ≡ Some sig) × Is
 
 -- The body of the function with the number n breaks first in this way.
 abbrev pub IsBreachIn : Module → ℕ → FuncType → Body → ValidFault → Type 0
-IsBreachIn m n sig b e = (place : ℕ) × (kind : Refusal) × IsBreach (func_context m sig b) b.code place kind × (e ≡ in_func n (fault_at place kind))
+IsBreachIn m n sig b e = (place : ℕ) × (kind : Refusal)
+    × IsBreach (func_context m sig b) b.code place kind × (e ≡ in_func n (fault_at place kind))
 
 abbrev pub IsFuncBreach : Module → ℕ → ℕ → Body → ValidFault → Type 0
 IsFuncBreach m n t b e = (sig : FuncType) × (slice_get m.types t ≡ Some sig) × IsBreachIn m n sig b e

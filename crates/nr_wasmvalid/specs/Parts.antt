@@ -96,7 +96,8 @@ abbrev pub table_asks : ℕ → Limits → List Demand
 table_asks n l = within_limits n (nat_eq n 0 && at_most l.least l.most && nat_le l.least 100000) ∷ []
 
 abbrev pub memory_asks : ℕ → ℕ → Limits → List Demand
-memory_asks pages n l = within_limits n (nat_eq n 0 && at_most l.least l.most && nat_le l.least pages && up_to l.most 65536) ∷ []
+memory_asks pages n l =
+    within_limits n (nat_eq n 0 && at_most l.least l.most && nat_le l.least pages && up_to l.most 65536) ∷ []
 
 -- ---- globals: the standard lets imported globals alone stand in a first value, and there are none
 abbrev pub init_asks : ℕ → ValType → ConstExpr → List Demand
@@ -132,7 +133,8 @@ has_name name e = bytes_eq name e.name
 
 -- no export before has the name
 abbrev pub export_asks : Module → List ℕ → ℕ → Export → List Demand
-export_asks m funcs n e = exists n (is_there m funcs e.kind e.index) ∷ exists n (not (list_any (has_name e.name) (take n m.exports))) ∷ []
+export_asks m funcs n e =
+    exists n (is_there m funcs e.kind e.index) ∷ exists n (not (list_any (has_name e.name) (take n m.exports))) ∷ []
 
 -- ---- elements and data: an offset is a number of the type i32, or a constant global of that type
 abbrev pub constant_i32 : Global → Bool

@@ -99,10 +99,14 @@ are_labels ts labels (l ∷ ls) = is_label ts (slice_get labels l) && are_labels
 abbrev pub rule : Context → Plain → List Ask
 rule c op.Unreachable = Leave ∷ []
 rule c (op.Br l) = named refusal.Label (slice_get c.labels l) (λ ts. Take (types ts) ∷ Leave ∷ [])
-rule c (op.BrIf l) = Take (I32 ∷ []) ∷ named refusal.Label (slice_get c.labels l) (λ ts. Take (types ts) ∷ Give (types ts) ∷ [])
-rule c (op.BrTable table) = Take (I32 ∷ []) ∷ named refusal.Label (slice_get c.labels table.1) (λ ts. Take (types ts) ∷ Must refusal.Label (are_labels ts c.labels table.0) ∷ Leave ∷ [])
+rule c (op.BrIf l) =
+    Take (I32 ∷ []) ∷ named refusal.Label (slice_get c.labels l) (λ ts. Take (types ts) ∷ Give (types ts) ∷ [])
+rule c (op.BrTable table) =
+    Take (I32 ∷ []) ∷ named refusal.Label (slice_get c.labels table.1) (λ ts.
+    Take (types ts) ∷ Must refusal.Label (are_labels ts c.labels table.0) ∷ Leave ∷ [])
 rule c op.Return = Take (types c.result) ∷ Leave ∷ []
-rule c (op.Call f) = named refusal.Index (func_type c.types c.funcs f) (λ s. Take (reverse s.params) ∷ Give (types s.result) ∷ [])
+rule c (op.Call f) =
+    named refusal.Index (func_type c.types c.funcs f) (λ s. Take (reverse s.params) ∷ Give (types s.result) ∷ [])
 rule c op.Drop = TakeAny ∷ []
 rule c op.Select = Take (I32 ∷ []) ∷ Alike ∷ []
 rule c (op.LocalGet n) = named refusal.Index (slice_get c.locals n) (λ t. Give (t ∷ []) ∷ [])
@@ -116,11 +120,18 @@ rule c (op.Compare t how) = Take (t ∷ t ∷ []) ∷ Give (I32 ∷ []) ∷ []
 rule c (op.Arith t how) = Take (t ∷ t ∷ []) ∷ Give (t ∷ []) ∷ []
 rule c (op.Convert how) = Take (tables.taken_by_convert how ∷ []) ∷ Give (tables.given_by_convert how ∷ []) ∷ []
 rule c op.Nop = []
-rule c (op.CallIndirect n) = Take (I32 ∷ []) ∷ named refusal.Index (slice_get c.types n) (λ s. Take (reverse s.params) ∷ Must refusal.Index (is_some (slice_get c.tables 0)) ∷ Give (types s.result) ∷ [])
+rule c (op.CallIndirect n) =
+    Take (I32 ∷ []) ∷ named refusal.Index (slice_get c.types n) (λ s.
+    Take (reverse s.params) ∷ Must refusal.Index (is_some (slice_get c.tables 0)) ∷ Give (types s.result) ∷ [])
 rule c (op.GlobalGet n) = named refusal.Index (slice_get c.globals n) (λ g. Give (g.kind ∷ []) ∷ [])
-rule c (op.GlobalSet n) = named refusal.Index (slice_get c.globals n) (λ g. Take (g.kind ∷ []) ∷ Must refusal.Index g.mutable ∷ [])
-rule c (op.Load what align offset) = Take (I32 ∷ []) ∷ Must refusal.Index (is_some (slice_get c.memories 0)) ∷ Must refusal.Limit (nat_le align (tables.align_of_load what)) ∷ Give (tables.given_by_load what ∷ []) ∷ []
-rule c (op.Store what align offset) = Take (tables.taken_by_store what ∷ I32 ∷ []) ∷ Must refusal.Index (is_some (slice_get c.memories 0)) ∷ Must refusal.Limit (nat_le align (tables.align_of_store what)) ∷ []
+rule c (op.GlobalSet n) =
+    named refusal.Index (slice_get c.globals n) (λ g. Take (g.kind ∷ []) ∷ Must refusal.Index g.mutable ∷ [])
+rule c (op.Load what align offset) =
+    Take (I32 ∷ []) ∷ Must refusal.Index (is_some (slice_get c.memories 0))
+    ∷ Must refusal.Limit (nat_le align (tables.align_of_load what)) ∷ Give (tables.given_by_load what ∷ []) ∷ []
+rule c (op.Store what align offset) =
+    Take (tables.taken_by_store what ∷ I32 ∷ []) ∷ Must refusal.Index (is_some (slice_get c.memories 0))
+    ∷ Must refusal.Limit (nat_le align (tables.align_of_store what)) ∷ []
 rule c op.MemorySize = Must refusal.Index (is_some (slice_get c.memories 0)) ∷ Give (I32 ∷ []) ∷ []
 rule c op.MemoryGrow = Take (I32 ∷ []) ∷ Must refusal.Index (is_some (slice_get c.memories 0)) ∷ Give (I32 ∷ []) ∷ []
 

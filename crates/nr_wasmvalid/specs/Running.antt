@@ -27,7 +27,9 @@ inside c bs = record c { labels = labels_in c bs }
 -- The code goes on with these operands, and so do the blocks around it behind it and at a branch.
 abbrev pub GoesOn : Context → List Open → Code → List ValType → Type 0
 GoesOn c [] code ts = Typed (inside c []) code ts (types c.result)
-GoesOn c (b ∷ bs) code ts = Typed (inside c (b ∷ bs)) code ts (types b.leaves) × GoesOn c bs b.after (types b.leaves ++ b.below) × GoesOn c bs b.target (types b.label ++ b.below)
+GoesOn c (b ∷ bs) code ts =
+    Typed (inside c (b ∷ bs)) code ts (types b.leaves)
+    × GoesOn c bs b.after (types b.leaves ++ b.below) × GoesOn c bs b.target (types b.label ++ b.below)
 
 -- a branch out of so many blocks takes operands of the label, and the machine goes on at its target or returns
 abbrev pub Branches : Context → List Open → ℕ → Types? → Type 0
@@ -45,12 +47,17 @@ loop ts body rest below = record { leaves = ts; label = None; target = Loop ts b
 
 -- No step of a machine meets a missing operand, one of another type, or a label that isn't there.
 pub record NeverStuck (c : Context) (bs : List Open) (ts : List ValType) : Type 0 where
-  pub plain : (p : Plain) (rest : Code) → GoesOn c bs (Then p rest) ts → (after : List ValType) × Obey (rule (inside c bs) p) ts after × GoesOn c bs rest after
-  pub enters : (label : Types?) (body rest : Code) → GoesOn c bs (Block label body rest) ts → GoesOn c (block label rest ts ∷ bs) body []
-  pub turns : (label : Types?) (body rest : Code) → GoesOn c bs (Loop label body rest) ts → GoesOn c (loop label body rest ts ∷ bs) body []
+  pub plain : (p : Plain) (rest : Code) → GoesOn c bs (Then p rest) ts
+      → (after : List ValType) × Obey (rule (inside c bs) p) ts after × GoesOn c bs rest after
+  pub enters : (label : Types?) (body rest : Code) → GoesOn c bs (Block label body rest) ts
+      → GoesOn c (block label rest ts ∷ bs) body []
+  pub turns : (label : Types?) (body rest : Code) → GoesOn c bs (Loop label body rest) ts
+      → GoesOn c (loop label body rest ts ∷ bs) body []
   pub chooses : (label : Types?) (one other rest : Code) → GoesOn c bs (Choice label one other rest) ts
-      → (below : List ValType) × (ts ≡ I32 ∷ below) × GoesOn c (block label rest below ∷ bs) one [] × GoesOn c (block label rest below ∷ bs) other []
+      → (below : List ValType) × (ts ≡ I32 ∷ below)
+      × GoesOn c (block label rest below ∷ bs) one [] × GoesOn c (block label rest below ∷ bs) other []
   pub leaves : (b : Open) → GoesOn c (b ∷ bs) End ts → (ts ≡ types b.leaves) × GoesOn c bs b.after (ts ++ b.below)
   pub returns : bs ≡ [] → GoesOn c bs End ts → ts ≡ types c.result
   -- each label that an instruction names is that of an open block, or the body's
-  pub branches : (depth : ℕ) (label : Types?) (code : Code) → c.labels ≡ [] → GoesOn c bs code ts → slice_get (inside c bs).labels depth ≡ Some label → Branches c bs depth label
+  pub branches : (depth : ℕ) (label : Types?) (code : Code) → c.labels ≡ [] → GoesOn c bs code ts
+      → slice_get (inside c bs).labels depth ≡ Some label → Branches c bs depth label

@@ -17,10 +17,14 @@ Obey (ask ∷ asks) before after = (mid : List ValType) × Obeys ask before mid 
 abbrev pub Typed : Context → Code → List ValType → List ValType → Type 0
 Typed c End before after = after ≡ before
 Typed c (Then p rest) before after = (mid : List ValType) × Obey (rule c p) before mid × Typed c rest mid after
-Typed c (Block ts body rest) before after = Typed (within ts c) body [] (types ts) × Typed c rest (types ts ++ before) after
-Typed c (Loop ts body rest) before after = Typed (within None c) body [] (types ts) × Typed c rest (types ts ++ before) after
+Typed c (Block ts body rest) before after =
+    Typed (within ts c) body [] (types ts) × Typed c rest (types ts ++ before) after
+Typed c (Loop ts body rest) before after =
+    Typed (within None c) body [] (types ts) × Typed c rest (types ts ++ before) after
 Typed c (Choice ts one other rest) before after =
-    (below : List ValType) × (before ≡ I32 ∷ below) × Typed (within ts c) one [] (types ts) × Typed (within ts c) other [] (types ts) × Typed c rest (types ts ++ below) after
+    (below : List ValType) × (before ≡ I32 ∷ below)
+    × Typed (within ts c) one [] (types ts) × Typed (within ts c) other [] (types ts)
+    × Typed c rest (types ts ++ below) after
 
 -- ---- the first breach
 -- A set of lists of operands: those that may stand at a place. All asks before have led to them.
@@ -60,19 +64,24 @@ StopsAtEnd c n body ts S place kind = (place ≡ n + count_of body) × StopsIn (
 -- The sequence whose first instruction has the number n stops at this instruction in this way.
 abbrev pub Stops : Context → ℕ → Code → (List ValType → Type 0) → ℕ → Refusal → Type 0
 Stops c n End S place kind = ⊥
-Stops c n (Then p rest) S place kind = ((place ≡ n) × StopsIn (rule c p) S kind) ⊎ Stops c (n + 1) rest (Left c (Then p End) S) place kind
+Stops c n (Then p rest) S place kind =
+    ((place ≡ n) × StopsIn (rule c p) S kind) ⊎ Stops c (n + 1) rest (Left c (Then p End) S) place kind
 Stops c n (Block ts body rest) S place kind =
-    Stops (within ts c) (n + 1) body (Inside S) place kind ⊎ (StopsAtEnd (within ts c) (n + 1) body ts (Inside S) place kind
+    Stops (within ts c) (n + 1) body (Inside S) place kind
+    ⊎ (StopsAtEnd (within ts c) (n + 1) body ts (Inside S) place kind
     ⊎ Stops c (n + 1 + count_of body) rest (Left c (Block ts body End) S) place kind)
 Stops c n (Loop ts body rest) S place kind =
-    Stops (within None c) (n + 1) body (Inside S) place kind ⊎ (StopsAtEnd (within None c) (n + 1) body ts (Inside S) place kind
+    Stops (within None c) (n + 1) body (Inside S) place kind
+    ⊎ (StopsAtEnd (within None c) (n + 1) body ts (Inside S) place kind
     ⊎ Stops c (n + 1 + count_of body) rest (Left c (Loop ts body End) S) place kind)
 Stops c n (Choice ts one other rest) S place kind =
     ((place ≡ n) × StopsIn (Take (I32 ∷ []) ∷ []) S kind)
     ⊎ (Stops (within ts c) (n + 1) one (Inside (Behind (Take (I32 ∷ [])) S)) place kind
     ⊎ (StopsAtEnd (within ts c) (n + 1) one ts (Inside (Behind (Take (I32 ∷ [])) S)) place kind
-    ⊎ (Stops (within ts c) (n + 1 + count_of one) other (Inside (When (Typed (within ts c) one [] (types ts)) (Behind (Take (I32 ∷ [])) S))) place kind
-    ⊎ (StopsAtEnd (within ts c) (n + 1 + count_of one) other ts (Inside (When (Typed (within ts c) one [] (types ts)) (Behind (Take (I32 ∷ [])) S))) place kind
+    ⊎ (Stops (within ts c) (n + 1 + count_of one) other
+    (Inside (When (Typed (within ts c) one [] (types ts)) (Behind (Take (I32 ∷ [])) S))) place kind
+    ⊎ (StopsAtEnd (within ts c) (n + 1 + count_of one) other ts
+    (Inside (When (Typed (within ts c) one [] (types ts)) (Behind (Take (I32 ∷ [])) S))) place kind
     ⊎ Stops c (n + 1 + count_of one + count_of other) rest (Left c (Choice ts one other End) S) place kind))))
 
 -- ---- a function's body
@@ -89,4 +98,5 @@ None' ts = ts ≡ []
 
 -- The body's first breach: at an instruction, or at its end.
 abbrev pub IsBreach : Context → Code → ℕ → Refusal → Type 0
-IsBreach c code place kind = Stops (in_body c) 0 code None' place kind ⊎ StopsAtEnd (in_body c) 0 code c.result None' place kind
+IsBreach c code place kind =
+    Stops (in_body c) 0 code None' place kind ⊎ StopsAtEnd (in_body c) 0 code c.result None' place kind

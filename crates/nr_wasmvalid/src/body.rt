@@ -3,7 +3,7 @@ ghost use Rattle.nr_wasmvalid.specs.declared.refusal.BodyFault.TheVariants.{Memo
 ghost use Rattle.nr_wasmtypes.specs.Code.{code_of, count_of, put, End};
 ghost use Rattle.nr_wasmvalid.specs.Rules.{types, within, ending};
 ghost use Rattle.nr_wasmvalid.specs.Shapes.{judged, body_judged, asked_all, ended, fresh, give_all};
-ghost use Rattle.nr_wasmvalid.specs.Frames.{SameAround, Leaves, Judges, StepsOn, BodyJudges, context};
+ghost use Rattle.nr_wasmvalid.specs.Frames.{SameAround, Leaves, Judges, StepsOn, BodyJudges, in_scope, emptied};
 
 use crate::plain::{Scope, check_plain};
 use crate::refusal::{BodyFault, Refusal};
@@ -14,7 +14,7 @@ use std::alloc::Global;
 /// The end of a block: its result, and no other operand.
 #[tactic(auto, unfolding(crate::specs::Shapes::asked_all))]
 fn check_end(stacks: &mut Stacks, result_type: Option<ValType>) -> Result<(), Refusal>
-    ensures gives { Leaves result (record stacks.new { shape = fresh }) (asked_all (ending result_type) stacks.old.shape) }
+    ensures gives { Leaves result (emptied stacks.new) (asked_all (ending result_type) stacks.old.shape) }
     ensures empty { OnOk result (stacks.new.shape.known ≡ []) }
     ensures around { OnOk result (SameAround stacks.old stacks.new) }
 {
@@ -32,8 +32,8 @@ fn check_inside(
     result_type: Option<ValType>,
     place: u32,
 ) -> Result<u32, BodyFault>
-    ensures gives { Judges result (record stacks.old { shape = fresh }) (ended (place + count_of (code_of body.now.items)) result_type
-        (judged (within label (context scope.now.module.now scope.now.funcs.now scope.now.locals.now scope.now.result stacks.old.labels)) place (code_of body.now.items) fresh)) }
+    ensures gives { Judges result (emptied stacks.old) (ended (place + count_of (code_of body.now.items)) result_type
+        (judged (within label (in_scope scope.now stacks.old.labels)) place (code_of body.now.items) fresh)) }
     ensures next { IfOk result (λ next. next ≡ place + count_of (code_of body.now.items)) }
     ensures same { OnOk result (stacks.new ≡ stacks.old) }
 {
@@ -74,7 +74,7 @@ fn check_instr(
     instr: &Instr,
     place: u32,
 ) -> Result<u32, BodyFault>
-    ensures gives { let c = context scope.now.module.now scope.now.funcs.now scope.now.locals.now scope.now.result stacks.old.labels in
+    ensures gives { let c = in_scope scope.now stacks.old.labels in
         StepsOn c result stacks.new (λ rest. judged c place (put instr.now rest) stacks.old.shape) }
     ensures next { IfOk result (λ next. next ≡ place + count_of (put instr.now End)) }
     ensures around { OnOk result (SameAround stacks.old stacks.new) }
@@ -118,7 +118,8 @@ fn check_code(
     code: &Vec<Instr>,
     place: u32,
 ) -> Result<u32, BodyFault>
-    ensures gives { Judges result stacks.new (judged (context scope.now.module.now scope.now.funcs.now scope.now.locals.now scope.now.result stacks.old.labels) place (code_of code.now.items) stacks.old.shape) }
+    ensures gives { let c = in_scope scope.now stacks.old.labels in
+        Judges result stacks.new (judged c place (code_of code.now.items) stacks.old.shape) }
     ensures next { IfOk result (λ next. next ≡ place + count_of (code_of code.now.items)) }
     ensures around { OnOk result (SameAround stacks.old stacks.new) }
 {
@@ -136,7 +137,7 @@ pub(crate) fn check_body(
     scope: &Scope<'_>,
     code: &Vec<Instr>,
 ) -> Result<(), BodyFault>
-    ensures { BodyJudges result (body_judged (context scope.now.module.now scope.now.funcs.now scope.now.locals.now scope.now.result []) (code_of code.now.items)) }
+    ensures { BodyJudges result (body_judged (in_scope scope.now []) (code_of code.now.items)) }
 {
     let mut stacks = Stacks::new(alloc, scope.result);
     let next = check_code(scope, &mut stacks, code, 0)?;

@@ -50,7 +50,8 @@ fn has_type(function: HostFn, sig: &FuncType) -> bool
 
 /// The import is a function of the host, with its type.
 fn is_host_function(import: &Import, sig: &FuncType) -> bool
-    ensures { result ≡ (bytes_eq import.now.module (codes "env") && has_sig (host_named import.now.name) (Some sig.now)) }
+    ensures { let function = host_named import.now.name in
+        result ≡ (bytes_eq import.now.module (codes "env") && has_sig function (Some sig.now)) }
 {
     if import.module.inner() != "env" {
         return false;

@@ -1,8 +1,8 @@
 ghost use Rattle.std.specs.Prelude.{◌≡◌, ◌∷◌, [], OnOk, slice_get, option_copied, Ok, Err, ℕ, if◌then◌else◌};
 ghost use Rattle.nr_wasmtypes.specs.declared.instr.Plain.TheVariants as op;
-ghost use Rattle.nr_wasmvalid.specs.Rules.{rule, func_type, are_labels, is_label, same_types, Take, Give};
+ghost use Rattle.nr_wasmvalid.specs.Rules.{func_type, are_labels, is_label, same_types, Take, Give, Leave};
 ghost use Rattle.nr_wasmvalid.specs.Shapes.{asked_all};
-ghost use Rattle.nr_wasmvalid.specs.Frames.{SameAround, Leaves, context};
+ghost use Rattle.nr_wasmvalid.specs.Frames.{SameAround, Leaves, left_by};
 
 use crate::refusal::Refusal;
 use crate::stacks::Stacks;
@@ -25,10 +25,20 @@ fn must(kind: Refusal, holds: bool) -> Result<(), Refusal>
     if holds { Ok(()) } else { Err(kind) }
 }
 
+/// A place that is never reached.
+#[tactic(auto, unfolding(crate::specs::Shapes::asked_all))]
+fn check_unreachable(stacks: &mut Stacks) -> Result<(), Refusal>
+    ensures leaves { Leaves result stacks.new (asked_all (Leave ∷ []) stacks.old.shape) }
+    ensures around { OnOk result (SameAround stacks.old stacks.new) }
+{
+    stacks.never_reached();
+    Ok(())
+}
+
 /// A branch.
 #[tactic(auto, unfolding(crate::specs::Shapes::asked_all))]
 fn check_br(scope: &Scope<'_>, stacks: &mut Stacks, depth: u32) -> Result<(), Refusal>
-    ensures leaves { Leaves result stacks.new (asked_all (rule (context scope.now.module.now scope.now.funcs.now scope.now.locals.now scope.now.result stacks.old.labels) (op.Br depth)) stacks.old.shape) }
+    ensures leaves { Leaves result stacks.new (left_by scope.now stacks.old (op.Br depth)) }
     ensures around { OnOk result (SameAround stacks.old stacks.new) }
 {
     let label = stacks.label(depth).ok_or(Refusal::Label)?;
@@ -40,7 +50,7 @@ fn check_br(scope: &Scope<'_>, stacks: &mut Stacks, depth: u32) -> Result<(), Re
 /// A branch on a condition.
 #[tactic(auto, unfolding(crate::specs::Shapes::asked_all))]
 fn check_br_if(scope: &Scope<'_>, stacks: &mut Stacks, depth: u32) -> Result<(), Refusal>
-    ensures leaves { Leaves result stacks.new (asked_all (rule (context scope.now.module.now scope.now.funcs.now scope.now.locals.now scope.now.result stacks.old.labels) (op.BrIf depth)) stacks.old.shape) }
+    ensures leaves { Leaves result stacks.new (left_by scope.now stacks.old (op.BrIf depth)) }
     ensures around { OnOk result (SameAround stacks.old stacks.new) }
 {
     stacks.take(&[ValType::I32])?;
@@ -83,7 +93,7 @@ pub(crate) fn same_types(one: Option<ValType>, other: Option<ValType>) -> bool
 /// A branch by a table.
 #[tactic(auto, unfolding(crate::specs::Shapes::asked_all))]
 fn check_br_table(scope: &Scope<'_>, stacks: &mut Stacks, table: &Labels) -> Result<(), Refusal>
-    ensures leaves { Leaves result stacks.new (asked_all (rule (context scope.now.module.now scope.now.funcs.now scope.now.locals.now scope.now.result stacks.old.labels) (op.BrTable table.now)) stacks.old.shape) }
+    ensures leaves { Leaves result stacks.new (left_by scope.now stacks.old (op.BrTable table.now)) }
     ensures around { OnOk result (SameAround stacks.old stacks.new) }
 {
     stacks.take(&[ValType::I32])?;
@@ -99,7 +109,7 @@ fn check_br_table(scope: &Scope<'_>, stacks: &mut Stacks, table: &Labels) -> Res
 /// A return.
 #[tactic(auto, unfolding(crate::specs::Shapes::asked_all))]
 fn check_return(scope: &Scope<'_>, stacks: &mut Stacks) -> Result<(), Refusal>
-    ensures leaves { Leaves result stacks.new (asked_all (rule (context scope.now.module.now scope.now.funcs.now scope.now.locals.now scope.now.result stacks.old.labels) op.Return) stacks.old.shape) }
+    ensures leaves { Leaves result stacks.new (left_by scope.now stacks.old op.Return) }
     ensures around { OnOk result (SameAround stacks.old stacks.new) }
 {
     stacks.take_some(scope.result)?;
@@ -118,7 +128,7 @@ fn func_type<'a>(scope: &Scope<'a>, func: u32) -> Option<&'a FuncType>
 /// A call.
 #[tactic(auto, unfolding(crate::specs::Shapes::asked_all))]
 fn check_call(scope: &Scope<'_>, stacks: &mut Stacks, func: u32) -> Result<(), Refusal>
-    ensures leaves { Leaves result stacks.new (asked_all (rule (context scope.now.module.now scope.now.funcs.now scope.now.locals.now scope.now.result stacks.old.labels) (op.Call func)) stacks.old.shape) }
+    ensures leaves { Leaves result stacks.new (left_by scope.now stacks.old (op.Call func)) }
     ensures around { OnOk result (SameAround stacks.old stacks.new) }
 {
     let sig = func_type(scope, func).ok_or(Refusal::Index)?;
@@ -129,7 +139,7 @@ fn check_call(scope: &Scope<'_>, stacks: &mut Stacks, func: u32) -> Result<(), R
 /// A call by the table.
 #[tactic(auto, unfolding(crate::specs::Shapes::asked_all))]
 fn check_call_indirect(scope: &Scope<'_>, stacks: &mut Stacks, index: u32) -> Result<(), Refusal>
-    ensures leaves { Leaves result stacks.new (asked_all (rule (context scope.now.module.now scope.now.funcs.now scope.now.locals.now scope.now.result stacks.old.labels) (op.CallIndirect index)) stacks.old.shape) }
+    ensures leaves { Leaves result stacks.new (left_by scope.now stacks.old (op.CallIndirect index)) }
     ensures around { OnOk result (SameAround stacks.old stacks.new) }
 {
     stacks.take(&[ValType::I32])?;
@@ -144,7 +154,7 @@ fn check_call_indirect(scope: &Scope<'_>, stacks: &mut Stacks, index: u32) -> Re
 /// A global's value.
 #[tactic(auto, unfolding(crate::specs::Shapes::asked_all))]
 fn check_global_get(scope: &Scope<'_>, stacks: &mut Stacks, global: u32) -> Result<(), Refusal>
-    ensures leaves { Leaves result stacks.new (asked_all (rule (context scope.now.module.now scope.now.funcs.now scope.now.locals.now scope.now.result stacks.old.labels) (op.GlobalGet global)) stacks.old.shape) }
+    ensures leaves { Leaves result stacks.new (left_by scope.now stacks.old (op.GlobalGet global)) }
     ensures around { OnOk result (SameAround stacks.old stacks.new) }
 {
     let Some(global) = scope.module.globals.inner().get(global as usize) else {
@@ -156,7 +166,7 @@ fn check_global_get(scope: &Scope<'_>, stacks: &mut Stacks, global: u32) -> Resu
 /// A global's new value.
 #[tactic(auto, unfolding(crate::specs::Shapes::asked_all))]
 fn check_global_set(scope: &Scope<'_>, stacks: &mut Stacks, global: u32) -> Result<(), Refusal>
-    ensures leaves { Leaves result stacks.new (asked_all (rule (context scope.now.module.now scope.now.funcs.now scope.now.locals.now scope.now.result stacks.old.labels) (op.GlobalSet global)) stacks.old.shape) }
+    ensures leaves { Leaves result stacks.new (left_by scope.now stacks.old (op.GlobalSet global)) }
     ensures around { OnOk result (SameAround stacks.old stacks.new) }
 {
     let Some(global) = scope.module.globals.inner().get(global as usize) else {
@@ -169,7 +179,7 @@ fn check_global_set(scope: &Scope<'_>, stacks: &mut Stacks, global: u32) -> Resu
 /// A number from memory.
 #[tactic(auto, unfolding(crate::specs::Shapes::asked_all))]
 fn check_load(scope: &Scope<'_>, stacks: &mut Stacks, what: Load, align: u8) -> Result<(), Refusal>
-    ensures leaves { Leaves result stacks.new (asked_all (rule (context scope.now.module.now scope.now.funcs.now scope.now.locals.now scope.now.result stacks.old.labels) (op.Load what align 0)) stacks.old.shape) }
+    ensures leaves { Leaves result stacks.new (left_by scope.now stacks.old (op.Load what align 0)) }
     ensures around { OnOk result (SameAround stacks.old stacks.new) }
 {
     stacks.take(&[ValType::I32])?;
@@ -186,7 +196,7 @@ fn check_store(
     what: Store,
     align: u8,
 ) -> Result<(), Refusal>
-    ensures leaves { Leaves result stacks.new (asked_all (rule (context scope.now.module.now scope.now.funcs.now scope.now.locals.now scope.now.result stacks.old.labels) (op.Store what align 0)) stacks.old.shape) }
+    ensures leaves { Leaves result stacks.new (left_by scope.now stacks.old (op.Store what align 0)) }
     ensures around { OnOk result (SameAround stacks.old stacks.new) }
 {
     stacks.take(&[what.taken(), ValType::I32])?;
@@ -197,7 +207,7 @@ fn check_store(
 /// The memory's size.
 #[tactic(auto, unfolding(crate::specs::Shapes::asked_all))]
 fn check_memory_size(scope: &Scope<'_>, stacks: &mut Stacks) -> Result<(), Refusal>
-    ensures leaves { Leaves result stacks.new (asked_all (rule (context scope.now.module.now scope.now.funcs.now scope.now.locals.now scope.now.result stacks.old.labels) op.MemorySize) stacks.old.shape) }
+    ensures leaves { Leaves result stacks.new (left_by scope.now stacks.old op.MemorySize) }
     ensures around { OnOk result (SameAround stacks.old stacks.new) }
 {
     must(Refusal::Index, !scope.module.memories.inner().is_empty())?;
@@ -207,7 +217,7 @@ fn check_memory_size(scope: &Scope<'_>, stacks: &mut Stacks) -> Result<(), Refus
 /// The memory's growth.
 #[tactic(auto, unfolding(crate::specs::Shapes::asked_all))]
 fn check_memory_grow(scope: &Scope<'_>, stacks: &mut Stacks) -> Result<(), Refusal>
-    ensures leaves { Leaves result stacks.new (asked_all (rule (context scope.now.module.now scope.now.funcs.now scope.now.locals.now scope.now.result stacks.old.labels) op.MemoryGrow) stacks.old.shape) }
+    ensures leaves { Leaves result stacks.new (left_by scope.now stacks.old op.MemoryGrow) }
     ensures around { OnOk result (SameAround stacks.old stacks.new) }
 {
     stacks.take(&[ValType::I32])?;
@@ -218,7 +228,7 @@ fn check_memory_grow(scope: &Scope<'_>, stacks: &mut Stacks) -> Result<(), Refus
 /// A local's value.
 #[tactic(auto, unfolding(crate::specs::Shapes::asked_all))]
 fn check_local_get(scope: &Scope<'_>, stacks: &mut Stacks, local: u32) -> Result<(), Refusal>
-    ensures leaves { Leaves result stacks.new (asked_all (rule (context scope.now.module.now scope.now.funcs.now scope.now.locals.now scope.now.result stacks.old.labels) (op.LocalGet local)) stacks.old.shape) }
+    ensures leaves { Leaves result stacks.new (left_by scope.now stacks.old (op.LocalGet local)) }
     ensures around { OnOk result (SameAround stacks.old stacks.new) }
 {
     let Some(ty) = scope.locals.get(local as usize) else {
@@ -230,7 +240,7 @@ fn check_local_get(scope: &Scope<'_>, stacks: &mut Stacks, local: u32) -> Result
 /// A local's new value.
 #[tactic(auto, unfolding(crate::specs::Shapes::asked_all))]
 fn check_local_set(scope: &Scope<'_>, stacks: &mut Stacks, local: u32) -> Result<(), Refusal>
-    ensures leaves { Leaves result stacks.new (asked_all (rule (context scope.now.module.now scope.now.funcs.now scope.now.locals.now scope.now.result stacks.old.labels) (op.LocalSet local)) stacks.old.shape) }
+    ensures leaves { Leaves result stacks.new (left_by scope.now stacks.old (op.LocalSet local)) }
     ensures around { OnOk result (SameAround stacks.old stacks.new) }
 {
     let Some(ty) = scope.locals.get(local as usize) else {
@@ -242,7 +252,7 @@ fn check_local_set(scope: &Scope<'_>, stacks: &mut Stacks, local: u32) -> Result
 /// A local's new value, which stays.
 #[tactic(auto, unfolding(crate::specs::Shapes::asked_all))]
 fn check_local_tee(scope: &Scope<'_>, stacks: &mut Stacks, local: u32) -> Result<(), Refusal>
-    ensures leaves { Leaves result stacks.new (asked_all (rule (context scope.now.module.now scope.now.funcs.now scope.now.locals.now scope.now.result stacks.old.labels) (op.LocalTee local)) stacks.old.shape) }
+    ensures leaves { Leaves result stacks.new (left_by scope.now stacks.old (op.LocalTee local)) }
     ensures around { OnOk result (SameAround stacks.old stacks.new) }
 {
     let Some(ty) = scope.locals.get(local as usize) else {
@@ -265,7 +275,7 @@ fn check_operation(stacks: &mut Stacks, taken: &[ValType], given: ValType) -> Re
 /// A choice between two operands.
 #[tactic(auto, unfolding(crate::specs::Shapes::asked_all))]
 fn check_select(scope: &Scope<'_>, stacks: &mut Stacks) -> Result<(), Refusal>
-    ensures leaves { Leaves result stacks.new (asked_all (rule (context scope.now.module.now scope.now.funcs.now scope.now.locals.now scope.now.result stacks.old.labels) op.Select) stacks.old.shape) }
+    ensures leaves { Leaves result stacks.new (left_by scope.now stacks.old op.Select) }
     ensures around { OnOk result (SameAround stacks.old stacks.new) }
 {
     stacks.take(&[ValType::I32])?;
@@ -279,14 +289,11 @@ pub(crate) fn check_plain(
     stacks: &mut Stacks,
     plain: &Plain,
 ) -> Result<(), Refusal>
-    ensures leaves { Leaves result stacks.new (asked_all (rule (context scope.now.module.now scope.now.funcs.now scope.now.locals.now scope.now.result stacks.old.labels) plain.now) stacks.old.shape) }
+    ensures leaves { Leaves result stacks.new (left_by scope.now stacks.old plain.now) }
     ensures around { OnOk result (SameAround stacks.old stacks.new) }
 {
     match plain {
-        Plain::Unreachable => {
-            stacks.never_reached();
-            Ok(())
-        }
+        Plain::Unreachable => check_unreachable(stacks),
         Plain::Br(depth) => check_br(scope, stacks, *depth),
         Plain::BrIf(depth) => check_br_if(scope, stacks, *depth),
         Plain::BrTable(table) => check_br_table(scope, stacks, table),

@@ -1,7 +1,7 @@
 ghost use Rattle.std.specs.Prelude.{◌≡◌, ◌≢◌, [], ◌∷◌, OnOk, IfOk, None, length, option_copied, slice_get, reverse};
 ghost use Rattle.nr_wasmvalid.specs.Rules.{types, Types?, Take, Give, TakeAny, Alike, Empty, Leave};
 ghost use Rattle.nr_wasmvalid.specs.Shapes.{asked, fresh, top, take_one, take_all, give_all, alike, no_more, on_top, can_be, both};
-ghost use Rattle.nr_wasmvalid.specs.Frames.{SameAround, Passes, Leaves};
+ghost use Rattle.nr_wasmvalid.specs.Frames.{SameAround, Passes, Leaves, entered};
 
 use crate::frame::Frame;
 use crate::refusal::Refusal;
@@ -26,7 +26,8 @@ impl Model for Stacks {
 
     ghost view = { λ a. frames_of a.operands.items a.frame (reverse a.around.items) };
 
-    ghost invariant = { λ a. (a.frame.height ≤ length a.operands.items) × IsNested (reverse a.around.items) a.frame.height };
+    ghost invariant = { λ a. (a.frame.height ≤ length a.operands.items)
+        × IsNested (reverse a.around.items) a.frame.height };
 }
 
 impl Stacks {
@@ -70,7 +71,7 @@ impl Stacks {
 
     /// A block inside.
     pub(crate) fn enter(&mut self, label: Option<ValType>) -> Result<(), AllocError>
-        ensures { OnOk result (self.new ≡ record { shape = fresh; labels = label ∷ self.old.labels; outer = self.old.shape ∷ self.old.outer }) }
+        ensures { OnOk result (self.new ≡ entered label self.old) }
     {
         self.around.push(self.frame)?;
         self.frame = Frame {

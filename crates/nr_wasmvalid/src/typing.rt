@@ -2,7 +2,7 @@ ghost use Rattle.std.specs.Prelude.{◌≡◌, ℕ, [], Ok, Err};
 ghost use Rattle.nr_bytes.specs.Answers.{Gives};
 ghost use Rattle.nr_wasmtypes.specs.Code.{code_of};
 ghost use Rattle.nr_wasmvalid.specs.Faults.{fault_at};
-ghost use Rattle.nr_wasmvalid.specs.Frames.{context};
+ghost use Rattle.nr_wasmvalid.specs.Frames.{in_scope};
 ghost use Rattle.nr_wasmvalid.specs.Typing.{IsTyped, IsBreach};
 ghost use Rattle.nr_wasmvalid.specs.Verdict.{Verdict};
 ghost use Rattle.nr_wasmvalid.specs.declared.refusal.Refusal.{Refusal};
@@ -23,11 +23,12 @@ pub(crate) fn check_typing(
     code: &Vec<Instr>,
 ) -> Result<(), BodyFault>
     // What passes is typed, and any other answer is the first breach.
-    ensures verdict { Verdict (context scope.now.module.now scope.now.funcs.now scope.now.locals.now scope.now.result []) (code_of code.now.items) result }
+    ensures verdict { Verdict (in_scope scope.now []) (code_of code.now.items) result }
     // What is typed passes.
-    ensures typed { IsTyped (context scope.now.module.now scope.now.funcs.now scope.now.locals.now scope.now.result []) (code_of code.now.items) → Gives Memory result (Ok tt) }
+    ensures typed { IsTyped (in_scope scope.now []) (code_of code.now.items) → Gives Memory result (Ok tt) }
     // There is no other first breach.
-    ensures breach { (place : ℕ) (kind : Refusal) → IsBreach (context scope.now.module.now scope.now.funcs.now scope.now.locals.now scope.now.result []) (code_of code.now.items) place kind → Gives Memory result (Err (fault_at place kind)) }
+    ensures breach { (place : ℕ) (kind : Refusal) → IsBreach (in_scope scope.now []) (code_of code.now.items) place kind
+        → Gives Memory result (Err (fault_at place kind)) }
 {
     check_body(alloc, scope, code)
 }
