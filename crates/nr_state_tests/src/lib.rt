@@ -4,6 +4,10 @@
 #[cfg(test)]
 mod accounts;
 #[cfg(test)]
+mod callers;
+#[cfg(test)]
+mod calls;
+#[cfg(test)]
 mod contents;
 #[cfg(test)]
 mod first_states;

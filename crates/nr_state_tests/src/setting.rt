@@ -1,6 +1,7 @@
 //! States with an account, and writes where it stands.
 
 ghost use Rattle.std.specs.Prelude.{◌≡◌, true, [], IfOk, OnOk};
+ghost use Rattle.nr_config.specs.Config.{free};
 
 use nr_config::Config;
 use nr_ids::{AccountId, Hash32, PublicKey};
@@ -35,6 +36,7 @@ pub(crate) fn account_of(amount: u128) -> Account {
 /// An empty state under the configuration `free`.
 pub(crate) fn empty_state(alloc: Global) -> State
     ensures whole { result.whole ≡ true }
+    ensures config { result.config ≡ free }
     ensures marks { result.marks ≡ [] }
 {
     ShardState::new(alloc, PlainStore::new(alloc), &Config::free())
@@ -43,6 +45,7 @@ pub(crate) fn empty_state(alloc: Global) -> State
 /// A state with one account.
 pub(crate) fn state_with(alloc: Global, id: &AccountId) -> Result<State, AllocError>
     ensures whole { IfOk result (λ state. state.whole ≡ true) }
+    ensures config { IfOk result (λ state. state.config ≡ free) }
     ensures marks { IfOk result (λ state. state.marks ≡ []) }
 {
     let mut state = empty_state(alloc);
@@ -151,7 +154,9 @@ pub(crate) fn put_datum(state: &mut State, id: &AccountId, value: &[u8]) -> Resu
 /// Writes code, where its owner stands.
 pub(crate) fn put_code(state: &mut State, id: &AccountId, code: &[u8]) -> Result<(), AllocError>
     requires { state.old.whole ≡ true }
-    ensures { OnOk result (state.new.whole ≡ true) }
+    ensures whole { OnOk result (state.new.whole ≡ true) }
+    ensures config { OnOk result (state.new.config ≡ state.old.config) }
+    ensures marks { OnOk result (state.new.marks ≡ state.old.marks) }
 {
     if state.account(id)?.is_none() {
         return Err(AllocError);
