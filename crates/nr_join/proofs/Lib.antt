@@ -1,0 +1,5 @@
+-- Lemmas behind the answers.
+pub mod Inputs
+pub mod Freed
+pub mod Moves
+pub mod Cases
