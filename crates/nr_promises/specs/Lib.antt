@@ -1,0 +1,4 @@
+pub mod Book
+pub mod Making
+pub mod Joining
+pub mod Keeping
