@@ -1,0 +1,9 @@
+pub mod Functions
+pub mod Reduction
+pub mod Place
+pub mod Thread
+pub mod Executing
+pub mod Machine
+pub mod Making
+pub mod Standing
+pub mod Gauge

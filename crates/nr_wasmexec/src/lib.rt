@@ -1,0 +1,25 @@
+//! A metered machine for valid WebAssembly modules, over any host.
+#![tactic(auto)]
+
+mod branching;
+mod calling;
+mod control;
+mod execute;
+mod gauge;
+mod machine;
+mod making;
+mod number;
+mod operand;
+mod program;
+mod running;
+mod stop;
+mod storing;
+#[cfg(test)]
+mod tests;
+mod thread;
+mod variable;
+
+pub use gauge::Gauge;
+pub use machine::Machine;
+pub use making::MakeFault;
+pub use stop::RunStop;
