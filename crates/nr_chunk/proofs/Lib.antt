@@ -1,0 +1,3 @@
+pub mod Values
+pub mod Converted
+pub mod Tallied

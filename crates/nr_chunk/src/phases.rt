@@ -1,0 +1,149 @@
+//! The phases of a chain's chunks.
+
+ghost use Rattle.std.specs.Prelude.{◌≡◌, ◌+◌, ◌<◌, true, IfOk, OnOk, length};
+ghost use Rattle.std.specs.Option.{option_copied};
+ghost use Rattle.nr_chunk.specs.Chain.{Chain, chain_with, block_at, chunk_in, chunk_at, time_of, place_at};
+
+use crate::chain::ChainRun;
+use crate::chunk_work::ChunkWork;
+use crate::chunk_world::ChunkWorld;
+use crate::opening::open;
+use crate::sealing::seal;
+use crate::serving::serve_all;
+use nr_blocks::{Block, fill};
+use nr_bytes::List;
+use nr_config::entries::GAS_PRICE;
+use nr_ids::{Height, ShardId};
+use nr_overlap::Phases;
+use nr_records::{ChunkResult, Receipt, Transaction};
+use nr_state::{Caller, Place};
+use nr_store::PlainStore;
+use std::alloc::{AllocError, Global};
+
+fn block_at(blocks: &[Block], height: Height) -> Option<&Block>
+    ensures { (x : Chain) → blocks.now ≡ x.blocks → option_copied result ≡ block_at x height.0 }
+{
+    match height.0 {
+        0 => None,
+        number => blocks.get((number - 1) as usize),
+    }
+}
+
+fn chunk_in(block: &Block, shard: ShardId) -> Option<&[Transaction]>
+    ensures { option_copied result ≡ chunk_in shard.0 block.now }
+{
+    match block.chunks.inner().get(shard.0 as usize) {
+        Some(Some(list)) => Some(list.inner()),
+        _ => None,
+    }
+}
+
+/// The transactions of a chunk, where it is there.
+fn chunk_at(blocks: &[Block], shard: ShardId, height: Height) -> Option<&[Transaction]>
+    ensures { (x : Chain) → blocks.now ≡ x.blocks → option_copied result ≡ chunk_at x shard.0 height.0 }
+{
+    match block_at(blocks, height) {
+        Some(block) => chunk_in(block, shard),
+        None => None,
+    }
+}
+
+fn timestamp(blocks: &[Block], height: Height) -> u64
+    ensures { (x : Chain) → blocks.now ≡ x.blocks → result ≡ time_of (block_at x height.0) }
+{
+    match block_at(blocks, height) {
+        Some(block) => block.timestamp,
+        None => 0,
+    }
+}
+
+fn place_at<C: Caller<PlainStore>>(chain: &ChainRun<C>, height: Height) -> Place
+    ensures { result ≡ place_at (chain_with chain.now.config chain.now.genesis chain.now.blocks (C.meaning chain.now.caller)) height.0 }
+{
+    Place {
+        height,
+        timestamp: timestamp(chain.blocks.inner(), height),
+        price: chain.config.entry(GAS_PRICE),
+    }
+}
+
+impl<C: Caller<PlainStore>> Phases for ChainRun<C> {
+    ghost use Rattle.nr_chunk.specs.Chain.{chain_with, rules_of, IsChain, CanOpen, CanTake, CanSeal};
+    ghost use Rattle.nr_chunk.specs.Lawful.{laws_of};
+
+    ghost is_run = { λ x. IsChain (chain_with x.config x.genesis x.blocks (C.meaning x.caller)) };
+
+    ghost rules = { λ x. rules_of (chain_with x.config x.genesis x.blocks (C.meaning x.caller)) };
+
+    ghost can_open = { λ x. CanOpen (chain_with x.config x.genesis x.blocks (C.meaning x.caller)) };
+
+    ghost can_take = { λ x. CanTake (chain_with x.config x.genesis x.blocks (C.meaning x.caller)) };
+
+    ghost can_seal = { λ x. CanSeal (chain_with x.config x.genesis x.blocks (C.meaning x.caller)) };
+
+    ghost laws = { λ x is. laws_of (chain_with x.config x.genesis x.blocks (C.meaning x.caller)) is };
+
+    type World = ChunkWorld;
+
+    type Working = ChunkWork;
+
+    type Parcel = List<Receipt>;
+
+    type Report = ChunkResult;
+
+    fn shards(&self) -> u32 {
+        self.known();
+        self.genesis.layout.shards()
+    }
+
+    fn heights(&self) -> u64 {
+        self.blocks.inner().len() as u64
+    }
+
+    fn present(&self, shard: ShardId, height: Height) -> bool {
+        chunk_at(self.blocks.inner(), shard, height).is_some()
+    }
+
+    fn begin(&self, alloc: Global, shard: ShardId) -> Result<ChunkWorld, AllocError> {
+        let store = PlainStore::new(alloc);
+        let state = fill(alloc, &self.genesis, shard, store, &self.config)?;
+        Ok(ChunkWorld { state })
+    }
+
+    fn open_chunk(
+        &self,
+        alloc: Global,
+        shard: ShardId,
+        height: Height,
+        world: ChunkWorld,
+    ) -> Result<ChunkWork, AllocError> {
+        let place = place_at(self, height);
+        let txs = chunk_at(self.blocks.inner(), shard, height).unwrap_or(&[]);
+        let work = open(alloc, self, world.state, shard, place, txs)?;
+        Ok(ChunkWork { work, whole: true })
+    }
+
+    fn take_list(
+        &self,
+        alloc: Global,
+        working: &mut ChunkWork,
+        list: List<Receipt>,
+    ) -> Result<(), AllocError> {
+        working.whole = false;
+        serve_all(alloc, &mut working.work, self, list)?;
+        working.whole = true;
+        Ok(())
+    }
+
+    fn seal_chunk(
+        &self,
+        alloc: Global,
+        working: ChunkWork,
+    ) -> Result<(ChunkWorld, ChunkResult, List<List<Receipt>>), AllocError> {
+        let sealed = seal(alloc, &self.genesis.layout, working.work)?;
+        let world = ChunkWorld {
+            state: sealed.state,
+        };
+        Ok((world, sealed.result, sealed.lists))
+    }
+}
