@@ -1,0 +1,4 @@
+-- Lemmas behind the law.
+pub mod Waiting
+pub mod Opening
+pub mod Kept
