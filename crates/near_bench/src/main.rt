@@ -7,9 +7,11 @@
 //! want of memory with status 7.
 //!
 //! The words `module FILE TURNS` decode and validate the module in a file TURNS times, and print
-//! whether it was valid each time.
+//! whether it was valid each time. The words `machine FILE METHOD TURNS` decode it and run its method
+//! TURNS times, and print how many instructions ran in all.
 #![tactic(auto)]
 
+mod machine;
 mod module;
 
 ghost use Rattle.std.specs.Prelude.{◌≡◌, ◌<◌, [], OnOk};
@@ -198,12 +200,39 @@ fn check_module<R: Files + Print>(rt: &R, alloc: Global, file: &str, turns: u32)
     ExitCode::from(0)
 }
 
+/// The file, the method and the turns that the words ask for.
+fn machine_of(words: &[String]) -> Option<(&str, &str, u32)> {
+    match words {
+        [word, file, method, turns] if word.as_str() == "machine" => {
+            Some((file.as_str(), method.as_str(), turns.parse::<u32>().ok()?))
+        }
+        _ => None,
+    }
+}
+
+fn run_machine<R: Files + Print>(
+    rt: &R,
+    alloc: Global,
+    file: &str,
+    method: &str,
+    turns: u32,
+) -> ExitCode {
+    let Some(instructions) = machine::run(rt, alloc, file, method, turns) else {
+        return ExitCode::from(1);
+    };
+    let _ = println!(rt; "{instructions}");
+    ExitCode::from(0)
+}
+
 fn main(rt: HostRuntime) -> ExitCode {
     let Ok(words) = words_of(&rt, rt.alloc()) else {
         return ExitCode::from(1);
     };
     if let Some((file, turns)) = module_of(&words) {
         return check_module(&rt, rt.alloc(), file, turns);
+    }
+    if let Some((file, method, turns)) = machine_of(&words) {
+        return run_machine(&rt, rt.alloc(), file, method, turns);
     }
     let Some((operation, keys, turns)) = task_of(&words) else {
         return ExitCode::from(1);

@@ -17,11 +17,17 @@ fn is_valid(alloc: Global, bytes: &[u8], config: &Config) -> bool {
     }
 }
 
-/// Whether the module in a file was valid in each of the turns; `None` where there is no such file.
-pub fn check<R: Files>(rt: &R, alloc: Global, name: &str, turns: u32) -> Option<bool> {
+/// The bytes of a file; `None` where there is no such file.
+pub fn bytes_of<R: Files>(rt: &R, alloc: Global, name: &str) -> Option<Vec<u8>> {
     let mut shelf = FileShelf::new(rt);
     let mut bytes = Vec::new(alloc);
     shelf.load(alloc, name, LIMIT, &mut bytes).ok()?;
+    Some(bytes)
+}
+
+/// Whether the module in a file was valid in each of the turns; `None` where there is no such file.
+pub fn check<R: Files>(rt: &R, alloc: Global, name: &str, turns: u32) -> Option<bool> {
+    let bytes = bytes_of(rt, alloc, name)?;
     let config = Config::free();
     let mut all = true;
     for _turn in 0..turns {

@@ -1,3 +1,4 @@
 pub mod Growth
 pub mod Commands
 pub mod Steps
+pub mod Runs

@@ -7,6 +7,7 @@ use Rattle.nr_config.specs.Config.{Config}
 use Rattle.nr_config.specs.Reading.{configuration}
 use Rattle.nr_config.specs.declared.fault.ConfigFault.{ConfigFault}
 use Rattle.nr_config.specs.declared.fault.ConfigFault.TheVariants as config_faults
+use Rattle.nr_module.specs.Command.{Task}
 use Rattle.nr_module.specs.Answers.{AsksFront, Stops, Prepares, Configures}
 use Rattle.nr_module.specs.Input.{Configured, By, Bars, Unknown, config_status, by_reading, by_config_bytes, config_limit, file_limit, IsVerdict}
 use Rattle.nr_module.specs.declared.status.Status.{Status}
@@ -41,16 +42,16 @@ config_read (Some bytes) items r loaded h =
     rw short (subst (λ (file : List ℕ). Configures r (by_reading (configuration file))) loaded.1 h)
 
 -- ---- the file
-pub file_read : (c : Config) (held : Option (List ℕ)) (items : List ℕ) (r : Result Verdict Status) → Loads (Ok tt) held file_limit [] items → IfOk r (λ v. IsVerdict c items v) → OnErr r (r ≡ Err status.NoMemory) → Prepares r (By c) held
-file_read c None items (Ok v) loaded h stops = tt
-file_read c (Some bytes) items (Ok v) loaded h stops = subst (λ (file : List ℕ). IsVerdict c file v) loaded.1 h
-file_read c held items (Err s) loaded h stops = let e : s ≡ status.NoMemory = cc in subst (λ (k : Status). Stops k (By c)) (sym e) tt
+pub file_read : (c : Config) (task : Task) (held : Option (List ℕ)) (items : List ℕ) (r : Result Verdict Status) → Loads (Ok tt) held file_limit [] items → IfOk r (λ v. IsVerdict c task items v) → OnErr r (r ≡ Err status.NoMemory) → Prepares r task (By c) held
+file_read c task None items (Ok v) loaded h stops = tt
+file_read c task (Some bytes) items (Ok v) loaded h stops = subst (λ (file : List ℕ). IsVerdict c task file v) loaded.1 h
+file_read c task held items (Err s) loaded h stops = let e : s ≡ status.NoMemory = cc in subst (λ (k : Status). Stops k (By c)) (sym e) tt
 
-pub configured_prepares : (c : Config) (given : Configured) (r : Result Verdict Status) (held : Option (List ℕ)) → Configures (Ok c) given → Prepares r (By c) held → Prepares r given held
-configured_prepares c (By d) r held is h = subst (λ x. Prepares r (By x) held) is h
-configured_prepares c (Bars s) r held is h = absurd is
-configured_prepares c Unknown (Ok v) held is h = tt
-configured_prepares c Unknown (Err s) held is h = stops_unknown s (By c) h
+pub configured_prepares : (c : Config) (task : Task) (given : Configured) (r : Result Verdict Status) (held : Option (List ℕ)) → Configures (Ok c) given → Prepares r task (By c) held → Prepares r task given held
+configured_prepares c task (By d) r held is h = subst (λ x. Prepares r task (By x) held) is h
+configured_prepares c task (Bars s) r held is h = absurd is
+configured_prepares c task Unknown (Ok v) held is h = tt
+configured_prepares c task Unknown (Err s) held is h = stops_unknown s (By c) h
 
 -- ---- the names asked for
 pub asks_more : (old new files more : List (List ℕ)) → AsksFront old new files → AsksFront old new (files ++ more)

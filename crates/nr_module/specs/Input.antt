@@ -9,11 +9,15 @@ use Rattle.nr_wasmbin.specs.Modules.{decoded}
 use Rattle.nr_wasmbin.specs.declared.fault.DecodeFault.TheVariants as decode
 use Rattle.nr_wasmvalid.specs.Modules.{IsValid, IsFirstBreach}
 use Rattle.nr_wasmvalid.specs.declared.fault.ValidFault.TheVariants as valid
-use Rattle.nr_module.specs.Command.{is_free}
+use Rattle.nr_wasmexec.specs.Making.{machine_of}
+use Rattle.nr_module.specs.Command.{Task, Check, Run, is_free}
+use Rattle.nr_module.specs.Running.{IsRun}
 use Rattle.nr_module.specs.declared.status.Status.{Status}
 use Rattle.nr_module.specs.declared.status.Status.TheVariants.{Config as faulty_config, NoMemory}
+use Rattle.nr_module.specs.declared.verdict.Answer.{Answer}
+use Rattle.nr_module.specs.declared.verdict.Answer.TheVariants.{Good}
 use Rattle.nr_module.specs.declared.verdict.Verdict.{Verdict}
-use Rattle.nr_module.specs.declared.verdict.Verdict.TheVariants.{Good, Long, Undecoded, Invalid}
+use Rattle.nr_module.specs.declared.verdict.Verdict.TheVariants.{Long, Undecoded, Invalid, Done}
 
 -- ---- files: at most 1 MiB of configuration and 64 MiB of a module
 abbrev pub config_limit : ℕ
@@ -48,16 +52,21 @@ abbrev pub configured : List ℕ → Option (List ℕ) → Configured
 configured word bytes = cond (is_free word) (By free) (by_config_bytes bytes)
 
 -- ---- what the bytes of a file are, under a configuration
-abbrev pub IsVerdict : Config → List ℕ → Verdict → Type 0
-IsVerdict c bytes Good = (length bytes ≤ file_limit) × (m : Module) × (decoded (max_code c) bytes ≡ Ok m) × IsValid (max_pages c) m
-IsVerdict c bytes Long = file_limit < length bytes
-IsVerdict c bytes (Undecoded fault) = (length bytes ≤ file_limit) × (fault ≢ decode.Memory) × (decoded (max_code c) bytes ≡ Err fault)
-IsVerdict c bytes (Invalid fault) =
+-- the answer of what is done with a module that is valid
+abbrev pub Answers : Config → Module → Task → Answer → Type 0
+Answers c m Check a = a ≡ Good
+Answers c m (Run method gas) a = IsRun (machine_of c m) method gas a
+
+abbrev pub IsVerdict : Config → Task → List ℕ → Verdict → Type 0
+IsVerdict c task bytes (Done a) = (length bytes ≤ file_limit) × (m : Module) × (decoded (max_code c) bytes ≡ Ok m) × IsValid (max_pages c) m × Answers c m task a
+IsVerdict c task bytes Long = file_limit < length bytes
+IsVerdict c task bytes (Undecoded fault) = (length bytes ≤ file_limit) × (fault ≢ decode.Memory) × (decoded (max_code c) bytes ≡ Err fault)
+IsVerdict c task bytes (Invalid fault) =
     (length bytes ≤ file_limit) × (fault ≢ valid.Memory) × (m : Module) × (decoded (max_code c) bytes ≡ Ok m) × IsFirstBreach (max_pages c) m fault
 
 -- the same, where configuration and bytes are told
-abbrev pub Judges : Verdict → Configured → Option (List ℕ) → Type 0
-Judges v (By c) (Some bytes) = IsVerdict c bytes v
-Judges v (By c) None = Unit {0}
-Judges v (Bars status) held = ⊥
-Judges v Unknown held = Unit {0}
+abbrev pub Judges : Verdict → Task → Configured → Option (List ℕ) → Type 0
+Judges v task (By c) (Some bytes) = IsVerdict c task bytes v
+Judges v task (By c) None = Unit {0}
+Judges v task (Bars status) held = ⊥
+Judges v task Unknown held = Unit {0}

@@ -1,11 +1,13 @@
--- The line that tells what a file is, and the exit status that goes with it. This project's own.
+-- The line that tells what a file is or how a run of a method ended, and the exit status that goes with it. This project's own.
 use Rattle.std.specs.Prelude.{ℕ, List, [], ◌∷◌, ◌++◌, codes, decimal}
 use Rattle.nr_wasmbin.specs.declared.fault.DecodeFault.{DecodeFault}
 use Rattle.nr_wasmbin.specs.declared.fault.DecodeFault.TheVariants as decode
 use Rattle.nr_wasmvalid.specs.declared.fault.ValidFault.{ValidFault}
 use Rattle.nr_wasmvalid.specs.declared.fault.ValidFault.TheVariants as valid
+use Rattle.nr_module.specs.declared.verdict.Answer.{Answer}
+use Rattle.nr_module.specs.declared.verdict.Answer.TheVariants.{Good, NoMethod, Unmade, Ended, Trapped, Failed, OutOfGas}
 use Rattle.nr_module.specs.declared.verdict.Verdict.{Verdict}
-use Rattle.nr_module.specs.declared.verdict.Verdict.TheVariants.{Good, Long, Undecoded, Invalid}
+use Rattle.nr_module.specs.declared.verdict.Verdict.TheVariants.{Long, Undecoded, Invalid, Done}
 
 -- a kind and numbers in decimal behind a word, parted by single spaces
 abbrev pub decode_line : ℕ → ℕ → List ℕ
@@ -33,8 +35,24 @@ valid_text (valid.Limit func place) = valid_line 14 func place
 valid_text (valid.Import func place) = valid_line 15 func place
 valid_text valid.Memory = []
 
+-- a word and the gas that was burnt, and the same with a kind between them
+abbrev pub burnt_line : List ℕ → ℕ → List ℕ
+burnt_line word burnt = word ++ 32 ∷ decimal burnt ++ 10 ∷ []
+
+abbrev pub stop_line : List ℕ → ℕ → ℕ → List ℕ
+stop_line word kind burnt = word ++ 32 ∷ decimal kind ++ 32 ∷ decimal burnt ++ 10 ∷ []
+
+abbrev pub answer_text : Answer → List ℕ
+answer_text Good = codes "ok" ++ 10 ∷ []
+answer_text (Ended burnt) = burnt_line (codes "end") burnt
+answer_text (Trapped kind burnt) = stop_line (codes "trap") kind burnt
+answer_text (Failed kind burnt) = stop_line (codes "fault") kind burnt
+answer_text (OutOfGas burnt) = burnt_line (codes "gas") burnt
+answer_text Unmade = codes "make 21" ++ 10 ∷ []
+answer_text NoMethod = codes "method" ++ 10 ∷ []
+
 abbrev pub verdict_text : Verdict → List ℕ
-verdict_text Good = codes "ok" ++ 10 ∷ []
+verdict_text (Done a) = answer_text a
 verdict_text Long = codes "long" ++ 10 ∷ []
 verdict_text (Undecoded fault) = decode_text fault
 verdict_text (Invalid fault) = valid_text fault

@@ -1,9 +1,9 @@
 //! The line of a verdict.
 
 ghost use Rattle.std.specs.Prelude.{◌≡◌, IfOk, string_bytes};
-ghost use Rattle.nr_module.specs.Lines.{decode_line, decode_text, valid_line, valid_text, verdict_text};
+ghost use Rattle.nr_module.specs.Lines.{answer_text, burnt_line, decode_line, decode_text, stop_line, valid_line, valid_text, verdict_text};
 
-use crate::verdict::Verdict;
+use crate::verdict::{Answer, Verdict};
 use nr_wasmbin::DecodeFault;
 use nr_wasmvalid::ValidFault;
 use std::alloc::{AllocError, Global};
@@ -53,12 +53,42 @@ fn valid_text(alloc: Global, fault: ValidFault) -> Result<String, AllocError>
     }
 }
 
-/// The line of a verdict: `ok`, `long`, `decode KIND AT` or `valid KIND FUNC PLACE`.
+fn burnt_line(alloc: Global, word: &str, burnt: u128) -> Result<String, AllocError>
+    ensures { IfOk result (λ text. string_bytes text ≡ burnt_line word.now burnt) }
+{
+    let mut text = String::new(alloc);
+    writeln!(text, "{word} {burnt}")?;
+    Ok(text)
+}
+
+fn stop_line(alloc: Global, word: &str, kind: u32, burnt: u128) -> Result<String, AllocError>
+    ensures { IfOk result (λ text. string_bytes text ≡ stop_line word.now kind burnt) }
+{
+    let mut text = String::new(alloc);
+    writeln!(text, "{word} {kind} {burnt}")?;
+    Ok(text)
+}
+
+fn answer_text(alloc: Global, answer: Answer) -> Result<String, AllocError>
+    ensures { IfOk result (λ text. string_bytes text ≡ answer_text answer) }
+{
+    match answer {
+        Answer::Good => String::from_str(alloc, "ok\n"),
+        Answer::Ended { burnt } => burnt_line(alloc, "end", burnt),
+        Answer::Trapped { kind, burnt } => stop_line(alloc, "trap", kind, burnt),
+        Answer::Failed { kind, burnt } => stop_line(alloc, "fault", kind, burnt),
+        Answer::OutOfGas { burnt } => burnt_line(alloc, "gas", burnt),
+        Answer::Unmade => String::from_str(alloc, "make 21\n"),
+        Answer::NoMethod => String::from_str(alloc, "method\n"),
+    }
+}
+
+/// The line of a verdict: `ok`, `long`, `decode KIND AT`, `valid KIND FUNC PLACE`, or that of a run.
 pub(crate) fn verdict_text(alloc: Global, verdict: Verdict) -> Result<String, AllocError>
     ensures { IfOk result (λ text. string_bytes text ≡ verdict_text verdict) }
 {
     match verdict {
-        Verdict::Good => String::from_str(alloc, "ok\n"),
+        Verdict::Done(answer) => answer_text(alloc, answer),
         Verdict::Long => String::from_str(alloc, "long\n"),
         Verdict::Undecoded(fault) => decode_text(alloc, fault),
         Verdict::Invalid(fault) => valid_text(alloc, fault),

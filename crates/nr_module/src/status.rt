@@ -1,9 +1,10 @@
 /// How a call ended.
 #[derive(Clone, Copy, Debug, PartialEq, Eq)]
 pub enum Status {
-    /// The file is a module that decodes and is valid, and the line `ok` was written.
+    /// The module is valid or its method's run came to its end, and the line `ok` or `end BURNT` was
+    /// written.
     Sound,
-    /// The file is none, and the line that says why was written.
+    /// The line that says why not was written.
     Faulty,
     /// The words are no command.
     Usage,

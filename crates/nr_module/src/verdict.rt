@@ -1,11 +1,30 @@
 use nr_wasmbin::DecodeFault;
 use nr_wasmvalid::ValidFault;
 
+/// What is answered for a valid module.
+#[derive(Clone, Copy, Debug)]
+pub(crate) enum Answer {
+    /// It was checked.
+    Good,
+    /// The run of a method came to its end, and burnt so much gas.
+    Ended { burnt: u128 },
+    /// The run stopped at a trap.
+    Trapped { kind: u32, burnt: u128 },
+    /// The run stopped at a fault of the host.
+    Failed { kind: u32, burnt: u128 },
+    /// The run stopped because no gas was left for the next instruction.
+    OutOfGas { burnt: u128 },
+    /// No machine could be made: an element or a segment doesn't fit.
+    Unmade,
+    /// The module has no such method.
+    NoMethod,
+}
+
 /// What a file is.
 #[derive(Clone, Copy, Debug)]
 pub(crate) enum Verdict {
-    /// A module that decodes and is valid.
-    Good,
+    /// A module that decodes and is valid, with the answer of what was done with it.
+    Done(Answer),
     /// Longer than 64 MiB.
     Long,
     /// No module, by its first fault.

@@ -1,0 +1,50 @@
+-- What the run of a method comes to. Machines and their runs by WebAssembly Core 1.0; the host, which only counts gas, and the answers are this project's own.
+use Rattle.std.specs.Prelude.{◌≡◌, ℕ, ◌-◌, List, Option, Some, None, Result, Ok, Err}
+use Rattle.nr_wasmexec.specs.Reduction.{Stop, Trap, GasExceeded, HostFault, Outcome, Done, Halted, NeverFits, Unfinished, run_by}
+use Rattle.nr_wasmexec.specs.Machine.{rules_of, runtime}
+use Rattle.nr_wasmexec.specs.Making.{MachineView, method_of}
+use Rattle.nr_wasmexec.specs.declared.making.MakeFault.{MakeFault}
+use Rattle.nr_wasmexec.specs.declared.making.MakeFault.TheVariants as make
+use Rattle.nr_wasmexec.specs.declared.stop.RunStop.{RunStop}
+use Rattle.nr_wasmexec.specs.declared.stop.RunStop.TheVariants as stop
+use Rattle.nr_module.specs.Counter.{counter}
+use Rattle.nr_module.specs.declared.counter.Counter.{Counter}
+use Rattle.nr_module.specs.declared.status.Status.{Status}
+use Rattle.nr_module.specs.declared.status.Status.TheVariants.{NoMemory}
+use Rattle.nr_module.specs.declared.verdict.Answer.{Answer}
+use Rattle.nr_module.specs.declared.verdict.Answer.TheVariants.{NoMethod, Unmade, Ended, Trapped, Failed, OutOfGas}
+
+-- a function's run from the machine's first state, with so much gas
+abbrev pub run_from : MachineView → ℕ → ℕ → ℕ → Outcome Counter
+run_from m gas f n = run_by (rules_of counter m.program m.limits) (runtime (record { gas = gas }) m.guest) f n
+
+abbrev pub stopped : ℕ → Stop → Answer
+stopped burnt (Trap kind) = Trapped kind burnt
+stopped burnt GasExceeded = OutOfGas burnt
+stopped burnt (HostFault kind) = Failed kind burnt
+
+-- the answer of a run that had so much gas, where it is over
+abbrev pub over : ℕ → Outcome Counter → Option Answer
+over gas (Done s) = Some (Ended (gas - s.host.gas))
+over gas (Halted s stop) = Some (stopped (gas - s.host.gas) stop)
+over gas NeverFits = None
+over gas Unfinished = None
+
+-- the run comes to it after some number of steps
+abbrev pub Comes : MachineView → ℕ → Option ℕ → Answer → Type 0
+Comes m gas None a = a ≡ NoMethod
+Comes m gas (Some f) a = (n : ℕ) × (over gas (run_from m gas f n) ≡ Some a)
+
+-- the answer of a method's run, where the machine can be made
+abbrev pub IsRun : Result MachineView MakeFault → List ℕ → ℕ → Answer → Type 0
+IsRun (Err make.Segment) method gas a = a ≡ Unmade
+IsRun (Err make.Memory) method gas a = ⊥
+IsRun (Ok m) method gas a = Comes m gas (method_of m.program method) a
+
+-- what is answered for a run that ended so
+abbrev pub told : Result (Unit {0}) RunStop → ℕ → Result Answer Status
+told (Ok u) burnt = Ok (Ended burnt)
+told (Err (stop.Trap kind)) burnt = Ok (Trapped kind burnt)
+told (Err stop.GasExceeded) burnt = Ok (OutOfGas burnt)
+told (Err (stop.HostFault kind)) burnt = Ok (Failed kind burnt)
+told (Err stop.Memory) burnt = Err NoMemory
