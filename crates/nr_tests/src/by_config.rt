@@ -2,7 +2,7 @@
 
 use crate::config_text::{FEES, config_text};
 use crate::setting::{end_of, run_by, shelf_of, shelf_with};
-use crate::worked;
+use crate::{sharded, worked};
 use nr_top::Status;
 use std::alloc::Global;
 use std::test::Fail;
@@ -51,16 +51,15 @@ const ROWS: [Row; 6] = [
         blocks: worked::GREATEST_TRANSFER,
         report: worked::OVERFLOW_REPORT,
     },
-    // The gas of one transaction comes to 4.
     Row {
-        changes: &[&[("chunk_gas_limit", "5")], &FEES],
-        blocks: worked::TRANSFER,
-        report: worked::FEES_REPORT,
+        changes: &[&FEES],
+        blocks: sharded::TO_NOBODY,
+        report: sharded::TO_NOBODY_REPORT,
     },
     Row {
-        changes: &[&[("chunk_gas_limit", "1")]],
-        blocks: worked::TRANSFER,
-        report: worked::ONE_TRANSFER_REPORT,
+        changes: &[&[("chunk_gas_limit", "1"), ("action_receipt_send_local", "1")]],
+        blocks: worked::TRANSFER_TO_HERSELF,
+        report: sharded::LATE_REPORT,
     },
 ];
 
@@ -168,14 +167,7 @@ const NO_BLOCKS: &str = "Some([\"C\", \"G\"])";
 
 const PRICED: Changes = &[&[("storage_price", "1")]];
 
-const REFUSED: [Refused; 8] = [
-    Refused {
-        changes: PRICED,
-        genesis: worked::GENESIS,
-        blocks: worked::TRANSFER,
-        status: Status::Unsupported { form: 3 },
-        asked: ALL,
-    },
+const REFUSED: [Refused; 3] = [
     Refused {
         changes: PRICED,
         genesis: "4e5247310000000001",
@@ -190,23 +182,9 @@ const REFUSED: [Refused; 8] = [
     },
     Refused {
         changes: PRICED,
-        genesis: "4e52473101000000020000006d6d00000000",
-        blocks: worked::TRANSFER,
-        status: Status::Unsupported { form: 1 },
-        asked: NO_BLOCKS,
-    },
-    Refused {
-        changes: PRICED,
         genesis: worked::GENESIS,
         blocks: "4e52423100",
         status: Status::Blocks { kind: 1, a: 4 },
-        asked: ALL,
-    },
-    Refused {
-        changes: PRICED,
-        genesis: worked::NO_GENESIS,
-        blocks: worked::TRANSFER,
-        status: Status::Unsupported { form: 2 },
         asked: ALL,
     },
     // The configuration counts the usage.
@@ -221,21 +199,6 @@ const REFUSED: [Refused; 8] = [
             c: 181,
         },
         asked: NO_BLOCKS,
-    },
-    Refused {
-        changes: &[&[("chunk_gas_limit", "1")], &FEES],
-        genesis: worked::GENESIS,
-        blocks: worked::TRANSFER,
-        status: Status::Unsupported { form: 3 },
-        asked: ALL,
-    },
-    // The gas of one transaction comes to 4.
-    Refused {
-        changes: &[&[("chunk_gas_limit", "4")], &FEES],
-        genesis: worked::GENESIS,
-        blocks: worked::TRANSFER,
-        status: Status::Unsupported { form: 3 },
-        asked: ALL,
     },
 ];
 

@@ -1,9 +1,8 @@
 //! Files that are refused.
 
 use crate::pieces::{
-    ALICE, ALICE_CODE, ALICE_KEY, BOB, BY_ALICE, BY_CALL_KEY, BY_CAROL, BY_OTHER_KEY, CAROL_KEY,
-    FIFTEEN, FIVE, HASHED, LOCKED_1, MOST, NO_BOUNDARIES, ONE, ONE_CHUNK, SYSTEM, TO_BOB, TO_CAROL,
-    USES_100, USES_185,
+    ALICE, ALICE_CODE, ALICE_KEY, BOB, BY_ALICE, CAROL_KEY, FIFTEEN, FIVE, HASHED, LOCKED_1, MOST,
+    NO_BOUNDARIES, ONE, ONE_CHUNK, SYSTEM, TO_BOB, USES_100, USES_185,
 };
 use crate::setting::{run, text_of};
 use crate::worked;
@@ -190,31 +189,6 @@ fn faulty_geneses_are_refused(rt: HostRuntime) -> Result<(), Fail> {
     Ok(())
 }
 
-/// Geneses without a fault, of more than one shard.
-const SPLIT_GENESES: [Pieces; 2] = [
-    &[
-        "4e524731",
-        "01000000",
-        "020000006d6d",
-        "01000000",
-        ALICE,
-        ONE,
-        USES_100,
-    ],
-    &["4e524731", "0f000000", FIFTEEN, "00000000"],
-];
-
-#[test]
-fn boundaries_are_not_supported(rt: HostRuntime) -> Result<(), Fail> {
-    for pieces in SPLIT_GENESES {
-        let genesis = text_of(rt.alloc(), pieces)?;
-        let ended = run(rt.alloc(), genesis.as_str(), "")?;
-        assert_eq!(rt; ended.status, Status::Unsupported { form: 1 });
-        assert!(rt; ended.wrote_nothing(rt.alloc(), GENESIS)?);
-    }
-    Ok(())
-}
-
 /// Blocks with a fault, and the numbers of the status.
 const FAULTY_BLOCKS: [(Pieces, u32, u64); 7] = [
     // The magic word is another, the count of blocks is cut, a byte stands behind the blocks.
@@ -279,42 +253,23 @@ fn faulty_blocks_are_refused(rt: HostRuntime) -> Result<(), Fail> {
     Ok(())
 }
 
-/// Blocks without a fault whose runs aren't supported.
-const OTHER_BLOCKS: [Pieces; 8] = [
-    // A chunk is missing.
-    &[
-        "4e524231",
-        "01000000",
-        "01000000000000000000000000000000",
-        "0100000000",
-    ],
-    // Two transfers, no action, the creation of an account.
-    &[
-        ONE_CHUNK, "01000000", BY_ALICE, TO_BOB, "02000000", FIVE, FIVE,
-    ],
-    &[ONE_CHUNK, "01000000", BY_ALICE, TO_BOB, "00000000"],
-    &[ONE_CHUNK, "01000000", BY_ALICE, TO_BOB, "01000000", "00"],
-    // A signer without that key, by a call key, without an account; a receiver without an account.
-    &[
-        ONE_CHUNK,
-        "01000000",
-        BY_OTHER_KEY,
-        TO_BOB,
-        "01000000",
-        FIVE,
-    ],
-    &[ONE_CHUNK, "01000000", BY_CALL_KEY, TO_BOB, "01000000", FIVE],
-    &[ONE_CHUNK, "01000000", BY_CAROL, TO_BOB, "01000000", FIVE],
-    &[ONE_CHUNK, "01000000", BY_ALICE, TO_CAROL, "01000000", FIVE],
+/// Blocks without a fault: the second action calls a method `f`.
+const CALL: Pieces = &[
+    ONE_CHUNK,
+    "01000000",
+    BY_ALICE,
+    TO_BOB,
+    "02000000",
+    FIVE,
+    "020100000066000000000000000000000000",
+    "00000000000000000000000000000000",
 ];
 
 #[test]
-fn other_blocks_are_not_supported(rt: HostRuntime) -> Result<(), Fail> {
-    for pieces in OTHER_BLOCKS {
-        let blocks = text_of(rt.alloc(), pieces)?;
-        let ended = run(rt.alloc(), worked::GENESIS_OF_ALL_KINDS, blocks.as_str())?;
-        assert_eq!(rt; ended.status, Status::Unsupported { form: 2 });
-        assert!(rt; ended.wrote_nothing(rt.alloc(), BOTH)?);
-    }
+fn calls_are_not_supported(rt: HostRuntime) -> Result<(), Fail> {
+    let blocks = text_of(rt.alloc(), CALL)?;
+    let ended = run(rt.alloc(), worked::GENESIS, blocks.as_str())?;
+    assert_eq!(rt; ended.status, Status::Unsupported { form: 2 });
+    assert!(rt; ended.wrote_nothing(rt.alloc(), BOTH)?);
     Ok(())
 }

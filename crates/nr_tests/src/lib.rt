@@ -20,6 +20,8 @@ mod rows;
 #[cfg(test)]
 mod setting;
 #[cfg(test)]
+mod sharded;
+#[cfg(test)]
 mod spellings;
 #[cfg(test)]
 mod worked;

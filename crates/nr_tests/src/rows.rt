@@ -1,7 +1,7 @@
 //! Runs that end with a report.
 
 use crate::setting::run;
-use crate::worked;
+use crate::{sharded, worked};
 use nr_top::Status;
 use std::test::Fail;
 
@@ -12,7 +12,7 @@ struct Row {
     report: &'static str,
 }
 
-const ROWS: [Row; 9] = [
+const ROWS: [Row; 12] = [
     Row {
         genesis: worked::GENESIS,
         blocks: worked::TRANSFER,
@@ -57,6 +57,21 @@ const ROWS: [Row; 9] = [
         genesis: worked::GREATEST_SUPPLY,
         blocks: worked::ONE_BLOCK,
         report: worked::GREATEST_SUPPLY_REPORT,
+    },
+    Row {
+        genesis: sharded::MISSING_GENESIS,
+        blocks: sharded::MISSING_BLOCKS,
+        report: sharded::MISSING_REPORT,
+    },
+    Row {
+        genesis: sharded::BY_BYTES_GENESIS,
+        blocks: sharded::BY_BYTES_BLOCKS,
+        report: sharded::BY_BYTES_REPORT,
+    },
+    Row {
+        genesis: sharded::SIXTEEN_GENESIS,
+        blocks: sharded::SIXTEEN_BLOCKS,
+        report: sharded::SIXTEEN_REPORT,
     },
 ];
 

@@ -1,22 +1,10 @@
 -- Lemmas behind the answers.
 pub mod Both
-pub mod Turns
-pub mod Costs
-pub mod Charging
-pub mod Converting
-pub mod Tokens
-pub mod Executing
-pub mod Serving
-pub mod Opening
-pub mod Sealing
-pub mod OneShard
-pub mod Blockwise
 pub mod Commands
-pub mod Ahead
-pub mod Straightened
-pub mod Sums
 pub mod Growth
-pub mod First
 pub mod Stopping
 pub mod Preparing
-pub mod Balance
+pub mod Steps
+pub mod Sums
+pub mod Lasting
+pub mod Ending

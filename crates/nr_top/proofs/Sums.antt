@@ -1,81 +1,148 @@
--- The sums that the loop over the blocks keeps are those of the straight run.
-use Rattle.std.proofs.Common.{◌≡◌, ℕ, ◌+◌, List, [], ◌∷◌, ◌++◌, map, length, sym, ap, ◌∙◌, arith}
-use Rattle.std.specs.Prelude.{sum_by}
-use Rattle.std.specs.FinMap.{FinMap, empty, entries, values, len, len-empty, len-entries}
-use Rattle.std.proofs.lemmas.List.{nil_from_length, append-nil}
+-- The tokens of a moment's tallies are the sum of the tokens that all parts of the run hold.
+use Rattle.std.proofs.Common.{◌≡◌, ℕ, zero, suc, ◌+◌, Bool, true, false, cond, List, Option, Some, None, refl, sym, ap, ◌∙◌, arith, add-one}
+use Rattle.std.specs.Prelude.{nat_le}
+use Rattle.std.specs.Option.{option_map}
+use Rattle.nr_chunk.specs.Amounts.{tokens}
+use Rattle.nr_chunk.specs.Chain.{Chain, rules_of}
+use Rattle.nr_chunk.specs.Views.{Kept, Working}
+use Rattle.nr_chunk.specs.declared.tally.Tally.{Tally}
+use Rattle.nr_overlap.specs.Balance.{Amount, held_in_all, if_some, sum_below, held_by as holding, sealed_by as sealing}
+use Rattle.nr_overlap.specs.Moment.{took, shown, world_in, working_in, report_at, flight_at}
+use Rattle.nr_overlap.specs.Positions.{at, top}
+use Rattle.nr_overlap.specs.Rules.{Rules, Sealing}
+use Rattle.nr_overlap.specs.Serial.{list_to, work}
+use Rattle.nr_overlap.specs.declared.position.Position.{Position}
+use Rattle.nr_overlap.specs.declared.position.Stage.{Stage}
+use Rattle.nr_overlap.specs.declared.position.Stage.TheVariants.{Idle, Opened, Sealed}
+use Rattle.nr_overlap.proofs.SerialLemmas.{sealing_first}
+use Rattle.nr_overlap.proofs.Sums.{sum_none, sum_same}
 use Rattle.nr_records.specs.declared.chunk_result.ChunkResult.{ChunkResult}
 use Rattle.nr_records.specs.declared.receipt.Receipt.{Receipt}
-use Rattle.nr_config.specs.Config.{Config}
-use Rattle.nr_report.specs.Lines.{totals_text}
-use Rattle.nr_top.specs.Run.{routed_in, executed_in, totals_from}
 use Rattle.nr_state.specs.Tokens.{list_tokens, waiting_tokens}
-use Rattle.nr_top.specs.Straight.{IsAhead, reports_from, straight_totals, straight_text}
-use Rattle.nr_top.specs.Transfers.{IsIdle, IsSettled}
-use Rattle.nr_state.specs.World.{World, pair_cmp, accounts_tokens}
-use Rattle.nr_blocks.specs.declared.block.Block.{Block}
-use Rattle.nr_top.specs.declared.run.Progress.{Progress}
-use Rattle.nr_report.specs.declared.totals.Totals.{Totals}
+use Rattle.nr_state.specs.World.{accounts_tokens}
+use Rattle.nr_top.specs.Totals.{plus, tally_below, shard_tally, report_tally, list_tally, held_by, flying_from, sealed_by, tally_of, tally_at}
 
--- nothing waits in an idle world
-none_postponed : len (empty {X = Receipt} {R = pair_cmp}) ≡ 0
-none_postponed = len-empty pair_cmp Receipt
+-- ---- sums
+same_sum : (a : ℕ) → 0 + a ≡ a + 0
+same_sum a = omega arith
 
-no_values : values (empty {X = Receipt} {R = pair_cmp}) ≡ []
-no_values =
-    let none : entries (empty {X = Receipt} {R = pair_cmp}) ≡ [] = nil_from_length _ (sym (len-entries (empty {X = Receipt} {R = pair_cmp})) ∙ none_postponed) in
-    ap (λ (es : List ((List ℕ × List ℕ) × Receipt)). map (λ e. e.1) es) none
+without_none : (a : ℕ) → 0 + a ≡ a
+without_none a = omega arith
 
-pub none_waiting : (c : Config) (w : World) → IsIdle w → waiting_tokens c w ≡ 0
-none_waiting c w idle =
-    ap (λ (waiting : FinMap pair_cmp Receipt). list_tokens c (values waiting) + list_tokens c w.delayed) idle.postponed
-    ∙ ap (λ (list : List Receipt). list_tokens c (values (empty {X = Receipt} {R = pair_cmp})) + list_tokens c list) idle.delayed
-    ∙ ap (λ (list : List Receipt). list_tokens c list + list_tokens c []) no_values
+grouped : (a b c : ℕ) → (a + b) + c ≡ a + (b + c)
+grouped a b c = omega arith
 
-pub still_idle : (old new : World) → IsSettled old new → IsIdle old → IsIdle new
-still_idle old new same idle = record { postponed = same.postponed ∙ idle.postponed; delayed = same.delayed ∙ idle.delayed }
+paired : (a b c d : ℕ) → (a + b) + (c + d) ≡ (a + c) + (b + d)
+paired a b c d = omega arith
 
-abbrev made : ℕ → ℕ → ℕ → ℕ → ℕ → ℕ → ℕ → ℕ → ℕ → Totals
-made supply accounts receipts burnt routed executed postponed delayed flight =
-    record { supply = supply; accounts = accounts; receipts = receipts; burnt = burnt; places = routed ∷ executed ∷ postponed ∷ delayed ∷ flight ∷ [] }
+both_none : (a b : ℕ) → a ≡ 0 → b ≡ 0 → a + b ≡ 0
+both_none a b e f = omega (arith, e, f)
 
-plain : (n : ℕ) → n ≡ 0 + n
-plain n = omega arith
+sum_add : (n : ℕ) (f g : ℕ → ℕ) → sum_below n (λ i. f i + g i) ≡ sum_below n f + sum_below n g
+sum_add zero f g = refl
+sum_add (suc n) f g = ap (λ t. t + (f n + g n)) (sum_add n f g) ∙ paired (sum_below n f) (sum_below n g) (f n) (g n)
 
-besides : (n a : ℕ) → a ≡ 0 → n ≡ (0 + a) + (0 + n)
-besides n a e = omega arith
+sum_first : (n : ℕ) (f : ℕ → ℕ) → sum_below (suc n) f ≡ f 0 + sum_below n (λ i. f (suc i))
+sum_first zero f = same_sum (f 0)
+sum_first (suc n) f = ap (λ t. t + f (suc n)) (sum_first n f) ∙ grouped (f 0) (sum_below n (λ i. f (suc i))) (f (suc n))
 
-same_sum : (a b c : ℕ) → a + 0 ≡ b → a ≡ b
-same_sum a b c e = omega arith
+sum_front : (n : ℕ) (f : ℕ → ℕ) → sum_below (n + 1) f ≡ f 0 + sum_below n (λ i. f (i + 1))
+sum_front n f =
+    ap (λ k. sum_below k f) (add-one n)
+    ∙ sum_first n f
+    ∙ ap (λ t. f 0 + t) (sum_same n (λ i. f (i + 1)) (λ i. f (suc i)) (λ i l. ap f (sym (add-one i))))
 
-pub totals_kept : (c : Config) (w : World) (blocks : List Block) (h supply : ℕ) (p : Progress) → IsIdle w → supply ≡ accounts_tokens w → IsAhead c w blocks h [] p
-    → record { supply = supply; accounts = accounts_tokens p.state.world; receipts = list_tokens c p.inbox.items; burnt = p.burnt; places = p.routed ∷ p.executed ∷ 0 ∷ 0 ∷ length p.inbox.items ∷ [] } ≡ straight_totals c w blocks
-totals_kept c w blocks h supply p idle same ahead =
-    let v = p.state.world in
-    let still = still_idle w v ahead.settled idle in
-    let list = p.inbox.items in
-    let rs = reports_from c w [] blocks in
-    ap (λ n. made n (accounts_tokens v) (list_tokens c list) p.burnt p.routed p.executed 0 0 (length list)) same
-    ∙ ap (λ n. made (accounts_tokens w) n (list_tokens c list) p.burnt p.routed p.executed 0 0 (length list)) (plain (accounts_tokens v))
-    ∙ ap (λ n. made (accounts_tokens w) (sum_by accounts_tokens (v ∷ [])) n p.burnt p.routed p.executed 0 0 (length list)) (besides (list_tokens c list) (waiting_tokens c v) (none_waiting c v still))
-    ∙ ap (λ n. made (accounts_tokens w) (sum_by accounts_tokens (v ∷ [])) (sum_by (waiting_tokens c) (v ∷ []) + sum_by (list_tokens c) (list ∷ [])) n p.routed p.executed 0 0 (length list)) (same_sum p.burnt (sum_by (λ (r : ChunkResult). r.burnt) rs) 0 ahead.burnt)
-    ∙ ap (λ n. made (accounts_tokens w) (sum_by accounts_tokens (v ∷ [])) (sum_by (waiting_tokens c) (v ∷ []) + sum_by (list_tokens c) (list ∷ [])) (sum_by (λ (r : ChunkResult). r.burnt) rs) n p.executed 0 0 (length list)) (same_sum p.routed (sum_by routed_in rs) 0 ahead.routed)
-    ∙ ap (λ n. made (accounts_tokens w) (sum_by accounts_tokens (v ∷ [])) (sum_by (waiting_tokens c) (v ∷ []) + sum_by (list_tokens c) (list ∷ [])) (sum_by (λ (r : ChunkResult). r.burnt) rs) (sum_by routed_in rs) n 0 0 (length list)) (same_sum p.executed (sum_by executed_in rs) 0 ahead.executed)
-    ∙ ap (λ n. made (accounts_tokens w) (sum_by accounts_tokens (v ∷ [])) (sum_by (waiting_tokens c) (v ∷ []) + sum_by (list_tokens c) (list ∷ [])) (sum_by (λ (r : ChunkResult). r.burnt) rs) (sum_by routed_in rs) (sum_by executed_in rs) n 0 (length list)) (sym (ap (λ n. 0 + n) (ap (len {X = Receipt} {R = pair_cmp}) still.postponed ∙ none_postponed)))
-    ∙ ap (λ n. made (accounts_tokens w) (sum_by accounts_tokens (v ∷ [])) (sum_by (waiting_tokens c) (v ∷ []) + sum_by (list_tokens c) (list ∷ [])) (sum_by (λ (r : ChunkResult). r.burnt) rs) (sum_by routed_in rs) (sum_by executed_in rs) (sum_by (λ (u : World). len u.postponed) (v ∷ [])) n (length list)) (sym (ap (λ (waiting : List Receipt). 0 + length waiting) still.delayed))
-    ∙ ap (λ n. made (accounts_tokens w) (sum_by accounts_tokens (v ∷ [])) (sum_by (waiting_tokens c) (v ∷ []) + sum_by (list_tokens c) (list ∷ [])) (sum_by (λ (r : ChunkResult). r.burnt) rs) (sum_by routed_in rs) (sum_by executed_in rs) (sum_by (λ (u : World). len u.postponed) (v ∷ [])) (sum_by (λ (u : World). length u.delayed) (v ∷ [])) n) (plain (length list))
-    ∙ ap (λ (q : World × List Receipt). totals_from c (accounts_tokens w) (q.0 ∷ []) rs (q.1 ∷ [])) ahead.left
+-- ---- the tokens of a tally
+abbrev pub total : Tally → ℕ
+total t = t.accounts + t.receipts + t.burnt
 
-pub totals_given : (c : Config) (w : World) (blocks : List Block) (h supply accounts receipts count : ℕ) (p : Progress) → accounts + receipts + p.burnt ≡ supply → receipts ≡ list_tokens c p.inbox.items → count ≡ length p.inbox.items
-    → IsIdle w → supply ≡ accounts_tokens w → IsAhead c w blocks h [] p
-    → record { supply = supply; accounts = accounts; receipts = receipts; burnt = p.burnt; places = p.routed ∷ p.executed ∷ 0 ∷ 0 ∷ count ∷ [] } ≡ straight_totals c w blocks
-totals_given c w blocks h supply accounts receipts count p whole is_receipts is_count idle same ahead =
-    let is_accounts : accounts ≡ accounts_tokens p.state.world = omega (arith, whole, is_receipts, same, ahead.tokens) in
-    ap (λ n. made supply n receipts p.burnt p.routed p.executed 0 0 count) is_accounts
-    ∙ ap (λ n. made supply (accounts_tokens p.state.world) n p.burnt p.routed p.executed 0 0 count) is_receipts
-    ∙ ap (λ n. made supply (accounts_tokens p.state.world) (list_tokens c p.inbox.items) p.burnt p.routed p.executed 0 0 n) is_count
-    ∙ totals_kept c w blocks h supply p idle same ahead
+six : (a b c d e f : ℕ) → (a + d) + (b + e) + (c + f) ≡ (a + b + c) + (d + e + f)
+six a b c d e f = omega arith
 
-pub report_kept : (c : Config) (w : World) (blocks : List Block) (h : ℕ) (p : Progress) (t : Totals) (out : List ℕ) → out ≡ p.text ++ totals_text t → t ≡ straight_totals c w blocks → IsAhead c w blocks h [] p → out ≡ straight_text c w blocks
-unfolding straight_text
-report_kept c w blocks h p t out written same ahead =
-    written ∙ ap (λ u. p.text ++ totals_text u) same ∙ ap (λ (text : List ℕ). text ++ totals_text (straight_totals c w blocks)) (sym (append-nil p.text) ∙ ahead.text)
+total_plus : (a b : Tally) → total (plus a b) ≡ total a + total b
+total_plus a b = six a.accounts a.receipts a.burnt b.accounts b.receipts b.burnt
+
+total_below : (n : ℕ) (f : ℕ → Tally) → total (tally_below n f) ≡ sum_below n (λ i. total (f i))
+unfolding tally_below
+total_below zero f = refl
+total_below (suc n) f = total_plus (tally_below n f) (f n) ∙ ap (λ t. t + total (f n)) (total_below n f)
+
+module _ (x : Chain) where
+  abbrev r : Rules Kept Working (List Receipt) ChunkResult
+  r = rules_of x
+
+  abbrev m : Amount Kept Working (List Receipt) ChunkResult
+  m = tokens x
+
+  working_parts : (a w o b : ℕ) → a + (w + o) + b ≡ 0 + (((a + w) + o) + b)
+  working_parts a w o b = omega arith
+
+  held_in : (s : ℕ) (t : Stage) (n k : ℕ) → total (shard_tally x.config (world_in r s t n) (working_in r s t n k)) ≡ if_some m.world (world_in r s t n) + if_some (m.working s n k) (working_in r s t n k)
+  held_in s Idle n k = refl
+  held_in s Opened n k = let w : Working = work r s n k in
+      working_parts (accounts_tokens w.world) (waiting_tokens x.config w.world) (list_tokens x.config w.outgoing) w.burnt
+  held_in s Sealed n k = refl
+
+  burnt_alone : (b : ℕ) → 0 + 0 + b ≡ b
+  burnt_alone b = omega arith
+
+  receipts_alone : (t : ℕ) → 0 + t + 0 ≡ t
+  receipts_alone t = omega arith
+
+  reported : (s h : ℕ) (o : Option ChunkResult) → total (report_tally o) ≡ if_some (m.report s h) o
+  reported s h None = refl
+  reported s h (Some y) = burnt_alone y.burnt
+
+  listed : (o : Option (List Receipt)) → total (list_tally x.config o) ≡ if_some m.list o
+  listed None = refl
+  listed (Some list) = receipts_alone (list_tokens x.config list)
+
+  module _ (ps : List Position) where
+    sealed_total : (s h : ℕ) → total (sealed_by x ps s h) ≡ sealing r m ps s h
+    sealed_total s h =
+        total_plus (report_tally (report_at r ps s h)) (flying_from x ps s h)
+        ∙ ap (λ t. t + total (flying_from x ps s h)) (reported s h (report_at r ps s h))
+        ∙ ap (λ t. if_some (m.report s h) (report_at r ps s h) + t)
+        (total_below r.shards (λ d. list_tally x.config (flight_at r ps s h d))
+        ∙ sum_same r.shards (λ d. if_some m.list (flight_at r ps s h d)) (λ d. total (list_tally x.config (flight_at r ps s h d))) (λ d l. listed (flight_at r ps s h d)))
+
+    -- at height 0 nothing is sealed
+    none_shown : (s : ℕ) → shown r s (at ps s) 0 ≡ None
+    none_shown s = ap (λ o. cond (nat_le 0 (top (at ps s))) o None) (sealing_first r s) ∙ by (nat_le 0 (top (at ps s)))
+      where
+        by : (b : Bool) → ◌≡◌ {A = Option (Sealing Kept (List Receipt) ChunkResult)} (cond b None None) None
+        by true = refl
+        by false = refl
+
+    none_flies : (s d : ℕ) → flight_at r ps s 0 d ≡ None
+    none_flies s d = ap (λ o. cond (took r d (at ps d) 0 s) None (list_to r o d)) (none_shown s) ∙ by (took r d (at ps d) 0 s)
+      where
+        by : (b : Bool) → ◌≡◌ {A = Option (List Receipt)} (cond b None None) None
+        by true = refl
+        by false = refl
+
+    none_sealed : (s : ℕ) → sealing r m ps s 0 ≡ 0
+    none_sealed s =
+        let a : if_some (m.report s 0) (report_at r ps s 0) ≡ 0 = ap (λ o. if_some (m.report s 0) (option_map (λ z. z.report) o)) (none_shown s) in
+        let b : sum_below r.shards (λ d. if_some m.list (flight_at r ps s 0 d)) ≡ 0 = sum_none r.shards (λ d. if_some m.list (flight_at r ps s 0 d)) (λ d l. ap (if_some m.list) (none_flies s d)) in
+        both_none (if_some (m.report s 0) (report_at r ps s 0)) (sum_below r.shards (λ d. if_some m.list (flight_at r ps s 0 d))) a b
+
+    all_sealed : (s : ℕ) → sum_below r.heights (λ h. sealing r m ps s (h + 1)) ≡ sum_below (r.heights + 1) (sealing r m ps s)
+    all_sealed s =
+        let rest : ℕ = sum_below r.heights (λ h. sealing r m ps s (h + 1)) in
+        sym (sum_front r.heights (sealing r m ps s) ∙ ap (λ t. t + rest) (none_sealed s) ∙ without_none rest)
+
+    shard_total : (s : ℕ) → total (tally_of x ps s) ≡ holding r m ps s + sum_below (r.heights + 1) (sealing r m ps s)
+    shard_total s =
+        total_plus (held_by x ps s) (tally_below r.heights (λ h. sealed_by x ps s (h + 1)))
+        ∙ ap (λ t. t + total (tally_below r.heights (λ h. sealed_by x ps s (h + 1)))) (held_in s (at ps s).stage (at ps s).number (at ps s).taken)
+        ∙ ap (λ t. holding r m ps s + t)
+        (total_below r.heights (λ h. sealed_by x ps s (h + 1))
+        ∙ sum_same r.heights (λ h. sealing r m ps s (h + 1)) (λ h. total (sealed_by x ps s (h + 1))) (λ h l. sealed_total s (h + 1))
+        ∙ all_sealed s)
+
+    pub tally_total : total (tally_at x ps) ≡ held_in_all r m ps
+    tally_total =
+        total_below r.shards (tally_of x ps)
+        ∙ sum_same r.shards (λ s. holding r m ps s + sum_below (r.heights + 1) (sealing r m ps s)) (λ s. total (tally_of x ps s)) (λ s l. shard_total s)
+        ∙ sum_add r.shards (holding r m ps) (λ s. sum_below (r.heights + 1) (sealing r m ps s))

@@ -2,12 +2,11 @@
 use Rattle.std.specs.Prelude.{◌≡◌, ℕ, ◌<◌, ◌≤◌, List, ◌++◌, length, Option, Some, None, IfSome, Result, Ok, Err}
 use Rattle.nr_bytes.specs.Outside.{Grew}
 use Rattle.std.specs.Global.{Vec}
-use Rattle.nr_top.specs.Founding.{IsFounded}
 use Rattle.nr_config.specs.Config.{Config}
 use Rattle.nr_top.specs.Input.{Given, Report, Refused, Untold, Configured, By, Bars, Unknown, by_configured, by_genesis_read}
+use Rattle.nr_blocks.specs.Genesis.{IsSoundGenesis}
 use Rattle.nr_blocks.specs.declared.fault.GenesisFault.{GenesisFault}
 use Rattle.nr_blocks.specs.declared.genesis.Genesis.{Genesis}
-use Rattle.nr_state.specs.View.{StateView}
 use Rattle.nr_top.specs.declared.status.Status.{Status}
 use Rattle.nr_top.specs.declared.status.Status.TheVariants.{Done, Usage, Config as faulty_config, Genesis as faulty_genesis, Blocks as faulty_blocks, Unsupported, ReadFault, WriteFault, NoMemory}
 
@@ -108,7 +107,7 @@ Configures (Ok c) (Bars status) = ⊥
 Configures (Ok c) Unknown = Unit {0}
 Configures (Err status) given = (genesis blocks : Option (List ℕ)) → Stops status (by_configured given genesis blocks)
 
--- what a genesis gives: itself and its first state, or a status, whatever the blocks are
-abbrev pub Founds : Config → Result (Genesis × StateView) Status → Result Genesis GenesisFault → Type 0
-Founds c (Ok p) read = (read ≡ Ok p.0) × IsFounded c p.0 p.1
+-- what a genesis gives: itself, or a status, whatever the blocks are
+abbrev pub Founds : Config → Result Genesis Status → Result Genesis GenesisFault → Type 0
+Founds c (Ok g) read = (read ≡ Ok g) × IsSoundGenesis c g
 Founds c (Err status) read = (blocks : Option (List ℕ)) → Stops status (by_genesis_read c read blocks)

@@ -1,14 +1,13 @@
 -- What the words and the files ask for: a report, or the first refusal. This project's own commands and limits.
-use Rattle.std.specs.Prelude.{ℕ, ◌+◌, ◌==◌, List, [], ◌∷◌, ◌++◌, map, Bool, cond, Option, Some, None, Result, Ok, Err, nat_lt, string_bytes, length}
+use Rattle.std.specs.Prelude.{ℕ, ◌+◌, List, [], ◌∷◌, ◌++◌, map, cond, Option, Some, None, Result, Ok, Err, nat_lt, string_bytes, length}
 use Rattle.std.specs.Global.{Global}
 use Rattle.std.specs.declared.string.String.{String}
-use Rattle.nr_top.specs.Blocks.{are_supported_blocks, is_supported_config}
+use Rattle.nr_top.specs.Blocks.{are_supported_blocks}
 use Rattle.nr_top.specs.Command.{Command, Names, command, supported_files, is_free}
 use Rattle.nr_config.specs.Config.{Config, free}
 use Rattle.nr_config.specs.Reading.{configuration}
 use Rattle.nr_config.specs.declared.fault.ConfigFault.{ConfigFault}
 use Rattle.nr_config.specs.declared.fault.ConfigFault.TheVariants as fault
-use Rattle.nr_blocks.specs.Genesis.{genesis_world}
 use Rattle.nr_blocks.specs.Judging.{genesis_read, blocks_read}
 use Rattle.nr_blocks.specs.declared.block.Block.{Block}
 use Rattle.nr_blocks.specs.declared.fault.BlocksFault.{BlocksFault}
@@ -16,7 +15,7 @@ use Rattle.nr_blocks.specs.declared.fault.BlocksFault.TheVariants as blocks
 use Rattle.nr_blocks.specs.declared.fault.GenesisFault.{GenesisFault}
 use Rattle.nr_blocks.specs.declared.fault.GenesisFault.TheVariants as genesis
 use Rattle.nr_blocks.specs.declared.genesis.Genesis.{Genesis}
-use Rattle.nr_top.specs.Run.{Chain, report_text}
+use Rattle.nr_top.specs.Run.{chain, run_text}
 use Rattle.nr_top.specs.declared.status.Status.{Status}
 use Rattle.nr_top.specs.declared.status.Status.TheVariants.{Usage, Unsupported, Config as faulty_config, Genesis as faulty_genesis, Blocks as faulty_blocks, NoMemory}
 
@@ -84,7 +83,7 @@ by_config_bytes (Some bytes) = cond (nat_lt config_limit (length bytes)) (Bars t
 abbrev pub configured : List ℕ → Option (List ℕ) → Configured
 configured word bytes = cond (is_free word) (By free) (by_config_bytes bytes)
 
--- ---- the genesis: its faults, by kind and numbers; then whether it has one shard
+-- ---- the genesis: its faults, by kind and numbers
 abbrev pub genesis_status : GenesisFault → Status
 genesis_status (genesis.Spelling at) = faulty_genesis 1 at 0 0
 genesis_status (genesis.Duplicate index) = faulty_genesis 2 index 0 0
@@ -97,10 +96,7 @@ genesis_status genesis.Memory = NoMemory
 abbrev pub too_long_genesis : Status
 too_long_genesis = faulty_genesis 0 0 0 0
 
-abbrev pub has_one_shard : Genesis → Bool
-has_one_shard g = length g.layout == 0
-
--- ---- the blocks: their faults, by kind and number; then whether they are supported, and under this configuration
+-- ---- the blocks: their faults, by kind and number; then whether they are supported
 abbrev pub blocks_status : BlocksFault → Status
 blocks_status (blocks.Spelling at) = faulty_blocks 1 at
 blocks_status (blocks.ShardCount height) = faulty_blocks 2 height
@@ -112,14 +108,8 @@ blocks_status blocks.Memory = NoMemory
 abbrev pub too_long_blocks : Status
 too_long_blocks = faulty_blocks 0 0
 
-abbrev pub chain : Genesis → List Block → Chain
-chain g bs = record { boundaries = g.layout; entries = g.entries; blocks = bs }
-
-abbrev pub by_supported_blocks : Config → Genesis → List Block → Given
-by_supported_blocks c g bs = cond (is_supported_config c bs) (Report (report_text c (chain g bs))) (Refused (Unsupported 3))
-
-unfoldable pub by_blocks : Config → Genesis → List Block → Given
-by_blocks c g bs = cond (are_supported_blocks (genesis_world g.entries) bs) (by_supported_blocks c g bs) (Refused (Unsupported 2))
+abbrev pub by_blocks : Config → Genesis → List Block → Given
+by_blocks c g bs = cond (are_supported_blocks bs) (Report (run_text (chain c g bs))) (Refused (Unsupported 2))
 
 abbrev pub by_blocks_read : Config → Genesis → Result (List Block) BlocksFault → Given
 by_blocks_read c g (Ok bs) = by_blocks c g bs
@@ -128,11 +118,8 @@ by_blocks_read c g (Err fault) = Refused (blocks_status fault)
 abbrev pub by_blocks_file : Config → Genesis → Option (List ℕ) → Given
 by_blocks_file c g bytes = by_file blocks_limit too_long_blocks (λ file. by_blocks_read c g (blocks_read (length g.layout + 1) file)) bytes
 
-abbrev pub by_genesis : Config → Genesis → Option (List ℕ) → Given
-by_genesis c g blocks = cond (has_one_shard g) (by_blocks_file c g blocks) (Refused (Unsupported 1))
-
 abbrev pub by_genesis_read : Config → Result Genesis GenesisFault → Option (List ℕ) → Given
-by_genesis_read c (Ok g) blocks = by_genesis c g blocks
+by_genesis_read c (Ok g) blocks = by_blocks_file c g blocks
 by_genesis_read c (Err fault) blocks = Refused (genesis_status fault)
 
 abbrev pub by_files : Config → Option (List ℕ) → Option (List ℕ) → Given

@@ -25,8 +25,7 @@ pub enum Status {
     /// height), 4 where there are more than 256 blocks, and 5 where an action of staking stands (`a`
     /// is its place).
     Blocks { kind: u32, a: u64 },
-    /// What was given isn't supported yet: 0 the command, 1 the genesis, 2 the blocks, 3 the
-    /// configuration.
+    /// What was given isn't supported yet: 0 the command, 2 the blocks.
     Unsupported { form: u32 },
     /// A file could not be read.
     ReadFault,

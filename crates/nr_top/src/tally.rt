@@ -1,67 +1,180 @@
-//! How many receipts a chunk routed and executed, and what lists of receipts hold.
+//! What a run holds where it is over.
 
-ghost use Rattle.std.specs.Prelude.{◌≡◌, ◌+◌, ◌<◌, ◌^◌, IfOk, count_by, true};
-ghost use Rattle.std.specs.List.{AllByRecursion};
-ghost use Rattle.nr_fees.specs.Fees.{receipt_tokens};
-ghost use Rattle.nr_top.specs.Run.{is_sent, is_execution};
-ghost use Rattle.nr_state.specs.Tokens.{list_tokens};
-ghost use Rattle.nr_top.specs.Chains.{IsTransferBody};
-ghost use Rattle.nr_top.specs.Transfers.{is_transfer_body};
+ghost use Rattle.std.specs.Prelude.{◌≡◌, ◌+◌, ◌^◌, ◌<◌, ◌≤◌, true, length, IfOk, IfSome};
+ghost use Rattle.nr_chunk.specs.Chain.{rules_of};
+ghost use Rattle.nr_overlap.specs.Moment.{report_at, flight_at};
+ghost use Rattle.nr_top.specs.Over.{IsOver};
+ghost use Rattle.nr_top.specs.Run.{chain};
+ghost use Rattle.nr_top.specs.Totals.{nothing, plus, plus_counts, list_tally, report_tally, flying_from, held_by, sealed_by, tally_of, tally_at, tally_below};
 
-use nr_config::Config;
-use nr_config::entries::GAS_PRICE;
-use nr_fees::receipt_tokens;
-use nr_records::{ChunkLine, Receipt};
+use crate::run::Run;
+use nr_chunk::Tally;
+use nr_ids::{Height, ShardId};
+use nr_overlap::Phases;
+use nr_records::ChunkResult;
+use std::alloc::{AllocError, Global};
 
-/// How many lines say that a receipt was sent.
-pub(crate) fn sent_lines(lines: &[ChunkLine]) -> usize
-    ensures { result ≡ count_by is_sent lines.now }
+/// The tally of nothing.
+fn nothing() -> Tally
+    ensures { result ≡ nothing }
 {
-    lines
-        .iter()
-        .filter(|line| matches!(line, ChunkLine::Sent { .. }))
-        .count()
+    Tally {
+        accounts: 0,
+        receipts: 0,
+        burnt: 0,
+        places: [0, 0, 0, 0, 0],
+    }
 }
 
-/// How many lines say that a receipt was executed.
-pub(crate) fn execution_lines(lines: &[ChunkLine]) -> usize
-    ensures { result ≡ count_by is_execution lines.now }
+fn sum_of_counts(a: [u64; 5], b: [u64; 5]) -> Option<[u64; 5]>
+    ensures { IfSome result (λ sum. sum ≡ plus_counts a b) }
 {
-    lines
-        .iter()
-        .filter(|line| {
-            matches!(
-                line,
-                ChunkLine::Run(_) | ChunkLine::Received(_) | ChunkLine::Lost(_)
-            )
-        })
-        .count()
+    let [a0, a1, a2, a3, a4] = a;
+    let [b0, b1, b2, b3, b4] = b;
+    Some([
+        a0.checked_add(b0)?,
+        a1.checked_add(b1)?,
+        a2.checked_add(b2)?,
+        a3.checked_add(b3)?,
+        a4.checked_add(b4)?,
+    ])
 }
 
-/// The tokens of a transfer.
-#[tactic(auto, using(crate::proofs::Costs::transfer_counts))]
-pub(crate) fn tokens_of(config: &Config, receipt: &Receipt) -> u128
-    requires transfer { is_transfer_body config.now receipt.now.body ≡ true }
-    requires fits { receipt_tokens config.now receipt.now < 2 ^ 128 }
-    ensures { result ≡ receipt_tokens config.now receipt.now }
+fn sum_of(a: Tally, b: Tally) -> Option<Tally>
+    ensures { IfSome result (λ sum. sum ≡ plus a b) }
 {
-    // The price is only read for the bounds of the configuration.
-    let _ = config.entry(GAS_PRICE);
-    match receipt_tokens(config, receipt) {
-        Some(tokens) => tokens,
+    let counts = a.places;
+    let more = b.places;
+    let places = sum_of_counts(counts, more)?;
+    Some(Tally {
+        accounts: a.accounts.checked_add(b.accounts)?,
+        receipts: a.receipts.checked_add(b.receipts)?,
+        burnt: a.burnt.checked_add(b.burnt)?,
+        places,
+    })
+}
+
+/// The sum of two tallies. One that doesn't fit its numbers counts as want of memory.
+fn add(a: Tally, b: Tally) -> Result<Tally, AllocError>
+    ensures { IfOk result (λ sum. sum ≡ plus a b) }
+{
+    sum_of(a, b).ok_or(AllocError)
+}
+
+/// What a shard holds.
+fn held_by(alloc: Global, core: &Run, shard: ShardId) -> Result<Tally, AllocError>
+    requires over { IsOver (chain core.now.phases.config core.now.phases.genesis core.now.phases.blocks) core.now.positions core.now.lost }
+    requires inside { shard.0 < (rules_of (chain core.now.phases.config core.now.phases.genesis core.now.phases.blocks)).shards }
+    ensures { IfOk result (λ tally. tally ≡ held_by (chain core.now.phases.config core.now.phases.genesis core.now.phases.blocks) core.now.positions shard.0) }
+{
+    match core.world(shard) {
+        Some(world) => core.phases().tally_world(alloc, world),
         None => unreachable!(),
     }
 }
 
-/// The tokens of a list of transfers.
-pub(crate) fn tokens_in(config: &Config, list: &[Receipt]) -> u128
-    requires transfers { AllByRecursion (IsTransferBody config.now) list.now }
-    requires fits { list_tokens config.now list.now < 2 ^ 128 }
-    ensures { result ≡ list_tokens config.now list.now }
+/// Whether the counts of a report fit their numbers.
+fn fits(report: &ChunkResult) -> bool
+    ensures { result ≡ true → report.now.local + length report.now.lines < 2 ^ 64 }
 {
-    let mut sum = 0;
-    for receipt in list {
-        sum += tokens_of(config, receipt);
+    let lines = report.lines.inner().len() as u64;
+    report.local.checked_add(lines).is_some()
+}
+
+/// What a sealed chunk burnt, routed and executed.
+fn reported_by(core: &Run, shard: ShardId, height: Height) -> Result<Tally, AllocError>
+    ensures { IfOk result (λ tally. tally ≡ report_tally (report_at (rules_of (chain core.now.phases.config core.now.phases.genesis core.now.phases.blocks)) core.now.positions shard.0 height.0)) }
+{
+    match core.report(shard, height) {
+        Some(report) => {
+            if fits(report) {
+                Ok(core.phases().tally_report(report))
+            } else {
+                Err(AllocError)
+            }
+        }
+        None => Ok(nothing()),
     }
-    sum
+}
+
+/// What a list holds that no chunk took.
+fn flying(core: &Run, source: ShardId, height: Height, dest: ShardId) -> Tally
+    requires over { IsOver (chain core.now.phases.config core.now.phases.genesis core.now.phases.blocks) core.now.positions core.now.lost }
+    requires source { source.0 < (rules_of (chain core.now.phases.config core.now.phases.genesis core.now.phases.blocks)).shards }
+    requires dest { dest.0 < (rules_of (chain core.now.phases.config core.now.phases.genesis core.now.phases.blocks)).shards }
+    requires height { height.0 ≤ (rules_of (chain core.now.phases.config core.now.phases.genesis core.now.phases.blocks)).heights }
+    ensures { result ≡ list_tally core.now.phases.config (flight_at (rules_of (chain core.now.phases.config core.now.phases.genesis core.now.phases.blocks)) core.now.positions source.0 height.0 dest.0) }
+{
+    match core.flight(source, height, dest) {
+        Some(list) => core.phases().tally_list(list),
+        None => nothing(),
+    }
+}
+
+/// What the lists of a chunk hold that no chunk took.
+#[tactic(auto, unfolding(crate::specs::Totals::tally_below))]
+fn flying_from(core: &Run, shard: ShardId, height: Height) -> Result<Tally, AllocError>
+    requires over { IsOver (chain core.now.phases.config core.now.phases.genesis core.now.phases.blocks) core.now.positions core.now.lost }
+    requires inside { shard.0 < (rules_of (chain core.now.phases.config core.now.phases.genesis core.now.phases.blocks)).shards }
+    requires height { height.0 ≤ (rules_of (chain core.now.phases.config core.now.phases.genesis core.now.phases.blocks)).heights }
+    ensures { IfOk result (λ tally. tally ≡ flying_from (chain core.now.phases.config core.now.phases.genesis core.now.phases.blocks) core.now.positions shard.0 height.0) }
+{
+    let mut sum = nothing();
+    for dest in 0..core.phases().shards() {
+        sum = add(sum, flying(core, shard, height, ShardId(dest)))?;
+    }
+    Ok(sum)
+}
+
+/// What a chunk holds that is sealed.
+fn sealed_by(core: &Run, shard: ShardId, height: Height) -> Result<Tally, AllocError>
+    requires over { IsOver (chain core.now.phases.config core.now.phases.genesis core.now.phases.blocks) core.now.positions core.now.lost }
+    requires inside { shard.0 < (rules_of (chain core.now.phases.config core.now.phases.genesis core.now.phases.blocks)).shards }
+    requires height { height.0 ≤ (rules_of (chain core.now.phases.config core.now.phases.genesis core.now.phases.blocks)).heights }
+    ensures { IfOk result (λ tally. tally ≡ sealed_by (chain core.now.phases.config core.now.phases.genesis core.now.phases.blocks) core.now.positions shard.0 height.0) }
+{
+    let report = reported_by(core, shard, height)?;
+    let lists = flying_from(core, shard, height)?;
+    add(report, lists)
+}
+
+/// What all sealed chunks of a shard hold.
+#[tactic(auto, unfolding(crate::specs::Totals::tally_below))]
+fn all_sealed_by(core: &Run, shard: ShardId) -> Result<Tally, AllocError>
+    requires over { IsOver (chain core.now.phases.config core.now.phases.genesis core.now.phases.blocks) core.now.positions core.now.lost }
+    requires inside { shard.0 < (rules_of (chain core.now.phases.config core.now.phases.genesis core.now.phases.blocks)).shards }
+    ensures { IfOk result (λ tally. tally ≡ tally_below (rules_of (chain core.now.phases.config core.now.phases.genesis core.now.phases.blocks)).heights (λ h. sealed_by (chain core.now.phases.config core.now.phases.genesis core.now.phases.blocks) core.now.positions shard.0 (h + 1))) }
+{
+    let mut sum = nothing();
+    for below in 0..core.phases().heights() {
+        sum = add(sum, sealed_by(core, shard, Height(below + 1))?)?;
+    }
+    Ok(sum)
+}
+
+fn tally_of(alloc: Global, core: &Run, shard: ShardId) -> Result<Tally, AllocError>
+    requires over { IsOver (chain core.now.phases.config core.now.phases.genesis core.now.phases.blocks) core.now.positions core.now.lost }
+    requires inside { shard.0 < (rules_of (chain core.now.phases.config core.now.phases.genesis core.now.phases.blocks)).shards }
+    ensures { IfOk result (λ tally. tally ≡ tally_of (chain core.now.phases.config core.now.phases.genesis core.now.phases.blocks) core.now.positions shard.0) }
+{
+    let held = held_by(alloc, core, shard)?;
+    let sealed = all_sealed_by(core, shard)?;
+    add(held, sealed)
+}
+
+/// What all shards hold.
+///
+/// # Errors
+///
+/// Where memory runs out, or a sum doesn't fit its number.
+#[tactic(auto, unfolding(crate::specs::Totals::tally_below))]
+pub(crate) fn tally_all(alloc: Global, core: &Run) -> Result<Tally, AllocError>
+    requires over { IsOver (chain core.now.phases.config core.now.phases.genesis core.now.phases.blocks) core.now.positions core.now.lost }
+    ensures { IfOk result (λ tally. tally ≡ tally_at (chain core.now.phases.config core.now.phases.genesis core.now.phases.blocks) core.now.positions) }
+{
+    let mut sum = nothing();
+    for shard in 0..core.phases().shards() {
+        sum = add(sum, tally_of(alloc, core, ShardId(shard))?)?;
+    }
+    Ok(sum)
 }

@@ -1,19 +1,17 @@
 //! The top call.
 
 ghost use Rattle.std.specs.Prelude.{◌≡◌, ◌≢◌, ◌++◌, ◌∷◌, [], Err};
+ghost use Rattle.nr_blocks.specs.Genesis.{IsSoundGenesis};
 ghost use Rattle.nr_bytes.specs.Outside.{Rose};
 ghost use Rattle.nr_top.specs.Answers.{Serves, Prepares, AsksFront};
-ghost use Rattle.nr_top.specs.Founding.{IsFounded};
 ghost use Rattle.nr_top.specs.Input.{texts, input, configured, config_files, by_configured, by_files, by_blocks_file, files_of};
 ghost use Rattle.nr_top.specs.Command.{command};
 ghost use Rattle.nr_top.specs.declared.status.Status.TheVariants.{Done, ReadFault, WriteFault};
 
 use crate::command::{FileNames, command_of, supported_files};
 use crate::configuration::configuration;
-use crate::founding::found;
 use crate::loading::load;
-use crate::replay::report_of;
-use crate::state::State;
+use crate::replay::{genesis_of, report_of};
 use crate::status::Status;
 use crate::writing::write_all;
 use nr_blocks::Genesis;
@@ -41,18 +39,17 @@ const LONG_BLOCKS: Status = Status::Blocks { kind: 0, a: 0 };
 fn prepare_blocks<S: Shelf>(
     alloc: Global,
     config: &Config,
-    genesis: &Genesis,
-    state: State,
+    genesis: Genesis,
     blocks: &str,
     shelf: &mut S,
 ) -> Result<Blob, Status>
-    requires { IsFounded config.now genesis.now state }
-    ensures prepares { Prepares result (by_blocks_file config.now genesis.now (S.held shelf.old blocks.now)) }
+    requires { IsSoundGenesis config.now genesis }
+    ensures prepares { Prepares result (by_blocks_file config.now genesis (S.held shelf.old blocks.now)) }
     ensures asked { AsksFront (S.asked shelf.old) (S.asked shelf.new) (blocks.now ∷ []) }
     ensures failed { result ≡ Err ReadFault → Rose (S.faults shelf.old) (S.faults shelf.new) }
 {
     let bytes = load(alloc, blocks, LONG_BLOCKS, BLOCKS_LIMIT, shelf)?;
-    let report = report_of(alloc, config, genesis, state, &bytes)?;
+    let report = report_of(alloc, config, genesis, &bytes)?;
     Ok(report)
 }
 
@@ -70,8 +67,8 @@ fn prepare_files<S: Shelf>(
     ensures failed { result ≡ Err ReadFault → Rose (S.faults shelf.old) (S.faults shelf.new) }
 {
     let bytes = load(alloc, genesis, LONG_GENESIS, GENESIS_LIMIT, shelf)?;
-    let (genesis, state) = found(alloc, config, &bytes)?;
-    let report = prepare_blocks(alloc, config, &genesis, state, blocks, shelf)?;
+    let genesis = genesis_of(alloc, config, &bytes)?;
+    let report = prepare_blocks(alloc, config, genesis, blocks, shelf)?;
     Ok(report)
 }
 
@@ -104,18 +101,15 @@ fn prepare<S: Shelf>(alloc: Global, names: &FileNames<'_>, shelf: &mut S) -> Res
 ///   numbers that `Status` says; `nr_blocks::read_genesis` gives it. Nothing was written.
 /// - `Blocks`: the blocks are longer than 256 MiB (kind 0), or their first fault, by the kind and the
 ///   number that `Status` says; `nr_blocks::read_blocks` gives it. Nothing was written.
-/// - `Unsupported`: the words are a command other than `run` (form 0), or the genesis has a boundary
-///   (form 1), or the blocks (form 2) or the configuration (form 3) are none that are supported yet.
-///   Blocks are where each chunk is there and each transaction is one transfer, by a key of the
-///   genesis that may do all, to an account of the genesis. A configuration isn't where storage has a
-///   price, or where the transactions together could come to a chunk's gas limit. Nothing was
-///   written; with form 0 nothing was loaded.
+/// - `Unsupported`: the words are a command other than `run` (form 0), or a transaction of the blocks
+///   calls a contract (form 2). Nothing was written; with form 0 nothing was loaded.
 /// - `ReadFault`: a file could not be read. Nothing was written.
 /// - `WriteFault`: the sink failed. A front of the report was written.
-/// - `NoMemory`: memory ran out. Nothing was written.
+/// - `NoMemory`: memory ran out. It counts as that where a total doesn't fit its number of 64 or 128
+///   bits. Nothing was written.
 ///
-/// Of several refusals the first in this order comes: `Usage`, form 0, `Config`, `Genesis`, form 1,
-/// `Blocks`, forms 2 and 3. A file is loaded after all before it has passed.
+/// Of several refusals the first in this order comes: `Usage`, form 0, `Config`, `Genesis`, `Blocks`,
+/// form 2. A file is loaded after all before it has passed.
 pub fn serial<S: Shelf, K: Sink>(
     alloc: Global,
     words: &[String],

@@ -1,0 +1,6 @@
+use Rattle.std.proofs.Common.{◌≡◌, ◌+◌}
+use Rattle.nr_top.specs.Run.{chain, height_text, text_below}
+use Rattle.nr_top.proofs.run.chunks_text.Given as goal
+
+abbrev pub invariant-loop-below : goal.invariant-loop-below
+invariant-loop-below l = l.text ≡ text_below l.below (λ h. height_text (chain l.core.phases.config l.core.phases.genesis l.core.phases.blocks) l.core.positions (h + 1))
