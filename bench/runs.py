@@ -1,12 +1,14 @@
 #!/usr/bin/env python3
 """Measures whole runs of the program on inputs of rising size, and prints them as a table.
 
-usage: bench/runs.py [--program PATH] [--only accounts|blocks|transactions]
+usage: bench/runs.py [--program PATH] [--only accounts|blocks|transactions|shards|delayed]
 
-Build the program first: cd crates/near_serial && rt run. Each input has accounts with a key each, and blocks of transfers
-from each account to the next one in turn. The time is that of one run; the memory is the most that it held.
+Build the program first: cd crates/near_serial && rt run. Each input has accounts with a key each, spread evenly over the
+shards, and blocks of transfers from each account to the next one in turn. Under `delayed` a receipt costs gas, and a chunk's
+limit lets a hundred of them run, so that the others wait. The time is that of one run; the memory is the most that it held.
 """
 import argparse
+import json
 import os
 import struct
 import sys
@@ -14,9 +16,11 @@ import tempfile
 import time
 
 ROWS = {
-    "accounts": [(100, 4, 10), (1_000, 4, 10), (10_000, 4, 10), (100_000, 4, 10)],
-    "blocks": [(100, 16, 10), (100, 64, 10), (100, 256, 10)],
-    "transactions": [(100, 4, 100), (100, 4, 1_000), (100, 4, 10_000), (100, 4, 50_000)],
+    "accounts": [(100, 4, 10, 1), (1_000, 4, 10, 1), (10_000, 4, 10, 1), (100_000, 4, 10, 1)],
+    "blocks": [(100, 16, 10, 1), (100, 64, 10, 1), (100, 256, 10, 1)],
+    "transactions": [(100, 4, 100, 1), (100, 4, 1_000, 1), (100, 4, 10_000, 1), (100, 4, 50_000, 1)],
+    "shards": [(10_000, 16, 1_600, 1), (10_000, 16, 1_600, 4), (10_000, 16, 1_600, 16)],
+    "delayed": [(1_000, 16, 1_000, 1), (4_000, 16, 4_000, 4)],
 }
 
 
@@ -32,8 +36,18 @@ def public_key(number):
     return b"\0" + struct.pack("<Q", number) + bytes(24)
 
 
-def genesis(accounts):
-    parts = [b"NRG1", struct.pack("<II", 0, 2 * accounts)]
+def homes(accounts, shards):
+    """The boundaries between the shards, and the accounts of each, by their numbers."""
+    order = sorted(range(accounts), key=name)
+    parts = [order[accounts * k // shards : accounts * (k + 1) // shards] for k in range(shards)]
+    return [name(part[0]) for part in parts[1:]], parts
+
+
+def genesis(accounts, shards):
+    boundaries = homes(accounts, shards)[0]
+    parts = [b"NRG1", struct.pack("<I", len(boundaries))]
+    parts += [counted(boundary) for boundary in boundaries]
+    parts.append(struct.pack("<I", 2 * accounts))
     for number in range(accounts):
         amount = (10**18).to_bytes(16, "little")
         parts.append(b"\0" + counted(name(number)) + amount + bytes(16) + bytes(32) + struct.pack("<Q", 182))
@@ -41,40 +55,59 @@ def genesis(accounts):
     return b"".join(parts)
 
 
-def blocks(accounts, heights, each):
+def transfer(signer, receiver, nonce):
+    head = counted(name(signer)) + public_key(signer) + struct.pack("<Q", nonce)
+    return head + counted(name(receiver)) + bytes(32) + struct.pack("<I", 1) + b"\3" + (1).to_bytes(16, "little")
+
+
+def blocks(accounts, heights, each, shards):
     nonces = [0] * accounts
-    turn = 0
+    turns = [0] * shards
+    members = homes(accounts, shards)[1]
     parts = [b"NRB1", struct.pack("<I", heights)]
     for height in range(1, heights + 1):
-        parts.append(struct.pack("<QQI", height, 0, 1) + b"\1" + struct.pack("<I", each))
-        for _ in range(each):
-            signer, receiver = turn % accounts, (turn + 1) % accounts
-            nonces[signer] += 1
-            parts.append(counted(name(signer)) + public_key(signer) + struct.pack("<Q", nonces[signer]))
-            parts.append(counted(name(receiver)) + bytes(32) + struct.pack("<I", 1))
-            parts.append(b"\3" + (1).to_bytes(16, "little"))
-            turn += 1
+        parts.append(struct.pack("<QQI", height, 0, shards))
+        for shard in range(shards):
+            parts.append(b"\1" + struct.pack("<I", each // shards))
+            for _ in range(each // shards):
+                signer = members[shard][turns[shard] % len(members[shard])]
+                turns[shard] += 1
+                nonces[signer] += 1
+                parts.append(transfer(signer, (signer + 1) % accounts, nonces[signer]))
     return b"".join(parts)
 
 
-def write_files(files, accounts, heights, each):
+def configuration(what):
+    if what != "delayed":
+        return None
+    here = os.path.dirname(os.path.abspath(__file__))
+    with open(os.path.join(here, "..", "examples", "config", "receipt_fees.json")) as file:
+        values = json.load(file)
+    values["chunk_gas_limit"] = 1_200
+    return json.dumps(values).encode()
+
+
+def write_files(files, row, config):
     # In a process of its own: what this one held would count as the program's memory.
     child = os.fork()
     if child == 0:
-        for path, data in zip(files, (genesis(accounts), blocks(accounts, heights, each))):
-            with open(path, "wb") as out:
-                out.write(data)
+        accounts, _, _, shards = row
+        for path, data in zip(files, (genesis(accounts, shards), blocks(*row), config)):
+            if data is not None:
+                with open(path, "wb") as out:
+                    out.write(data)
         os._exit(0)
     os.waitpid(child, 0)
 
 
-def run(program, accounts, heights, each):
+def run(program, row, config):
     with tempfile.TemporaryDirectory() as folder:
-        files = [os.path.join(folder, part) for part in ("genesis", "blocks")]
-        write_files(files, accounts, heights, each)
+        files = [os.path.join(folder, part) for part in ("genesis", "blocks", "config")]
+        write_files(files, row, config)
+        words = ["run", "free" if config is None else files[2], files[0], files[1]]
         report = os.open(os.path.join(folder, "report"), os.O_WRONLY | os.O_CREAT)
         begin = time.perf_counter()
-        child = os.posix_spawn(program, [program, "run", "free"] + files, os.environ, file_actions=[(os.POSIX_SPAWN_DUP2, report, 1)])
+        child = os.posix_spawn(program, [program] + words, os.environ, file_actions=[(os.POSIX_SPAWN_DUP2, report, 1)])
         _, status, used = os.wait4(child, 0)
         taken = time.perf_counter() - begin
         os.close(report)
@@ -92,12 +125,12 @@ def main():
     program = os.path.abspath(arguments.program)
     if not os.path.exists(program):
         sys.exit("no program: build it first (cd crates/near_serial && rt run)")
-    print("| Accounts | Blocks | Transactions a block | Seconds | MiB |")
-    print("|---|---|---|---|---|")
+    print("| Accounts | Blocks | Transactions a block | Shards | Seconds | MiB |")
+    print("|---|---|---|---|---|---|")
     for what, rows in ROWS.items():
         if arguments.only in (None, what):
             for row in rows:
-                taken, memory = run(program, *row)
+                taken, memory = run(program, row, configuration(what))
                 print("| " + " | ".join(f"{number:,}" for number in row) + f" | {taken:.2f} | {memory:.0f} |", flush=True)
 
 
