@@ -1,0 +1,9 @@
+pub mod Noted
+pub mod PlaceLemmas
+pub mod Keeps
+pub mod Loads
+pub mod Adds
+pub mod Plans
+pub mod Ties
+pub mod Holding
+pub mod Makes

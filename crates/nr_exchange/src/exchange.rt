@@ -1,0 +1,123 @@
+//! The exchange of a run, and how it is made and closed.
+ghost use Rattle.std.specs.Prelude.{◌≡◌, ◌<◌, ◌≤◌, [], IfOk};
+ghost use Rattle.std.specs.Mem.Slots.{slots_items, slots_len, IsFull};
+ghost use Rattle.atomic_table.specs.Table.{Final};
+ghost use Rattle.nr_exchange.specs.Plan.{plan_of};
+ghost use Rattle.nr_exchange.specs.Notes.{fresh};
+ghost use Rattle.nr_exchange.specs.Places.{places};
+ghost use Rattle.nr_exchange.specs.Ports.{AreMade};
+ghost use Rattle.nr_exchange.specs.Rule.{ExchangeRule};
+
+use crate::law::{Law, Next};
+use crate::note::Note;
+use crate::places::count_places;
+use crate::port::Port;
+use atomic_table::{Closed, Seat, Table};
+use nr_overlap::Phases;
+use std::alloc::{AllocError, Global};
+use std::marker::Model;
+
+/// The exchange between the shards of a run: a published word for each, and places for the lists on their way.
+///
+/// A published word is the number of heights that its shard has published, plus 2^32 where the shard has abandoned the
+/// run. Contracts see the exchange's name and its run.
+#[derive(Drop)]
+pub struct Exchange<P: Phases> {
+    pub(crate) table: Table<Option<P::Parcel>, Note<P>, P, Law, Global>,
+    pub(crate) shards: u32,
+    pub(crate) heights: u64,
+}
+
+impl<P: Phases> Model for Exchange<P> {
+    ghost use Rattle.std.specs.Prelude.{◌≡◌, ◌^◌, ◌<◌};
+    ghost use Rattle.nr_exchange.specs.Plan.{plan_of};
+    ghost use Rattle.nr_exchange.specs.Places.{places};
+    ghost use Rattle.nr_exchange.specs.Views.{ExchangeView};
+
+    ghost Value = { ExchangeView P };
+
+    ghost view = { λ e. record { name = e.table.shared.table_id; run = e.table.shared.key } };
+
+    ghost invariant = { λ e. (e.shards ≡ (P.rules e.table.shared.key).shards) × (e.heights ≡ (P.rules e.table.shared.key).heights) × (e.table.shared.table_id.words ≡ e.shards) × (e.table.shared.table_id.slots ≡ places (plan_of (P.rules e.table.shared.key))) × (places (plan_of (P.rules e.table.shared.key)) < 2 ^ 64) × (P.is_run e.table.shared.key) };
+}
+
+/// An exchange for a run, and the ports of its shards in order of number. None of them has published, taken or
+/// abandoned anything.
+///
+/// # Errors
+///
+/// Where there is no memory for them.
+pub fn make_exchange<P: Phases>(
+    alloc: Global,
+    run: &P,
+) -> Result<(Exchange<P>, Vec<Port<P>>), AllocError>
+    requires some { 0 < (P.rules run.now).shards }
+    requires small { (P.rules run.now).heights ≤ 100000 }
+    ensures run { IfOk result (λ made. made.0.run ≡ run.now) }
+    ensures ports { IfOk result (λ made. AreMade made.0 (P.rules run.now).shards (P.rules run.now).shards made.1.items) }
+{
+    let shards = run.shards();
+    let heights = run.heights();
+    let count = count_places(shards, heights)?;
+    let words = Vec::from_elem(alloc, 0u64, shards as usize)?;
+    let (table, seat) = Table::vacant(alloc, words.as_slice(), count, run)?;
+    let exchange = Exchange {
+        table,
+        shards,
+        heights,
+    };
+    let ports = split_all(alloc, &exchange, seat)?;
+    Ok((exchange, ports))
+}
+
+/// Splits the seat of port 0 into the seats of all ports.
+fn split_all<P: Phases>(
+    alloc: Global,
+    exchange: &Exchange<P>,
+    seat: Seat<Option<P::Parcel>, Note<P>>,
+) -> Result<Vec<Port<P>>, AllocError>
+    requires seat { (seat.table_id ≡ exchange.now.name) × (seat.me ≡ (fresh exchange.now.run (P.rules exchange.now.run).shards 0 1, [])) }
+    requires some { 0 < (P.rules exchange.now.run).shards }
+    ensures { IfOk result (λ ports. AreMade exchange.now (P.rules exchange.now.run).shards (P.rules exchange.now.run).shards ports.items) }
+{
+    let mut ports = Vec::new(alloc);
+    ports.push(Port {
+        seat,
+        shard: 0,
+        abandoned: false,
+    })?;
+    for shard in 1..exchange.shards {
+        let seat = exchange
+            .table
+            .shared
+            .split_seat::<Next<P>>(&mut ports[0].seat);
+        ports.push(Port {
+            seat,
+            shard,
+            abandoned: false,
+        })?;
+    }
+    Ok(ports)
+}
+
+impl<P: Phases> Exchange<P> {
+    /// The words and the places of an exchange that no thread shares any more. They are those of a state that keeps
+    /// the exchange rule.
+    pub fn close(self) -> Closed<Option<P::Parcel>, Global>
+        ensures rule { Final (ExchangeRule self.run (plan_of (P.rules self.run))) (slots_items result.words) (slots_items result.slots) }
+        ensures full { IsFull result.words × IsFull result.slots }
+        ensures words { slots_len result.words ≡ (P.rules self.run).shards }
+        ensures places { slots_len result.slots ≡ places (plan_of (P.rules self.run)) }
+    {
+        let Exchange {
+            table,
+            shards: _,
+            heights: _,
+        } = self;
+        table.close()
+    }
+}
+
+unsafe impl<P: Phases> Send for Exchange<P> {}
+
+unsafe impl<P: Phases> Sync for Exchange<P> {}

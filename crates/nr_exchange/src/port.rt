@@ -1,0 +1,181 @@
+//! The port of a shard, and what it does on the exchange.
+ghost use Rattle.std.specs.Prelude.{◌≡◌, ◌+◌, ◌<◌, ◌≤◌, true, false, IsOk};
+ghost use Rattle.nr_exchange.specs.Plan.{plan_of, IsNextChunk};
+ghost use Rattle.nr_exchange.specs.Notes.{link, raised, gives_up, holding};
+ghost use Rattle.nr_exchange.specs.Ports.{IsPortOf, Takes, Marks};
+
+use crate::exchange::Exchange;
+use crate::law::{GiveUp, Look, Raise, Try};
+use crate::note::Note;
+use atomic_table::Seat;
+use nr_bytes::List;
+use nr_ids::{Height, ShardId};
+use nr_overlap::Phases;
+use std::marker::Model;
+
+/// What `Port::try_take` found.
+#[derive(Debug, Drop)]
+pub enum Parcel<T> {
+    /// The list.
+    Whole(T),
+    /// The list isn't published, and its source has abandoned the run. It has published so many heights.
+    Abandoned { published: u64 },
+}
+
+/// The list isn't published yet. Its source has published so many heights.
+#[derive(Debug, Drop)]
+pub struct NotYet {
+    pub published: u64,
+}
+
+/// There is no room for the list to a shard, which took so many lists of this source. All lists come back.
+#[derive(Debug, Drop)]
+pub struct Full<T> {
+    pub dest: ShardId,
+    pub taken: u64,
+    pub lists: List<T>,
+}
+
+/// What a published word has more where its shard has abandoned the run.
+const MARK: u64 = 1 << 32;
+
+/// The port of a shard on the exchange that it was made with. It carries what the shard knows of the others.
+///
+/// Contracts see the exchange's name and a `Note`: what the shard has published, and of each source what was claimed
+/// and seen, and how often its word was loaded.
+#[derive(Drop)]
+pub struct Port<P: Phases> {
+    pub(crate) seat: Seat<Option<P::Parcel>, Note<P>>,
+    pub(crate) shard: u32,
+    pub(crate) abandoned: bool,
+}
+
+impl<P: Phases> Model for Port<P> {
+    ghost use Rattle.std.specs.Prelude.{◌≡◌};
+    ghost use Rattle.nr_exchange.specs.Views.{PortView};
+
+    ghost Value = { PortView P };
+
+    ghost view = { λ p. record { name = p.seat.table_id; note = p.seat.me.0 } };
+
+    ghost invariant = { λ p. (p.shard ≡ p.seat.me.0.shard) × (p.abandoned ≡ p.seat.me.0.abandoned) × (p.seat.me.0.out ≡ 0) };
+}
+
+unsafe impl<P: Phases> Send for Port<P> {}
+
+impl<P: Phases> Port<P> {
+    /// The shard whose port it is.
+    pub fn shard(&self) -> ShardId
+        ensures { result.0 ≡ self.now.note.shard }
+    {
+        ShardId(self.shard)
+    }
+
+    /// Tries to take the next list that a source has for this shard, by one load of the source's published word. A
+    /// source's lists are taken in order of height, and none is left out. It takes no memory and never waits.
+    ///
+    /// The answer is `Whole` with the serial run's list exactly where the loaded number is at least the height, and
+    /// else `Abandoned` exactly where the loaded word has the mark.
+    ///
+    /// # Errors
+    ///
+    /// `NotYet` exactly where the loaded number is below the height and the word has no mark.
+    pub fn try_take(
+        &mut self,
+        exchange: &Exchange<P>,
+        source: ShardId,
+        height: Height,
+    ) -> Result<Parcel<P::Parcel>, NotYet>
+        requires port { IsPortOf P.rules exchange.now self.old }
+        requires inside { source.0 < (P.rules exchange.now.run).shards }
+        requires next { IsNextChunk (plan_of (P.rules exchange.now.run)) source.0 (link self.old.note source.0).claimed height.0 }
+        ensures port { IsPortOf P.rules exchange.now self.new }
+        ensures takes { Takes (plan_of (P.rules exchange.now.run)) source.0 height.0 self.old.note result self.new.note }
+    {
+        let words = &exchange.table.shared;
+        let word = words.load::<Try<P>>(&mut self.seat, source.0 as usize);
+        let published = word % MARK;
+        if height.0 <= published {
+            let place = exchange.place(source.0, height.0, self.shard);
+            match words.exchange(&mut self.seat, place, None) {
+                Some(list) => Ok(Parcel::Whole(list)),
+                None => unreachable!(),
+            }
+        } else if word >= MARK {
+            Ok(Parcel::Abandoned { published })
+        } else {
+            Err(NotYet { published })
+        }
+    }
+
+    /// Publishes the lists of the shard's next height, which are the serial run's. It takes no memory and never waits.
+    ///
+    /// # Errors
+    ///
+    /// None: there is a place for each list of each height.
+    pub fn publish(
+        &mut self,
+        exchange: &Exchange<P>,
+        height: Height,
+        lists: List<P::Parcel>,
+    ) -> Result<(), Full<P::Parcel>>
+        requires port { IsPortOf P.rules exchange.now self.old }
+        requires next { height.0 ≡ self.old.note.number + 1 }
+        requires last { height.0 ≤ (P.rules exchange.now.run).heights }
+        requires there { (P.rules exchange.now.run).present self.old.note.shard height.0 ≡ true }
+        requires lists { lists ≡ (plan_of (P.rules exchange.now.run)).lists self.old.note.shard height.0 }
+        ensures port { IsPortOf P.rules exchange.now self.new }
+        ensures fits { IsOk result }
+        ensures raised { self.new.note ≡ raised (holding self.old.note (P.rules exchange.now.run).shards) }
+    {
+        let words = &exchange.table.shared;
+        exchange.put_all(&mut self.seat, self.shard, height.0, lists);
+        words.fetch_add::<Raise<P>>(&mut self.seat, self.shard as usize, 1);
+        Ok(())
+    }
+
+    /// Goes past the shard's next height, whose chunk is missing.
+    pub fn skip(&mut self, exchange: &Exchange<P>, height: Height)
+        requires port { IsPortOf P.rules exchange.now self.old }
+        requires next { height.0 ≡ self.old.note.number + 1 }
+        requires last { height.0 ≤ (P.rules exchange.now.run).heights }
+        requires missing { (P.rules exchange.now.run).present self.old.note.shard height.0 ≡ false }
+        ensures port { IsPortOf P.rules exchange.now self.new }
+        ensures raised { self.new.note ≡ raised self.old.note }
+    {
+        let _height = height;
+        exchange
+            .table
+            .shared
+            .fetch_add::<Raise<P>>(&mut self.seat, self.shard as usize, 1);
+    }
+
+    /// Marks the run as abandoned by this shard. A port that has done so does nothing.
+    pub fn abandon(&mut self, exchange: &Exchange<P>)
+        requires port { IsPortOf P.rules exchange.now self.old }
+        ensures port { IsPortOf P.rules exchange.now self.new }
+        ensures marked { self.new.note ≡ gives_up self.old.note }
+    {
+        if !self.abandoned {
+            exchange
+                .table
+                .shared
+                .fetch_add::<GiveUp<P>>(&mut self.seat, self.shard as usize, MARK);
+            self.abandoned = true;
+        }
+    }
+
+    /// Whether a shard has abandoned the run, by one load of its published word.
+    pub fn has_abandoned(&mut self, exchange: &Exchange<P>, shard: ShardId) -> bool
+        requires port { IsPortOf P.rules exchange.now self.old }
+        requires inside { shard.0 < (P.rules exchange.now.run).shards }
+        ensures port { IsPortOf P.rules exchange.now self.new }
+        ensures marks { Marks shard.0 self.old.note result self.new.note }
+    {
+        exchange
+            .table
+            .shared
+            .load::<Look<P>>(&mut self.seat, shard.0 as usize)
+            >= MARK
+    }
+}
