@@ -1,0 +1,12 @@
+//! What the bindings of a contract read and write beside the ledger: registers and byte arguments.
+#![tactic(auto)]
+
+mod arguments;
+mod fault;
+mod registers;
+#[cfg(test)]
+mod tests;
+
+pub use arguments::{argument, argument_size};
+pub use fault::GuestFault;
+pub use registers::Registers;
