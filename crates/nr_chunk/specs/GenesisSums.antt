@@ -16,7 +16,7 @@ use Rattle.nr_layout.proofs.Counting.{at_most}
 use Rattle.nr_overlap.proofs.Basics.{same_or_not, eq_same, eq_other}
 use Rattle.nr_overlap.specs.Balance.{sum_below}
 use Rattle.nr_records.specs.declared.receipt.Receipt.{Receipt}
-use Rattle.nr_state.specs.Tokens.{world_tokens}
+use Rattle.nr_state.specs.Tokens.{world_tokens, postponed_sum, delayed_sum}
 use Rattle.nr_state.specs.World.{pair_cmp, account_tokens, accounts_tokens}
 
 -- ---- nothing waits
@@ -24,6 +24,10 @@ no_sum : (f : Receipt → ℕ) → sum_by f (values (empty {X = Receipt} {R = pa
 no_sum f =
     let none : entries (empty {X = Receipt} {R = pair_cmp}) ≡ [] = nil_from_length _ (sym (len-entries (empty {X = Receipt} {R = pair_cmp})) ∙ len-empty pair_cmp Receipt) in
     ap (λ (es : List ((List ℕ × List ℕ) × Receipt)). sum_by f (map (λ e. e.1) es)) none
+
+pub genesis_waits : (f : Receipt → ℕ) (es : List GenesisEntry) → postponed_sum f (genesis_world es) + delayed_sum f (genesis_world es) ≡ 0
+unfolding genesis_world
+genesis_waits f es = omega (arith, no_sum f)
 
 pub genesis_small : (es : List GenesisEntry) → IsSmall (genesis_world es)
 unfolding genesis_world

@@ -1,5 +1,5 @@
 -- Each phase of the serial run may be called, and no token is lost.
-use Rattle.std.proofs.Common.{◌≡◌, ℕ, ◌+◌, ◌^◌, ◌≤◌, List, [], Some, length, refl, sym, ap, subst, ◌∙◌, arith}
+use Rattle.std.proofs.Common.{◌≡◌, ℕ, ◌+◌, ◌^◌, ◌<◌, ◌≤◌, true, List, [], Some, length, refl, sym, ap, subst, ◌∙◌, arith}
 use Rattle.std.specs.Prelude.{slice_get, unwrap_or}
 use Rattle.nr_blocks.proofs.ValidFirst.{first_valid}
 use Rattle.nr_chunk.specs.Amounts.{tokens}
@@ -61,10 +61,10 @@ module _ (x : Chain) (is : IsChain x) where
   never : IsNeverMade r m
   never = record { so_far = λ s h n k. refl; whole = λ s h y. refl }
 
-  one_each : (k : Working) → length (r.seals k).lists ≡ r.shards
+  pub one_each : (k : Working) → length (r.seals k).lists ≡ r.shards
   one_each k = length_parts x.boundaries (shards_of x) k.outgoing
 
-  first_small : first_sum r m ≤ 2 ^ 127
+  pub first_small : first_sum r m ≤ 2 ^ 127
   first_small = omega (arith, first_tokens x.boundaries c x.entries is.entries, is.entries.bounded)
 
   begins : (s : ℕ) → IsGoodWorld c (first_world x s)
@@ -95,13 +95,13 @@ module _ (x : Chain) (is : IsChain x) where
   sealed_world : (k : Working) → IsGoodWork c k → IsGoodWorld c (r.seals k).world
   sealed_world k good = record { config = good.config; valid = good.valid; small = good.fine.small }
 
-  sealed_list : (k : Working) → IsGoodWork c k → (d : ℕ) (list : List Receipt) → slice_get (r.seals k).lists d ≡ Some list → AreGood c list
+  pub sealed_list : (k : Working) → IsGoodWork c k → (d : ℕ) (list : List Receipt) → slice_get (r.seals k).lists d ≡ Some list → AreGood c list
   sealed_list k good d list e = each_at (AreGood c) (parts x.boundaries (shards_of x) k.outgoing) d list (each_routed (IsGood c) x.boundaries (shards_of x) k.outgoing good.fine.sent) e
 
-  sealed_tokens : (s h : ℕ) (k : Working) → left_by r m s h (r.seals k) ≡ working_tokens c k
+  pub sealed_tokens : (s h : ℕ) (k : Working) → left_by r m s h (r.seals k) ≡ working_tokens c k
   sealed_tokens s h k = omega (arith, routed_all (receipt_tokens c) x.boundaries k.outgoing)
 
-  -- ---- the whole
+  -- ---- values stay good
   stays : StaysGood r m one_each never GoodWorldAt GoodWorkAt GoodListTo
   stays = record {
     begins = λ s l. begins s;
@@ -110,17 +110,25 @@ module _ (x : Chain) (is : IsChain x) where
     seals = λ s h l below there good few. let k : Working = last_work r s h in (sealed_world k good, sealed_list k good, sealed_tokens s (h + 1) k);
   }
 
+  -- ---- what stands behind the chunks and in them
+  pub good_after : (s h : ℕ) → s < r.shards → h ≤ r.heights → IsGoodWorld c (world_after r s h)
+  good_after s h l high = (good_world r m one_each never GoodWorldAt GoodWorkAt GoodListTo stays s h l high).0
+
+  pub good_working : (s h n : ℕ) → s < r.shards → h < r.heights → r.present s (h + 1) ≡ true → n ≤ length (due_after r s h)
+      → IsGoodWork c (work r s h n) × (working_tokens c (work r s h n) ≤ 2 ^ 127)
+  good_working s h n l below there few =
+      let good = good_work r m one_each never GoodWorldAt GoodWorkAt GoodListTo stays s h n l below there few in
+      (good.0, omega (arith, good.1, first_small))
+
+  -- ---- the whole
   pub laws_of : AreLawful (rules_of x) (CanOpen x) (CanTake x) (CanSeal x)
   laws_of = record {
     one_each = one_each;
-    opens = λ s h l below there.
-        let good = (good_world r m one_each never GoodWorldAt GoodWorkAt GoodListTo stays s h l (omega (arith, below))).0 in
-        record { there = there; config = good.config; valid = good.valid };
+    opens = λ s h l below there. let good = good_after s h l (omega (arith, below)) in record { there = there; config = good.config; valid = good.valid };
     takes = λ s h n pair list l below there next list_is.
         let good = good_taken r m one_each never GoodWorldAt GoodWorkAt GoodListTo stays s h n pair list l below there next list_is in
         record { whole = good.0.fine.whole; config = good.0.config; valid = good.0.valid; bounded = are_bounded c list good.1; room = omega (arith, good.2, first_small) };
-    seals = λ s h l below there.
-        (good_work r m one_each never GoodWorldAt GoodWorkAt GoodListTo stays s h (length (due_after r s h)) l below there (omega arith)).0.fine.whole;
+    seals = λ s h l below there. (good_working s h (length (due_after r s h)) l below there (omega arith)).0.fine.whole;
   }
 
   pub tokens_kept : IsKeptBy (rules_of x) (tokens x)

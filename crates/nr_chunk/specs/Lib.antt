@@ -16,3 +16,4 @@ pub mod Promised
 pub mod Routed
 pub mod GenesisSums
 pub mod Lawful
+pub mod Lasting

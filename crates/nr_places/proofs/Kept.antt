@@ -25,11 +25,11 @@ use Rattle.nr_records.specs.declared.receipt.Receipt.{Receipt}
 
 -- ---- what was executed, a step at a time
 module _ (x : Chain) where
-  executed_first : (s h : ℕ) → executed_at x s h 0 ≡ executes_opened x (converted_at x s h)
+  pub executed_first : (s h : ℕ) → executed_at x s h 0 ≡ executes_opened x (converted_at x s h)
   unfolding executed_at
   executed_first s h = refl
 
-  executed_more : (s h n : ℕ) → executed_at x s h (suc n) ≡ executed_at x s h n ++ executes_due x s h n (slice_get (due_after (rules_of x) s h) n)
+  pub executed_more : (s h n : ℕ) → executed_at x s h (suc n) ≡ executed_at x s h n ++ executes_due x s h n (slice_get (due_after (rules_of x) s h) n)
   unfolding executed_at
   executed_more s h n = refl
 
@@ -40,6 +40,10 @@ module _ (x : Chain) where
       ∙ executed_more s h n
       ∙ ap (λ o. executed_at x s h n ++ executes_due x s h n o) next
       ∙ ap (λ o. executed_at x s h n ++ executes_list x (work (rules_of x) s h n) o) there
+
+-- a chunk that begins can convert its transactions
+pub begun_goes : (x : Chain) → IsChain x → (s h : ℕ) (w : Kept) → CanOpen x s h w → CanGo x.config (record { working = begun w (record { 0 = s }) (place_at x h); local = [] })
+begun_goes x is s h w can = (record { config = can.config; valid = can.valid; coming = tt; room = omega (arith, can.valid.tokens) }, gas_price-fits x.config is.config)
 
 module _ (x : Chain) (is : IsChain x) (f : Receipt → ℕ) where
   abbrev c : Config
@@ -58,16 +62,13 @@ module _ (x : Chain) (is : IsChain x) (f : Receipt → ℕ) where
   pays = pays_of c
 
   -- ---- opening
-  begun_goes : (s h : ℕ) (w : Kept) → CanOpen x s h w → CanGo c (record { working = begun w (record { 0 = s }) (place_at x h); local = [] })
-  begun_goes s h w can = (record { config = can.config; valid = can.valid; coming = tt; room = omega (arith, can.valid.tokens) }, gas_price-fits c is.config)
-
   opens_at : (s h : ℕ) → CanOpen x s (h + 1) (world_after r s h) → held_at r m s h 0 ≡ m.world (world_after r s h) + made_at r m s h 0
   opens_at s h can =
       let w : Kept = world_after r s h in
       let k : Working = begun w (record { 0 = s }) (place_at x (h + 1)) in
       let held : waiting f (work r s h 0).world ≡ waiting f (opened x s (h + 1) w).world = ap (λ (k : Working). waiting f k.world) (work_first r s h) in
       let done : sum_by f (executed_at x s h 0) ≡ sum_by f (executes_opened x (converted_at x s h)) = ap (λ (q : List Receipt). sum_by f q) (executed_first x s h) in
-      omega (arith, held, done, opened_waits x promise pays f k (unwrap_or (chunk_at x s (h + 1)) []) (begun_goes s (h + 1) w can))
+      omega (arith, held, done, opened_waits x promise pays f k (unwrap_or (chunk_at x s (h + 1)) []) (begun_goes x is s (h + 1) w can))
 
   -- ---- taking
   takes_at : (s h n : ℕ) (pair : ℕ × ℕ) (list : List Receipt) → slice_get (due_after r s h) n ≡ Some pair → list_to r (sealing_at r pair.1 pair.0) s ≡ Some list → CanTake x (work r s h n) list

@@ -14,6 +14,12 @@ use Rattle.nr_records.specs.declared.receipt.Receipt.{Receipt}
 use Rattle.nr_records.specs.declared.transaction.Transaction.{Transaction}
 use Rattle.nr_txconvert.specs.Conversion.{Conversion, convert}
 
+-- ---- what was made of all transactions can be served
+module _ (c : Config) (pays : Pays c) where
+  pub all_go : (txs : List Transaction) (o : Opening) → CanGo c o → CanGo c (fold (convert_next c) o txs)
+  all_go [] o can = can
+  all_go (tx ∷ txs) o can = all_go txs (convert_next c o tx) (convert_goes c pays o tx can)
+
 module _ (x : Chain) (p : Promise x.config x.call) (pays : Pays x.config) (f : Receipt → ℕ) where
   abbrev c : Config
   c = x.config
@@ -36,16 +42,10 @@ module _ (x : Chain) (p : Promise x.config x.call) (pays : Pays x.config) (f : R
           ap (waiting f) (aside_world (is_local tx) (with_converted k tx w made) o.local made.receipt) ∙ ap (waiting f) paid.rest
       by (Err fault) e = refl
 
-  -- what was made of all transactions can be served, and the same receipts wait
-  record IsConverted (before after : Opening) : Type 0 where
-    can : CanGo c after
-    waits : waiting f after.working.world ≡ waiting f before.working.world
-
-  all_converted : (txs : List Transaction) (o : Opening) → CanGo c o → IsConverted o (fold (convert_next c) o txs)
-  all_converted [] o can = record { can = can; waits = refl }
-  all_converted (tx ∷ txs) o can =
-      let rest = all_converted txs (convert_next c o tx) (convert_goes c pays o tx can) in
-      record { can = rest.can; waits = rest.waits ∙ converted_waits o tx can }
+  -- the same receipts wait
+  all_converted : (txs : List Transaction) (o : Opening) → CanGo c o → waiting f (fold (convert_next c) o txs).working.world ≡ waiting f o.working.world
+  all_converted [] o can = refl
+  all_converted (tx ∷ txs) o can = all_converted txs (convert_next c o tx) (convert_goes c pays o tx can) ∙ converted_waits o tx can
 
   -- ---- the whole
   pub opened_waits : (k : Working) (txs : List Transaction) → CanGo c (record { working = k; local = [] })
@@ -54,11 +54,12 @@ module _ (x : Chain) (p : Promise x.config x.call) (pays : Pays x.config) (f : R
   opened_waits k txs can =
       let o : Opening = convert_all c k txs in
       let k1 : Working = served_local c x.call o in
-      let made = all_converted txs (record { working = k; local = [] }) can in
+      let begun : Opening = record { working = k; local = [] } in
+      let ready = (all_go c pays txs begun can).0 in
       omega (
         arith,
-        made.waits,
-        all_wait x p f o.local o.working made.can.0,
-        queue_waits x p f k1.world.delayed k1 (all_can x p o.local o.working made.can.0) refl,
+        all_converted txs begun can,
+        all_wait x p f o.local o.working ready,
+        queue_waits x p f k1.world.delayed k1 (all_can x p o.local o.working ready) refl,
         sum_by-append f (executes_all x o.working o.local) (executes_delayed x k1),
       )

@@ -1,1 +1,4 @@
 pub mod Places
+pub mod Moments
+pub mod Totals
+pub mod Replay

@@ -1,0 +1,29 @@
+-- What holds at each moment of a replay, at whatever heights and stages its shards stand. After the Nomicon, Chain Specification and Economics; the moments are this project's.
+use Rattle.std.specs.Prelude.{◌≡◌, ℕ, ◌+◌, List, length, Option, Some, slice_index, sum_by}
+use Rattle.std.specs.Option.{option_map}
+use Rattle.nr_blocks.specs.Genesis.{supply}
+use Rattle.nr_chunk.specs.Chain.{Chain, rules_of}
+use Rattle.nr_chunk.specs.Tallies.{five}
+use Rattle.nr_overlap.specs.Moment.{report_at, flight_at}
+use Rattle.nr_overlap.specs.Serial.{list_to, sealing_at}
+use Rattle.nr_overlap.specs.declared.position.Position.{Position}
+use Rattle.nr_places.specs.Moments.{routed, executed, postponed, delayed, flying}
+use Rattle.nr_places.specs.Totals.{tally_at}
+use Rattle.nr_records.specs.declared.chunk_result.ChunkResult.{ChunkResult}
+use Rattle.nr_records.specs.declared.receipt.Receipt.{Receipt}
+
+-- as many were routed as are in the other four places
+abbrev pub PlacesAddUp : List ℕ → Type 0
+PlacesAddUp n = slice_index n 0 ≡ slice_index n 1 + slice_index n 2 + slice_index n 3 + slice_index n 4
+
+pub record Holds (x : Chain) (ps : List Position) : Type 0 where
+  -- each chunk that is sealed did what it does in the serial run, and so did each list in flight come about
+  pub chunks : (s h : ℕ) (y : ChunkResult) → report_at (rules_of x) ps s h ≡ Some y → option_map (λ z. z.report) (sealing_at (rules_of x) s h) ≡ Some y
+  pub lists : (s h d : ℕ) (list : List Receipt) → flight_at (rules_of x) ps s h d ≡ Some list → list_to (rules_of x) (sealing_at (rules_of x) s h) d ≡ Some list
+  -- what accounts have, what receipts hold that aren't executed and what was burnt is together the first supply
+  pub tokens : (tally_at x ps).accounts + (tally_at x ps).receipts + (tally_at x ps).burnt ≡ supply x.entries
+  -- each routed receipt is in one place: whatever receipts have, as the count of one of them, the four places have of it what was routed
+  pub places : (f : Receipt → ℕ) → sum_by f (routed x ps) ≡ sum_by f (executed x ps) + sum_by f (postponed x ps) + sum_by f (delayed x ps) + sum_by f (flying x ps)
+  -- the counts of a tally are the lengths of these lists
+  pub counts : (tally_at x ps).places ≡ five (length (routed x ps)) (length (executed x ps)) (length (postponed x ps)) (length (delayed x ps)) (length (flying x ps))
+  pub printed : PlacesAddUp (tally_at x ps).places
