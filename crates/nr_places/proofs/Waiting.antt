@@ -13,13 +13,14 @@ use Rattle.nr_join.specs.Keeping.{IsOffered, IsDelayed, IsServed, leaving}
 use Rattle.nr_join.specs.Offering.{offer}
 use Rattle.nr_join.specs.declared.offered.Offered.{Offered}
 use Rattle.nr_join.specs.declared.offered.Offered.TheVariants as offered
-use Rattle.nr_places.specs.Places.{waiting, executes, executes_all, executes_queue}
+use Rattle.nr_places.specs.Places.{waiting, executes, Frees, executes_all, executes_queue}
 use Rattle.nr_receipt.specs.Execution.{execute}
 use Rattle.nr_receipt.specs.Keeping.{IsExecuted}
 use Rattle.nr_records.specs.declared.receipt.Body.{Body}
 use Rattle.nr_records.specs.declared.receipt.Body.TheVariants.{Act, Datum}
 use Rattle.nr_records.specs.declared.receipt.Receipt.{Receipt}
 use Rattle.nr_state.specs.Changes.{with_delayed, served_front}
+use Rattle.nr_state.specs.Queues.{is_act}
 use Rattle.nr_state.specs.Tokens.{postponed_sum, delayed_sum}
 use Rattle.nr_state.specs.World.{World}
 
@@ -57,6 +58,24 @@ module _ (x : Chain) (p : Promise x.config x.call) where
   offered_leaves k r after (offered.Postponed id) can e = record { postponed = refl; delayed = refl }
   offered_leaves k r after (offered.Stored id) can e = record { postponed = refl; delayed = refl }
   offered_leaves k r after (offered.Clash q held) can e = clash_leaves (record k { world = after }) q q.body
+
+  -- ---- a receipt that a datum sets free
+  pub freed : (k : Working) (d q : Receipt) (inputs : List (Option (List ℕ))) (after : World) → CanServe c k (d ∷ []) → has_gas c k ≡ true → is_act d.body ≡ false → offer k.world d ≡ (after, offered.Run q inputs) → Frees x k d q
+  unfolding serve
+  freed k d q inputs after can gas datum e =
+      let is = offered_is c x.call p k d after (offered.Run q inputs) can e in
+      let both : leaving d (offered.Run q inputs) ≡ d ∷ q ∷ [] = ap (λ (b : Bool). cond b (q ∷ []) (d ∷ q ∷ [])) datum in
+      let left : (serve c x.call k d).world.postponed ≡ after.postponed =
+      ap (λ (b : Bool). (cond b (offered_to c x.call k d (offer k.world d)) (late k d)).world.postponed) gas
+      ∙ ap (λ (o : World × Offered). (offered_to c x.call k d o).world.postponed) e
+      ∙ (offered_leaves k d after (offered.Run q inputs) can e).postponed in
+      record {
+        executed = ap (λ (b : Bool). cond b (leaving d (offer k.world d).1) []) gas ∙ ap (λ (o : World × Offered). leaving d o.1) e ∙ both;
+        postponed = λ f.
+            let same : postponed_sum f (serve c x.call k d).world ≡ postponed_sum f after = (λ i. sum_by f (values (left i))) in
+            let gone : sum_by f (leaving d (offered.Run q inputs)) ≡ sum_by f (d ∷ q ∷ []) = ap (λ (list : List Receipt). sum_by f list) both in
+            omega (arith, same, gone, is.sums f, sum_by-cons f d (q ∷ []), sum_by-cons f q []);
+      }
 
   -- ---- while there is gas the delayed queue stays
   queue_stays : (k : Working) (r : Receipt) → CanServe c k (r ∷ []) → has_gas c k ≡ true → (serve c x.call k r).world.delayed ≡ k.world.delayed

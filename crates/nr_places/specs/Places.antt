@@ -1,5 +1,5 @@
 -- Where the receipts of a run are: executed, postponed, delayed or in flight. After the Nomicon, Runtime Specification (Receipts); the amounts are this project's.
-use Rattle.std.specs.Prelude.{ℕ, zero, suc, ◌+◌, ◌-◌, cond, List, [], ◌∷◌, ◌++◌, Option, Some, None, length, slice_get, sum_by, unwrap_or}
+use Rattle.std.specs.Prelude.{◌≡◌, ℕ, zero, suc, ◌+◌, ◌-◌, cond, List, [], ◌∷◌, ◌++◌, Option, Some, None, length, slice_get, sum_by, unwrap_or}
 use Rattle.nr_chunk.specs.Chain.{Chain, rules_of, chunk_at, place_at}
 use Rattle.nr_chunk.specs.Chunk.{Opening, begun, has_gas, serve, served_local, convert_all, without_front}
 use Rattle.nr_chunk.specs.Views.{Kept, Working}
@@ -21,6 +21,11 @@ module _ (x : Chain) where
   -- where one is served: none while the chunk has no gas left
   abbrev pub executes : Working → Receipt → List Receipt
   executes k r = cond (has_gas x.config k) (leaving r (offer k.world r).1) []
+
+  -- one that a datum sets free passes from the postponed ones to these, in the same turn as the datum
+  pub record Frees (k : Working) (datum freed : Receipt) : Type 0 where
+    pub executed : executes k datum ≡ datum ∷ freed ∷ []
+    pub postponed : (f : Receipt → ℕ) → postponed_sum f (serve x.config x.call k datum).world + f freed ≡ postponed_sum f k.world
 
   abbrev pub executes_all : Working → List Receipt → List Receipt
   executes_all k [] = []
