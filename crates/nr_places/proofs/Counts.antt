@@ -15,14 +15,15 @@ use Rattle.nr_overlap.specs.Held.{IsReached, IsInChunk, HasTaken}
 use Rattle.nr_overlap.specs.Moment.{shown, world_in, working_in, report_at, flight_at}
 use Rattle.nr_overlap.specs.Positions.{at, top}
 use Rattle.nr_overlap.specs.Rules.{Rules, Sealing}
-use Rattle.nr_overlap.specs.Serial.{due_after, last_work, sealing_at, work}
+use Rattle.nr_overlap.specs.Serial.{due_after, last_work, work, world_after}
 use Rattle.nr_overlap.specs.declared.position.Position.{Position}
 use Rattle.nr_overlap.specs.declared.position.Stage.{Stage}
 use Rattle.nr_overlap.specs.declared.position.Stage.TheVariants.{Idle, Opened, Sealed}
 use Rattle.nr_overlap.proofs.Basics.{true_or_false}
 use Rattle.nr_overlap.proofs.SerialLemmas.{sealing_missing, sealing_there}
 use Rattle.nr_overlap.proofs.Sums.{sum_none, sum_same}
-use Rattle.nr_places.proofs.Counting.{IsAdditive, additive_at, lengths, measure_each, measure_done, measure_flying, without_none}
+use Rattle.nr_places.proofs.Adding.{IsAdditive, additive_at}
+use Rattle.nr_places.proofs.Counting.{lengths, measure_each, measure_done, measure_flying, without_none}
 use Rattle.nr_places.proofs.Lines.{IsCounted, all_sent, counted_at, same_ran}
 use Rattle.nr_places.specs.Moments.{where_some, waiting_in, waiting_by, routed_at, routed_in, routed, executed, postponed, delayed, flying}
 use Rattle.nr_places.specs.Places.{executed_at, executed_in}
@@ -55,6 +56,10 @@ five_of : (n : ℕ) (f : ℕ → Tally) → let t = tally_below n f in t.places 
 unfolding tally_below
 five_of zero f = refl
 five_of (suc n) f = refl
+
+-- the report of a chunk, where it is shown
+abbrev told : Bool → Option (Sealing Kept (List Receipt) ChunkResult) → Option ChunkResult
+told b o = option_map (λ z. z.report) (cond b o None)
 
 -- nothing of what may be there
 none_of : {A : Type 0} (f : Option A → ℕ) → f None ≡ 0 → ((a : A) → f (Some a) ≡ 0) → (o : Option A) → f o ≡ 0
@@ -108,9 +113,9 @@ module _ (x : Chain) (is : IsChain x) (ps : List Position) (reached : IsReached 
   executed_held s Sealed n k l inside has = refl
 
   postponed_held : (s : ℕ) (t : Stage) (n k : ℕ) → count 2 (shard_tally c (world_in r s t n) (working_in r s t n k)) ≡ length (waiting_in (λ w. values w.postponed) (world_in r s t n) (working_in r s t n k))
-  postponed_held s Idle n k = sym (len_values _)
-  postponed_held s Opened n k = sym (len_values _)
-  postponed_held s Sealed n k = sym (len_values _)
+  postponed_held s Idle n k = sym (len_values (world_after r s n).world.postponed)
+  postponed_held s Opened n k = sym (len_values (work r s n k).world.postponed)
+  postponed_held s Sealed n k = sym (len_values (world_after r s (n + 1)).world.postponed)
 
   delayed_held : (s : ℕ) (t : Stage) (n k : ℕ) → count 3 (shard_tally c (world_in r s t n) (working_in r s t n k)) ≡ length (waiting_in (λ w. w.delayed) (world_in r s t n) (working_in r s t n k))
   delayed_held s Idle n k = refl
@@ -126,21 +131,15 @@ module _ (x : Chain) (is : IsChain x) (ps : List Position) (reached : IsReached 
   by_chunk : (g : Tally → ℕ) → IsAdditive g → (list : List Receipt) (s h : ℕ) → (r.present s (h + 1) ≡ true → g (report_tally (Some (r.seals (last_work r s h)).report)) ≡ length list)
       → g (report_tally (report_at r ps s (h + 1))) ≡ length (where_some list (report_at r ps s (h + 1)))
   by_chunk g adds list s h of_chunk = elim (true_or_false (r.present s (h + 1))) [
-    | inl there ↦ ap (λ o. g (report_tally (told o))) (sealing_there r s h there) ∙ by (nat_le (h + 1) (top (at ps s))) (of_chunk there) ∙ sym (ap (λ o. length (where_some list (told o))) (sealing_there r s h there))
-    | inr missing ↦ ap (λ o. g (report_tally (told o))) (sealing_missing r s h missing) ∙ none (nat_le (h + 1) (top (at ps s))) ∙ sym (ap (λ o. length (where_some list (told o))) (sealing_missing r s h missing))
+    | inl there ↦ ap (λ o. g (report_tally (told (nat_le (h + 1) (top (at ps s))) o))) (sealing_there r s h there) ∙ by (nat_le (h + 1) (top (at ps s))) (of_chunk there) ∙ sym (ap (λ o. length (where_some list (told (nat_le (h + 1) (top (at ps s))) o))) (sealing_there r s h there))
+    | inr missing ↦ ap (λ o. g (report_tally (told (nat_le (h + 1) (top (at ps s))) o))) (sealing_missing r s h missing) ∙ none (nat_le (h + 1) (top (at ps s))) ∙ sym (ap (λ o. length (where_some list (told (nat_le (h + 1) (top (at ps s))) o))) (sealing_missing r s h missing))
   ]
     where
-      abbrev told : Option (Sealing Kept (List Receipt) ChunkResult) → Option ChunkResult
-      told o = option_map (λ z. z.report) (cond (nat_le (h + 1) (top (at ps s))) o None)
-
-      abbrev shows : Bool → Option (Sealing Kept (List Receipt) ChunkResult) → Option ChunkResult
-      shows b o = option_map (λ z. z.report) (cond b o None)
-
-      by : (b : Bool) → g (report_tally (Some (r.seals (last_work r s h)).report)) ≡ length list → g (report_tally (shows b (Some (r.seals (last_work r s h))))) ≡ length (where_some list (shows b (Some (r.seals (last_work r s h)))))
+      by : (b : Bool) → g (report_tally (Some (r.seals (last_work r s h)).report)) ≡ length list → g (report_tally (told b (Some (r.seals (last_work r s h))))) ≡ length (where_some list (told b (Some (r.seals (last_work r s h)))))
       by true e = e
       by false e = adds.none
 
-      none : (b : Bool) → g (report_tally (shows b None)) ≡ length (where_some list (shows b None))
+      none : (b : Bool) → g (report_tally (told b None)) ≡ length (where_some list (told b None))
       none true = adds.none
       none false = adds.none
 

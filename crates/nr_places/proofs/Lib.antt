@@ -4,6 +4,8 @@ pub mod Opening
 pub mod Kept
 pub mod Lines
 pub mod Counting
+pub mod Adding
 pub mod Counts
 pub mod Sums
+pub mod Placed
 pub mod Replay

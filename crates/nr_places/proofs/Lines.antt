@@ -199,14 +199,11 @@ goes_on : (k after : Working) (local xs ys : List Receipt) → IsCounted k local
 goes_on k after local xs ys is more = record { local = more.local ∙ is.local; sent = more.sent ∙ is.sent; ran = omega (arith, is.ran, more.ran, length-append xs ys) }
 
 module _ (x : Chain) (is : IsChain x) where
-  abbrev c : Config
-  c = x.config
-
   abbrev r : Rules Kept Working (List Receipt) ChunkResult
   r = rules_of x
 
-  promise : Promise c x.call
-  promise = promise_of c x.call is.config is.caller
+  promise : Promise x.config x.call
+  promise = promise_of x.config x.call is.config is.caller
 
   laws : AreLawful r (CanOpen x) (CanTake x) (CanSeal x)
   laws = laws_of x is
@@ -216,10 +213,10 @@ module _ (x : Chain) (is : IsChain x) where
   counted_first s h can =
       let k : Working = begun (world_after r s h) (record { 0 = s }) (place_at x (h + 1)) in
       let o : Opening = converted_at x s h in
-      let k1 : Working = served_local c x.call o in
-      let k2 : Working = serve_queue c x.call k1.world.delayed k1 in
-      let made : Converts o = all_convert c (unwrap_or (chunk_at x s (h + 1)) []) (record { working = k; local = [] }) (record { local = refl; sent = refl; ran = refl }) in
-      let ready : CanServe c o.working o.local = (all_go c (pays_of c) (unwrap_or (chunk_at x s (h + 1)) []) (record { working = k; local = [] }) (begun_goes x is s (h + 1) (world_after r s h) can)).0 in
+      let k1 : Working = served_local x.config x.call o in
+      let k2 : Working = serve_queue x.config x.call k1.world.delayed k1 in
+      let made : Converts o = all_convert x.config (unwrap_or (chunk_at x s (h + 1)) []) (record { working = k; local = [] }) (record { local = refl; sent = refl; ran = refl }) in
+      let ready : CanServe x.config o.working o.local = (all_go x.config (pays_of x.config) (unwrap_or (chunk_at x s (h + 1)) []) (record { working = k; local = [] }) (begun_goes x is s (h + 1) (world_after r s h) can)).0 in
       let both : Tells o.working k2 (executes_opened x o) =
       and_then o.working k1 k2 (executes_all x o.working o.local) (executes_delayed x k1) (all_tell x promise o.local o.working ready) (queue_tells x promise k1.world.delayed k1 (all_can x promise o.local o.working ready) refl) in
       subst (λ (t : Working). IsCounted t o.local (executed_at x s h 0)) (sym (work_first r s h)) (subst (IsCounted k2 o.local) (sym (executed_first x s h))
@@ -236,7 +233,7 @@ module _ (x : Chain) (is : IsChain x) where
       by None e = goes_on (work r s h n) (work r s h n) (converted_at x s h).local (executed_at x s h n) [] so_far (no_line x promise (work r s h n))
       by (Some taken) e =
           let can : CanTake x (work r s h n) taken = laws.takes s h n pair taken l below there next e in
-          goes_on (work r s h n) (take_list c x.call (work r s h n) taken) (converted_at x s h).local (executed_at x s h n) (executes_all x (work r s h n) taken) so_far
+          goes_on (work r s h n) (take_list x.config x.call (work r s h n) taken) (converted_at x s h).local (executed_at x s h n) (executes_all x (work r s h n) taken) so_far
           (all_tell x promise taken (work r s h n) (record { config = can.config; valid = can.valid; coming = can.bounded; room = can.room }))
 
   pub counted_at : (s h n : ℕ) → s < r.shards → h < r.heights → r.present s (h + 1) ≡ true → n ≤ length (due_after r s h) → IsCounted (work r s h n) (converted_at x s h).local (executed_at x s h n)

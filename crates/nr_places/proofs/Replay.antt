@@ -22,7 +22,8 @@ use Rattle.nr_overlap.proofs.Founding.{at_replicate}
 use Rattle.nr_overlap.proofs.Sums.{first_sums, keeps_sums}
 use Rattle.nr_places.proofs.Counts.{all_counts}
 use Rattle.nr_places.proofs.Kept.{places_kept}
-use Rattle.nr_places.proofs.Sums.{places_add_up, tokens_add_up}
+use Rattle.nr_places.proofs.Placed.{places_add_up}
+use Rattle.nr_places.proofs.Sums.{tokens_add_up}
 use Rattle.nr_places.specs.Moments.{routed, executed, postponed, delayed, flying}
 use Rattle.nr_places.specs.Places.{places}
 use Rattle.nr_places.specs.Replay.{Holds, PlacesAddUp}
@@ -52,8 +53,8 @@ module _ {W K L R : Type 0} (r : Rules W K L R) (one_each : (k : K) → length (
 
   sums_at_end : 0 < r.shards → AddsUp r m (ending r)
   sums_at_end some =
-      let then = at_height r (AddsUp r m) (λ ps e here inside none was. keeps_sums r m ps e here inside none one_each kept was) (first_sums r m (opening r) (at_replicate r.shards)) r.heights (omega arith) some in
-      subst (AddsUp r m) (is_ending r then.0 then.1.reached.count (λ s l. then.2 s l)) then.1.kept
+      let past = at_height r (AddsUp r m) (λ ps e here inside none was. keeps_sums r m ps e here inside none one_each kept was) (first_sums r m (opening r) (at_replicate r.shards)) r.heights (omega arith) some in
+      subst (AddsUp r m) (is_ending r past.0 past.1.reached.count (λ s l. past.2 s l)) past.1.kept
 
 module _ (x : Chain) (is : IsChain x) where
   abbrev r : Rules Kept Working (List Receipt) ChunkResult

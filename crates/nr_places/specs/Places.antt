@@ -1,14 +1,17 @@
 -- Where the receipts of a run are: executed, postponed, delayed or in flight. After the Nomicon, Runtime Specification (Receipts); the amounts are this project's.
-use Rattle.std.specs.Prelude.{◌≡◌, ℕ, zero, suc, ◌+◌, ◌-◌, cond, List, [], ◌∷◌, ◌++◌, Option, Some, None, length, slice_get, sum_by, unwrap_or}
+use Rattle.std.specs.Prelude.{◌≡◌, ℕ, zero, suc, ◌+◌, ◌-◌, true, false, cond, List, [], ◌∷◌, ◌++◌, Option, Some, None, length, slice_get, sum_by, unwrap_or}
 use Rattle.nr_chunk.specs.Chain.{Chain, rules_of, chunk_at, place_at}
 use Rattle.nr_chunk.specs.Chunk.{Opening, begun, has_gas, serve, served_local, convert_all, without_front}
+use Rattle.nr_chunk.specs.Serving.{CanServe}
 use Rattle.nr_chunk.specs.Views.{Kept, Working}
 use Rattle.nr_join.specs.Keeping.{leaving}
 use Rattle.nr_join.specs.Offering.{offer}
+use Rattle.nr_join.specs.declared.offered.Offered.TheVariants.{Run}
 use Rattle.nr_overlap.specs.Balance.{Amount}
 use Rattle.nr_overlap.specs.Serial.{due_after, last_work, list_to, sealing_at, work, world_after}
 use Rattle.nr_records.specs.declared.chunk_result.ChunkResult.{ChunkResult}
 use Rattle.nr_records.specs.declared.receipt.Receipt.{Receipt}
+use Rattle.nr_state.specs.Queues.{is_act}
 use Rattle.nr_state.specs.Tokens.{postponed_sum, delayed_sum}
 use Rattle.nr_state.specs.World.{World}
 
@@ -26,6 +29,11 @@ module _ (x : Chain) where
   pub record Frees (k : Working) (datum freed : Receipt) : Type 0 where
     pub executed : executes k datum ≡ datum ∷ freed ∷ []
     pub postponed : (f : Receipt → ℕ) → postponed_sum f (serve x.config x.call k datum).world + f freed ≡ postponed_sum f k.world
+
+  -- so it is wherever a chunk that has gas left serves such a datum
+  abbrev pub FreesPostponed : Type 0
+  FreesPostponed = (k : Working) (datum freed : Receipt) (inputs : List (Option (List ℕ))) (after : World) → CanServe x.config k (datum ∷ []) → has_gas x.config k ≡ true → is_act datum.body ≡ false
+      → offer k.world datum ≡ (after, Run freed inputs) → Frees k datum freed
 
   abbrev pub executes_all : Working → List Receipt → List Receipt
   executes_all k [] = []

@@ -4,8 +4,11 @@ use Rattle.std.specs.Option.{option_map}
 use Rattle.nr_blocks.specs.Genesis.{supply}
 use Rattle.nr_chunk.specs.Chain.{Chain, rules_of}
 use Rattle.nr_chunk.specs.Tallies.{five}
+use Rattle.nr_overlap.specs.Inside.{AreInside}
 use Rattle.nr_overlap.specs.Moment.{report_at, flight_at}
+use Rattle.nr_overlap.specs.Run.{run_of, opening, ending}
 use Rattle.nr_overlap.specs.Serial.{list_to, sealing_at}
+use Rattle.nr_overlap.specs.declared.event.Event.{Event}
 use Rattle.nr_overlap.specs.declared.position.Position.{Position}
 use Rattle.nr_places.specs.Moments.{routed, executed, postponed, delayed, flying}
 use Rattle.nr_places.specs.Totals.{tally_at}
@@ -17,7 +20,7 @@ abbrev pub PlacesAddUp : List ℕ → Type 0
 PlacesAddUp n = slice_index n 0 ≡ slice_index n 1 + slice_index n 2 + slice_index n 3 + slice_index n 4
 
 pub record Holds (x : Chain) (ps : List Position) : Type 0 where
-  -- each chunk that is sealed did what it does in the serial run, and so did each list in flight come about
+  -- each chunk that is sealed has the report of the serial run, and each list in flight is the serial run's
   pub chunks : (s h : ℕ) (y : ChunkResult) → report_at (rules_of x) ps s h ≡ Some y → option_map (λ z. z.report) (sealing_at (rules_of x) s h) ≡ Some y
   pub lists : (s h d : ℕ) (list : List Receipt) → flight_at (rules_of x) ps s h d ≡ Some list → list_to (rules_of x) (sealing_at (rules_of x) s h) d ≡ Some list
   -- what accounts have, what receipts hold that aren't executed and what was burnt is together the first supply
@@ -27,3 +30,11 @@ pub record Holds (x : Chain) (ps : List Position) : Type 0 where
   -- the counts of a tally are the lengths of these lists
   pub counts : (tally_at x ps).places ≡ five (length (routed x ps)) (length (executed x ps)) (length (postponed x ps)) (length (delayed x ps)) (length (flying x ps))
   pub printed : PlacesAddUp (tally_at x ps).places
+
+-- wherever a list of events leads from the opening
+abbrev pub HoldsAlways : Chain → Type 0
+HoldsAlways x = (es : List Event) → AreInside (rules_of x).shards es → Holds x (run_of (rules_of x) (opening (rules_of x)) es)
+
+-- and where the run is over
+abbrev pub HoldsAtEnd : Chain → Type 0
+HoldsAtEnd x = Holds x (ending (rules_of x))

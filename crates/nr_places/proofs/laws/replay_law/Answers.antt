@@ -2,4 +2,4 @@ use Rattle.nr_places.proofs.Replay.{end_holds, replay_holds}
 use Rattle.nr_places.proofs.laws.replay_law.Goals as goal
 
 pub returns : goal.returns
-returns c = record { moments = replay_holds; over = end_holds }
+returns c = record { always = replay_holds; over = end_holds }
