@@ -96,7 +96,7 @@ module _ (x : Chain) (p : Promise x.config x.call) where
   offer_tells k r after (offered.Stored id) can e = let k1 : Working = record k { world = after } in one_line k1 (with_line k1 (line.Received id)) (line.Received id) (r ∷ []) refl refl refl refl
   offer_tells k r after (offered.Clash q held) can e = clash_tells (record k { world = after }) q q.body
 
-  pub serve_tells : (k : Working) (r : Receipt) → CanServe c k (r ∷ []) → Tells k (serve c x.call k r) (executes x k r)
+  serve_tells : (k : Working) (r : Receipt) → CanServe c k (r ∷ []) → Tells k (serve c x.call k r) (executes x k r)
   unfolding serve
   serve_tells k r can = by (has_gas c k)
     where
@@ -190,8 +190,8 @@ all_convert c [] o is = is
 all_convert c (tx ∷ txs) o is = all_convert c txs (convert_next c o tx) (next_converts c o tx is)
 
 -- ---- a chunk at work: as many receipts are local, no line tells of one that was sent, and there is a line for each that was executed
-pub record IsCounted (k : Working) (local done : List Receipt) : Type 0 where
-  pub local : k.local ≡ length local
+pub record IsCounted (k : Working) (own done : List Receipt) : Type 0 where
+  pub local : k.local ≡ length own
   pub sent : count_by is_sent k.lines ≡ 0
   pub ran : executions k.lines ≡ length done
 
@@ -226,7 +226,7 @@ module _ (x : Chain) (is : IsChain x) where
       → IsCounted (work r s h n) (converted_at x s h).local (executed_at x s h n) → IsCounted (work r s h (n + 1)) (converted_at x s h).local (executed_at x s h (suc n))
   counted_next s h n l below there pair next so_far =
       subst (λ (t : Working). IsCounted t (converted_at x s h).local (executed_at x s h (suc n))) (sym (work_next r s h n pair next))
-      (subst (IsCounted (with_list r (work r s h n) list) (converted_at x s h).local) (sym (executed_more x s h n ∙ ap (λ o. executed_at x s h n ++ executes_due x s h n o) next)) (by (list_to r (sealing_at r pair.1 pair.0) s) refl))
+      (subst (IsCounted (with_list r (work r s h n) (list_to r (sealing_at r pair.1 pair.0) s)) (converted_at x s h).local) (sym (executed_more x s h n ∙ ap (λ o. executed_at x s h n ++ executes_due x s h n o) next)) (by (list_to r (sealing_at r pair.1 pair.0) s) refl))
     where
       by : (o : Option (List Receipt)) → list_to r (sealing_at r pair.1 pair.0) s ≡ o
           → IsCounted (with_list r (work r s h n) o) (converted_at x s h).local (executed_at x s h n ++ executes_list x (work r s h n) o)
@@ -240,7 +240,7 @@ module _ (x : Chain) (is : IsChain x) where
   counted_at s h zero l below there few = counted_first s h (laws.opens s h l below there)
   counted_at s h (suc n) l below there few =
       let pair = within_some (due_after r s h) n (omega (arith, few)) in
-      subst (λ (t : ℕ). IsCounted (work r s h t) (converted_at x s h).local (executed_at x s h (suc n))) (sym (add-one n))
+      subst (λ (t : ℕ). IsCounted (work r s h t) (converted_at x s h).local (executed_at x s h (suc n))) (add-one n)
       (counted_next s h n l below there pair.0 pair.1 (counted_at s h n l below there (omega (arith, few))))
     where
       within_some : {A : Type 0} (xs : List A) (i : ℕ) → i < length xs → (a : A) × (slice_get xs i ≡ Some a)

@@ -78,7 +78,7 @@ module _ (x : Chain) (p : Promise x.config x.call) where
       }
 
   -- ---- while there is gas the delayed queue stays
-  queue_stays : (k : Working) (r : Receipt) → CanServe c k (r ∷ []) → has_gas c k ≡ true → (serve c x.call k r).world.delayed ≡ k.world.delayed
+  pub queue_stays : (k : Working) (r : Receipt) → CanServe c k (r ∷ []) → has_gas c k ≡ true → (serve c x.call k r).world.delayed ≡ k.world.delayed
   unfolding serve
   queue_stays k r can gas = by (has_gas c k) gas
     where
