@@ -1,9 +1,9 @@
--- What a port notes while it puts its lists.
-use Rattle.std.proofs.Common.{◌≡◌, ℕ, zero, suc, ◌+◌, ◌<◌, List, [], ◌∷◌, length, refl, ◌∙◌, arith, length-set, drop, ap, set, get_or}
+-- What a port notes of its claims, and while it puts its lists.
+use Rattle.std.proofs.Common.{◌≡◌, ℕ, zero, suc, ◌+◌, ◌<◌, List, [], ◌∷◌, length, refl, ◌∙◌, arith, length-set, drop, ap, set, get_or, ◌≢◌, get_or-set_same, get_or-set_other}
 use Rattle.std.specs.Prelude.{slice_get, Some}
 use Rattle.nr_exchange.specs.declared.note.Link.{Link}
 use Rattle.nr_exchange.specs.declared.note.Note.{Note}
-use Rattle.nr_exchange.specs.Notes.{no_link, link, holding}
+use Rattle.nr_exchange.specs.Notes.{no_link, link, looked, claims, holding}
 
 pub record Holds {P : Type 0} (v w : Note P) (k : ℕ) : Type 0 where
   pub run_is : w.run ≡ v.run
@@ -54,3 +54,14 @@ claim_stays (x ∷ xs) (suc i) (suc s) l e = claim_stays xs i s l e
 pub holding_claims : {P : Type 0} (v : Note P) (k s : ℕ) → (link (holding v k) s).claimed ≡ (link v s).claimed
 holding_claims v zero s = refl
 holding_claims v (suc k) s = claim_stays (holding v k).links (holding v k).shard s _ refl ∙ holding_claims v k s
+
+-- a load leaves each claim, and a take moves that of its source
+module _ {P : Type 0} (v : Note P) where
+  pub looked_claims : (s n i : ℕ) → (link (looked v s n) i).claimed ≡ (link v i).claimed
+  looked_claims s n i = claim_stays v.links s i _ refl
+
+  pub claims_here : (s n h : ℕ) → s < length v.links → (link (claims v s n h) s).claimed ≡ h
+  claims_here s n h lt = ap (λ l. l.claimed) (get_or-set_same v.links s _ no_link lt)
+
+  pub claims_else : (s n h i : ℕ) → i ≢ s → link (claims v s n h) i ≡ link v i
+  claims_else s n h i ne = get_or-set_other v.links s i _ no_link ne

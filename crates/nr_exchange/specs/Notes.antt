@@ -25,15 +25,19 @@ module _ {P : Type 0} where
   abbrev pub with_link : Note P → ℕ → Link → Note P
   with_link v s l = record { run = v.run; shard = v.shard; made = v.made; number = v.number; abandoned = v.abandoned; out = v.out; links = slice_set v.links s l }
 
-  -- the published word of s was loaded, and was n
+  -- the published word of s was loaded, and was n; the list of height c is the last that was claimed
+  abbrev pub loaded : Note P → ℕ → ℕ → ℕ → Note P
+  loaded v s n c = with_link v s (record { claimed = c; seen = n % 2 ^ 32; marked = nat_le (2 ^ 32) n; loads = (link v s).loads + 1 })
+
+  -- a load that claims nothing
   abbrev pub looked : Note P → ℕ → ℕ → Note P
-  looked v s n = with_link v s (record { claimed = (link v s).claimed; seen = n % 2 ^ 32; marked = nat_le (2 ^ 32) n; loads = (link v s).loads + 1 })
+  looked v s n = loaded v s n (link v s).claimed
 
-  -- the same, and the list of height h was claimed
+  -- a load that claims the list of height h
   abbrev pub claims : Note P → ℕ → ℕ → ℕ → Note P
-  claims v s n h = with_link v s (record { claimed = h; seen = n % 2 ^ 32; marked = nat_le (2 ^ 32) n; loads = (link v s).loads + 1 })
+  claims v s n h = loaded v s n h
 
-  -- as many places of the next height are out with the seat
+  -- so many places of the next height are out with the port
   abbrev pub with_out : Note P → ℕ → Note P
   with_out v k = record { run = v.run; shard = v.shard; made = v.made; number = v.number; abandoned = v.abandoned; out = k; links = v.links }
 
@@ -45,18 +49,20 @@ module _ {P : Type 0} where
   abbrev pub held : Note P → Note P
   held v = with_out (looked v v.shard (own_word v)) (v.out + 1)
 
+  -- the places of the first k destinations are out
   abbrev pub holding : Note P → ℕ → Note P
   holding v zero = v
   holding v (suc k) = held (holding v k)
 
-  -- the number rose
+  -- the next height is published
   abbrev pub raised : Note P → Note P
   raised v = record { run = v.run; shard = v.shard; made = v.made; number = v.number + 1; abandoned = v.abandoned; out = 0; links = v.links }
 
+  -- the shard has abandoned the run
   abbrev pub gives_up : Note P → Note P
   gives_up v = record { run = v.run; shard = v.shard; made = v.made; number = v.number; abandoned = true; out = v.out; links = v.links }
 
-  -- a field of the view of a seat, and d where there is no such seat
+  -- a field of the view of a port, and d where it is not made yet
   abbrev pub noted : {A : Type 0} → (Note P → A) → A → List (Note P) → ℕ → A
   noted f d [] s = d
   noted f d (v ∷ vs) zero = f v

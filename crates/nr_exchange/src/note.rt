@@ -17,6 +17,7 @@ pub struct Link {
 pub struct Note<P> {
     /// The run that the exchange was made for.
     pub run: P,
+    /// The number of the shard.
     pub shard: u64,
     /// How many ports were made, in the view of port 0.
     pub made: u64,
@@ -24,7 +25,7 @@ pub struct Note<P> {
     pub number: u64,
     /// Whether the shard has abandoned the run.
     pub abandoned: bool,
-    /// How many places of the next height are out with the seat.
+    /// How many places of the next height are out with the port.
     pub out: u64,
     /// A link for each source, in order of number.
     pub links: LinkedList<Link>,

@@ -143,7 +143,6 @@ impl<P: Phases> Port<P> {
         ensures port { IsPortOf P.rules exchange.now self.new }
         ensures raised { self.new.note ≡ raised self.old.note }
     {
-        let _height = height;
         exchange
             .table
             .shared

@@ -1,10 +1,11 @@
 -- What the calls of the tests need.
-use Rattle.std.proofs.Common.{◌≡◌, ℕ, ◌+◌, ◌<◌, ◌≤◌, true, [], ◌∷◌, length, refl, arith, ap, ◌∙◌, get_or-set_same}
+use Rattle.std.proofs.Common.{◌≡◌, ℕ, ◌+◌, ◌<◌, ◌≤◌, true, [], ◌∷◌, length, refl, arith}
 use Rattle.std.proofs.lemmas.Bool.Decides.{nat_tests}
 use Rattle.nr_overlap.specs.Serial.{due_after, past_after}
 use Rattle.nr_exchange.specs.declared.note.Note.{Note}
 use Rattle.nr_exchange.specs.Plan.{plan_of, IsNextChunk}
-use Rattle.nr_exchange.specs.Notes.{no_link, link, looked, claims}
+use Rattle.nr_exchange.specs.Notes.{link, looked, claims}
+use Rattle.nr_exchange.proofs.Holding.{looked_claims, claims_here}
 use Rattle.nr_exchange_tests.specs.Pair.{rules, sent}
 
 -- the chunk of shard 0 at each height is there
@@ -19,9 +20,8 @@ unfolding past_after due_after
 first_lists = refl
 
 -- a load leaves the claim, and a take moves it
-module _ {P : Type 0} (v : Note P) where
-  pub still_claimed : (n : ℕ) → 0 < length v.links → (link (looked v 0 n) 0).claimed ≡ (link v 0).claimed
-  still_claimed n pos = ap (λ l. l.claimed) (get_or-set_same v.links 0 _ no_link pos)
+pub still_claimed : {P : Type 0} (v : Note P) (n : ℕ) → (link (looked v 0 n) 0).claimed ≡ (link v 0).claimed
+still_claimed v n = looked_claims v 0 n 0
 
-  pub now_claimed : (n h : ℕ) → 0 < length v.links → (link (claims v 0 n h) 0).claimed ≡ h
-  now_claimed n h pos = ap (λ l. l.claimed) (get_or-set_same v.links 0 _ no_link pos)
+pub now_claimed : {P : Type 0} (v : Note P) (n h : ℕ) → 0 < length v.links → (link (claims v 0 n h) 0).claimed ≡ h
+now_claimed v n h pos = claims_here v 0 n h pos

@@ -96,8 +96,9 @@ fn a_list_comes_once_it_is_published(rt: HostRuntime) -> Result<(), Fail> {
     let alloc = rt.alloc();
     let lists = first_lists(alloc)?;
     let (exchange, mut ports) = make_exchange(alloc, &Pair)?;
+    assert_eq!(rt; ports.len(), 2);
     let (Some(mut taker), Some(mut giver)) = (ports.pop(), ports.pop()) else {
-        return Ok(());
+        unreachable!();
     };
     let (answers, marks) = exchanged(&exchange, &mut giver, &mut taker, lists);
     let list = Sent {
