@@ -1,11 +1,11 @@
 -- The lists of a plan are the serial run's.
-use Rattle.std.proofs.Common.{◌≡◌, ℕ, zero, suc, ◌+◌, ◌-◌, ◌<◌, Bool, true, length, refl, ap, sym, ◌∙◌, subst, arith, add-one}
+use Rattle.std.proofs.Common.{◌≡◌, ℕ, ◌+◌, ◌-◌, ◌<◌, true, length, refl, ap, sym, ◌∙◌, subst, arith}
 use Rattle.std.specs.Prelude.{Option, Some, None, slice_get}
 use Rattle.nr_overlap.specs.Rules.{Rules, Sealing}
 use Rattle.nr_overlap.specs.Serial.{sealing_at, last_work, list_to}
 use Rattle.nr_overlap.specs.Lawful.{AreLawful}
 use Rattle.nr_overlap.proofs.SerialLemmas.{sealing_there}
-use Rattle.nr_exchange.specs.Plan.{Plan, plan_of, lists_in, list_of}
+use Rattle.nr_exchange.specs.Plan.{plan_of, lists_in, list_of}
 
 module _ {W K L R : Type 0} (r : Rules W K L R) where
   lists_to : (z : Option (Sealing W L R)) (d : ℕ) → slice_get (lists_in z) d ≡ list_to r z d

@@ -108,8 +108,7 @@ fn a_list_comes_once_it_is_published(rt: HostRuntime) -> Result<(), Fail> {
         },
         dest: 1,
     };
-    assert_eq!(
-        rt;
+    assert_eq!(rt;
         answers,
         [Answer::NotYet(0), Answer::List(list), Answer::GivenUp(1)]
     );
