@@ -1,0 +1,7 @@
+pub mod Lists
+pub mod Modules
+pub mod Below
+pub mod Layouts
+pub mod Apart
+pub mod Founding
+pub mod Ordered
