@@ -11,10 +11,10 @@ use Rattle.nr_chunk.specs.Views.{Kept, Working}
 use Rattle.nr_config.specs.Config.{Config}
 use Rattle.nr_overlap.specs.Held.{IsReached, IsInChunk, HasTaken}
 use Rattle.nr_overlap.specs.Inside.{IsInside, AreInside}
-use Rattle.nr_overlap.specs.Moment.{took, shown, world_at, world_in, working_at, working_in, report_at, flight_at}
+use Rattle.nr_overlap.specs.Moment.{took, world_at, world_in, working_at, working_in, report_at, flight_at}
 use Rattle.nr_overlap.specs.Moves.{refusal}
 use Rattle.nr_overlap.specs.Positions.{at, start, end_at, top, top_at}
-use Rattle.nr_overlap.specs.Rules.{Rules, Sealing}
+use Rattle.nr_overlap.specs.Rules.{Rules}
 use Rattle.nr_overlap.specs.Run.{moved_if, tried, run_of, opening, ending}
 use Rattle.nr_overlap.specs.Serial.{due_after, first_due, last_work, list_to, sealing_at, work, world_after}
 use Rattle.nr_overlap.specs.declared.event.Event.{Event}

@@ -1,18 +1,18 @@
 -- The counts of a moment's tallies are the lengths of the lists of receipts in each place.
-use Rattle.std.proofs.Common.{◌≡◌, ℕ, zero, suc, ◌+◌, ◌<◌, ◌≤◌, Bool, true, false, cond, List, [], ◌++◌, length, Option, Some, None, inl, inr, refl, sym, ap, ◌∙◌, arith}
-use Rattle.std.specs.Prelude.{count_by, map, nat_le, slice_index, unwrap_or}
+use Rattle.std.proofs.Common.{◌≡◌, ℕ, zero, suc, ◌+◌, ◌<◌, Bool, true, false, cond, List, length, Option, Some, None, inl, inr, refl, sym, ap, ◌∙◌, arith}
+use Rattle.std.specs.Prelude.{nat_le, slice_index}
 use Rattle.std.specs.FinMap.{values}
 use Rattle.std.specs.Option.{option_map}
 use Rattle.std.proofs.lemmas.List.{length-append}
 use Rattle.nr_chunk.specs.Chain.{Chain, IsChain, rules_of}
-use Rattle.nr_chunk.specs.Tallies.{five, is_sent, executions}
+use Rattle.nr_chunk.specs.Tallies.{five}
 use Rattle.nr_chunk.specs.Views.{Kept, Working}
 use Rattle.nr_chunk.specs.declared.tally.Tally.{Tally}
 use Rattle.nr_chunk.proofs.Tallied.{len_values}
 use Rattle.nr_config.specs.Config.{Config}
 use Rattle.nr_overlap.specs.Balance.{if_some, sum_below}
 use Rattle.nr_overlap.specs.Held.{IsReached, IsInChunk, HasTaken}
-use Rattle.nr_overlap.specs.Moment.{shown, world_in, working_in, report_at, flight_at}
+use Rattle.nr_overlap.specs.Moment.{world_in, working_in, report_at, flight_at}
 use Rattle.nr_overlap.specs.Positions.{at, top}
 use Rattle.nr_overlap.specs.Rules.{Rules, Sealing}
 use Rattle.nr_overlap.specs.Serial.{due_after, last_work, work, world_after}
@@ -27,10 +27,9 @@ use Rattle.nr_places.proofs.Counting.{lengths, measure_each, measure_done, measu
 use Rattle.nr_places.proofs.Lines.{IsCounted, all_sent, counted_at, same_ran}
 use Rattle.nr_places.specs.Moments.{where_some, waiting_in, waiting_by, routed_at, routed_in, routed, executed, postponed, delayed, flying}
 use Rattle.nr_places.specs.Places.{executed_at, executed_in}
-use Rattle.nr_places.specs.Totals.{plus, tally_below, shard_tally, report_tally, list_tally, tally_of, tally_at}
+use Rattle.nr_places.specs.Totals.{tally_below, shard_tally, report_tally, list_tally, tally_of, tally_at}
 use Rattle.nr_records.specs.declared.chunk_result.ChunkResult.{ChunkResult}
 use Rattle.nr_records.specs.declared.receipt.Receipt.{Receipt}
-use Rattle.nr_state.specs.World.{World}
 
 -- ---- one count of a tally
 abbrev count : ℕ → Tally → ℕ

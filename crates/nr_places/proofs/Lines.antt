@@ -4,13 +4,13 @@ use Rattle.std.specs.Prelude.{count_by, fold, map, slice_get, unwrap_or}
 use Rattle.std.proofs.lemmas.List.{length-append}
 use Rattle.std.proofs.lemmas.List.Sums.{sum_by-append, sum_by-cons, sum_by_push}
 use Rattle.std.proofs.lemmas.Option.{slice_get_cases}
-use Rattle.nr_chunk.specs.Chain.{Chain, IsChain, CanOpen, CanTake, CanSeal, chunk_at, opened, place_at, rules_of}
-use Rattle.nr_chunk.specs.Chunk.{Opening, begun, with_line, with_executed, with_execution, told, clashed, late, has_gas, run, by_offer, offered_to, serve, serve_all, serve_queue, served_local, without_front, is_local, with_converted, put_aside, by_conversion, convert_next, convert_all, open_chunk, take_list, sent}
+use Rattle.nr_chunk.specs.Chain.{Chain, IsChain, CanOpen, CanTake, CanSeal, chunk_at, place_at, rules_of}
+use Rattle.nr_chunk.specs.Chunk.{Opening, begun, with_line, told, clashed, late, has_gas, run, by_offer, offered_to, serve, serve_all, serve_queue, served_local, without_front, is_local, with_converted, put_aside, by_conversion, convert_next, open_chunk, take_list, sent}
 use Rattle.nr_chunk.specs.Lawful.{laws_of}
 use Rattle.nr_chunk.specs.Promised.{promise_of, pays_of}
 use Rattle.nr_chunk.specs.Refused.{refused}
 use Rattle.nr_chunk.specs.Served.{can_first, can_go_on, can_front, run_action}
-use Rattle.nr_chunk.specs.Serving.{CanServe, Pays, Promise}
+use Rattle.nr_chunk.specs.Serving.{CanServe, Promise}
 use Rattle.nr_chunk.specs.Tallies.{is_sent, is_execution, executions}
 use Rattle.nr_chunk.specs.Views.{Kept, Working}
 use Rattle.nr_config.specs.Config.{Config}
@@ -38,7 +38,6 @@ use Rattle.nr_records.specs.declared.transaction.Transaction.{Transaction}
 use Rattle.nr_state.specs.Queues.{is_act}
 use Rattle.nr_state.specs.World.{World}
 use Rattle.nr_txconvert.specs.Conversion.{Conversion, convert, transaction_hash}
-use Rattle.nr_txconvert.specs.declared.converted.Converted.{Converted}
 use Rattle.nr_txconvert.specs.declared.fault.TxFault.{TxFault}
 use Rattle.nr_txconvert.specs.declared.fault.TxFault.TheVariants as fault
 

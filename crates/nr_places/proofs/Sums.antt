@@ -20,7 +20,7 @@ use Rattle.nr_overlap.proofs.SerialLemmas.{sealing_first}
 use Rattle.nr_overlap.proofs.Sums.{sum_none, sum_same}
 use Rattle.nr_places.proofs.Adding.{IsAdditive, additive_at}
 use Rattle.nr_places.proofs.Counting.{sum_add, sum_from_one}
-use Rattle.nr_places.specs.Totals.{shard_tally, report_tally, list_tally, plus, tally_at}
+use Rattle.nr_places.specs.Totals.{shard_tally, report_tally, list_tally, tally_at}
 use Rattle.nr_records.specs.declared.chunk_result.ChunkResult.{ChunkResult}
 use Rattle.nr_records.specs.declared.receipt.Receipt.{Receipt}
 use Rattle.nr_state.specs.Tokens.{list_tokens, waiting_tokens}

@@ -1,5 +1,5 @@
 -- What holds at each moment of a replay, at whatever heights and stages its shards stand. After the Nomicon, Chain Specification and Economics; the moments are this project's.
-use Rattle.std.specs.Prelude.{◌≡◌, ℕ, ◌+◌, List, length, Option, Some, slice_index, sum_by}
+use Rattle.std.specs.Prelude.{◌≡◌, ℕ, ◌+◌, List, length, Some, slice_index, sum_by}
 use Rattle.std.specs.Option.{option_map}
 use Rattle.nr_blocks.specs.Genesis.{supply}
 use Rattle.nr_chunk.specs.Chain.{Chain, rules_of}
