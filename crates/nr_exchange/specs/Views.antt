@@ -1,6 +1,9 @@
--- What contracts see of an exchange and of a port. This project's own.
+-- What contracts see of an exchange and of a port, and what an exchange keeps of its numbers. This project's own.
+use Rattle.std.specs.Prelude.{◌≡◌, ℕ, ◌^◌, ◌<◌}
 use Rattle.atomic_table.specs.Seated.{TableId}
 use Rattle.nr_exchange.specs.declared.note.Note.{Note}
+use Rattle.nr_exchange.specs.Plan.{Plan}
+use Rattle.nr_exchange.specs.Places.{places}
 
 pub record ExchangeView (P : Type 0) : Type 0 where
   pub name : TableId
@@ -9,3 +12,11 @@ pub record ExchangeView (P : Type 0) : Type 0 where
 pub record PortView (P : Type 0) : Type 0 where
   pub name : TableId
   pub note : Note P
+
+-- an exchange has as many words and places as its run asks for
+pub record IsSized {L : Type 0} (p : Plan L) (name : TableId) (shards heights : ℕ) : Type 0 where
+  pub shards_is : shards ≡ p.shards
+  pub heights_is : heights ≡ p.heights
+  pub words : name.words ≡ p.shards
+  pub slots : name.slots ≡ places p
+  pub small : places p < 2 ^ 64

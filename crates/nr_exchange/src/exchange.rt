@@ -29,16 +29,14 @@ pub struct Exchange<P: Phases> {
 }
 
 impl<P: Phases> Model for Exchange<P> {
-    ghost use Rattle.std.specs.Prelude.{◌≡◌, ◌^◌, ◌<◌};
     ghost use Rattle.nr_exchange.specs.Plan.{plan_of};
-    ghost use Rattle.nr_exchange.specs.Places.{places};
-    ghost use Rattle.nr_exchange.specs.Views.{ExchangeView};
+    ghost use Rattle.nr_exchange.specs.Views.{ExchangeView, IsSized};
 
     ghost Value = { ExchangeView P };
 
     ghost view = { λ e. record { name = e.table.shared.table_id; run = e.table.shared.key } };
 
-    ghost invariant = { λ e. (e.shards ≡ (P.rules e.table.shared.key).shards) × (e.heights ≡ (P.rules e.table.shared.key).heights) × (e.table.shared.table_id.words ≡ e.shards) × (e.table.shared.table_id.slots ≡ places (plan_of (P.rules e.table.shared.key))) × (places (plan_of (P.rules e.table.shared.key)) < 2 ^ 64) × (P.is_run e.table.shared.key) };
+    ghost invariant = { λ e. IsSized (plan_of (P.rules e.table.shared.key)) e.table.shared.table_id e.shards e.heights × P.is_run e.table.shared.key };
 }
 
 /// An exchange for a run, and the ports of its shards in order of number. None of them has published, taken or

@@ -19,10 +19,10 @@ split_seat-seat-requires g c =
     let seen = alike _ _ (sym (slice_get_read c.loop-shard.ports.items (length c.loop-shard.ports.items) 0 c.index_mut.result.now refl (omega arith) c.index_mut.ensures.value) ∙ c.loop-shard.invariant.front) in
     let front = c.behind-ports.view_is ∙ seen in (
       ap (λ q. q.name) front ∙ sym (ap (λ e. e.name) c.exchange.view_is),
-      subst (λ (n : ℕ). 0 < n) (sym (inv.2 ∙ inv.0)) (subst (λ e. 0 < (g.P.Phases.rules e.run).shards) (sym c.exchange.view_is) c.requires.some),
+      subst (λ (n : ℕ). 0 < n) (sym inv.0.words) (subst (λ e. 0 < (g.P.Phases.rules e.run).shards) (sym c.exchange.view_is) c.requires.some),
       forks_for (plan g.P.Phases.rules) c.exchange.inside.table.shared.key c.behind-ports.inside.seat.id c.behind-ports.inside.seat.me.0 c.loop-shard.shard
           (ap (λ q. q.note) front ∙ (λ k. fresh (sym c.exchange.view_is k).run (g.P.Phases.rules (sym c.exchange.view_is k).run).shards 0 c.loop-shard.shard))
-          (subst (λ (n : ℕ). c.loop-shard.shard < n) inv.0 c.loop-shard-test.true),
+          (subst (λ (n : ℕ). c.loop-shard.shard < n) inv.0.shards_is c.loop-shard-test.true),
     )
 
 earlier : {A : Type 0} (xs ys : List A) (i : ℕ) (x : A) → slice_get xs i ≡ Some x → slice_get (xs ++ ys) i ≡ Some x

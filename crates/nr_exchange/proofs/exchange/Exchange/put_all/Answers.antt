@@ -35,7 +35,7 @@ overflow_add-dest g c =
     let e = left_is (into_iter_items c.loop-list.rest) (into_iter_items c.next.new.self) c.args.lists c.loop-list.dest c.in-Some.list c.loop-list.invariant.left c.in-Some.ensures.items in
     let lt : c.loop-list.dest < length c.args.lists = left_below c.args.lists c.loop-list.dest c.in-Some.list (into_iter_items c.next.new.self) e in
     let all = c.requires.all in
-    let same = c.self.invariant.0 ∙ ap (λ e. (g.P.Phases.rules e.run).shards) c.self.view_is in
+    let same = c.self.invariant.0.shards_is ∙ ap (λ e. (g.P.Phases.rules e.run).shards) c.self.view_is in
     omega (arith, lt, all, same)
 
 kept : {P L : Type 0} (p : Plan L) (v : Note P) (s h d : ℕ) (rest : List (ℕ × Option L)) (all : List L) (x : L) (me me' : Note P × List (ℕ × Option L))

@@ -9,6 +9,6 @@ fetch_add-requires g c =
     let inv = c.exchange.invariant in
     let own = c.self.invariant.0 in (
       o.name,
-      subst (λ (n : ℕ). n < c.exchange.inside.table.shared.table_id.words) (sym own) (subst (λ (n : ℕ). c.self.inside.seat.me.0.shard < n) (sym (inv.2 ∙ inv.0)) o.inside),
+      subst (λ (n : ℕ). n < c.exchange.inside.table.shared.table_id.words) (sym own) (subst (λ (n : ℕ). c.self.inside.seat.me.0.shard < n) (sym inv.0.words) o.inside),
       abandons_as (plan g.P.Phases.rules) _ _ _ c.self.inside.seat.me c.self.inside.shard o.run own (sym c.self.invariant.1 ∙ c.if-not-self.true),
     )

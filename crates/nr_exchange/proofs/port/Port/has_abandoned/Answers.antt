@@ -9,6 +9,6 @@ load-requires g c =
     let inv = c.exchange.invariant in
     let inside = below g.P.Phases.rules _ _ c.args.shard.0 c.exchange.view_is c.requires.inside in (
       o.name,
-      subst (λ (n : ℕ). c.args.shard.0 < n) (sym (inv.2 ∙ inv.0)) inside,
+      subst (λ (n : ℕ). c.args.shard.0 < n) (sym inv.0.words) inside,
       looks_as (plan g.P.Phases.rules) _ _ _ c.self.inside.seat.me c.args.shard.0 o.run inside,
     )

@@ -15,7 +15,7 @@ fetch_add-requires g c =
     let e = c.put_all.ensures.me in
     let hold = holding_is c.self.inside.seat.me.0 (g.P.Phases.rules c.args.exchange.now.run).shards in (
       c.put_all.ensures.same.0 ∙ o.name,
-      subst (λ (n : ℕ). n < c.exchange.inside.table.shared.table_id.words) (sym own) (subst (λ (n : ℕ). c.self.inside.seat.me.0.shard < n) (sym (inv.2 ∙ inv.0)) o.inside),
+      subst (λ (n : ℕ). n < c.exchange.inside.table.shared.table_id.words) (sym own) (subst (λ (n : ℕ). c.self.inside.seat.me.0.shard < n) (sym inv.0.words) o.inside),
       publishes_as (plan g.P.Phases.rules) _ _ _ c.put_all.new.seat.me c.self.inside.shard c.args.height.0 c.self.inside.seat.me.1
           (ap (λ m. m.0.run) e ∙ (hold.run_is ∙ o.run))
           (own ∙ sym (ap (λ m. m.0.shard) e ∙ hold.shard_is))
@@ -46,5 +46,5 @@ returns-clause-port g c =
 
 pub put_all-requires-clause-all : goal.put_all-requires-clause-all
 put_all-requires-clause-all g c κs within =
-    let run = subst (λ e. g.P.Phases.is_run e.run) c.exchange.view_is c.exchange.invariant.5 in
+    let run = subst (λ e. g.P.Phases.is_run e.run) c.exchange.view_is c.exchange.invariant.1 in
     ap length c.requires.lists ∙ one_each _ (g.met.P.Phases.laws _ run) _ _ (let e = c.requires.next in omega arith) c.requires.there

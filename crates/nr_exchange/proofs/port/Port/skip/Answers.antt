@@ -9,7 +9,7 @@ fetch_add-requires g c =
     let inv = c.exchange.invariant in
     let own = c.self.invariant.0 in (
       o.name,
-      subst (λ (n : ℕ). n < c.exchange.inside.table.shared.table_id.words) (sym own) (subst (λ (n : ℕ). c.self.inside.seat.me.0.shard < n) (sym (inv.2 ∙ inv.0)) o.inside),
+      subst (λ (n : ℕ). n < c.exchange.inside.table.shared.table_id.words) (sym own) (subst (λ (n : ℕ). c.self.inside.seat.me.0.shard < n) (sym inv.0.words) o.inside),
       skips_as (plan g.P.Phases.rules) _ _ _ c.self.inside.seat.me c.self.inside.shard c.args.height.0 o.run own
           (c.requires.next ∙ ap (λ q. q.note.number + 1) (sym c.self.view_is))
           (subst (λ e. c.args.height.0 ≤ (g.P.Phases.rules e.run).heights) (sym c.exchange.view_is) c.requires.last)

@@ -16,7 +16,7 @@ load-word-requires g c =
     let inv = c.exchange.invariant in
     let inside = below g.P.Phases.rules _ _ c.args.source.0 c.exchange.view_is c.requires.inside in (
       o.name,
-      subst (λ (n : ℕ). c.args.source.0 < n) (sym (inv.2 ∙ inv.0)) inside,
+      subst (λ (n : ℕ). c.args.source.0 < n) (sym inv.0.words) inside,
       tries_as (plan g.P.Phases.rules) _ _ _ c.self.inside.seat.me c.args.source.0 c.args.height.0 o.run inside (next_of g.P.Phases.rules _ _ _ _ c.args.source.0 c.args.height.0 c.exchange.view_is c.self.view_is c.requires.next),
     )
 
@@ -52,4 +52,4 @@ unreachable-requires g c =
     let next = next_of g.P.Phases.rules _ _ _ _ c.args.source.0 c.args.height.0 c.exchange.view_is c.self.view_is c.requires.next in
     let got = (tried (plan g.P.Phases.rules) _ c.args.source.0 c.self.inside.seat.me c.load-word.new.seat.me c.load-word.result c.args.height.0 o.run next c.load-word.ensures.2).0 c.if-height-published.true in
     let is = fronts _ _ _ _ _ _ (ap (λ m. m.1) got) c.exchange-then-height-published.ensures.2 in
-    there_is _ _ (subst (λ (n : ℕ). c.self.inside.seat.me.0.shard < n) (sym (one_each _ (g.met.P.Phases.laws _ c.exchange.invariant.5) _ _ (omega arith) next.there)) o.inside) (sym is ∙ c.in-None.is)
+    there_is _ _ (subst (λ (n : ℕ). c.self.inside.seat.me.0.shard < n) (sym (one_each _ (g.met.P.Phases.laws _ c.exchange.invariant.1) _ _ (omega arith) next.there)) o.inside) (sym is ∙ c.in-None.is)
