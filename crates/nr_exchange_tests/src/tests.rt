@@ -1,8 +1,8 @@
-ghost use Rattle.std.specs.Prelude.{◌≡◌, ◌+◌, ◌≤◌, false, IfOk, length};
+ghost use Rattle.std.specs.Prelude.{◌≡◌, ◌+◌, ◌≤◌, IfOk};
 ghost use Rattle.std.specs.Mem.Slots.{slots_len, IsFull};
 ghost use Rattle.nr_exchange.specs.Plan.{plan_of};
 ghost use Rattle.nr_exchange.specs.Notes.{link};
-ghost use Rattle.nr_exchange.specs.Ports.{IsPortOf, AreMade};
+ghost use Rattle.nr_exchange.specs.Ports.{IsPortOf};
 ghost use Rattle.nr_exchange_tests.specs.Pair.{rules, claimed_by};
 
 use crate::answer::Answer;
