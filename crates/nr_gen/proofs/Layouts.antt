@@ -22,12 +22,11 @@ unfolding rises
 rises_so last [] h = tt
 rises_so last (b ∷ bs) h = let two = both_true (is_above last b) (rises (Some b) bs) h in (two.0, rises_so (Some b) bs two.1)
 
-no_fault : Option IdFault → Bool
+abbrev pub no_fault : Option IdFault → Bool
 no_fault None = true
 no_fault (Some fault) = false
 
-is_none : (o : Option IdFault) → no_fault o ≡ true → o ≡ None
-unfolding no_fault
+pub is_none : (o : Option IdFault) → no_fault o ≡ true → o ≡ None
 is_none None h = refl
 is_none (Some fault) h = absurd cc
 
@@ -43,7 +42,7 @@ unfolding rises
 names_rise = refl
 
 names_are_ids : passes_below (λ n. list_all (λ b. no_fault (id_fault b)) (names n)) 16 ≡ true
-unfolding no_fault id_fault first_below
+unfolding id_fault first_below
 names_are_ids = refl
 
 pub fits_layout : (shards : ℕ) → shards ≤ 16 → FitsLayout (boundaries shards)

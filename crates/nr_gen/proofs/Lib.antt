@@ -5,3 +5,6 @@ pub mod Layouts
 pub mod Apart
 pub mod Founding
 pub mod Ordered
+pub mod Ids
+pub mod Founded
+pub mod Fitting

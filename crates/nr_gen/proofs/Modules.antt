@@ -2,7 +2,7 @@
 use Rattle.std.proofs.Common.{◌≡◌, ℕ, zero, suc, ◌+◌, ◌*◌, ◌/◌, ◌%◌, ◌<◌, ◌≤◌, true, false, ltb, List, [], ◌∷◌, ◌++◌, length, replicate, refl, sym, ap, ◌∙◌, arith}
 use Rattle.std.proofs.lemmas.Bool.{le-ltb, lt-ltb}
 use Rattle.std.proofs.lemmas.List.{length-append}
-use Rattle.nr_gen.specs.Code.{addition, code_section, data_section, done_body, export_section, filler_body, front, function_section, i64_add, i64_const, import_section, memory_section, recv_body, send_body, signed, signed_in, type_section, unsigned, unsigned_in}
+use Rattle.nr_gen.specs.Code.{addition, code_section, contract_code, data_section, done_body, export_section, filler_body, front, function_section, i64_add, i64_const, import_section, memory_section, recv_body, send_body, signed, signed_in, type_section, unsigned, unsigned_in}
 use Rattle.nr_gen.proofs.Lists.{behind}
 use Rattle.nr_gen.specs.Turns.{joined_below}
 use Rattle.nr_gen.specs.declared.code.TheConstants.{BODIES, DATA, DONE, EXPORTS, FUNCTIONS, IMPORTS, MAGIC, MEMORY, RECV, SEND, TYPES}
@@ -104,12 +104,27 @@ bodies_whole old a b c d e one two three four five =
     ∙ ap (λ l. old ++ l) (sym bodies_are)
 
 -- what stands before it
-pub front_whole : (old a b c d e f : List ℕ) → a ≡ old ++ MAGIC → b ≡ a ++ TYPES → c ≡ b ++ IMPORTS → d ≡ c ++ function_section → e ≡ d ++ MEMORY → f ≡ e ++ EXPORTS → f ≡ old ++ front
+front_is : front ≡ MAGIC ++ TYPES ++ IMPORTS ++ function_section ++ MEMORY ++ EXPORTS
 unfolding front
+front_is = rw (types_are, imports_are, memory_is, exports_are) refl
+
+pub front_whole : (old a b c d e f : List ℕ) → a ≡ old ++ MAGIC → b ≡ a ++ TYPES → c ≡ b ++ IMPORTS → d ≡ c ++ function_section → e ≡ d ++ MEMORY → f ≡ e ++ EXPORTS → f ≡ old ++ front
 front_whole old a b c d e f one two three four five six =
     let upto = behind old (MAGIC ++ TYPES) IMPORTS b c (behind old MAGIC TYPES a b one two) three in
     behind old (MAGIC ++ TYPES ++ IMPORTS ++ function_section ++ MEMORY) EXPORTS e f (behind old (MAGIC ++ TYPES ++ IMPORTS ++ function_section) MEMORY d e (behind old (MAGIC ++ TYPES ++ IMPORTS) function_section c d upto four) five) six
     ∙ ap (λ l. old ++ l) (sym front_is)
-  where
-    front_is : front ≡ MAGIC ++ TYPES ++ IMPORTS ++ function_section ++ MEMORY ++ EXPORTS
-    front_is = rw (types_are, imports_are, memory_is, exports_are) refl
+
+-- ---- the size of it all
+length_front : length front ≡ 992
+length_front =
+    let functions : length function_section ≡ 708 = ap length functions_are in
+    omega (arith, ap length front_is, length-append (function_section ++ MEMORY) EXPORTS, length-append function_section MEMORY, functions)
+
+length_bodies : length code_section ≡ 59630
+length_bodies = omega (arith, ap length bodies_are, length_fillers 700 (omega arith))
+
+pub length_code : length contract_code ≡ 60647
+unfolding contract_code
+length_code =
+    let last : length data_section ≡ 25 = ap length data_is in
+    omega (arith, length-append (front ++ code_section) data_section, length-append front code_section, length_front, length_bodies, last)

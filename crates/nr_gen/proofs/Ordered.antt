@@ -11,14 +11,14 @@ use Rattle.nr_gen.specs.Chain.{State, block_of, chunk_of, generated_blocks}
 use Rattle.nr_gen.specs.Turns.{in_turn}
 
 -- ---- one item more
-abbrev all_right : {F : Type 0} → Result (Unit {0}) F
+abbrev pub all_right : {F : Type 0} → Result (Unit {0}) F
 all_right = Ok tt
 
 rest_passes : {F : Type 0} (here others : Result (Unit {0}) F) → (here >>= λ (u : Unit {0}). others) ≡ all_right → (here ≡ all_right) × (others ≡ all_right)
 rest_passes (Ok u) others h = (refl, h)
 rest_passes (Err e) others h = absurd cc
 
-passes_then : {F : Type 0} (here others : Result (Unit {0}) F) → here ≡ all_right → others ≡ all_right → (here >>= λ (u : Unit {0}). others) ≡ all_right
+pub passes_then : {F : Type 0} (here others : Result (Unit {0}) F) → here ≡ all_right → others ≡ all_right → (here >>= λ (u : Unit {0}). others) ≡ all_right
 passes_then (Ok u) others h o = o
 passes_then (Err e) others h o = absurd cc
 
@@ -31,7 +31,7 @@ one_passes_more check n k (y ∷ ys) x at pass last =
     let two = rest_passes (check n y) (each_from check (n + 1) ys) pass in
     passes_then (check n y) (each_from check (n + 1) (ys ++ x ∷ [])) two.0 (one_passes_more check (n + 1) k ys x (omega arith) two.1 last)
 
-length_turns : {S X : Type 0} (n : ℕ) (f : ℕ → S → X × S) (s : S) → length (in_turn n f s).0 ≡ n
+pub length_turns : {S X : Type 0} (n : ℕ) (f : ℕ → S → X × S) (s : S) → length (in_turn n f s).0 ≡ n
 unfolding in_turn
 length_turns zero f s = refl
 length_turns (suc n) f s =

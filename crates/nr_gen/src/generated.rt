@@ -1,7 +1,7 @@
-ghost use Rattle.std.specs.Prelude.{◌≡◌, ◌≤◌, IfOk, Ok};
+ghost use Rattle.std.specs.Prelude.{◌≡◌, ◌≤◌, IfOk};
 ghost use Rattle.nr_config.specs.Config.{Config, generated};
 ghost use Rattle.nr_blocks.specs.Genesis.{IsSoundGenesis};
-ghost use Rattle.nr_blocks.specs.Judging.{ordered};
+ghost use Rattle.nr_blocks.specs.Spellings.{AreBlocks, IsGenesis};
 ghost use Rattle.nr_gen.specs.Chain.{generated_blocks};
 ghost use Rattle.nr_gen.specs.Founding.{CountsStorage, generated_genesis};
 
@@ -33,12 +33,13 @@ pub fn generate(
     requires few_blocks { blocks ≤ 256 }
     ensures genesis { IfOk result (λ made. made.0 ≡ generated_genesis shards) }
     ensures blocks { IfOk result (λ made. made.1 ≡ generated_blocks start shards blocks) }
-    // Each block has a chunk for each shard, and the heights count from 1.
-    ensures ordered { IfOk result (λ made. ordered shards made.1 ≡ Ok tt) }
     // The genesis is sound under each configuration that counts storage as it states,
     ensures sound { IfOk result (λ made. (c : Config) → CountsStorage c → IsSoundGenesis c made.0) }
     // and so under the one that is built in for generated chains.
     ensures built_in { IfOk result (λ made. IsSoundGenesis generated made.0) }
+    // A genesis file and a blocks file can hold it, and are read as what they hold.
+    ensures genesis_file { IfOk result (λ made. IsGenesis generated made.0) }
+    ensures blocks_file { IfOk result (λ made. AreBlocks shards made.1) }
 {
     let genesis = genesis_of(alloc, shards)?;
     let blocks = blocks_of(alloc, start, shards, blocks)?;

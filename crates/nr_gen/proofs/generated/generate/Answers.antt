@@ -1,10 +1,10 @@
-use Rattle.std.proofs.Common.{ap, sym, subst, ◌∙◌}
+use Rattle.std.proofs.Common.{sym, subst}
 use Rattle.nr_blocks.specs.Genesis.{IsSoundGenesis}
 use Rattle.nr_blocks.specs.declared.genesis.Genesis.{Genesis}
 use Rattle.nr_config.specs.Config.{Config, generated}
 use Rattle.nr_gen.specs.Founding.{CountsStorage}
-use Rattle.nr_blocks.specs.Judging.{ordered}
-use Rattle.nr_gen.proofs.Ordered.{blocks_ordered}
+use Rattle.nr_blocks.specs.Spellings.{AreBlocks, IsGenesis}
+use Rattle.nr_gen.proofs.Fitting.{blocks_filed, genesis_filed}
 use Rattle.nr_gen.proofs.Founding.{counts_generated, sound_genesis}
 use Rattle.nr_gen.proofs.generated.generate.Goals as goal
 
@@ -15,5 +15,8 @@ returns-clause-sound c =
 pub returns-clause-built_in : goal.returns-clause-built_in
 returns-clause-built_in c = subst (IsSoundGenesis generated) (sym c.in_ok-genesis.ensures) (sound_genesis generated counts_generated c.args.shards c.requires.few_shards)
 
-pub returns-clause-ordered : goal.returns-clause-ordered
-returns-clause-ordered c = ap (ordered c.args.shards) c.in_ok-blocks.ensures ∙ blocks_ordered c.args.start c.args.shards c.args.blocks c.requires.few_blocks
+pub returns-clause-genesis_file : goal.returns-clause-genesis_file
+returns-clause-genesis_file c = subst (IsGenesis generated) (sym c.in_ok-genesis.ensures) (genesis_filed c.args.shards c.requires.few_shards)
+
+pub returns-clause-blocks_file : goal.returns-clause-blocks_file
+returns-clause-blocks_file c = subst (AreBlocks c.args.shards) (sym c.in_ok-blocks.ensures) (blocks_filed c.args.start c.args.shards c.args.blocks c.requires.few_shards c.requires.few_blocks)
