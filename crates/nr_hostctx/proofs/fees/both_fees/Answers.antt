@@ -1,0 +1,8 @@
+use Rattle.std.proofs.Common.{arith}
+use Rattle.nr_fees.specs.declared.table.Payment.TheVariants.{Execute}
+use Rattle.nr_hostctx.proofs.Limits.{fee_bound}
+use Rattle.nr_hostctx.proofs.fees.both_fees.Goals as goal
+
+pub overflow_add-result : goal.overflow_add-result
+overflow_add-result c =
+    omega (arith, c.fee_of.ensures, c.fee_of-2.ensures, fee_bound c.args.config.now c.sending.result c.args.which c.entry-cost.ensures.valid, fee_bound c.args.config.now Execute c.args.which c.entry-cost.ensures.valid)
