@@ -1,0 +1,17 @@
+//! Nodes of the state trie, kept in an arena and named by numbers: a root stands for a finite map,
+//! and old roots stay while new ones are made.
+#![tactic(auto)]
+
+mod cutting;
+mod fault;
+mod finding;
+mod hashing;
+mod nodes;
+mod putting;
+#[cfg(test)]
+mod tests;
+mod threads;
+mod turn;
+
+pub use fault::NodesFault;
+pub use nodes::{NodeId, Nodes};

@@ -1,0 +1,12 @@
+//! What threads may hold and share.
+
+use crate::fault::NodesFault;
+use crate::nodes::{NodeId, Nodes};
+
+fn is_send_and_sync<T: Send + Sync>() {}
+
+fn _nodes() {
+    is_send_and_sync::<Nodes>();
+    is_send_and_sync::<NodeId>();
+    is_send_and_sync::<NodesFault>();
+}
