@@ -25,11 +25,7 @@ fn cut_below(nodes: &mut Nodes, root: u32, key: &[u8]) -> Result<Option<u32>, Al
 
 impl Nodes {
     /// The root of a map without a key. Old roots stay.
-    pub fn cut(
-        &mut self,
-        root: Option<NodeId>,
-        key: &[u8],
-    ) -> Result<Option<NodeId>, NodesFault> {
+    pub fn cut(&mut self, root: Option<NodeId>, key: &[u8]) -> Result<Option<NodeId>, NodesFault> {
         room_for(self, key)?;
         let Some(old) = root else {
             return Ok(None);

@@ -16,7 +16,11 @@ impl Nodes {
             match find_turn(self, node, key, at) {
                 Turn::Stops(Stop::Here) => return self.value(node),
                 Turn::Stops(_) => return None,
-                Turn::Down { nibble: _, next, child } => {
+                Turn::Down {
+                    nibble: _,
+                    next,
+                    child,
+                } => {
                     node = child;
                     at = next;
                 }

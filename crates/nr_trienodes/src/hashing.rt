@@ -2,7 +2,9 @@
 
 use crate::nodes::{NodeId, Nodes, Row};
 use nr_ids::Hash32;
-use nr_triedef::{Node, NodeHash, Steps, bytes_of, empty_root, hash_node, key_part, node_text, value_hash};
+use nr_triedef::{
+    Node, NodeHash, Steps, bytes_of, empty_root, hash_node, key_part, node_text, value_hash,
+};
 use std::alloc::AllocError;
 use std::sync::ledger::Ledger;
 

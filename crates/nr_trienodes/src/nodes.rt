@@ -40,6 +40,16 @@ fn boxed(alloc: Global, row: Row) -> Result<Option<Box<Row>>, AllocError> {
     Ok(None)
 }
 
+fn rename(node: &mut Node, names: &Vec<Option<u32>>) {
+    if let Some(row) = &mut node.row {
+        for i in 0..16 {
+            if let Some(child) = row[i] {
+                row[i] = names[child as usize];
+            }
+        }
+    }
+}
+
 impl Nodes {
     /// An arena without nodes. It takes no memory.
     pub fn new(alloc: Global) -> Nodes {
@@ -147,6 +157,20 @@ impl Nodes {
         };
         self.nodes.push(node)?;
         Ok(id)
+    }
+
+    /// Drops the nodes that have no name, and gives the others their names in order.
+    pub(crate) fn slide(&mut self, names: &mut Vec<Option<u32>>) {
+        let mut next = 0;
+        for id in 0..self.nodes.len() {
+            if names[id].is_some() {
+                names[id] = Some(next);
+                rename(&mut self.nodes[id], names);
+                self.nodes.swap(next as usize, id);
+                next += 1;
+            }
+        }
+        self.nodes.truncate(next as usize);
     }
 
     /// Drops all but the oldest nodes.

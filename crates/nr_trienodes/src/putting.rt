@@ -109,12 +109,7 @@ pub(crate) fn climb(
 }
 
 // A leaf of what is left of a key from a place on.
-fn sprout(
-    nodes: &mut Nodes,
-    key: &[u8],
-    at: usize,
-    value: Arc<Blob>,
-) -> Result<u32, AllocError> {
+fn sprout(nodes: &mut Nodes, key: &[u8], at: usize, value: Arc<Blob>) -> Result<u32, AllocError> {
     let part = rest_of(nodes.allocator(), key, at)?;
     nodes.push(part, Some(value), [None; 16])
 }

@@ -15,7 +15,11 @@ const FOUR: &[u8; 32] =
 const ODD: &[u8; 32] =
     b"\xaa\x7e\x62\x11\xf4\xfe\x8b\xd4\xb1\x3b\x2b\x52\x04\x24\x8c\x6a\xdc\xab\x81\x98\x02\xeb\x51\x00\xf4\xd5\x10\x46\xd6\x05\x9a\x20";
 
-fn counted<L: Ledger>(nodes: &mut Nodes, root: Option<NodeId>, blank: Blank) -> Result<[u8; 32], AllocError> {
+fn counted<L: Ledger>(
+    nodes: &mut Nodes,
+    root: Option<NodeId>,
+    blank: Blank,
+) -> Result<[u8; 32], AllocError> {
     let mut steps = Steps::<L>::new(blank);
     let hash = nodes.hash(root, &mut steps)?;
     Ok(bytes_of(&hash))
@@ -25,7 +29,12 @@ fn hashed(nodes: &mut Nodes, root: Option<NodeId>) -> Result<[u8; 32], AllocErro
     counted::<Brand>(nodes, root, Blank::new(1))
 }
 
-fn put(nodes: &mut Nodes, root: Option<NodeId>, key: &[u8], value: &[u8]) -> Result<Option<NodeId>, AllocError> {
+fn put(
+    nodes: &mut Nodes,
+    root: Option<NodeId>,
+    key: &[u8],
+    value: &[u8],
+) -> Result<Option<NodeId>, AllocError> {
     match nodes.put(root, key, value) {
         Ok(id) => Ok(Some(id)),
         Err(_) => Err(AllocError),
@@ -66,10 +75,17 @@ fn many(rt: HostRuntime) -> Result<(), Fail> {
     let mut root = None;
     let mut seed: u64 = 12345;
     for round in 0..200u32 {
-        seed = seed.wrapping_mul(6364136223846793005).wrapping_add(1442695040888963407);
+        seed = seed
+            .wrapping_mul(6364136223846793005)
+            .wrapping_add(1442695040888963407);
         let bits = seed >> 33;
         let len = (bits % 4) as usize;
-        let key = [((bits >> 3) & 0x13) as u8, ((bits >> 8) & 0x13) as u8, ((bits >> 13) & 0x31) as u8, 0];
+        let key = [
+            ((bits >> 3) & 0x13) as u8,
+            ((bits >> 8) & 0x13) as u8,
+            ((bits >> 13) & 0x31) as u8,
+            0,
+        ];
         let key = &key[..len];
         if (bits >> 20) % 3 == 0 {
             root = cut(&mut nodes, root, key)?;
@@ -78,8 +94,25 @@ fn many(rt: HostRuntime) -> Result<(), Fail> {
             let value = [(round % 256) as u8; 5];
             let value = &value[..(bits >> 23) as usize % 5];
             root = put(&mut nodes, root, key, value)?;
-            plain.insert(Vec::from_slice(rt.alloc(), key)?, Vec::from_slice(rt.alloc(), value)?)?;
+            plain.insert(
+                Vec::from_slice(rt.alloc(), key)?,
+                Vec::from_slice(rt.alloc(), value)?,
+            )?;
         }
+        if round % 7 == 0 {
+            let mut roots = [root, None, root];
+            nodes.trim(&mut roots)?;
+            root = roots[2];
+        }
+        let listed = nodes.below(root, &key[..len / 2])?;
+        let mut at = 0;
+        for (other, _) in &plain {
+            if other.starts_with(&key[..len / 2]) {
+                assert!(rt; listed.inner()[at].inner() == other.as_slice());
+                at += 1;
+            }
+        }
+        assert!(rt; listed.inner().len() == at);
         let mut other = Nodes::new(rt.alloc());
         let mut top = None;
         for (key, value) in &plain {
