@@ -6,13 +6,9 @@ mod cutting;
 mod fault;
 mod finding;
 mod hashing;
-mod listing;
 mod nodes;
 mod putting;
-#[cfg(test)]
-mod tests;
 mod threads;
-mod trimming;
 mod turn;
 
 pub use fault::NodesFault;

@@ -1,8 +1,18 @@
 //! The arena.
 
+ghost use Rattle.std.specs.Prelude.{◌≡◌, ◌<◌, ◌≤◌, ◌-◌, ◌+◌, ◌^◌, ◌==◌, ◌*◌, ◌/◌, ℕ, true, [], length, drop, is_some, count_by, sum_by, Some, IfOk, OnErr};
+ghost use Rattle.std.specs.Option.{option_copied, option_map, is_none};
+ghost use Rattle.std.specs.Arc.{arc_value};
+ghost use Rattle.nr_triedef.specs.Node.{IsNibbles};
+ghost use Rattle.nr_triedef.specs.Root.{usage_below, value_usage};
+ghost use Rattle.nr_trienodes.specs.Shape.{shape_at, child};
+ghost use Rattle.nr_trienodes.specs.Tries.{summary_at, front_usage, own_usage, IsLinked};
+ghost use Rattle.nr_trienodes.specs.Views.{shape, row_of, Sound, IsIn, Adds, KeepsHash};
+
 use nr_bytes::Blob;
 use nr_triedef::NodeHash;
 use std::alloc::{AllocError, Global};
+use std::marker::Model;
 use std::sync::Arc;
 
 /// The name of a node: the number of older nodes in its arena. A trim gives new names.
@@ -23,16 +33,33 @@ struct Node {
     hash: Option<NodeHash>,
 }
 
-/// Nodes of tries, each named by how many are older.
+/// Nodes of tries, each named by how many are older. Contracts see them with the newest first.
 #[derive(Drop)]
 pub struct Nodes {
     alloc: Global,
     nodes: Vec<Node>,
 }
 
-fn boxed(alloc: Global, row: Row) -> Result<Option<Box<Row>>, AllocError> {
-    for child in &row {
-        if child.is_some() {
+impl Model for Nodes {
+    ghost use Rattle.std.specs.Prelude.{List};
+    ghost use Rattle.nr_trienodes.specs.Shape.{Shape};
+
+    ghost Value = { List Shape };
+
+    ghost use Rattle.nr_trienodes.specs.Views.{nodes_view, IsArena};
+
+    ghost view = { nodes_view };
+
+    ghost invariant = { IsArena };
+}
+
+#[tactic(auto, using(crate::proofs::Rows::all_none, crate::proofs::Rows::some_child, crate::proofs::Rows::no_child))]
+fn boxed(alloc: Global, row: Row) -> Result<Option<Box<Row>>, AllocError>
+    ensures row { IfOk result (λ held. row_of held ≡ row) }
+    ensures count { IfOk result (λ held. (count_by is_some row == 0) ≡ is_none held) }
+{
+    for i in 0..16 {
+        if row[i].is_some() {
             let held = Box::new(alloc, row)?;
             return Ok(Some(held));
         }
@@ -40,19 +67,11 @@ fn boxed(alloc: Global, row: Row) -> Result<Option<Box<Row>>, AllocError> {
     Ok(None)
 }
 
-fn rename(node: &mut Node, names: &Vec<Option<u32>>) {
-    if let Some(row) = &mut node.row {
-        for i in 0..16 {
-            if let Some(child) = row[i] {
-                row[i] = names[child as usize];
-            }
-        }
-    }
-}
-
 impl Nodes {
     /// An arena without nodes. It takes no memory.
-    pub fn new(alloc: Global) -> Nodes {
+    pub fn new(alloc: Global) -> Nodes
+        ensures { result ≡ [] }
+    {
         Nodes {
             alloc,
             nodes: Vec::new(alloc),
@@ -60,35 +79,61 @@ impl Nodes {
     }
 
     /// How many nodes are held.
-    pub fn len(&self) -> usize {
+    #[tactic(auto, using(crate::proofs::Views::count_view))]
+    pub fn len(&self) -> usize
+        ensures { result ≡ length self.now }
+    {
         self.nodes.len()
     }
 
     /// The same number as u32.
-    pub(crate) fn count(&self) -> u32 {
+    #[tactic(auto, using(crate::proofs::Views::count_view))]
+    pub(crate) fn count(&self) -> u32
+        ensures count { result ≡ length self.now }
+        ensures sound { Sound self.now }
+    {
         self.nodes.len() as u32
     }
 
-    pub(crate) fn allocator(&self) -> Global {
+    pub(crate) fn allocator(&self) -> Global
+        ensures { Sound self.now }
+    {
         self.alloc
     }
 
+    #[tactic(auto, using(crate::proofs::Views::node_view, crate::proofs::Views::count_view))]
+    fn node(&self, id: u32) -> &Node
+        requires { id < length self.now }
+        ensures { shape result.now ≡ shape_at self.now id }
+    {
+        &self.nodes[id as usize]
+    }
+
     /// The nibbles in front of all keys of a node.
-    pub(crate) fn part(&self, id: u32) -> &[u8] {
-        self.nodes[id as usize].part.as_slice()
+    pub(crate) fn part(&self, id: u32) -> &[u8]
+        requires { id < length self.now }
+        ensures { result.now ≡ (shape_at self.now id).part }
+    {
+        self.node(id).part.as_slice()
     }
 
     /// The value whose key ends behind the part.
-    pub(crate) fn value(&self, id: u32) -> Option<&[u8]> {
-        match &self.nodes[id as usize].value {
+    pub(crate) fn value(&self, id: u32) -> Option<&[u8]>
+        requires { id < length self.now }
+        ensures { option_copied result ≡ (shape_at self.now id).value }
+    {
+        match &self.node(id).value {
             None => None,
             Some(value) => Some(value.inner()),
         }
     }
 
     /// The value once more, for another node.
-    pub(crate) fn shared_value(&self, id: u32) -> Result<Option<Arc<Blob>>, AllocError> {
-        match &self.nodes[id as usize].value {
+    pub(crate) fn shared_value(&self, id: u32) -> Result<Option<Arc<Blob>>, AllocError>
+        requires { id < length self.now }
+        ensures { IfOk result (λ value. option_map arc_value value ≡ (shape_at self.now id).value) }
+    {
+        match &self.node(id).value {
             None => Ok(None),
             Some(value) => {
                 let other = Arc::try_clone(value)?;
@@ -97,54 +142,98 @@ impl Nodes {
         }
     }
 
-    pub(crate) fn row(&self, id: u32) -> Row {
-        match &self.nodes[id as usize].row {
+    pub(crate) fn row(&self, id: u32) -> Row
+        requires { id < length self.now }
+        ensures { result ≡ (shape_at self.now id).below }
+    {
+        match &self.node(id).row {
             None => [None; 16],
             Some(row) => **row,
         }
     }
 
-    pub(crate) fn child(&self, id: u32, nibble: u8) -> Option<u32> {
-        match &self.nodes[id as usize].row {
+    #[tactic(auto, using(crate::proofs::Rows::child_get, crate::proofs::Sounds::back_at))]
+    pub(crate) fn child(&self, id: u32, nibble: u8) -> Option<u32>
+        requires there { id < length self.now }
+        requires nibble { nibble < 16 }
+        ensures value { result ≡ child (shape_at self.now id).below nibble }
+        ensures smaller { (c : ℕ) → result ≡ Some c → c < id }
+    {
+        let _alloc = self.alloc;
+        match &self.node(id).row {
             None => None,
             Some(row) => row[nibble as usize],
         }
     }
 
     /// The memory usage of a node and all below it, in bytes.
-    pub(crate) fn usage_at(&self, id: u32) -> u64 {
-        self.nodes[id as usize].usage
+    pub(crate) fn usage_at(&self, id: u32) -> u64
+        requires { id < length self.now }
+        ensures { result ≡ (summary_at self.now id).usage }
+    {
+        let _alloc = self.alloc;
+        self.node(id).usage
     }
 
     /// The hash of a node, where it is kept.
-    pub(crate) fn hash_at(&self, id: u32) -> Option<NodeHash> {
-        self.nodes[id as usize].hash
+    pub(crate) fn hash_at(&self, id: u32) -> Option<NodeHash>
+        requires { id < length self.now }
+        ensures { result ≡ (shape_at self.now id).hash }
+    {
+        self.node(id).hash
     }
 
-    pub(crate) fn keep_hash(&mut self, id: u32, hash: NodeHash) {
+    /// Keeps the hash of a node.
+    pub(crate) fn keep_hash(&mut self, id: u32, hash: NodeHash)
+        requires there { id < length self.old }
+        requires hash { hash ≡ (summary_at self.old id).hash }
+        requires below { (x c : ℕ) → child (shape_at self.old id).below x ≡ Some c → is_some (shape_at self.old c).hash ≡ true }
+        ensures { KeepsHash self.old self.new id hash }
+    {
         let node = &mut self.nodes[id as usize];
         node.hash = Some(hash);
     }
 
     // The usages of the children together.
-    fn usage_below(&self, row: &Row) -> Result<u64, AllocError> {
+    fn usage_below(&self, row: &Row) -> Result<u64, AllocError>
+        requires { (x c : ℕ) → child row.now x ≡ Some c → c < length self.now }
+        ensures { IfOk result (λ n. n ≡ sum_by (λ c. usage_below (option_map (summary_at self.now) c)) row.now) }
+    {
         let mut usage = 0;
         for child in row {
-            if let Some(id) = child {
-                usage = sum_of(usage, self.usage_at(*id))?;
-            }
+            usage = sum_of(usage, self.usage_in(*child))?;
         }
         Ok(usage)
     }
 
-    /// Adds a node.
+    fn usage_in(&self, child: Option<u32>) -> u64
+        requires { IsIn (length self.now) child }
+        ensures { result ≡ usage_below (option_map (summary_at self.now) child) }
+    {
+        match child {
+            None => 0,
+            Some(id) => self.usage_at(id),
+        }
+    }
+
+    /// Adds a node. Besides memory, the refusal is for a part or a value of 2^32 bytes or more, for a
+    /// usage that passes u64, and for 2^32 nodes.
     pub(crate) fn push(
         &mut self,
         part: Vec<u8>,
         value: Option<Arc<Blob>>,
         row: Row,
-    ) -> Result<u32, AllocError> {
-        let id = u32::try_from(self.nodes.len()).map_err(|_| AllocError)?;
+    ) -> Result<u32, AllocError>
+        requires small { IsNibbles part.items }
+        requires linked { IsLinked (option_map arc_value value) row }
+        requires back { (x c : ℕ) → child row x ≡ Some c → c < length self.old }
+        ensures ok { IfOk result (λ id. Adds self.old self.new id part.items (option_map arc_value value) row) }
+        ensures err { OnErr result (self.new ≡ self.old) }
+    {
+        let id = self.count();
+        if id == u32::MAX {
+            return Err(AllocError);
+        }
         let below = self.usage_below(&row)?;
         let row = boxed(self.alloc, row)?;
         let usage = usage_of(&part, &value, row.is_none(), below)?;
@@ -159,47 +248,60 @@ impl Nodes {
         Ok(id)
     }
 
-    /// Drops the nodes that have no name, and gives the others their names in order.
-    pub(crate) fn slide(&mut self, names: &mut Vec<Option<u32>>) {
-        let mut next = 0;
-        for id in 0..self.nodes.len() {
-            if names[id].is_some() {
-                names[id] = Some(next);
-                rename(&mut self.nodes[id], names);
-                self.nodes.swap(next as usize, id);
-                next += 1;
-            }
-        }
-        self.nodes.truncate(next as usize);
-    }
-
     /// Drops all but the oldest nodes.
-    pub(crate) fn truncate(&mut self, count: usize) {
+    pub(crate) fn truncate(&mut self, count: usize)
+        ensures { self.new ≡ drop (length self.old - count) self.old }
+    {
         self.nodes.truncate(count);
     }
 }
 
 // A sum that passes u64 counts as want of memory.
-fn sum_of(a: u64, b: u64) -> Result<u64, AllocError> {
+fn sum_of(a: u64, b: u64) -> Result<u64, AllocError>
+    ensures { IfOk result (λ n. n ≡ a + b) }
+{
     a.checked_add(b).ok_or(AllocError)
 }
 
 // A length of 2^32 or more counts as want of memory.
-fn length_of(bytes: &[u8]) -> Result<u64, AllocError> {
+fn length_of(bytes: &[u8]) -> Result<u64, AllocError>
+    ensures size { IfOk result (λ n. n ≡ length bytes.now) }
+    ensures few { IfOk result (λ n. n < 2 ^ 32) }
+{
     let length = u32::try_from(bytes.len()).map_err(|_| AllocError)?;
     Ok(u64::from(length))
 }
 
-// The usage of a node with this part, beside its value and what is below it.
-fn front_usage(part: &[u8], leaf: bool) -> Result<u64, AllocError> {
-    if part.is_empty() && !leaf {
-        return Ok(0);
-    }
+// The usage of a part that a node has.
+fn spelled_usage(part: &[u8]) -> Result<u64, AllocError>
+    ensures size { IfOk result (λ n. n ≡ 50 + 2 * (length part.now / 2 + 1)) }
+    ensures few { IfOk result (λ n. n < 2 ^ 34) }
+{
     let length = length_of(part)?;
     Ok(50 + 2 * (length / 2 + 1))
 }
 
-fn value_usage(value: &Option<Arc<Blob>>) -> Result<u64, AllocError> {
+// The usage of a leaf's part, or of a front, which is none where it is empty.
+#[tactic(auto, using(crate::proofs::Rows::leaf_size, crate::proofs::Rows::front_size, crate::proofs::Rows::front_none))]
+fn part_usage(part: &[u8], leaf: bool) -> Result<u64, AllocError>
+    ensures size { IfOk result (λ n. n ≡ front_usage part.now leaf) }
+    ensures few { IfOk result (λ n. n < 2 ^ 34) }
+{
+    if leaf {
+        let usage = spelled_usage(part)?;
+        return Ok(usage);
+    }
+    if part.len() == 0 {
+        return Ok(0);
+    }
+    let usage = spelled_usage(part)?;
+    Ok(usage)
+}
+
+fn value_usage_of(value: &Option<Arc<Blob>>) -> Result<u64, AllocError>
+    ensures size { IfOk result (λ n. n ≡ value_usage (option_map arc_value value.now)) }
+    ensures few { IfOk result (λ n. n < 2 ^ 34) }
+{
     match value {
         None => Ok(0),
         Some(value) => {
@@ -209,15 +311,17 @@ fn value_usage(value: &Option<Arc<Blob>>) -> Result<u64, AllocError> {
     }
 }
 
+// The usage of a node, of which the children have this together.
 fn usage_of(
     part: &[u8],
     value: &Option<Arc<Blob>>,
     alone: bool,
     below: u64,
-) -> Result<u64, AllocError> {
+) -> Result<u64, AllocError>
+    ensures { IfOk result (λ n. n ≡ own_usage part.now (option_map arc_value value.now) alone below) }
+{
     let leaf = alone && value.is_some();
-    let front = front_usage(part, leaf)?;
-    let own = value_usage(value)? + front;
+    let own = value_usage_of(value)? + part_usage(part, leaf)?;
     if leaf {
         return Ok(own);
     }

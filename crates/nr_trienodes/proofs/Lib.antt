@@ -1,0 +1,11 @@
+pub mod Folds
+pub mod Founds
+pub mod Keys
+pub mod Lookups
+pub mod Maps
+pub mod Orders
+pub mod Rows
+pub mod Sounds
+pub mod Steps
+pub mod Tied
+pub mod Views

@@ -1,0 +1,36 @@
+-- Two things that are made of a node by recursion, side by side.
+use Rattle.std.proofs.Common.{◌≡◌, ◌<◌, ℕ, zero, suc, List, [], ◌∷◌, length, map, Option, Some, None, refl, ap, sym, ◌∙◌, subst, arith}
+use Rattle.std.specs.Prelude.{is_some, count_by}
+use Rattle.std.proofs.lemmas.List.{length-map}
+use Rattle.std.specs.Option.{option_map}
+use Rattle.nr_trienodes.specs.Shape.{Shape, child, shape_at, fold, over}
+use Rattle.nr_trienodes.proofs.Folds.{Back, by_names, fold_at}
+use Rattle.nr_trienodes.proofs.Sounds.{count-children}
+
+-- children at the same places, each two as P says
+abbrev pub Zipped : {A B : Type 0} → (A → B → Type 0) → List (Option A) → List (Option B) → Type 0
+Zipped P [] [] = Unit {0}
+Zipped P [] (b ∷ bs) = ⊥
+Zipped P (a ∷ as) [] = ⊥
+Zipped P (None ∷ as) (None ∷ bs) = Zipped P as bs
+Zipped P (None ∷ as) (Some b ∷ bs) = ⊥
+Zipped P (Some a ∷ as) (None ∷ bs) = ⊥
+Zipped P (Some a ∷ as) (Some b ∷ bs) = P a b × Zipped P as bs
+
+zipped : {A B : Type 0} (P : A → B → Type 0) (f : ℕ → A) (g : ℕ → B) (cs : List (Option ℕ)) → ((x c : ℕ) → child cs x ≡ Some c → P (f c) (g c)) → Zipped P (map (option_map f) cs) (map (option_map g) cs)
+zipped P f g [] h = tt
+zipped P f g (None ∷ cs) h = zipped P f g cs (λ x c e. h (suc x) c e)
+zipped P f g (Some c ∷ cs) h = (h 0 c refl, zipped P f g cs (λ x c e. h (suc x) c e))
+
+-- an induction on names, for two at once
+pub fold_two : {A B : Type 0} (P : A → B → Type 0) (f : Shape → List (Option A) → A) (nf : A) (g : Shape → List (Option B) → B) (ng : B) (nodes : List Shape) → Back nodes
+    → ((id : ℕ) → id < length nodes → (as : List (Option A)) (bs : List (Option B)) → count_by is_some as ≡ count_by is_some (shape_at nodes id).below → length as ≡ length (shape_at nodes id).below → Zipped P as bs → P (f (shape_at nodes id) as) (g (shape_at nodes id) bs))
+    → (id : ℕ) → id < length nodes → P (fold f nf nodes id) (fold g ng nodes id)
+fold_two {A} {B} P f nf g ng nodes back step =
+    by_names (λ id. id < length nodes → P (fold f nf nodes id) (fold g ng nodes id)) (λ id below lt.
+        let s : Shape = shape_at nodes id in
+        let as : List (Option A) = map (option_map (fold f nf nodes)) s.below in
+        let bs : List (Option B) = map (option_map (fold g ng nodes)) s.below in
+        let less = λ (x c : ℕ) (e : child s.below x ≡ Some c). let small : c < id = back id lt x c e in below c small (omega arith) in
+        let here : P (f s as) (g s bs) = step id lt as bs (count-children (fold f nf nodes) s.below) (length-map (option_map (fold f nf nodes)) s.below) (zipped P (fold f nf nodes) (fold g ng nodes) s.below less) in
+        subst (λ a. P a (fold g ng nodes id)) (sym (fold_at f nf nodes id back lt)) (subst (λ b. P (f s as) b) (sym (fold_at g ng nodes id back lt)) here))

@@ -1,0 +1,5 @@
+pub mod Shape
+pub mod Views
+pub mod Tries
+pub mod Roots
+pub mod Turns

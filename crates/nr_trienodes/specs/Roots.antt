@@ -1,0 +1,50 @@
+-- Roots: the finite maps that nodes stand for, and what stays of them.
+use Rattle.std.specs.Prelude.{◌≡◌, ◌<◌, ◌≤◌, ℕ, ◌+◌, ◌*◌, ◌^◌, List, [], ◌∷◌, length, map, Option, Some, None, IsSome, Result, Ok, Err}
+use Rattle.std.specs.FinMap.{empty, from_sorted}
+use Rattle.nr_triedef.specs.Node.{nibbles, paired}
+use Rattle.nr_triedef.specs.Root.{Paths, Contents}
+use Rattle.nr_trienodes.specs.Shape.{Shape}
+use Rattle.nr_trienodes.specs.Tries.{found, paths_at, cost_at}
+use Rattle.nr_trienodes.specs.declared.fault.NodesFault.{NodesFault}
+use Rattle.nr_trienodes.specs.declared.fault.NodesFault.TheVariants.{Full, Memory}
+use Rattle.nr_trienodes.specs.declared.nodes.NodeId.{NodeId}
+
+-- nibbles of whole bytes
+abbrev pub IsWhole : List ℕ → Type 0
+IsWhole key = (bytes : List ℕ) × (key ≡ nibbles bytes)
+
+-- a name under which a map stands: that of a node below which all keys have whole bytes, or none
+abbrev pub IsRoot : List Shape → Option NodeId → Type 0
+IsRoot nodes None = Unit {0}
+IsRoot nodes (Some id) = (id.0 < length nodes) × ((key : List ℕ) → IsSome (found nodes id.0 key) → IsWhole key)
+
+-- paths as entries
+abbrev pub packed : Paths → List (List ℕ × List ℕ)
+packed ps = map (λ p. (paired p.0, p.1)) ps
+
+-- the finite map under a root
+unfoldable pub contents : List Shape → Option NodeId → Contents
+contents nodes None = empty
+contents nodes (Some id) = from_sorted (packed (paths_at nodes id.0))
+
+-- how many hashes of nodes the hash of a root still takes, at most
+unfoldable pub cost : List Shape → Option NodeId → ℕ
+cost nodes None = 0
+cost nodes (Some id) = cost_at nodes id.0
+
+-- old roots stay
+pub record Keeps (old new : List Shape) : Type 0 where
+  pub root : (r : Option NodeId) → IsRoot old r → IsRoot new r
+  pub map : (r : Option NodeId) → IsRoot old r → contents new r ≡ contents old r
+  pub cost : (r : Option NodeId) → IsRoot old r → cost new r ≤ cost old r
+
+-- there is no room for the nodes of a key with so many nibbles
+abbrev pub IsFull : ℕ → ℕ → Type 0
+IsFull held nibbles = 2 ^ 32 < held + 4 + 2 * nibbles
+
+-- each root under its new name
+abbrev pub Renames : List Shape → List Shape → List (Option NodeId) → List (Option NodeId) → Type 0
+Renames old new [] [] = Unit {0}
+Renames old new [] (q ∷ qs) = ⊥
+Renames old new (r ∷ rs) [] = ⊥
+Renames old new (r ∷ rs) (q ∷ qs) = IsRoot new q × (contents new q ≡ contents old r) × (cost new q ≤ cost old r) × Renames old new rs qs
