@@ -1,5 +1,5 @@
 -- Rows of children, and the usage of a part.
-use Rattle.std.proofs.Common.{◌≡◌, ◌==◌, ◌<◌, ◌≤◌, ◌+◌, ◌*◌, ◌/◌, ◌%◌, ℕ, zero, suc, Bool, true, false, cond, not, List, [], ◌∷◌, ◌++◌, length, replicate, get_or, Option, Some, None, refl, ap, sym, ◌∙◌, subst, eq-eqb, length-append, inl, inr, arith}
+use Rattle.std.proofs.Common.{◌≡◌, ◌==◌, ◌<◌, ◌≤◌, ◌+◌, ◌-◌, ◌*◌, ◌/◌, ◌%◌, ℕ, zero, suc, Bool, true, false, cond, not, List, [], ◌∷◌, ◌++◌, length, replicate, get_or, Option, Some, None, refl, ap, sym, ◌∙◌, subst, eq-eqb, length-append, inl, inr, arith}
 use Rattle.std.specs.Prelude.{is_some, count_by}
 use Rattle.std.specs.Option.{is_none}
 use mathlib.Core.Bool.{false≢true}
@@ -52,7 +52,7 @@ length-paired (x ∷ y ∷ l) = omega (arith, length-paired l)
 
 length-flag : (leaf : Bool) (n : ℕ) → length (part_flag leaf n) ≡ 2 - n % 2
 length-flag leaf n =
-    elim (n % 2 == 1) as (λ b. (n % 2 == 1) ≡ b → length (cond b (cond leaf 3 1 ∷ []) (cond leaf 2 0 ∷ 0 ∷ [])) ≡ 2 - n % 2) [
+    elim (n % 2 == 1) as (λ b. (n % 2 == 1) ≡ b → length (cond {A = List ℕ} b (cond {A = ℕ} leaf 3 1 ∷ []) (cond {A = ℕ} leaf 2 0 ∷ 0 ∷ [])) ≡ 2 - n % 2) [
       | true ↦ λ e. let odd : n % 2 ≡ 1 = eqb-true (n % 2) 1 e in omega arith
       | false ↦ λ e. let even : n % 2 ≡ 0 = even_of e in omega arith
     ] refl

@@ -11,7 +11,7 @@ use Rattle.nr_triedef.specs.Root.{usage_below, value_usage, branch, with_front, 
 use Rattle.nr_trienodes.specs.Shape.{Shape, shape_at, child, fold, over}
 use Rattle.nr_trienodes.specs.Tries.{is_leaf, node_summary, summary_at, front_usage, own_usage, value_or_none, IsLinked}
 use Rattle.nr_trienodes.specs.Views.{Stands, Sound, Adds, KeepsHash}
-use Rattle.nr_trienodes.proofs.Folds.{Back, not_same, shape_older, shape_newest, shape_append, fold_older, fold_newest, fold_append, fold_at, children_same, by_names}
+use Rattle.nr_trienodes.proofs.Folds.{Back, not_same, shape_older, fold_older, fold_newest, fold_alike}
 
 pub back_sound : (nodes : List Shape) → Sound nodes → Back nodes
 back_sound nodes sound id lt = (sound id lt).back
@@ -122,11 +122,11 @@ kept old new id hash sound can len here others n lt =
           | false ↦ λ e. alike_refl (shape_at old m) (shape_at new m) (others m less (not_same m id e))
         ] refl
 
-    summaries : (m : ℕ) → m < length old → summary_at new m ≡ summary_at old m
-    summaries = fold_alike node_summary (summary_of None) old new (back_sound old sound) (sym len) (λ m less. (alike m less).below) (λ m less r. (λ i. by_parts ((alike m less).part i) ((alike m less).value i) r))
-
     by_parts : List ℕ → Option (List ℕ) → List (Option Summary) → Summary
     by_parts part value r = node_summary (record { part = part; value = value; below = []; usage = 0; hash = None }) r
+
+    summaries : (m : ℕ) → m < length old → summary_at new m ≡ summary_at old m
+    summaries = fold_alike node_summary (summary_of None) old new (back_sound old sound) (sym len) (λ m less. (alike m less).below) (λ m less r. (λ i. by_parts ((alike m less).part i) ((alike m less).value i) r))
 
     more : (m : ℕ) → m < length old → is_some (shape_at old m).hash ≡ true → is_some (shape_at new m).hash ≡ true
     more m less some =

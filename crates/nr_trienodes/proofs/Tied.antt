@@ -27,7 +27,7 @@ count-some : {A : Type 0} (a : A) (cs : List (Option A)) → count_by is_some (S
 count-some {A} a cs = sum_by-cons (λ (c : Option A). cond {A = ℕ} (is_some c) 1 0) (Some a) cs
 
 length-front : (p : List ℕ) (ps : Paths) → length (in_front p ps) ≡ length ps
-length-front p ps = length-map (λ (q : Path). (p ++ q.0, q.1)) ps
+length-front p ps = length-map ps (λ (q : Path). (p ++ q.0, q.1))
 
 length-own : (value : Option (List ℕ)) → length (own_path value) ≡ cond (is_some value) 1 0
 length-own None = refl
@@ -317,8 +317,12 @@ few_from n (None ∷ bs) (Some m ∷ ns) h = absurd h
 few_from n (Some ps ∷ bs) (None ∷ ns) h = absurd h
 few_from n (Some ps ∷ bs) (Some m ∷ ns) h = omega (arith, sum_by-cons or_zero (Some m) ns, count-some ps bs, h.0, few_from (suc n) bs ns h.1, length-append (in_front (n ∷ []) ps) (paths_from (suc n) bs), length-front (n ∷ []) ps)
 
+not_leaf : (b : Bool) → (b && false) ≡ false
+not_leaf true = refl
+not_leaf false = refl
+
 two_links : (value : Option (List ℕ)) (n : ℕ) → (is_leaf value n ≡ false → 2 ≤ cond (is_some value) 1 0 + n) → 2 ≤ 2 * cond (is_some value) 1 0 + n
-two_links None n h = elim n as (λ m. (is_leaf None m ≡ false → 2 ≤ 0 + m) → 2 ≤ 2 * 0 + m) [ zero ↦ λ g. let two : 2 ≤ 0 + 0 = g refl in omega arith | suc m ↦ λ g. let two : 2 ≤ 0 + suc m = g refl in omega arith ] h
+two_links None n h = let two : 2 ≤ 0 + n = h (not_leaf (n == 0)) in omega arith
 two_links (Some value) n h = omega arith
 
 pub few_at : (nodes : List Shape) → Sound nodes → (id : ℕ) → id < length nodes → count_at nodes id + 1 ≤ 2 * length (paths_at nodes id)

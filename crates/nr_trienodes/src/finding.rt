@@ -41,28 +41,26 @@ fn find_below<'a>(nodes: &'a Nodes, root: u32, key: &[u8]) -> Option<&'a [u8]>
 impl Nodes {
     /// The value at a key in the map of a root; `None` exactly where there is none. It takes no
     /// memory, and goes over the nodes of the key's path.
-    #[tactic(auto, using(crate::proofs::Maps::get_of_none, crate::proofs::Maps::get_of_some))]
     pub fn find(&self, root: Option<NodeId>, key: &[u8]) -> Option<&[u8]>
         requires { IsRoot self.now root }
         ensures { option_copied result ≡ map.get (contents self.now root) key.now }
     {
-        let Some(root) = root else {
-            return None;
-        };
-        find_below(self, root.0, key)
+        match root {
+            None => None,
+            Some(root) => find_below(self, root.0, key),
+        }
     }
 
     /// The memory usage of the trie of a root's map, in bytes. It is kept, so no node is looked at
     /// but the root's.
-    #[tactic(auto, using(crate::proofs::Maps::usage_of_none, crate::proofs::Maps::usage_of_some))]
     pub fn usage(&self, root: Option<NodeId>) -> u64
         requires { IsRoot self.now root }
         ensures { result ≡ (root_of (contents self.now root)).usage }
     {
-        let Some(root) = root else {
-            return 0;
-        };
         let _count = self.count();
-        self.usage_at(root.0)
+        match root {
+            None => 0,
+            Some(root) => self.usage_at(root.0),
+        }
     }
 }
