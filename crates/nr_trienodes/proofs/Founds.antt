@@ -17,7 +17,7 @@ found_is nodes id q sound lt = ap (λ (f : Answer). f q) (fold_at answer nothing
 pub found_here : (nodes : List Shape) (id : ℕ) (q : List ℕ) → Sound nodes → id < length nodes → stripped (shape_at nodes id).part q ≡ Some [] → found nodes id q ≡ (shape_at nodes id).value
 found_here nodes id q sound lt e = found_is nodes id q sound lt ∙ ap (given (shape_at nodes id).value (answers nodes id)) e
 
-found_on : (nodes : List Shape) (id : ℕ) (q : List ℕ) (x : ℕ) (rest : List ℕ) (c : Option ℕ) → Sound nodes → id < length nodes → stripped (shape_at nodes id).part q ≡ Some (x ∷ rest) → child (shape_at nodes id).below x ≡ c → found nodes id q ≡ asked (option_map (found nodes) c) rest
+pub found_on : (nodes : List Shape) (id : ℕ) (q : List ℕ) (x : ℕ) (rest : List ℕ) (c : Option ℕ) → Sound nodes → id < length nodes → stripped (shape_at nodes id).part q ≡ Some (x ∷ rest) → child (shape_at nodes id).below x ≡ c → found nodes id q ≡ asked (option_map (found nodes) c) rest
 found_on nodes id q x rest c sound lt e down =
     found_is nodes id q sound lt ∙ ap (given (shape_at nodes id).value (answers nodes id)) e
     ∙ ap (λ (o : Option Answer). asked o rest) (child-map (found nodes) (shape_at nodes id).below x ∙ ap (option_map (found nodes)) down)

@@ -1,3 +1,4 @@
+pub mod Climbing
 pub mod Folds
 pub mod Founds
 pub mod Keys
@@ -5,6 +6,8 @@ pub mod Lookups
 pub mod Maps
 pub mod Orders
 pub mod Rows
+pub mod Sets
+pub mod Settling
 pub mod Sounds
 pub mod Steps
 pub mod Tied

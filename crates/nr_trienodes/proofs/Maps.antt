@@ -14,7 +14,7 @@ use Rattle.nr_triedef.specs.Node.{nibbles}
 use Rattle.nr_triedef.specs.Root.{Paths, Contents, paths, depth, trie, root_of, root_of_entries, summary_of}
 use Rattle.nr_trienodes.specs.Shape.{Shape}
 use Rattle.nr_trienodes.specs.Tries.{found, found_in, paths_at, summary_at, count_at}
-use Rattle.nr_trienodes.specs.Roots.{IsWhole, IsRoot, packed, contents}
+use Rattle.nr_trienodes.specs.Roots.{IsWhole, IsRoot, packed, contents, name_in}
 use Rattle.nr_trienodes.specs.Views.{Sound}
 use Rattle.nr_trienodes.specs.declared.nodes.NodeId.{NodeId}
 use Rattle.nr_trienodes.proofs.Sounds.{back_sound}
@@ -42,10 +42,6 @@ pub paths_are : (nodes : List Shape) (id : NodeId) → Sound nodes → IsRoot no
 unfolding contents
 paths_are nodes id sound root = ap paths (entries-from_sorted R (packed (paths_at nodes id.0)) (sorted_packed nodes id sound root)) ∙ whole_packed (paths_at nodes id.0) (whole_at nodes id sound root)
 
-abbrev pub name_in : Option NodeId → Option ℕ
-name_in None = None
-name_in (Some id) = Some id.0
-
 pub get_is : (nodes : List Shape) (r : Option NodeId) (key : List ℕ) → Sound nodes → IsRoot nodes r → get (contents nodes r) key ≡ found_in nodes (name_in r) (nibbles key)
 unfolding contents
 get_is nodes None key sound root = get-empty R key
@@ -65,9 +61,12 @@ pub root_none : (nodes : List Shape) → root_of (contents nodes None) ≡ summa
 unfolding contents root_of_entries trie
 root_none nodes = ap root_of_entries (nil_from_length (entries (empty {X = List ℕ} {R = R})) (sym (len-entries (empty {X = List ℕ} {R = R})) ∙ len-empty R (List ℕ)))
 
+length-paths : (es : Paths) → length (paths es) ≡ length es
+length-paths [] = refl
+length-paths (e ∷ es) = ap suc (length-paths es)
+
 pub few_entries : (nodes : List Shape) (id : NodeId) → Sound nodes → IsRoot nodes (Some id) → count_at nodes id.0 + 1 ≤ 2 * length (entries (contents nodes (Some id)))
-few_entries nodes id sound root =
-    omega (arith, few_at nodes sound id.0 root.0, ap length (paths_are nodes id sound root), length-map (entries (contents nodes (Some id))) (λ (e : Path). (nibbles e.0, e.1)))
+few_entries nodes id sound root = omega (arith, few_at nodes sound id.0 root.0, ap length (paths_are nodes id sound root), length-paths (entries (contents nodes (Some id))))
 
 -- ---- the same, by the name of a root
 pub get_of_none : (nodes : List Shape) (r : Option NodeId) (key : List ℕ) → r ≡ None → None ≡ get (contents nodes r) key

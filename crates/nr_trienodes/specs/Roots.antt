@@ -38,6 +38,17 @@ pub record Keeps (old new : List Shape) : Type 0 where
   pub map : (r : Option NodeId) → IsRoot old r → contents new r ≡ contents old r
   pub cost : (r : Option NodeId) → IsRoot old r → cost new r ≤ cost old r
 
+-- a new root of these contents, whose hash takes so many hashes of nodes more than the old one's
+pub record IsChanged (old new : List Shape) (before after : Option NodeId) (m : Contents) (extra : ℕ) : Type 0 where
+  pub root : IsRoot new after
+  pub map : contents new after ≡ m
+  pub cost : cost new after ≤ cost old before + extra
+
+-- a name as a number
+abbrev pub name_in : Option NodeId → Option ℕ
+name_in None = None
+name_in (Some id) = Some id.0
+
 -- there is no room for the nodes of a key with so many nibbles
 abbrev pub IsFull : ℕ → ℕ → Type 0
 IsFull held nibbles = 2 ^ 32 < held + 4 + 2 * nibbles
@@ -48,3 +59,8 @@ Renames old new [] [] = Unit {0}
 Renames old new [] (q ∷ qs) = ⊥
 Renames old new (r ∷ rs) [] = ⊥
 Renames old new (r ∷ rs) (q ∷ qs) = IsRoot new q × (contents new q ≡ contents old r) × (cost new q ≤ cost old r) × Renames old new rs qs
+
+-- a change is refused as full exactly where there is no room, with the number of nodes held
+pub record FullsSo {A : Type 0} (held nibbles : ℕ) (result : Result A NodesFault) : Type 0 where
+  pub there : IsFull held nibbles → result ≡ Err (Full held)
+  pub only : (n : ℕ) → result ≡ Err (Full n) → IsFull held nibbles

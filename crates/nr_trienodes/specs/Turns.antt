@@ -1,11 +1,13 @@
 -- Where a key goes at a node, the way down along it, and what a change of one key does to what a node stands for. This project's own.
-use Rattle.std.specs.Prelude.{◌≡◌, ◌≢◌, ℕ, ◌+◌, ◌*◌, ◌<◌, ◌≤◌, ◌^◌, List, [], ◌∷◌, ◌++◌, length, map, take, drop, sum_by, slice_set, Option, Some, None}
+use Rattle.std.specs.Prelude.{◌≡◌, ◌≢◌, ℕ, ◌+◌, ◌*◌, ◌<◌, ◌≤◌, ◌^◌, List, [], ◌∷◌, ◌++◌, length, map, take, drop, is_some, count_by, sum_by, Option, Some, None, true}
 use Rattle.std.specs.Option.{option_map}
 use Rattle.std.specs.List.{AllByRecursion}
 use Rattle.nr_triedef.specs.Node.{nibbles}
-use Rattle.nr_trienodes.specs.Shape.{Shape, bare, shape_at, child, over}
-use Rattle.nr_trienodes.specs.Tries.{Answer, nothing, answer, stripped, found, found_in, or_zero, cost_at, cost_in}
+use Rattle.nr_trienodes.specs.Shape.{Shape, shape_at, child}
+use Rattle.nr_trienodes.specs.Tries.{Answer, stripped, given, found, found_in, or_zero, cost_at, cost_in}
 use Rattle.nr_trienodes.specs.Views.{Sound, IsIn}
+use Rattle.nr_trienodes.specs.declared.settling.Links.{Links}
+use Rattle.nr_trienodes.specs.declared.settling.Links.TheVariants.{Bare, Single, Several}
 use Rattle.nr_trienodes.specs.declared.turn.Step.{Step}
 use Rattle.nr_trienodes.specs.declared.turn.Stop.{Stop}
 use Rattle.nr_trienodes.specs.declared.turn.Stop.TheVariants.{Here, Sprout, Apart}
@@ -74,20 +76,40 @@ pub record Sets (f g : Answer) (key : List ℕ) (o : Option (List ℕ)) : Type 0
   pub here : g key ≡ o
   pub other : (q : List ℕ) → q ≢ key → g q ≡ f q
 
--- a node that stands for what these would, or none where that is nothing
+-- what a node of these stands for
+abbrev pub stands_for : List Shape → List ℕ → Option (List ℕ) → List (Option ℕ) → Answer
+stands_for nodes part value below key = given value (map (option_map (found nodes)) below) (stripped part key)
+
+abbrev pub costs_below : List Shape → List (Option ℕ) → ℕ
+costs_below nodes below = sum_by or_zero (map (option_map (cost_at nodes)) below)
+
+-- a node that stands for what one of these would, or none where that is nothing
 pub record Settles (old new : List Shape) (part : List ℕ) (value : Option (List ℕ)) (below : List (Option ℕ)) (id : Option ℕ) : Type 0 where
   pub there : IsIn (length new) id
-  pub same : (q : List ℕ) → found_in new id q ≡ over answer nothing old (bare part value below) q
-  pub cost : cost_in new id ≤ 2 + sum_by or_zero (map (option_map (cost_at old)) below)
+  pub same : (q : List ℕ) → found_in new id q ≡ stands_for old part value below q
+  pub cost : cost_in new id ≤ 2 + costs_below old below
+  pub light : length part ≡ 0 → is_some value ≡ true → cost_in new id ≤ 1 + costs_below old below
+
+-- a leaf of what is left of a key
+pub record Sprouts (old new : List Shape) (id : ℕ) (key value : List ℕ) : Type 0 where
+  pub there : id < length new
+  pub sets : Sets (found_in old None) (found_in new (Some id)) key (Some value)
+  pub cost : cost_at new id ≤ 1
 
 -- a node, or none, that stands for what an older one does but for one key
-pub record Changes (old new : List Shape) (at : ℕ) (id : Option ℕ) (key : List ℕ) (o : Option (List ℕ)) (extra : ℕ) : Type 0 where
+pub record Changes (old new : List Shape) (at id : Option ℕ) (key : List ℕ) (o : Option (List ℕ)) (extra : ℕ) : Type 0 where
   pub there : IsIn (length new) id
-  pub sets : Sets (found old at) (found_in new id) key o
-  pub cost : cost_in new id ≤ cost_at old at + extra
+  pub sets : Sets (found_in old at) (found_in new id) key o
+  pub cost : cost_in new id ≤ cost_in old at + extra
 
 -- where the changed node stands below the way, the root is changed so too
 abbrev pub Climbs : List Shape → List Shape → List Step → Option ℕ → Option ℕ → Type 0
 Climbs mid new way below id =
     (old : List Shape) (root : ℕ) (key : List ℕ) (at : ℕ) (rest : List ℕ) (o : Option (List ℕ)) (extra : ℕ)
-    → Sound old → Extends old mid → Leads old root key way at rest → Changes old mid at below rest o extra → Changes old new root id key o (extra + 2 * length way)
+    → Sound old → Extends old mid → Leads old root key way at rest → Changes old mid (Some at) below rest o extra → Changes old new (Some root) id key o (extra + 2 * length way)
+
+-- how many children a row has, and the only one
+abbrev pub LinksSo : List (Option ℕ) → Links → Type 0
+LinksSo row Bare = (y : ℕ) → child row y ≡ None
+LinksSo row (Single x c) = (x < 16) × (child row x ≡ Some c) × ((y : ℕ) → y ≢ x → child row y ≡ None)
+LinksSo row Several = 2 ≤ count_by is_some row

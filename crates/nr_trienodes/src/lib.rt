@@ -8,6 +8,7 @@ mod finding;
 mod hashing;
 mod nodes;
 mod putting;
+mod settling;
 mod threads;
 mod turn;
 

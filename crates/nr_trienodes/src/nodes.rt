@@ -56,6 +56,7 @@ impl Model for Nodes {
 #[tactic(auto, using(crate::proofs::Rows::all_none, crate::proofs::Rows::some_child, crate::proofs::Rows::no_child))]
 fn boxed(alloc: Global, row: Row) -> Result<Option<Box<Row>>, AllocError>
     ensures row { IfOk result (λ held. row_of held ≡ row) }
+    ensures sixteen { length row ≡ 16 }
     ensures count { IfOk result (λ held. (count_by is_some row == 0) ≡ is_none held) }
 {
     for i in 0..16 {

@@ -1,127 +1,33 @@
 //! Values put at keys: nodes of the way are made anew, and old ones stay.
 
+ghost use Rattle.std.specs.Prelude.{◌≡◌, ◌<◌, ◌≤◌, ◌+◌, ◌*◌, length, Some, IfOk, OnErr};
+ghost use Rattle.std.specs.Arc.{arc_value};
+ghost use Rattle.std.specs.FinMap as map;
+ghost use Rattle.nr_triedef.specs.Node.{nibbles};
+ghost use Rattle.nr_trienodes.specs.Shape.{shape_at};
+ghost use Rattle.nr_trienodes.specs.Views.{Sound};
+ghost use Rattle.nr_trienodes.specs.Turns.{left, Parts, StopsSo, Extends, Changes};
+ghost use Rattle.nr_trienodes.specs.Roots.{IsRoot, IsChanged, contents, name_in, Keeps, FullsSo};
+
 use crate::fault::NodesFault;
-use crate::nodes::{NodeId, Nodes, Row};
-use crate::turn::{End, Stop, Way, nibble_at, rest_of, walk};
+use crate::nodes::{NodeId, Nodes};
+use crate::settling::{behind, climb, replace_child, replace_value, settle, sprout};
+use crate::turn::{End, Stop, nibble_at, walk};
 use nr_bytes::Blob;
 use std::alloc::AllocError;
 use std::sync::Arc;
 
 /// Whether the arena has room for the nodes of a change at this key.
-pub(crate) fn room_for(nodes: &Nodes, key: &[u8]) -> Result<(), NodesFault> {
+pub(crate) fn room_for(nodes: &Nodes, key: &[u8]) -> Result<(), NodesFault>
+    ensures full { FullsSo (length nodes.now) (length (nibbles key.now)) result }
+    ensures sound { Sound nodes.now }
+{
     let held = nodes.count();
     if key.len() >= 1 << 30 || u64::from(held) + 4 + 4 * key.len() as u64 > 1 << 32 {
         return Err(NodesFault::Full { nodes: held });
     }
     Ok(())
 }
-
-// How many children there are.
-#[derive(Clone, Copy)]
-enum Links {
-    None,
-    One { nibble: u8, child: u32 },
-    Several,
-}
-
-fn links_of(row: &Row) -> Links {
-    let mut links = Links::None;
-    for nibble in 0..16u8 {
-        if let Some(child) = row[nibble as usize] {
-            match links {
-                Links::None => links = Links::One { nibble, child },
-                _ => return Links::Several,
-            }
-        }
-    }
-    links
-}
-
-// A child with a front before its part.
-fn join(nodes: &mut Nodes, front: Vec<u8>, nibble: u8, child: u32) -> Result<u32, AllocError> {
-    let mut part = front;
-    part.push(nibble)?;
-    part.extend_from_slice(nodes.part(child))?;
-    let value = nodes.shared_value(child)?;
-    let row = nodes.row(child);
-    nodes.push(part, value, row)
-}
-
-/// The node that stands for what these do: none, a leaf, a branch, or the only child with the part
-/// before its own.
-pub(crate) fn settle(
-    nodes: &mut Nodes,
-    part: Vec<u8>,
-    value: Option<Arc<Blob>>,
-    row: Row,
-) -> Result<Option<u32>, AllocError> {
-    if value.is_none() {
-        match links_of(&row) {
-            Links::None => return Ok(None),
-            Links::One { nibble, child } => {
-                let id = join(nodes, part, nibble, child)?;
-                return Ok(Some(id));
-            }
-            Links::Several => {}
-        }
-    }
-    let id = nodes.push(part, value, row)?;
-    Ok(Some(id))
-}
-
-// The node with another child.
-fn replace_child(
-    nodes: &mut Nodes,
-    node: u32,
-    nibble: u8,
-    below: Option<u32>,
-) -> Result<Option<u32>, AllocError> {
-    let part = Vec::from_slice(nodes.allocator(), nodes.part(node))?;
-    let value = nodes.shared_value(node)?;
-    let mut row = nodes.row(node);
-    row[nibble as usize] = below;
-    settle(nodes, part, value, row)
-}
-
-/// The node with another value.
-pub(crate) fn replace_value(
-    nodes: &mut Nodes,
-    node: u32,
-    value: Option<Arc<Blob>>,
-) -> Result<Option<u32>, AllocError> {
-    let part = Vec::from_slice(nodes.allocator(), nodes.part(node))?;
-    let row = nodes.row(node);
-    settle(nodes, part, value, row)
-}
-
-/// The root over another last node of a way.
-pub(crate) fn climb(
-    nodes: &mut Nodes,
-    way: Way,
-    below: Option<u32>,
-) -> Result<Option<u32>, AllocError> {
-    let mut way = way;
-    let mut below = below;
-    'up: while let Some(step) = way.pop() {
-        below = replace_child(nodes, step.node, step.nibble, below)?;
-    }
-    Ok(below)
-}
-
-// A leaf of what is left of a key from a place on.
-fn sprout(nodes: &mut Nodes, key: &[u8], at: usize, value: Arc<Blob>) -> Result<u32, AllocError> {
-    let part = rest_of(nodes.allocator(), key, at)?;
-    nodes.push(part, Some(value), [None; 16])
-}
-
-// A node without the first nibbles of its part.
-fn behind(nodes: &mut Nodes, node: u32, front: usize) -> Result<u32, AllocError> {
-    let part = Vec::from_slice(nodes.allocator(), &nodes.part(node)[front..])?;
-    let value = nodes.shared_value(node)?;
-    let row = nodes.row(node);
-    nodes.push(part, value, row)
-}
-
 // A node whose part the key leaves after some nibbles, with the value at the key.
 fn split(
     nodes: &mut Nodes,
@@ -130,16 +36,23 @@ fn split(
     key: &[u8],
     at: usize,
     value: Arc<Blob>,
-) -> Result<Option<u32>, AllocError> {
+) -> Result<Option<u32>, AllocError>
+    requires node { node < length nodes.old }
+    requires parts { Parts (shape_at nodes.old node) key.now at shared }
+    ensures few { length nodes.new ≤ length nodes.old + 3 }
+    ensures grows { Extends nodes.old nodes.new }
+    ensures put { IfOk result (λ id. Changes nodes.old nodes.new (Some node) id (left key.now at) (Some (arc_value value)) (2 * length (left key.now at) + 3)) }
+{
     let nibble = nodes.part(node)[shared];
     let lower = behind(nodes, node, shared + 1)?;
     let part = Vec::from_slice(nodes.allocator(), &nodes.part(node)[..shared])?;
+    let place = at + shared;
     let mut row = [None; 16];
     row[nibble as usize] = Some(lower);
-    match nibble_at(key, at + shared) {
+    match nibble_at(key, place) {
         None => settle(nodes, part, Some(value), row),
         Some(other) => {
-            let leaf = sprout(nodes, key, at + shared + 1, value)?;
+            let leaf = sprout(nodes, key, place + 1, value)?;
             row[other as usize] = Some(leaf);
             settle(nodes, part, None, row)
         }
@@ -154,7 +67,13 @@ fn put_at(
     key: &[u8],
     at: usize,
     value: Arc<Blob>,
-) -> Result<Option<u32>, AllocError> {
+) -> Result<Option<u32>, AllocError>
+    requires node { node < length nodes.old }
+    requires stop { StopsSo (shape_at nodes.old node) key.now at stop }
+    ensures few { length nodes.new ≤ length nodes.old + 3 }
+    ensures grows { Extends nodes.old nodes.new }
+    ensures put { IfOk result (λ id. Changes nodes.old nodes.new (Some node) id (left key.now at) (Some (arc_value value)) (2 * length (left key.now at) + 3)) }
+{
     match stop {
         Stop::Here => replace_value(nodes, node, Some(value)),
         Stop::Sprout { nibble, next } => {
@@ -165,39 +84,77 @@ fn put_at(
     }
 }
 
+// The root of the map below a node with a value put at a key.
 fn put_below(
     nodes: &mut Nodes,
-    root: Option<NodeId>,
+    root: u32,
     key: &[u8],
-    value: &[u8],
-) -> Result<Option<u32>, AllocError> {
-    let alloc = nodes.allocator();
-    let value = Arc::new(alloc, Blob::of(Vec::from_slice(alloc, value)?))?;
-    let Some(root) = root else {
-        let leaf = sprout(nodes, key, 0, value)?;
-        return Ok(Some(leaf));
-    };
+    value: Arc<Blob>,
+) -> Result<Option<u32>, AllocError>
+    requires { root < length nodes.old }
+    ensures few { length nodes.new ≤ length nodes.old + length (nibbles key.now) + 3 }
+    ensures grows { Extends nodes.old nodes.new }
+    ensures put { IfOk result (λ id. Changes nodes.old nodes.new (Some root) id (nibbles key.now) (Some (arc_value value)) (2 * length (nibbles key.now) + 3)) }
+    ensures sound { Sound nodes.old }
+{
     let End {
         way,
         node,
         at,
         stop,
-    } = walk(nodes, root.0, key)?;
+    } = walk(nodes, root, key)?;
     let below = put_at(nodes, node, stop, key, at, value)?;
     climb(nodes, way, below)
 }
 
+// The same, from a root or none.
+fn put_from(
+    nodes: &mut Nodes,
+    root: Option<NodeId>,
+    key: &[u8],
+    value: &[u8],
+) -> Result<Option<u32>, AllocError>
+    requires { IsRoot nodes.old root }
+    ensures few { length nodes.new ≤ length nodes.old + length (nibbles key.now) + 3 }
+    ensures grows { Extends nodes.old nodes.new }
+    ensures put { IfOk result (λ id. Changes nodes.old nodes.new (name_in root) id (nibbles key.now) (Some value.now) (2 * length (nibbles key.now) + 3)) }
+{
+    let alloc = nodes.allocator();
+    let held = Vec::from_slice(alloc, value)?;
+    let value = Arc::new(alloc, Blob::of(held))?;
+    match root {
+        Some(root) => put_below(nodes, root.0, key, value),
+        None => {
+            let leaf = sprout(nodes, key, 0, value)?;
+            Ok(Some(leaf))
+        }
+    }
+}
+
 impl Nodes {
     /// The root of a map with a value put at a key, in place of an earlier one. Old roots stay.
+    ///
+    /// # Errors
+    ///
+    /// `Full` exactly where the arena holds more than 2^32 - 4 - 2n nodes, where n is the number of
+    /// the key's nibbles. Want of memory, as which count a part or a value of 2^32 bytes or more and
+    /// a usage that passes u64. Each leaves the nodes as they were.
     pub fn put(
         &mut self,
         root: Option<NodeId>,
         key: &[u8],
         value: &[u8],
-    ) -> Result<NodeId, NodesFault> {
+    ) -> Result<NodeId, NodesFault>
+        requires { IsRoot self.old root }
+        ensures put { IfOk result (λ id. IsChanged self.old self.new root (Some id) (map.insert (contents self.old root) key.now value.now) (2 * length (nibbles key.now) + 3)) }
+        ensures kept { Keeps self.old self.new }
+        ensures few { length self.new ≤ length self.old + 2 * length (nibbles key.now) + 3 }
+        ensures err { OnErr result (self.new ≡ self.old) }
+        ensures full { FullsSo (length self.old) (length (nibbles key.now)) result }
+    {
         room_for(self, key)?;
         let before = self.len();
-        match put_below(self, root, key, value) {
+        match put_from(self, root, key, value) {
             Ok(Some(id)) => Ok(NodeId(id)),
             Ok(None) => unreachable!(),
             Err(_) => {

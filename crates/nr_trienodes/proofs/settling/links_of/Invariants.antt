@@ -1,0 +1,5 @@
+use Rattle.nr_trienodes.proofs.Settling.{LinksBelow}
+use Rattle.nr_trienodes.proofs.settling.links_of.Given as goal
+
+abbrev pub invariant-loop-nibble : goal.invariant-loop-nibble
+invariant-loop-nibble l = LinksBelow l.row l.nibble l.links
