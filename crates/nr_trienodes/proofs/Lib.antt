@@ -1,3 +1,4 @@
+pub mod Changed
 pub mod Climbing
 pub mod Folds
 pub mod Founds
@@ -5,9 +6,10 @@ pub mod Keys
 pub mod Lookups
 pub mod Maps
 pub mod Orders
+pub mod Puts
 pub mod Rows
 pub mod Sets
-pub mod Settling
+pub mod Settled
 pub mod Sounds
 pub mod Steps
 pub mod Tied

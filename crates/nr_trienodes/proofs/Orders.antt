@@ -62,7 +62,7 @@ find-paths k [] = refl
 find-paths k (e ∷ es) = (λ i. cond (is_eq (cmp_nibbles k e.0 i)) (Some e.1) (find-paths k es i))
 
 -- ---- packing
-paired-nibbles : (k : List ℕ) → paired (nibbles k) ≡ k
+pub paired-nibbles : (k : List ℕ) → paired (nibbles k) ≡ k
 paired-nibbles [] = refl
 paired-nibbles (b ∷ k) = let one : 16 * (b / 16) + b % 16 ≡ b = omega arith in (λ i. one i ∷ paired-nibbles k i)
 

@@ -58,7 +58,7 @@ child-set_other (d ∷ cs) zero c (suc y) ne = refl
 child-set_other (d ∷ cs) (suc x) c zero ne = refl
 child-set_other (d ∷ cs) (suc x) c (suc y) ne = child-set_other cs x c y (λ same. ne (ap suc same))
 
-pub child-none : (n x : ℕ) → child (replicate n None) x ≡ None
+pub child-none : (n x : ℕ) → child {A = ℕ} (replicate n None) x ≡ None
 child-none zero x = refl
 child-none (suc n) zero = refl
 child-none (suc n) (suc x) = child-none n x

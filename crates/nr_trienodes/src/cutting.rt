@@ -15,6 +15,7 @@ use crate::turn::{End, Stop, walk};
 use std::alloc::AllocError;
 
 // The root of the map below a node without a key.
+#[tactic(auto, using(crate::proofs::Sets::extends_refl, crate::proofs::Sets::extends_trans))]
 fn cut_below(nodes: &mut Nodes, root: u32, key: &[u8]) -> Result<Option<u32>, AllocError>
     requires { root < length nodes.old }
     ensures few { length nodes.new ≤ length nodes.old + length (nibbles key.now) + 1 }
@@ -46,6 +47,7 @@ impl Nodes {
     /// # Errors
     ///
     /// As those of `put`.
+    #[tactic(auto, using(crate::proofs::Changed::keeps_extends, crate::proofs::Changed::cut_back))]
     pub fn cut(
         &mut self,
         root: Option<NodeId>,

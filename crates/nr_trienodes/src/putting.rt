@@ -29,6 +29,7 @@ pub(crate) fn room_for(nodes: &Nodes, key: &[u8]) -> Result<(), NodesFault>
     Ok(())
 }
 // A node whose part the key leaves after some nibbles, with the value at the key.
+#[tactic(auto, using(crate::proofs::Puts::forked, crate::proofs::Sets::extends_trans))]
 fn split(
     nodes: &mut Nodes,
     node: u32,
@@ -60,6 +61,7 @@ fn split(
 }
 
 // The last node of a way, with the value at what is left of the key.
+#[tactic(auto, using(crate::proofs::Sets::extends_trans))]
 fn put_at(
     nodes: &mut Nodes,
     node: u32,
@@ -85,6 +87,7 @@ fn put_at(
 }
 
 // The root of the map below a node with a value put at a key.
+#[tactic(auto, using(crate::proofs::Sets::extends_trans, crate::proofs::Puts::steps_kept))]
 fn put_below(
     nodes: &mut Nodes,
     root: u32,
@@ -139,6 +142,7 @@ impl Nodes {
     /// `Full` exactly where the arena holds more than 2^32 - 4 - 2n nodes, where n is the number of
     /// the key's nibbles. Want of memory, as which count a part or a value of 2^32 bytes or more and
     /// a usage that passes u64. Each leaves the nodes as they were.
+    #[tactic(auto, using(crate::proofs::Changed::keeps_extends, crate::proofs::Changed::cut_back))]
     pub fn put(
         &mut self,
         root: Option<NodeId>,

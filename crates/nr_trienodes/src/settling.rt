@@ -23,7 +23,7 @@ pub(crate) enum Links {
     Several,
 }
 
-#[tactic(auto, using(crate::proofs::Settling::links_more, crate::proofs::Settling::links_first, crate::proofs::Settling::links_second, crate::proofs::Settling::links_all))]
+#[tactic(auto, using(crate::proofs::Settled::links_more, crate::proofs::Settled::links_first, crate::proofs::Settled::links_second, crate::proofs::Settled::links_all))]
 fn links_of(row: &Row) -> Links
     ensures { LinksSo row.now result }
 {
@@ -40,7 +40,7 @@ fn links_of(row: &Row) -> Links
 }
 
 // A node of these, which have a value alone or two links.
-#[tactic(auto, using(crate::proofs::Settling::adds_settles, crate::proofs::Settling::adds_extends, crate::proofs::Sets::extends_refl))]
+#[tactic(auto, using(crate::proofs::Settled::adds_settles, crate::proofs::Settled::adds_extends, crate::proofs::Sets::extends_refl))]
 fn place(
     nodes: &mut Nodes,
     part: Vec<u8>,
@@ -151,6 +151,7 @@ pub(crate) fn replace_value(
 }
 
 /// The root over another last node of a way.
+#[tactic(auto, using(crate::proofs::Climbing::climbed, crate::proofs::Climbing::first_step, crate::proofs::Climbing::rises_first, crate::proofs::Sets::extends_refl))]
 pub(crate) fn climb(
     nodes: &mut Nodes,
     way: Way,
@@ -172,7 +173,7 @@ pub(crate) fn climb(
 }
 
 /// A leaf of what is left of a key from a place on.
-#[tactic(auto, using(crate::proofs::Settling::adds_sprouts, crate::proofs::Settling::adds_extends, crate::proofs::Sets::extends_refl, crate::proofs::Settling::leaf_linked, crate::proofs::Settling::leaf_back))]
+#[tactic(auto, using(crate::proofs::Settled::adds_sprouts, crate::proofs::Settled::adds_extends, crate::proofs::Sets::extends_refl, crate::proofs::Settled::leaf_linked, crate::proofs::Settled::leaf_back))]
 pub(crate) fn sprout(
     nodes: &mut Nodes,
     key: &[u8],

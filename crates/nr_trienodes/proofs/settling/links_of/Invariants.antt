@@ -1,4 +1,4 @@
-use Rattle.nr_trienodes.proofs.Settling.{LinksBelow}
+use Rattle.nr_trienodes.proofs.Settled.{LinksBelow}
 use Rattle.nr_trienodes.proofs.settling.links_of.Given as goal
 
 abbrev pub invariant-loop-nibble : goal.invariant-loop-nibble

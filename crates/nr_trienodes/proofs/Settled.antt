@@ -184,3 +184,10 @@ settles_single old new part None row x c id sound lt e down others s =
       cost = omega (arith, s.cost, costs_less old c sound lt, cost_child (cost_at old) row x c down);
       light = λ none some. absurd cc;
     }
+
+pub row_back : (nodes : List Shape) (node : ℕ) (row : List (Option ℕ)) → Sound nodes → node < length nodes → row ≡ (shape_at nodes node).below → (y d : ℕ) → child row y ≡ Some d → d < length nodes
+row_back nodes node row sound lt e y d h = let less : d < node = (sound node lt).back y d (ap (λ (r : List (Option ℕ)). child r y) (sym e) ∙ h) in omega arith
+
+pub none_mapped : {A B : Type 0} (f : A → B) (o : Option A) → is_some o ≡ false → is_some (option_map f o) ≡ false
+none_mapped f None e = refl
+none_mapped f (Some a) e = absurd cc
