@@ -1,5 +1,5 @@
 -- The map of a changed root, and old roots where nothing but new nodes came.
-use Rattle.std.proofs.Common.{◌≡◌, ◌≢◌, ◌<◌, ◌≤◌, ◌+◌, ◌-◌, ◌++◌, ℕ, zero, suc, Bool, true, false, cond, List, [], ◌∷◌, length, drop, Option, Some, None, Result, Ok, Err, refl, ap, sym, ◌∙◌, subst, length-append, arith}
+use Rattle.std.proofs.Common.{◌≡◌, ◌≢◌, ◌<◌, ◌≤◌, ◌+◌, ◌-◌, ◌*◌, ◌^◌, ◌++◌, ℕ, zero, suc, Bool, true, false, cond, List, [], ◌∷◌, length, drop, Option, Some, None, Result, Ok, Err, refl, ap, sym, ◌∙◌, subst, length-append, arith}
 use mathlib.Core.Bool.{false≢true}
 use Rattle.std.specs.Prelude.{is_some, IsSome}
 use Rattle.std.proofs.Math.Seq.{drop-append_seam}
@@ -12,7 +12,7 @@ use Rattle.std.proofs.lemmas.Map.Lookups.{exact_bytes}
 use Rattle.nr_triedef.specs.Node.{nibbles}
 use Rattle.nr_triedef.specs.Root.{Paths, Contents}
 use Rattle.nr_trienodes.specs.Shape.{Shape}
-use Rattle.nr_trienodes.specs.Tries.{Answer, answer, nothing, node_paths, node_cost, found, found_in, cost_in}
+use Rattle.nr_trienodes.specs.Tries.{Answer, answer, nothing, node_paths, node_cost, found, found_in, cost_at, cost_in}
 use Rattle.nr_trienodes.specs.Views.{Sound, IsIn}
 use Rattle.nr_trienodes.specs.Turns.{Sets, Extends, Changes}
 use Rattle.nr_trienodes.specs.Roots.{IsWhole, IsRoot, IsChanged, Keeps, IsFull, FullsSo, packed, contents, cost, name_in}
@@ -20,6 +20,7 @@ use Rattle.nr_trienodes.specs.declared.fault.NodesFault.{NodesFault}
 use Rattle.nr_trienodes.specs.declared.fault.NodesFault.TheVariants.{Full, Memory}
 use Rattle.nr_trienodes.specs.declared.nodes.NodeId.{NodeId}
 use Rattle.nr_trienodes.proofs.Orders.{R, paired-nibbles}
+use Rattle.nr_trienodes.proofs.Keys.{length-nibbles}
 use Rattle.nr_trienodes.proofs.Maps.{get_is}
 use Rattle.nr_trienodes.proofs.Sets.{extends_fold, extends_longer}
 use Rattle.nr_triedef.specs.Node.{paired}
@@ -79,7 +80,7 @@ cut_none nodes root key extra e sound is = is_cut nodes nodes root None key extr
 -- ---- old roots
 pub keeps_extends : (old new : List Shape) → Extends old new → Keeps old new
 unfolding contents cost
-keeps_extends old new grows = record { root = root; map = map; cost = cost }
+keeps_extends old new grows = record { root = root; map = map; cost = costs }
   where
     root : (r : Option NodeId) → IsRoot old r → IsRoot new r
     root None h = tt
@@ -89,9 +90,9 @@ keeps_extends old new grows = record { root = root; map = map; cost = cost }
     map None h = refl
     map (Some id) h = ap (λ (ps : Paths). from_sorted (packed ps)) (extends_fold node_paths [] old new id.0 grows h.0)
 
-    cost : (r : Option NodeId) → IsRoot old r → cost_in new (name_in r) ≤ cost_in old (name_in r)
-    cost None h = omega arith
-    cost (Some id) h = omega (arith, extends_fold node_cost 0 old new id.0 grows h.0)
+    costs : (r : Option NodeId) → IsRoot old r → cost new r ≤ cost old r
+    costs None h = omega arith
+    costs (Some id) h = let same : cost_at new id.0 ≡ cost_at old id.0 = extends_fold node_cost 0 old new id.0 grows h.0 in omega arith
 
 pub keeps_refl : (nodes : List Shape) → Keeps nodes nodes
 keeps_refl nodes = keeps_extends nodes nodes (record { more = []; is = refl })
@@ -113,3 +114,13 @@ fulls_ok held n a b f = record { there = λ full. absurd (not_full held n a f fu
 
 pub fulls_memory : {A B : Type 0} (held n : ℕ) (a : A) → FullsSo held n (Ok a) → FullsSo {A = B} held n (Err Memory)
 fulls_memory held n a f = record { there = λ full. absurd (not_full held n a f full); only = λ k is. absurd cc }
+
+pub full_there : {A : Type 0} (n held : ℕ) (key : List ℕ) → held ≡ n → 2 ^ 32 < n + 4 + 4 * length key → FullsSo {A = A} n (length (nibbles key)) (Err (Full held))
+full_there {A} n held key e full =
+    record {
+      there = λ h. ap (λ k. let r : Result A NodesFault = Err (Full k) in r) e;
+      only = λ k is. omega (arith, length-nibbles key);
+    }
+
+pub room_there : {A : Type 0} (n : ℕ) (key : List ℕ) (a : A) → n + 4 + 4 * length key ≤ 2 ^ 32 → FullsSo n (length (nibbles key)) (Ok a)
+room_there n key a room = record { there = λ full. absurd (omega (arith, length-nibbles key)); only = λ k is. absurd cc }

@@ -7,6 +7,7 @@ use Rattle.nr_trienodes.specs.Turns.{left, GoesBy, Parts}
 use Rattle.nr_trienodes.specs.Views.{Sound}
 use Rattle.nr_trienodes.proofs.Folds.{fold_at, child-map}
 use Rattle.nr_trienodes.proofs.Sounds.{back_sound}
+use Rattle.nr_trienodes.proofs.Keys.{goes_off}
 
 abbrev pub answers : List Shape → ℕ → List (Option Answer)
 answers nodes id = map (option_map (found nodes)) (shape_at nodes id).below
@@ -41,4 +42,4 @@ stripped_apart (x ∷ p) (y ∷ k) r (suc n) e f =
 pub found_apart : (nodes : List Shape) (id : ℕ) (key : List ℕ) (at n : ℕ) → Sound nodes → id < length nodes → Parts (shape_at nodes id) key at n → found nodes id (left key at) ≡ None
 found_apart nodes id key at n sound lt parts =
     found_is nodes id (left key at) sound lt
-    ∙ ap (given (shape_at nodes id).value (answers nodes id)) (stripped_apart (shape_at nodes id).part (left key at) (left key (at + n)) n parts.matches.front (parts.matches.differ parts.more))
+    ∙ ap (given (shape_at nodes id).value (answers nodes id)) (stripped_apart (shape_at nodes id).part (left key at) (left key (at + n)) n parts.matches.front (goes_off (shape_at nodes id).part (left key (at + n)) n parts.more (parts.matches.differ parts.more)))

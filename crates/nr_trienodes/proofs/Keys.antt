@@ -7,7 +7,7 @@ use Rattle.nr_trienodes.specs.Shape.{Shape, shape_at, child}
 use Rattle.nr_trienodes.specs.Tries.{stripped}
 use Rattle.nr_trienodes.specs.Turns.{left, IsNext, Matches, GoesBy, Takes, Leads}
 
-length-nibbles : (key : List ℕ) → length (nibbles key) ≡ 2 * length key
+pub length-nibbles : (key : List ℕ) → length (nibbles key) ≡ 2 * length key
 length-nibbles [] = refl
 length-nibbles (b ∷ key) = omega (arith, length-nibbles key)
 
@@ -56,15 +56,12 @@ take_more (y ∷ p) (z ∷ k) r (suc n) x lt e f =
       | false ↦ λ g. absurd cc
     ] f
 
-no_more : (p : List ℕ) (n : ℕ) → n < length p → stripped (drop n p) [] ≡ None
-no_more [] n lt = absurd (omega arith)
-no_more (x ∷ p) zero lt = refl
-no_more (x ∷ p) (suc n) lt = no_more p n (omega arith)
-
-goes_off : (p k : List ℕ) (n x : ℕ) → n < length p → get_or p n 0 ≢ x → stripped (drop n p) (x ∷ k) ≡ None
-goes_off [] k n x lt ne = absurd (omega arith)
-goes_off (y ∷ p) k zero x lt ne = rw (ne_eqb y x ne)
-goes_off (y ∷ p) k (suc n) x lt ne = goes_off p k n x (omega arith) ne
+-- a part that doesn't go on as the key does is no front of it
+pub goes_off : (p k : List ℕ) (n : ℕ) → n < length p → ((x : ℕ) (rest : List ℕ) → k ≡ x ∷ rest → x ≢ get_or p n 0) → stripped (drop n p) k ≡ None
+goes_off [] k n lt off = absurd (omega arith)
+goes_off (y ∷ p) [] zero lt off = refl
+goes_off (y ∷ p) (x ∷ k) zero lt off = rw (ne_eqb y x (λ same. off x k refl (sym same)))
+goes_off (y ∷ p) k (suc n) lt off = goes_off p k n (omega arith) off
 
 -- n nibbles of the part are those of the key, up to a place
 pub record Along (part key : List ℕ) (at n place : ℕ) : Type 0 where
@@ -81,23 +78,23 @@ along_more part key at n place x a lt e next =
       front = subst (λ m. stripped (take m part) (left key at) ≡ Some (left key (place + 1))) (sym (add-one n)) (take_more part (left key at) (left key (place + 1)) n x lt (sym e) (a.front ∙ ap (λ (l : List ℕ). Some l) next.is));
     }
 
-matches : (part key : List ℕ) (at n place : ℕ) → Along part key at n place → n ≤ length part → place < 2 ^ 64 → (n < length part → stripped (drop n part) (left key place) ≡ None) → Matches part key at n
+matches : (part key : List ℕ) (at n place : ℕ) → Along part key at n place → n ≤ length part → place < 2 ^ 64 → (n < length part → (x : ℕ) (rest : List ℕ) → left key place ≡ x ∷ rest → x ≢ get_or part n 0) → Matches part key at n
 matches part key at n place a le room differ =
     record {
       within = le;
       front = subst (λ m. stripped (take n part) (left key at) ≡ Some (left key m)) a.count a.front;
-      differ = λ lt. subst (λ m. stripped (drop n part) (left key m) ≡ None) a.count (differ lt);
+      differ = λ lt x rest e. differ lt x rest (ap (left key) a.count ∙ e);
       room = subst (λ m. m < 2 ^ 64) a.count room;
     }
 
 pub matches_none : (part key : List ℕ) (at n place : ℕ) → Along part key at n place → n < length part → place < 2 ^ 64 → left key place ≡ [] → Matches part key at n
-matches_none part key at n place a lt room none = matches part key at n place a (omega arith) room (λ more. ap (stripped (drop n part)) none ∙ no_more part n more)
+matches_none part key at n place a lt room none = matches part key at n place a (omega arith) room (λ more x rest e. absurd cc)
 
 pub matches_off : (part key : List ℕ) (at n place x y : ℕ) → Along part key at n place → n < length part → place < 2 ^ 64 → IsNext key place x → y ≡ get_or part n 0 → x ≢ y → Matches part key at n
-matches_off part key at n place x y a lt room next e ne = matches part key at n place a (omega arith) room (λ more. ap (stripped (drop n part)) next.is ∙ goes_off part (left key (place + 1)) n x more (λ same. ne (sym same ∙ sym e)))
+matches_off part key at n place x y a lt room next e ne = matches part key at n place a (omega arith) room (λ more z rest f same. let is : x ∷ left key (place + 1) ≡ z ∷ rest = sym next.is ∙ f in let head : x ≡ z = cc in ne (head ∙ same ∙ sym e))
 
 pub matches_all : (part key : List ℕ) (at n place : ℕ) → Along part key at n place → n ≡ length part → place < 2 ^ 64 → Matches part key at n
-matches_all part key at n place a e room = matches part key at n place a (omega arith) room (λ more. absurd (omega arith))
+matches_all part key at n place a e room = matches part key at n place a (omega arith) room (λ more x rest f. absurd (omega arith))
 
 take_all : (p : List ℕ) (n : ℕ) → length p ≤ n → take n p ≡ p
 take_all [] zero le = refl

@@ -1,5 +1,6 @@
 pub mod Changed
 pub mod Climbing
+pub mod Cuts
 pub mod Folds
 pub mod Founds
 pub mod Keys

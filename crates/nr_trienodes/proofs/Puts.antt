@@ -8,12 +8,14 @@ use Rattle.nr_triedef.specs.Node.{nibbles}
 use Rattle.nr_trienodes.specs.Shape.{Shape, no_children, child, shape_at}
 use Rattle.nr_trienodes.specs.Tries.{Answer, answer, nothing, stripped, asked, given, found, found_in, or_zero, cost_at, cost_in}
 use Rattle.nr_trienodes.specs.Views.{Sound, IsIn}
-use Rattle.nr_trienodes.specs.Turns.{AreSteps, left, GoesBy, Parts, IsNext, Sets, Extends, Takes, Leads, Settles, Sprouts, Changes, Climbs, stands_for, costs_below}
+use Rattle.nr_trienodes.specs.Turns.{left, GoesBy, Parts, IsNext, Sets, Extends, Takes, Leads, Settles, Sprouts, Changes, Climbs, stands_for, costs_below}
 use Rattle.nr_trienodes.proofs.Folds.{not_same}
 use Rattle.nr_trienodes.proofs.Keys.{stripped_is, left_less}
 use Rattle.nr_trienodes.proofs.Sets.{extends_trans, extends_longer, extends_shape, extends_fold, sets_value, sets_child, given_on, child-none, child-set, child-set_other}
+use Rattle.nr_trienodes.specs.Roots.{name_in}
+use Rattle.nr_trienodes.specs.declared.nodes.NodeId.{NodeId}
 use Rattle.nr_trienodes.specs.declared.turn.Step.{Step}
-use Rattle.nr_trienodes.proofs.Climbing.{steps_more, costs_less, costs_changed, costs-set, found_of, sets_via, same_below, changes_more}
+use Rattle.nr_trienodes.proofs.Climbing.{costs_less, costs_changed, costs-set, found_of, sets_via, same_below, changes_more}
 
 -- ---- the key ends at the node
 pub put_here : (old new : List Shape) (node : ℕ) (id : Option ℕ) (key value : List ℕ) → Sound old → node < length old → stripped (shape_at old node).part key ≡ Some [] → Settles old new (shape_at old node).part (Some value) (shape_at old node).below id → Changes old new (Some node) id key (Some value) (2 * length key + 3)
@@ -140,8 +142,12 @@ put_branch old low mid new node n x lower y leaf id part key rest value f there 
     only z d false t h = absurd (let is : child (set no_children x (Some lower)) z ≡ None = child-set_other no_children x (Some lower) z (not_same z x t) ∙ child-none 16 z in cc)
 
 -- ---- from the root
-pub put_climbed : (old mid new : List Shape) (root node : ℕ) (below id : Option ℕ) (way_length : ℕ) (key rest : List ℕ) (o : Option (List ℕ)) (extra : ℕ) → Changes old new (Some root) id key o (extra + 2 * way_length) → way_length + length rest ≤ length key → extra ≤ 2 * length rest + 3 → Changes old new (Some root) id key o (2 * length key + 3)
-put_climbed old mid new root node below id way_length key rest o extra c short le = changes_more old new (Some root) id key o (extra + 2 * way_length) (2 * length key + 3) (omega arith) c
+pub put_climbed : (old mid new : List Shape) (root node : ℕ) (below id : Option ℕ) (way : List Step) (key rest : List ℕ) (o : Option (List ℕ)) (extra more : ℕ) → Sound old → Extends old mid → Leads old root key way node rest → Changes old mid (Some node) below rest o extra → Climbs mid new way below id → length way + length rest ≤ length key → extra ≤ 2 * length rest + more → Changes old new (Some root) id key o (2 * length key + more)
+put_climbed old mid new root node below id way key rest o extra more sound grows leads changes climbs short le =
+    changes_more old new (Some root) id key o (extra + 2 * length way) (2 * length key + more) (omega arith) (climbs old root key node rest o extra sound grows leads changes)
 
-pub steps_kept : (old new : List Shape) (way : List Step) → Extends old new → AreSteps old way → AreSteps new way
-steps_kept old new way grows all = steps_more old new way grows all
+pub put_some : (old new : List Shape) (root : Option NodeId) (r : NodeId) (id : Option ℕ) (key : List ℕ) (o : Option (List ℕ)) (extra : ℕ) → root ≡ Some r → Changes old new (Some r.0) id key o extra → Changes old new (name_in root) id key o extra
+put_some old new root r id key o extra e c = subst (λ (q : Option NodeId). Changes old new (name_in q) id key o extra) (sym e) c
+
+pub put_none : (old new : List Shape) (root : Option NodeId) (id : ℕ) (key value : List ℕ) → root ≡ None → Sprouts old new id key value → Changes old new (name_in root) (Some id) key (Some value) (2 * length key + 3)
+put_none old new root id key value e s = subst (λ (q : Option NodeId). Changes old new (name_in q) (Some id) key (Some value) (2 * length key + 3)) (sym e) (record { there = s.there; sets = s.sets; cost = omega (arith, s.cost) })

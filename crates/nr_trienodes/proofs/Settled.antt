@@ -191,3 +191,6 @@ row_back nodes node row sound lt e y d h = let less : d < node = (sound node lt)
 pub none_mapped : {A B : Type 0} (f : A → B) (o : Option A) → is_some o ≡ false → is_some (option_map f o) ≡ false
 none_mapped f None e = refl
 none_mapped f (Some a) e = absurd cc
+
+pub fork_back : (n x c : ℕ) (row : List (Option ℕ)) → row ≡ set no_children x (Some c) → c < n → (y d : ℕ) → child row y ≡ Some d → d < n
+fork_back n x c row e lt y d h = back_set n no_children x (Some c) (leaf_back n) lt y d (ap (λ (r : List (Option ℕ)). child r y) (sym e) ∙ h)

@@ -1,5 +1,5 @@
 -- Where a key goes at a node, the way down along it, and what a change of one key does to what a node stands for. This project's own.
-use Rattle.std.specs.Prelude.{◌≡◌, ◌≢◌, ℕ, ◌+◌, ◌*◌, ◌<◌, ◌≤◌, ◌^◌, List, [], ◌∷◌, ◌++◌, length, map, take, drop, is_some, count_by, sum_by, Option, Some, None, true}
+use Rattle.std.specs.Prelude.{◌≡◌, ◌≢◌, ℕ, ◌+◌, ◌*◌, ◌<◌, ◌≤◌, ◌^◌, List, [], ◌∷◌, ◌++◌, length, map, take, drop, slice_index, is_some, count_by, sum_by, Option, Some, None, true}
 use Rattle.std.specs.Option.{option_map}
 use Rattle.std.specs.List.{AllByRecursion}
 use Rattle.nr_triedef.specs.Node.{nibbles}
@@ -28,7 +28,7 @@ pub record IsNext (key : List ℕ) (at x : ℕ) : Type 0 where
 pub record Matches (part key : List ℕ) (at n : ℕ) : Type 0 where
   pub within : n ≤ length part
   pub front : stripped (take n part) (left key at) ≡ Some (left key (at + n))
-  pub differ : n < length part → stripped (drop n part) (left key (at + n)) ≡ None
+  pub differ : n < length part → (x : ℕ) (rest : List ℕ) → left key (at + n) ≡ x ∷ rest → x ≢ slice_index part n
   pub room : at + n < 2 ^ 64
 
 -- the key goes on by the nibble behind the part

@@ -11,8 +11,10 @@ ghost use Rattle.nr_trienodes.specs.Roots.{IsRoot, IsChanged, contents, name_in,
 
 use crate::fault::NodesFault;
 use crate::nodes::{NodeId, Nodes};
-use crate::settling::{behind, climb, replace_child, replace_value, settle, sprout};
-use crate::turn::{End, Stop, nibble_at, walk};
+use crate::settling::{
+    behind, climb, front_of, replace_child, replace_value, settle, sprout, with_child,
+};
+use crate::turn::{Stop, nibble_at, walk};
 use nr_bytes::Blob;
 use std::alloc::AllocError;
 use std::sync::Arc;
@@ -23,13 +25,17 @@ pub(crate) fn room_for(nodes: &Nodes, key: &[u8]) -> Result<(), NodesFault>
     ensures sound { Sound nodes.now }
 {
     let held = nodes.count();
-    if key.len() >= 1 << 30 || u64::from(held) + 4 + 4 * key.len() as u64 > 1 << 32 {
+    if key.len() >= 1 << 30 {
+        return Err(NodesFault::Full { nodes: held });
+    }
+    if u64::from(held) + 4 + 4 * key.len() as u64 > 1 << 32 {
         return Err(NodesFault::Full { nodes: held });
     }
     Ok(())
 }
+
 // A node whose part the key leaves after some nibbles, with the value at the key.
-#[tactic(auto, using(crate::proofs::Puts::forked, crate::proofs::Sets::extends_trans))]
+#[tactic(auto, using(crate::proofs::Sets::extends_trans))]
 fn split(
     nodes: &mut Nodes,
     node: u32,
@@ -46,16 +52,19 @@ fn split(
 {
     let nibble = nodes.part(node)[shared];
     let lower = behind(nodes, node, shared + 1)?;
-    let part = Vec::from_slice(nodes.allocator(), &nodes.part(node)[..shared])?;
+    let part = front_of(nodes, node, shared)?;
+    let row = with_child([None; 16], nibble, lower);
     let place = at + shared;
-    let mut row = [None; 16];
-    row[nibble as usize] = Some(lower);
     match nibble_at(key, place) {
-        None => settle(nodes, part, Some(value), row),
+        None => {
+            let fork = settle(nodes, part, Some(value), row)?;
+            Ok(fork)
+        }
         Some(other) => {
             let leaf = sprout(nodes, key, place + 1, value)?;
-            row[other as usize] = Some(leaf);
-            settle(nodes, part, None, row)
+            let branches = with_child(row, other, leaf);
+            let branch = settle(nodes, part, None, branches)?;
+            Ok(branch)
         }
     }
 }
@@ -76,18 +85,26 @@ fn put_at(
     ensures grows { Extends nodes.old nodes.new }
     ensures put { IfOk result (λ id. Changes nodes.old nodes.new (Some node) id (left key.now at) (Some (arc_value value)) (2 * length (left key.now at) + 3)) }
 {
+    let _count = nodes.count();
     match stop {
-        Stop::Here => replace_value(nodes, node, Some(value)),
+        Stop::Here => {
+            let valued = replace_value(nodes, node, Some(value))?;
+            Ok(valued)
+        }
         Stop::Sprout { nibble, next } => {
             let leaf = sprout(nodes, key, next, value)?;
-            replace_child(nodes, node, nibble, Some(leaf))
+            let grown = replace_child(nodes, node, nibble, Some(leaf))?;
+            Ok(grown)
         }
-        Stop::Apart { shared } => split(nodes, node, shared, key, at, value),
+        Stop::Apart { shared } => {
+            let halves = split(nodes, node, shared, key, at, value)?;
+            Ok(halves)
+        }
     }
 }
 
 // The root of the map below a node with a value put at a key.
-#[tactic(auto, using(crate::proofs::Sets::extends_trans, crate::proofs::Puts::steps_kept))]
+#[tactic(auto, using(crate::proofs::Sets::extends_trans, crate::proofs::Climbing::steps_more))]
 fn put_below(
     nodes: &mut Nodes,
     root: u32,
@@ -98,39 +115,71 @@ fn put_below(
     ensures few { length nodes.new ≤ length nodes.old + length (nibbles key.now) + 3 }
     ensures grows { Extends nodes.old nodes.new }
     ensures put { IfOk result (λ id. Changes nodes.old nodes.new (Some root) id (nibbles key.now) (Some (arc_value value)) (2 * length (nibbles key.now) + 3)) }
-    ensures sound { Sound nodes.old }
 {
-    let End {
-        way,
-        node,
-        at,
-        stop,
-    } = walk(nodes, root, key)?;
-    let below = put_at(nodes, node, stop, key, at, value)?;
-    climb(nodes, way, below)
+    let end = walk(nodes, root, key)?;
+    let below = put_at(nodes, end.node, end.stop, key, end.at, value)?;
+    let id = climb(nodes, end.way, below)?;
+    Ok(id)
 }
 
 // The same, from a root or none.
+#[tactic(auto, using(crate::proofs::Puts::put_some, crate::proofs::Puts::put_none))]
 fn put_from(
     nodes: &mut Nodes,
     root: Option<NodeId>,
     key: &[u8],
-    value: &[u8],
+    value: Arc<Blob>,
 ) -> Result<Option<u32>, AllocError>
     requires { IsRoot nodes.old root }
     ensures few { length nodes.new ≤ length nodes.old + length (nibbles key.now) + 3 }
     ensures grows { Extends nodes.old nodes.new }
-    ensures put { IfOk result (λ id. Changes nodes.old nodes.new (name_in root) id (nibbles key.now) (Some value.now) (2 * length (nibbles key.now) + 3)) }
+    ensures put { IfOk result (λ id. Changes nodes.old nodes.new (name_in root) id (nibbles key.now) (Some (arc_value value)) (2 * length (nibbles key.now) + 3)) }
 {
-    let alloc = nodes.allocator();
-    let held = Vec::from_slice(alloc, value)?;
-    let value = Arc::new(alloc, Blob::of(held))?;
     match root {
-        Some(root) => put_below(nodes, root.0, key, value),
+        Some(root) => {
+            let top = put_below(nodes, root.0, key, value)?;
+            Ok(top)
+        }
         None => {
             let leaf = sprout(nodes, key, 0, value)?;
             Ok(Some(leaf))
         }
+    }
+}
+
+// A value, to be shared by nodes.
+fn held_value(nodes: &Nodes, value: &[u8]) -> Result<Arc<Blob>, AllocError>
+    ensures { IfOk result (λ held. arc_value held ≡ value.now) }
+{
+    let alloc = nodes.allocator();
+    let bytes = Vec::from_slice(alloc, value)?;
+    let held = Arc::new(alloc, Blob::of(bytes))?;
+    Ok(held)
+}
+
+// The new root, or what came to be behind the old nodes.
+fn put_value(
+    nodes: &mut Nodes,
+    root: Option<NodeId>,
+    key: &[u8],
+    value: &[u8],
+) -> Result<u32, AllocError>
+    requires { IsRoot nodes.old root }
+    ensures few { length nodes.new ≤ length nodes.old + length (nibbles key.now) + 3 }
+    ensures grows { Extends nodes.old nodes.new }
+    ensures put { IfOk result (λ id. Changes nodes.old nodes.new (name_in root) (Some id) (nibbles key.now) (Some value.now) (2 * length (nibbles key.now) + 3)) }
+    ensures sound { Sound nodes.new }
+{
+    let held = held_value(nodes, value);
+    let changed = match held {
+        Ok(value) => put_from(nodes, root, key, value),
+        Err(e) => Err(e),
+    };
+    let _count = nodes.count();
+    match changed {
+        Err(e) => Err(e),
+        Ok(None) => unreachable!(),
+        Ok(Some(id)) => Ok(id),
     }
 }
 
@@ -158,9 +207,8 @@ impl Nodes {
     {
         room_for(self, key)?;
         let before = self.len();
-        match put_from(self, root, key, value) {
-            Ok(Some(id)) => Ok(NodeId(id)),
-            Ok(None) => unreachable!(),
+        match put_value(self, root, key, value) {
+            Ok(id) => Ok(NodeId(id)),
             Err(_) => {
                 self.truncate(before);
                 Err(NodesFault::Memory)

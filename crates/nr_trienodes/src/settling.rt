@@ -1,6 +1,6 @@
 //! Nodes made in place of others, so that each is a leaf or has two links.
 
-ghost use Rattle.std.specs.Prelude.{◌≡◌, ◌<◌, ◌≤◌, ◌+◌, ◌++◌, ◌∷◌, ℕ, length, drop, slice_set, Some, IfOk};
+ghost use Rattle.std.specs.Prelude.{◌≡◌, ◌<◌, ◌≤◌, ◌+◌, ◌++◌, ◌∷◌, ℕ, length, take, drop, slice_set, Some, IfOk};
 ghost use Rattle.std.specs.Option.{option_map};
 ghost use Rattle.std.specs.Arc.{arc_value};
 ghost use Rattle.nr_triedef.specs.Node.{IsNibbles};
@@ -204,4 +204,27 @@ pub(crate) fn behind(nodes: &mut Nodes, node: u32, front: usize) -> Result<u32, 
     let row = nodes.row(node);
     let id = place(nodes, part, value, row)?;
     Ok(id)
+}
+
+/// The first nibbles of a node's part.
+pub(crate) fn front_of(nodes: &Nodes, node: u32, count: usize) -> Result<Vec<u8>, AllocError>
+    requires node { node < length nodes.now }
+    requires count { count ≤ length (shape_at nodes.now node).part }
+    ensures front { IfOk result (λ front. front.items ≡ take count (shape_at nodes.now node).part) }
+    ensures small { IfOk result (λ front. IsNibbles front.items) }
+{
+    let alloc = nodes.allocator();
+    let part = nodes.part(node);
+    let front = Vec::from_slice(alloc, &part[..count])?;
+    Ok(front)
+}
+
+/// A row with another child.
+pub(crate) fn with_child(row: Row, nibble: u8, child: u32) -> Row
+    requires { nibble < 16 }
+    ensures { result ≡ slice_set row nibble (Some child) }
+{
+    let mut row = row;
+    row[nibble as usize] = Some(child);
+    row
 }

@@ -1,6 +1,6 @@
 use Rattle.std.proofs.Common.{ap, arith, length}
 use Rattle.nr_trienodes.proofs.Sets.{extends_trans}
-use Rattle.nr_trienodes.proofs.Climbing.{risen, first_step, steps_more}
+use Rattle.nr_trienodes.proofs.Climbing.{risen, climbed, first_step, steps_more}
 use Rattle.nr_trienodes.proofs.settling.climb.Goals as goal
 
 pub returns-in_err-below-clause-grows : goal.returns-in_err-below-clause-grows
@@ -16,3 +16,6 @@ up-preserved c =
       below = c.in_ok-below.ensures.settled.there;
       rises = risen c.args.nodes.now c.args.way c.args.below c.up.nodes c.replace_child.new.nodes c.up.way c.pop.new.self c.in-Some.step c.up.below c.in_ok-below.below c.up.invariant.grows c.up.invariant.rises c.in-Some.ensures c.in_ok-below.ensures.settled;
     }
+
+pub returns-clause-climbs : goal.returns-clause-climbs
+returns-clause-climbs c = climbed c.args.nodes.now c.args.way c.args.below c.up.nodes c.up.way c.up.below c.up.invariant.rises c.in_default.ensures
