@@ -1,5 +1,7 @@
 -- A value taken out at a key.
-use Rattle.std.proofs.Common.{◌≡◌, ◌<◌, ◌≤◌, ◌+◌, ◌*◌, ℕ, List, [], length, Option, Some, None, refl, ap, sym, ◌∙◌, subst, arith}
+use Rattle.std.proofs.Common.{◌≡◌, ◌<◌, ◌≤◌, ◌+◌, ◌*◌, ℕ, Bool, true, not, List, [], length, Option, Some, None, refl, ap, sym, ◌∙◌, subst, arith}
+use Rattle.std.specs.Prelude.{is_some}
+use Rattle.std.specs.Option.{option_map}
 use Rattle.nr_trienodes.specs.Shape.{Shape, shape_at}
 use Rattle.nr_trienodes.specs.Tries.{Answer, stripped, found, found_in}
 use Rattle.nr_trienodes.specs.Views.{Sound}
@@ -27,3 +29,7 @@ cut_absent nodes root node key rest way extra sound lt leads none =
 
 pub cut_nothing : (nodes : List Shape) (root : Option NodeId) (key : List ℕ) (extra : ℕ) → root ≡ None → Changes nodes nodes (name_in root) None key None extra
 cut_nothing nodes root key extra e = subst (λ (q : Option NodeId). Changes nodes nodes (name_in q) None key None extra) (sym e) (record { there = tt; sets = record { here = refl; other = λ q ne. refl }; cost = omega arith })
+
+pub no_value : {A B : Type 0} (f : A → B) (o : Option A) (v : Option B) (b : Bool) → is_some o ≡ not b → b ≡ true → option_map f o ≡ v → v ≡ None
+no_value f None v b e t is = sym is
+no_value f (Some a) v b e t is = absurd cc

@@ -4,8 +4,14 @@ use Rattle.nr_trienodes.specs.Shape.{shape_at}
 use Rattle.nr_trienodes.specs.Turns.{StopsSo, left}
 use Rattle.nr_trienodes.proofs.Founds.{found_here, found_sprout, found_apart}
 use Rattle.nr_trienodes.proofs.Puts.{put_climbed}
-use Rattle.nr_trienodes.proofs.Cuts.{cut_here, cut_absent}
+use Rattle.nr_trienodes.proofs.Cuts.{cut_here, cut_absent, no_value}
 use Rattle.nr_trienodes.proofs.cutting.cut_below.Goals as goal
+
+pub returns-then-is_none-clause-cut : goal.returns-then-is_none-clause-cut
+returns-then-is_none-clause-cut c =
+    let stops = subst (StopsSo (shape_at c.args.nodes.now c.in_ok-end.end.node) c.args.key.now c.in_ok-end.end.at) c.in-Here.is c.in_ok-end.ensures.stops in
+    cut_absent c.args.nodes.now c.args.root c.in_ok-end.end.node (nibbles c.args.key.now) (left c.args.key.now c.in_ok-end.end.at) c.in_ok-end.end.way (2 * length (nibbles c.args.key.now) + 3) c.in_ok-end.ensures.sound c.requires c.in_ok-end.ensures.leads
+    (found_here c.args.nodes.now c.in_ok-end.end.node (left c.args.key.now c.in_ok-end.end.at) c.in_ok-end.ensures.sound c.in_ok-end.ensures.there stops ∙ no_value _ c.value.result _ c.is_none.result c.is_none.ensures c.if-is_none.true c.value.ensures)
 
 pub returns-in_ok-id-in-Here-clause-cut : goal.returns-in_ok-id-in-Here-clause-cut
 returns-in_ok-id-in-Here-clause-cut c =

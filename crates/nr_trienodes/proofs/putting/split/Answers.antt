@@ -8,6 +8,9 @@ use Rattle.nr_trienodes.proofs.Settled.{fork_back, back_set}
 use Rattle.nr_trienodes.proofs.Puts.{forked, put_fork, put_branch}
 use Rattle.nr_trienodes.proofs.putting.split.Goals as goal
 
+pub front_of-requires-clause-count : goal.front_of-requires-clause-count
+front_of-requires-clause-count c = omega (arith, c.requires.parts.more, ap (λ (s : Shape). length s.part) (extends_shape c.args.nodes.now c.behind.new.nodes c.args.node c.behind.ensures.grows c.requires.node))
+
 pub settle-requires-clause-back : goal.settle-requires-clause-back
 settle-requires-clause-back c = fork_back (length c.behind.new.nodes) (get_or c.part.result.now c.args.shared 0) c.in_ok-lower.lower c.with_child-row.result c.with_child-row.ensures c.in_ok-lower.ensures.rest.there
 
