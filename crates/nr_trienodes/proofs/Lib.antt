@@ -3,11 +3,13 @@ pub mod Climbing
 pub mod Cuts
 pub mod Folds
 pub mod Founds
+pub mod Hashed
 pub mod Keys
 pub mod Lookups
 pub mod Maps
 pub mod Orders
 pub mod Puts
+pub mod Queues
 pub mod Rows
 pub mod Sets
 pub mod Settled

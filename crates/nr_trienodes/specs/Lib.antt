@@ -3,3 +3,4 @@ pub mod Views
 pub mod Tries
 pub mod Roots
 pub mod Turns
+pub mod Hashing

@@ -1,6 +1,7 @@
 //! Why nodes can't be added.
 
 ghost use Rattle.std.specs.Prelude.{◌≡◌};
+ghost use Rattle.nr_trienodes.specs.declared.fault.NodesFault.TheVariants.{Memory};
 
 use std::alloc::AllocError;
 use thiserror::Error;

@@ -1,182 +1,152 @@
 //! Hashes of roots.
 
-use crate::nodes::{NodeId, Nodes, Row};
-use nr_ids::Hash32;
-use nr_triedef::{
-    Node, NodeHash, Steps, bytes_of, empty_root, hash_node, key_part, node_text, value_hash,
-};
+ghost use Rattle.std.specs.Prelude.{◌≡◌, ◌<◌, ◌≤◌, ◌+◌, ◌++◌, ◌∷◌, [], ℕ, true, length, sum_by, slice_index, IfOk, OnOk};
+ghost use Rattle.nr_triedef.specs.Root.{root_of};
+ghost use Rattle.nr_trienodes.specs.Shape.{shape_at};
+ghost use Rattle.nr_trienodes.specs.Tries.{summary_at, cost_at};
+ghost use Rattle.nr_trienodes.specs.Views.{IsIn};
+ghost use Rattle.nr_trienodes.specs.Roots.{IsRoot, contents, cost, Keeps};
+ghost use Rattle.nr_trienodes.specs.Hashing.{cold, is_hashed, weight_at, IsQueue, Gathering, Gathers, Warms};
+
+use crate::making::summary_of;
+use crate::nodes::{NodeId, Nodes};
+use nr_triedef::{NodeHash, Steps, empty_root};
 use std::alloc::AllocError;
 use std::sync::ledger::Ledger;
 
-fn text_hash<L: Ledger>(
-    nodes: &Nodes,
-    node: &Node,
-    steps: &mut Steps<L>,
-) -> Result<NodeHash, AllocError> {
-    let text = node_text(nodes.allocator(), node)?;
-    Ok(hash_node(text.inner(), steps))
-}
-
-fn length_of(bytes: &[u8]) -> Result<u32, AllocError> {
-    u32::try_from(bytes.len()).map_err(|_| AllocError)
-}
-
-fn leaf_hash<L: Ledger>(
-    nodes: &Nodes,
-    id: u32,
-    value: &[u8],
-    steps: &mut Steps<L>,
-) -> Result<NodeHash, AllocError> {
-    let node = Node::Leaf {
-        part: key_part(nodes.allocator(), nodes.part(id), true)?,
-        length: length_of(value)?,
-        hash: value_hash(value),
-        usage: nodes.usage_at(id),
-    };
-    text_hash(nodes, &node, steps)
-}
-
-fn hash_below(nodes: &Nodes, child: Option<u32>) -> Option<Hash32> {
+// A child whose hash isn't kept.
+#[tactic(auto, using(crate::proofs::Queues::cold_absent, crate::proofs::Queues::cold_kept, crate::proofs::Queues::cold_new, crate::proofs::Queues::in_arena))]
+fn push_child(nodes: &Nodes, queue: &mut Vec<u32>, child: Option<u32>) -> Result<(), AllocError>
+    requires { IsIn (length nodes.now) child }
+    ensures { OnOk result (queue.new.items ≡ queue.old.items ++ cold nodes.now (child ∷ [])) }
+{
     match child {
-        None => None,
+        None => Ok(()),
         Some(id) => match nodes.hash_at(id) {
-            None => None,
-            Some(hash) => Some(Hash32(bytes_of(&hash))),
+            Some(_) => Ok(()),
+            None => {
+                queue.push(id)?;
+                Ok(())
+            }
         },
     }
 }
 
-fn hashes_below(nodes: &Nodes, row: &Row) -> [Option<Hash32>; 16] {
-    let mut children = [None; 16];
-    for i in 0..16 {
-        children[i] = hash_below(nodes, row[i]);
-    }
-    children
-}
-
-fn value_field(value: Option<&[u8]>) -> Result<Option<(u32, Hash32)>, AllocError> {
-    match value {
-        None => Ok(None),
-        Some(value) => {
-            let length = length_of(value)?;
-            Ok(Some((length, value_hash(value))))
-        }
-    }
-}
-
-fn branch_hash<L: Ledger>(
-    nodes: &Nodes,
-    id: u32,
-    usage: u64,
-    steps: &mut Steps<L>,
-) -> Result<NodeHash, AllocError> {
-    let node = Node::Branch {
-        value: value_field(nodes.value(id))?,
-        children: hashes_below(nodes, &nodes.row(id)),
-        usage,
-    };
-    text_hash(nodes, &node, steps)
-}
-
-fn inner_hash<L: Ledger>(
-    nodes: &Nodes,
-    id: u32,
-    steps: &mut Steps<L>,
-) -> Result<NodeHash, AllocError> {
-    let part = nodes.part(id);
-    let usage = nodes.usage_at(id);
-    if part.is_empty() {
-        return branch_hash(nodes, id, usage, steps);
-    }
-    let text = key_part(nodes.allocator(), part, false)?;
-    let front = 50 + 2 * text.inner().len() as u64;
-    let branch = branch_hash(nodes, id, usage - front, steps)?;
-    let node = Node::Extension {
-        part: text,
-        child: Hash32(bytes_of(&branch)),
-        usage,
-    };
-    text_hash(nodes, &node, steps)
-}
-
-fn is_alone(row: &Row) -> bool {
-    for child in row {
-        if child.is_some() {
-            return false;
-        }
-    }
-    true
-}
-
-fn hash_of<L: Ledger>(
-    nodes: &Nodes,
-    id: u32,
-    steps: &mut Steps<L>,
-) -> Result<NodeHash, AllocError> {
-    if let Some(value) = nodes.value(id) {
-        if is_alone(&nodes.row(id)) {
-            return leaf_hash(nodes, id, value, steps);
-        }
-    }
-    inner_hash(nodes, id, steps)
-}
-
-// The children that have no hash.
-fn push_unhashed(nodes: &Nodes, queue: &mut Vec<u32>, id: u32) -> Result<(), AllocError> {
+// The children whose hashes aren't kept.
+#[tactic(auto, using(crate::proofs::Queues::pushed_first, crate::proofs::Queues::pushed_more, crate::proofs::Queues::pushed_all))]
+fn push_cold(nodes: &Nodes, queue: &mut Vec<u32>, id: u32) -> Result<(), AllocError>
+    requires { id < length nodes.now }
+    ensures { OnOk result (queue.new.items ≡ queue.old.items ++ cold nodes.now (shape_at nodes.now id).below) }
+{
+    let _count = nodes.count();
     let row = nodes.row(id);
-    for child in &row {
-        if let Some(id) = child {
-            if nodes.hash_at(*id).is_none() {
-                queue.push(*id)?;
-            }
-        }
+    for i in 0..16 {
+        push_child(nodes, queue, row[i])?;
     }
     Ok(())
 }
 
-// The nodes below and with one that have no hash, each before those below it.
-fn unhashed(nodes: &Nodes, root: u32) -> Result<Vec<u32>, AllocError> {
+// The root, where its hash isn't kept.
+#[tactic(auto, using(crate::proofs::Queues::gathering_none, crate::proofs::Queues::gathering_one))]
+fn first_cold(nodes: &Nodes, root: u32) -> Result<Vec<u32>, AllocError>
+    requires { root < length nodes.now }
+    ensures { IfOk result (λ queue. Gathering nodes.now root queue.items 0) }
+{
     let mut queue = Vec::new(nodes.allocator());
-    if nodes.hash_at(root).is_none() {
-        queue.push(root)?;
+    match nodes.hash_at(root) {
+        Some(_) => Ok(queue),
+        None => {
+            queue.push(root)?;
+            Ok(queue)
+        }
     }
+}
+
+// The nodes at and below a root whose hashes aren't kept, each before those below it.
+#[tactic(auto, using(crate::proofs::Queues::gathering_next, crate::proofs::Queues::gathered, crate::proofs::Queues::gathering_falls))]
+fn gather(nodes: &Nodes, root: u32) -> Result<Vec<u32>, AllocError>
+    requires { root < length nodes.now }
+    ensures { IfOk result (λ queue. Gathers nodes.now root queue.items) }
+{
+    let _count = nodes.count();
+    let mut queue = first_cold(nodes, root)?;
     let mut next = 0;
     'on: while next < queue.len() {
         let id = queue[next];
-        push_unhashed(nodes, &mut queue, id)?;
+        push_cold(nodes, &mut queue, id)?;
         next += 1;
     }
     Ok(queue)
 }
 
-fn hash_all<L: Ledger>(
+// Keeps the hashes of nodes, the last one first.
+fn warm<L: Ledger>(
     nodes: &mut Nodes,
     queue: Vec<u32>,
     steps: &mut Steps<L>,
-) -> Result<(), AllocError> {
+) -> Result<(), AllocError>
+    requires { IsQueue nodes.old queue.items }
+    ensures warms { Warms nodes.old nodes.new }
+    ensures steps { steps.new ≤ steps.old + sum_by (weight_at nodes.old) queue.items }
+    ensures all { OnOk result ((j : ℕ) → j < length queue.items → is_hashed nodes.new (slice_index queue.items j) ≡ true) }
+{
+    let _count = nodes.count();
     let mut queue = queue;
     'up: while let Some(id) = queue.pop() {
-        let hash = hash_of(nodes, id, steps)?;
-        nodes.keep_hash(id, hash);
+        let made = summary_of(nodes, id, steps)?;
+        nodes.keep_hash(id, made.hash);
     }
     Ok(())
 }
 
+// The hash of a node, which is kept from then on.
+#[tactic(auto, using(crate::proofs::Hashed::kept_absurd, crate::proofs::Queues::root_warm))]
+fn hash_below<L: Ledger>(
+    nodes: &mut Nodes,
+    root: u32,
+    steps: &mut Steps<L>,
+) -> Result<NodeHash, AllocError>
+    requires { root < length nodes.old }
+    ensures hash { IfOk result (λ hash. hash ≡ (summary_at nodes.old root).hash) }
+    ensures warms { Warms nodes.old nodes.new }
+    ensures steps { steps.new ≤ steps.old + cost_at nodes.old root }
+    ensures kept { OnOk result (is_hashed nodes.new root ≡ true) }
+{
+    let _count = nodes.count();
+    let queue = gather(nodes, root)?;
+    warm(nodes, queue, steps)?;
+    match nodes.hash_at(root) {
+        None => unreachable!(),
+        Some(hash) => Ok(hash),
+    }
+}
+
 impl Nodes {
-    /// The hash of a root: 32 zero bytes where there is none.
+    /// The hash of the trie of a root's map: 32 zero bytes where there is none. Each node that is
+    /// hashed is one of the `steps`; a node's hash is kept, so it is made once.
+    ///
+    /// # Errors
+    ///
+    /// Where memory ran out. Hashes that were made are kept then too.
     pub fn hash<L: Ledger>(
         &mut self,
         root: Option<NodeId>,
         steps: &mut Steps<L>,
-    ) -> Result<NodeHash, AllocError> {
-        let Some(root) = root else {
-            return Ok(empty_root());
-        };
-        let queue = unhashed(self, root.0)?;
-        hash_all(self, queue, steps)?;
-        match self.hash_at(root.0) {
-            None => unreachable!(),
-            Some(hash) => Ok(hash),
+    ) -> Result<NodeHash, AllocError>
+        requires { IsRoot self.old root }
+        ensures hash { IfOk result (λ hash. hash ≡ (root_of (contents self.old root)).hash) }
+        ensures steps { steps.new ≤ steps.old + cost self.old root }
+        ensures known { OnOk result (cost self.new root ≡ 0) }
+        ensures kept { Keeps self.old self.new }
+        ensures len { length self.new ≡ length self.old }
+    {
+        let _count = self.count();
+        match root {
+            None => Ok(empty_root()),
+            Some(root) => {
+                let hash = hash_below(self, root.0, steps)?;
+                Ok(hash)
+            }
         }
     }
 }

@@ -6,6 +6,7 @@ mod cutting;
 mod fault;
 mod finding;
 mod hashing;
+mod making;
 mod nodes;
 mod putting;
 mod settling;
