@@ -93,8 +93,8 @@ lifted old mid new node x at below id key rest o extra sound grows takes changes
     record {
       there = set_s.there;
       sets = sets_via (stands_for old s.part s.value s.below) (stands_for mid s.part s.value (set s.below x below)) (found_in old (Some node)) (found_in new id) key o
-      (sets_child old mid s.part s.value s.below x below rest key o there (same_below old mid node sound takes.there grows) takes.part child_sets)
-      (λ q. found_of old node q sound takes.there) set_s.same;
+          (sets_child old mid s.part s.value s.below x below rest key o there (same_below old mid node sound takes.there grows) takes.part child_sets)
+          (λ q. found_of old node q sound takes.there) set_s.same;
       cost = omega (arith, set_s.cost, costs, costs_less old node sound takes.there);
     }
 

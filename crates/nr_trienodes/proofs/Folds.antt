@@ -76,10 +76,10 @@ fold_at {A} f none (s ∷ older) id back lt =
 pub fold_alike : {A : Type 0} (f : Shape → List (Option A) → A) (none : A) (a b : List Shape) → Back a → length a ≡ length b → ((id : ℕ) → id < length a → (shape_at b id).below ≡ (shape_at a id).below) → ((id : ℕ) → id < length a → (r : List (Option A)) → f (shape_at b id) r ≡ f (shape_at a id) r) → (id : ℕ) → id < length a → fold f none b id ≡ fold f none a id
 fold_alike {A} f none a b back len below same =
     by_names (λ id. id < length a → fold f none b id ≡ fold f none a id) (λ id less lt.
-        let first : id < length b = subst (λ n. id < n) len lt in
-        let back_b : Back b = λ n h x c e. back n (subst (λ m. n < m) (sym len) h) x c (ap (λ (cs : List (Option ℕ)). child cs x) (sym (below n (subst (λ m. n < m) (sym len) h))) ∙ e) in
-        fold_at f none b id back_b first
-        ∙ same id lt (map (option_map (fold f none b)) (shape_at b id).below)
-        ∙ ap (λ (cs : List (Option ℕ)). f (shape_at a id) (map (option_map (fold f none b)) cs)) (below id lt)
-        ∙ ap (f (shape_at a id)) (children_same (fold f none b) (fold f none a) (shape_at a id).below (λ x c e. let small : c < id = back id lt x c e in less c small (omega arith)))
-        ∙ sym (fold_at f none a id back lt))
+    let first : id < length b = subst (λ n. id < n) len lt in
+    let back_b : Back b = λ n h x c e. back n (subst (λ m. n < m) (sym len) h) x c (ap (λ (cs : List (Option ℕ)). child cs x) (sym (below n (subst (λ m. n < m) (sym len) h))) ∙ e) in
+    fold_at f none b id back_b first
+    ∙ same id lt (map (option_map (fold f none b)) (shape_at b id).below)
+    ∙ ap (λ (cs : List (Option ℕ)). f (shape_at a id) (map (option_map (fold f none b)) cs)) (below id lt)
+    ∙ ap (f (shape_at a id)) (children_same (fold f none b) (fold f none a) (shape_at a id).below (λ x c e. let small : c < id = back id lt x c e in less c small (omega arith)))
+    ∙ sym (fold_at f none a id back lt))

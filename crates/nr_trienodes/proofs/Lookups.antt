@@ -96,8 +96,8 @@ sorted_own (Some value) bs h = both _ _ (none_from 0 bs) h
 pub sorted_at : (nodes : List Shape) → Back nodes → (id : ℕ) → id < length nodes → Sorted (paths_at nodes id)
 sorted_at nodes back =
     fold_two IsInOrder node_paths [] answer nothing nodes back (λ id lt bs fs count len zipped.
-        let s : Shape = shape_at nodes id in
-        subst T (sym (sorted_front s.part (own_path s.value ++ paths_from 0 bs))) (sorted_own s.value bs (sorted_from 0 bs fs zipped)))
+    let s : Shape = shape_at nodes id in
+    subst T (sym (sorted_front s.part (own_path s.value ++ paths_from 0 bs))) (sorted_own s.value bs (sorted_from 0 bs fs zipped)))
 
 -- ---- what is found
 abbrev looked : Option (List ℕ) → Paths → Option (List ℕ)
@@ -191,5 +191,5 @@ looked_own (Some value) (Some (x ∷ key)) bs fs h = find_from 0 x x key bs fs (
 pub finds_at : (nodes : List Shape) → Back nodes → (id : ℕ) → id < length nodes → Finds (paths_at nodes id) (found nodes id)
 finds_at nodes back =
     fold_two Finds node_paths [] answer nothing nodes back (λ id lt bs fs count len zipped q.
-        let s : Shape = shape_at nodes id in
-        find_front s.part q (own_path s.value ++ paths_from 0 bs) ∙ looked_own s.value (stripped s.part q) bs fs zipped)
+    let s : Shape = shape_at nodes id in
+    find_front s.part q (own_path s.value ++ paths_from 0 bs) ∙ looked_own s.value (stripped s.part q) bs fs zipped)

@@ -27,9 +27,10 @@ Path = List ℕ × List ℕ
 
 all_found : (P : List ℕ → Type 0) (es : Paths) → ((q : List ℕ) → IsSome (find R q es) → P q) → AllByRecursion (λ (p : Path). P p.0) es
 all_found P [] h = tt
-all_found P (e ∷ es) h =
-    (h e.0 (subst (λ r. IsSome (cond (is_eq r) (Some e.1) (find R e.0 es))) (sym (tied_itself nat_list_cmp_total e.0)) refl),
-     all_found P es (λ q some. h q (elim (eq_by_cmp R q e.0) as (λ b. IsSome (cond b (Some e.1) (find R q es))) [ true ↦ refl | false ↦ some ])))
+all_found P (e ∷ es) h = (
+  h e.0 (subst (λ r. IsSome (cond (is_eq r) (Some e.1) (find R e.0 es))) (sym (tied_itself nat_list_cmp_total e.0)) refl),
+  all_found P es (λ q some. h q (elim (eq_by_cmp R q e.0) as (λ b. IsSome (cond b (Some e.1) (find R q es))) [ true ↦ refl | false ↦ some ])),
+)
 
 whole_at : (nodes : List Shape) (id : NodeId) → Sound nodes → IsRoot nodes (Some id) → AllByRecursion (λ (p : Path). IsWhole p.0) (paths_at nodes id.0)
 whole_at nodes id sound root = all_found IsWhole (paths_at nodes id.0) (λ q some. root.1 q (subst IsSome (finds_at nodes (back_sound nodes sound) id.0 root.0 q) some))

@@ -42,8 +42,8 @@ put_sprout old mid new node x leaf id key rest value sound lt small e none grows
     record {
       there = set_s.there;
       sets = sets_via (stands_for old s.part s.value s.below) (stands_for mid s.part s.value (set s.below x (Some leaf))) (found_in old (Some node)) (found_in new id) key (Some value)
-      (sets_child old mid s.part s.value s.below x (Some leaf) rest key (Some value) there (same_below old mid node sound lt grows) e child_sets)
-      (λ q. found_of old node q sound lt) set_s.same;
+          (sets_child old mid s.part s.value s.below x (Some leaf) rest key (Some value) there (same_below old mid node sound lt grows) e child_sets)
+          (λ q. found_of old node q sound lt) set_s.same;
       cost = omega (arith, set_s.cost, costs, costs_less old node sound lt);
     }
 
@@ -132,8 +132,8 @@ put_branch old low mid new node n x lower y leaf id part key rest value f there 
     record {
       there = settles.there;
       sets = sets_via (stands_for low part None row) (stands_for mid part None (set row y (Some leaf))) (found_in old (Some node)) (found_in new id) key (Some value)
-      (sets_child low mid part None row y (Some leaf) rest key (Some value) len (λ d q at. ap (λ (g : Answer). g q) (extends_fold answer nothing low mid d grows (back at.0 d at.1))) e child_sets)
-      (λ q. sym (ap (λ (p : List ℕ). stands_for low p None row q) ep ∙ f.same q)) settles.same;
+          (sets_child low mid part None row y (Some leaf) rest key (Some value) len (λ d q at. ap (λ (g : Answer). g q) (extends_fold answer nothing low mid d grows (back at.0 d at.1))) e child_sets)
+          (λ q. sym (ap (λ (p : List ℕ). stands_for low p None row q) ep ∙ f.same q)) settles.same;
       cost = omega (arith, settles.cost, costs, fork_cost low x lower f.small, f.cost);
     }
   where

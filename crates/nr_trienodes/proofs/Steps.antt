@@ -28,9 +28,9 @@ pub fold_two : {A B : Type 0} (P : A → B → Type 0) (f : Shape → List (Opti
     → (id : ℕ) → id < length nodes → P (fold f nf nodes id) (fold g ng nodes id)
 fold_two {A} {B} P f nf g ng nodes back step =
     by_names (λ id. id < length nodes → P (fold f nf nodes id) (fold g ng nodes id)) (λ id below lt.
-        let s : Shape = shape_at nodes id in
-        let xs : List (Option A) = map (option_map (fold f nf nodes)) s.below in
-        let bs : List (Option B) = map (option_map (fold g ng nodes)) s.below in
-        let less = λ (x c : ℕ) (e : child s.below x ≡ Some c). let small : c < id = back id lt x c e in below c small (omega arith) in
-        let here : P (f s xs) (g s bs) = step id lt xs bs (count-children (fold f nf nodes) s.below) (length-map s.below (option_map (fold f nf nodes))) (zipped P (fold f nf nodes) (fold g ng nodes) s.below less) in
-        subst (λ a. P a (fold g ng nodes id)) (sym (fold_at f nf nodes id back lt)) (subst (λ b. P (f s xs) b) (sym (fold_at g ng nodes id back lt)) here))
+    let s : Shape = shape_at nodes id in
+    let xs : List (Option A) = map (option_map (fold f nf nodes)) s.below in
+    let bs : List (Option B) = map (option_map (fold g ng nodes)) s.below in
+    let less = λ (x c : ℕ) (e : child s.below x ≡ Some c). let small : c < id = back id lt x c e in below c small (omega arith) in
+    let here : P (f s xs) (g s bs) = step id lt xs bs (count-children (fold f nf nodes) s.below) (length-map s.below (option_map (fold f nf nodes))) (zipped P (fold f nf nodes) (fold g ng nodes) s.below less) in
+    subst (λ a. P a (fold g ng nodes id)) (sym (fold_at f nf nodes id back lt)) (subst (λ b. P (f s xs) b) (sym (fold_at g ng nodes id back lt)) here))

@@ -297,8 +297,8 @@ linked_as value n m e h = subst (λ k. is_leaf value k ≡ false → 2 ≤ cond 
 pub trie_at : (nodes : List Shape) → Sound nodes → (id : ℕ) → id < length nodes → IsTrie (paths_at nodes id) (summary_at nodes id)
 trie_at nodes sound =
     fold_two IsTrie node_paths [] node_summary (summary_of None) nodes (back_sound nodes sound) (λ id lt bs ss count len zipped.
-        let st = sound id lt in
-        node_is (shape_at nodes id) bs ss zipped (len ∙ st.sixteen) (linked_as (shape_at nodes id).value (count_by is_some (shape_at nodes id).below) (count_by is_some bs) count st.linked))
+    let st = sound id lt in
+    node_is (shape_at nodes id) bs ss zipped (len ∙ st.sixteen) (linked_as (shape_at nodes id).value (count_by is_some (shape_at nodes id).below) (count_by is_some bs) count st.linked))
 
 pub short_depth : (ps : Paths) (d : ℕ) → depth ps ≤ d → AllShort d ps
 short_depth [] d le = tt
@@ -328,7 +328,7 @@ two_links (Some value) n h = omega arith
 pub few_at : (nodes : List Shape) → Sound nodes → (id : ℕ) → id < length nodes → count_at nodes id + 1 ≤ 2 * length (paths_at nodes id)
 few_at nodes sound =
     fold_two AreFew node_paths [] node_count 0 nodes (back_sound nodes sound) (λ id lt bs ns count len zipped.
-        let s : Shape = shape_at nodes id in
-        let st = sound id lt in
-        let two : 2 ≤ 2 * cond (is_some s.value) 1 0 + count_by is_some bs = two_links s.value (count_by is_some bs) (linked_as s.value (count_by is_some s.below) (count_by is_some bs) count st.linked) in
-        omega (arith, few_from 0 bs ns zipped, length-front s.part (own_path s.value ++ paths_from 0 bs), length-append (own_path s.value) (paths_from 0 bs), length-own s.value))
+    let s : Shape = shape_at nodes id in
+    let st = sound id lt in
+    let two : 2 ≤ 2 * cond (is_some s.value) 1 0 + count_by is_some bs = two_links s.value (count_by is_some bs) (linked_as s.value (count_by is_some s.below) (count_by is_some bs) count st.linked) in
+    omega (arith, few_from 0 bs ns zipped, length-front s.part (own_path s.value ++ paths_from 0 bs), length-append (own_path s.value) (paths_from 0 bs), length-own s.value))

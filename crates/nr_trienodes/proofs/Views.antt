@@ -148,10 +148,10 @@ kept_view nodes v id n m hash e sound few can en es =
     let here : shape_at (shapes new) id ≡ record (shape_at v id) { hash = Some hash } =
     shapes_at new id m (omega (arith, length-set nodes id m)) at ∙ es ∙ ap (λ (s : Shape). let t : Shape = record s { hash = Some hash } in t) (node_view nodes v id n e there en) in
     let others = λ (k : ℕ) (lt : k < length v) (ne : k ≢ id).
-        let in_nodes : k < length nodes = omega arith in
-        let o : Node = get_or nodes k m in
-        shapes_at new k o (omega (arith, length-set nodes id m)) (sym (get_or-set_other nodes id k m o ne ∙ get_or_any nodes k o m in_nodes))
-        ∙ node_view nodes v k o e lt (sym (get_or_any nodes k o m in_nodes)) in
+    let in_nodes : k < length nodes = omega arith in
+    let o : Node = get_or nodes k m in
+    shapes_at new k o (omega (arith, length-set nodes id m)) (sym (get_or-set_other nodes id k m o ne ∙ get_or_any nodes k o m in_nodes))
+    ∙ node_view nodes v k o e lt (sym (get_or_any nodes k o m in_nodes)) in
     record {
       keeps = record { same = len; here = here; others = others; sound = kept v (shapes new) id hash (subst Sound e sound) can len here others };
       few = omega (arith, length-set nodes id m);

@@ -70,8 +70,8 @@ value_or_none (Some value) = value
 abbrev pub node_summary : Shape → List (Option Summary) → Summary
 node_summary s below =
     cond (is_leaf s.value (count_by is_some below))
-      (summary (leaf_with (key_part s.part true) (value_or_none s.value)))
-      (with_front s.part (summary (branch s.value below)))
+    (summary (leaf_with (key_part s.part true) (value_or_none s.value)))
+    (with_front s.part (summary (branch s.value below)))
 
 abbrev pub summary_at : List Shape → ℕ → Summary
 summary_at = fold node_summary (summary_of None)

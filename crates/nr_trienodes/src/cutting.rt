@@ -39,11 +39,7 @@ fn cut_below(nodes: &mut Nodes, root: u32, key: &[u8]) -> Result<Option<u32>, Al
 
 // The same, from a root or none.
 #[tactic(auto, using(crate::proofs::Puts::put_some, crate::proofs::Cuts::cut_nothing, crate::proofs::Sets::extends_refl))]
-fn cut_from(
-    nodes: &mut Nodes,
-    root: Option<NodeId>,
-    key: &[u8],
-) -> Result<Option<u32>, AllocError>
+fn cut_from(nodes: &mut Nodes, root: Option<NodeId>, key: &[u8]) -> Result<Option<u32>, AllocError>
     requires { IsRoot nodes.old root }
     ensures few { length nodes.new ≤ length nodes.old + length (nibbles key.now) + 1 }
     ensures grows { Extends nodes.old nodes.new }
@@ -74,11 +70,7 @@ impl Nodes {
     ///
     /// As those of `put`.
     #[tactic(auto, using(crate::proofs::Changed::keeps_extends, crate::proofs::Changed::cut_back))]
-    pub fn cut(
-        &mut self,
-        root: Option<NodeId>,
-        key: &[u8],
-    ) -> Result<Option<NodeId>, NodesFault>
+    pub fn cut(&mut self, root: Option<NodeId>, key: &[u8]) -> Result<Option<NodeId>, NodesFault>
         requires { IsRoot self.old root }
         ensures cut { IfOk result (λ after. IsChanged self.old self.new root after (map.remove (contents self.old root) key.now) (2 * length (nibbles key.now) + 3)) }
         ensures kept { Keeps self.old self.new }

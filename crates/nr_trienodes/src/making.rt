@@ -235,11 +235,7 @@ fn is_alone(row: &Row) -> bool
 }
 
 // The summary of a node that is no leaf, of which all children's hashes are kept.
-fn inner<L: Ledger>(
-    nodes: &Nodes,
-    id: u32,
-    steps: &mut Steps<L>,
-) -> Result<Summary, AllocError>
+fn inner<L: Ledger>(nodes: &Nodes, id: u32, steps: &mut Steps<L>) -> Result<Summary, AllocError>
     requires there { id < length nodes.now }
     requires hashes { HasHashes nodes.now id }
     requires leaf { is_leaf (shape_at nodes.now id).value (count_by is_some (shape_at nodes.now id).below) ≡ false }
