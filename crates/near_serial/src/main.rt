@@ -1,8 +1,8 @@
-//! Replays the blocks of a file, one after another, and writes the report.
+//! Replays the blocks of a file, one after another or by the steps of a schedule, and writes the report.
 //!
-//! The command that is supported is `run CONFIG GENESIS BLOCKS`, where CONFIG is `free` or the name
-//! of a file. The exit status is that of the answer; for one above 0 a line on standard error has it,
-//! with its numbers.
+//! The commands that are supported are `run CONFIG GENESIS BLOCKS` and
+//! `check CONFIG GENESIS BLOCKS SCHEDULE`, where CONFIG is `free` or the name of a file. The exit status
+//! is that of the answer; for one above 0 a line on standard error has it, with its numbers.
 #![tactic(auto)]
 
 use nr_bytes::{FileShelf, StdoutSink};

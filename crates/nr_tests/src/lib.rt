@@ -4,6 +4,8 @@
 #[cfg(test)]
 mod by_config;
 #[cfg(test)]
+mod checked;
+#[cfg(test)]
 mod config_text;
 #[cfg(test)]
 mod ends;
@@ -17,6 +19,8 @@ mod pieces;
 mod refused;
 #[cfg(test)]
 mod rows;
+#[cfg(test)]
+mod schedules;
 #[cfg(test)]
 mod setting;
 #[cfg(test)]

@@ -47,8 +47,7 @@ fn words_of_no_command_are_usage(rt: HostRuntime) -> Result<(), Fail> {
 
 #[test]
 fn later_commands_load_nothing(rt: HostRuntime) -> Result<(), Fail> {
-    let rows: [&[&str]; 4] = [
-        &["check", "free", "G", "B", "S"],
+    let rows: [&[&str]; 3] = [
         &["gen", "7", "4", "200"],
         &["gen", "0", "1", "1"],
         &["gen", "18446744073709551615", "16", "256"],

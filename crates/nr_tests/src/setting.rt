@@ -62,19 +62,37 @@ fn files_of(
     Ok(files)
 }
 
-/// A shelf with a genesis `G` and blocks `B`, given in hexadecimal, that fails at some calls.
+/// A shelf with a genesis `G` and blocks `B`, given in hexadecimal, and further files, that fails at some
+/// calls.
+pub(crate) fn shelf_of_all(
+    alloc: Global,
+    genesis: &str,
+    blocks: &str,
+    more: &[(&str, &[u8])],
+    fail: &[u64],
+) -> Result<MemoryShelf, Fail> {
+    let genesis = hex::decode(alloc, genesis)?;
+    let mut files = files_of(alloc, genesis, hex::decode(alloc, blocks)?)?;
+    for (name, bytes) in more {
+        files.push((
+            String::from_str(alloc, name)?,
+            Vec::from_slice(alloc, bytes)?,
+        ))?;
+    }
+    Ok(MemoryShelf::new(files, Vec::from_slice(alloc, fail)?))
+}
+
+/// The same without further files.
 pub(crate) fn shelf_of(
     alloc: Global,
     genesis: &str,
     blocks: &str,
     fail: &[u64],
 ) -> Result<MemoryShelf, Fail> {
-    let genesis = hex::decode(alloc, genesis)?;
-    let files = files_of(alloc, genesis, hex::decode(alloc, blocks)?)?;
-    Ok(MemoryShelf::new(files, Vec::from_slice(alloc, fail)?))
+    shelf_of_all(alloc, genesis, blocks, &[], fail)
 }
 
-/// A shelf with a genesis `G` and blocks `B`, given in hexadecimal, and a third file.
+/// The same with one further file, where no call fails.
 pub(crate) fn shelf_with(
     alloc: Global,
     genesis: &str,
@@ -82,13 +100,7 @@ pub(crate) fn shelf_with(
     name: &str,
     bytes: &[u8],
 ) -> Result<MemoryShelf, Fail> {
-    let genesis = hex::decode(alloc, genesis)?;
-    let mut files = files_of(alloc, genesis, hex::decode(alloc, blocks)?)?;
-    files.push((
-        String::from_str(alloc, name)?,
-        Vec::from_slice(alloc, bytes)?,
-    ))?;
-    Ok(MemoryShelf::new(files, Vec::new(alloc)))
+    shelf_of_all(alloc, genesis, blocks, &[(name, bytes)], &[])
 }
 
 /// What words over a shelf end with.

@@ -1,10 +1,11 @@
 -- Lists of words that are no command, and words that are numbers.
-use Rattle.std.proofs.Common.{◌≡◌, ◌<◌, ◌≤◌, ◌+◌, ◌&&◌, ◌==◌, ℕ, Bool, true, false, cond, ltb, leb, List, [], ◌∷◌, length, drop, Some, None, refl, arith}
+use Rattle.std.proofs.Common.{◌≡◌, ◌<◌, ◌≤◌, ◌+◌, ◌&&◌, ◌==◌, ℕ, zero, suc, lit<, Bool, true, false, cond, ltb, leb, List, [], ◌∷◌, length, drop, Some, None, refl, arith}
 use Rattle.std.specs.List.{list_all}
 use Rattle.std.specs.Str.Parse.{AllDigits, IsNumeral, digits_value, without_leading_plus}
 use Rattle.std.specs.Char.{digit_value}
 use Rattle.std.proofs.lemmas.Bool.{leb-true, lt-leb, ltb-true, ltb-false, eqb-true}
-use Rattle.std.proofs.lemmas.Str.{digit_value_digit}
+use Rattle.std.specs.Str.{IsAscii, IsUtf8}
+use Rattle.std.proofs.lemmas.Str.{IsUtf8-from_ascii, digit_value_digit}
 use Rattle.std.specs.Global.{Global}
 use Rattle.std.specs.declared.string.String.{String}
 use Rattle.nr_top.specs.Command.{command, is_digit, has_no_leading_zero, is_numeral, number_in}
@@ -75,3 +76,17 @@ too_large least most bs e lt fails =
     below : (t : Bool) → ltb (digits_value 10 bs) 18446744073709551616 ≡ t → most < digits_value 10 bs
     below true is = absurd (fails (rw (numeral_parses bs e).0 ((numeral_parses bs e).1, ltb-true (digits_value 10 bs) 18446744073709551616 is)))
     below false is = omega (arith, lt, ltb-false (digits_value 10 bs) 18446744073709551616 is)
+
+-- ---- words that are no text
+digits_ascii : (bs : List ℕ) → list_all is_digit bs ≡ true → IsAscii bs
+digits_ascii [] e i = lit< tt
+digits_ascii (b ∷ bs) e zero = omega (arith, digit_high b (both_left (is_digit b) (list_all is_digit bs) e))
+digits_ascii (b ∷ bs) e (suc i) = digits_ascii bs (both_right (is_digit b) (list_all is_digit bs) e) i
+
+-- spell no number
+pub no_text : (least most : ℕ) (bs : List ℕ) → ¬ (IsUtf8 bs) → None ≡ number_in least most bs
+no_text least most bs fails = by (is_numeral bs) refl
+  where
+    by : (t : Bool) → is_numeral bs ≡ t → None ≡ cond (t && (leb least (digits_value 10 bs) && leb (digits_value 10 bs) most)) (Some (digits_value 10 bs)) None
+    by true e = absurd (fails (IsUtf8-from_ascii bs (digits_ascii bs (both_right (has_no_leading_zero bs) (list_all is_digit bs) e))))
+    by false e = refl

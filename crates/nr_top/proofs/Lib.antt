@@ -5,6 +5,7 @@ pub mod Growth
 pub mod Stopping
 pub mod Preparing
 pub mod Steps
-pub mod Sums
-pub mod Lasting
-pub mod Ending
+pub mod Pieces
+pub mod Onward
+pub mod Standing
+pub mod Drives

@@ -1,14 +1,21 @@
 -- Which answers of the top call are right for what was asked for, and what the sink then took.
-use Rattle.std.specs.Prelude.{◌≡◌, ℕ, ◌<◌, ◌≤◌, List, ◌++◌, length, Option, Some, None, IfSome, Result, Ok, Err}
+use Rattle.std.specs.Prelude.{◌≡◌, ℕ, true, ◌<◌, ◌≤◌, List, ◌++◌, length, Option, Some, None, IfSome, Result, Ok, Err}
 use Rattle.nr_bytes.specs.Outside.{Grew}
 use Rattle.std.specs.Global.{Vec}
 use Rattle.nr_config.specs.Config.{Config}
-use Rattle.nr_top.specs.Input.{Given, Report, Refused, Untold, Configured, By, Bars, Unknown, by_configured, by_genesis_read}
+use Rattle.nr_chunk.specs.Chain.{Chain}
+use Rattle.nr_top.specs.Blocks.{are_supported_blocks}
+use Rattle.nr_top.specs.Input.{Given, Report, Refused, Untold, Configured, By, Bars, Unknown, Purpose, by_configured, by_genesis_read, by_blocks_read, by_schedule_read}
+use Rattle.nr_top.specs.Schedule.{AreThere}
+use Rattle.nr_top.specs.declared.schedule.Line.{Line}
+use Rattle.nr_top.specs.declared.schedule.ScheduleFault.{ScheduleFault}
+use Rattle.nr_blocks.specs.declared.block.Block.{Block}
+use Rattle.nr_blocks.specs.declared.fault.BlocksFault.{BlocksFault}
 use Rattle.nr_blocks.specs.Genesis.{IsSoundGenesis}
 use Rattle.nr_blocks.specs.declared.fault.GenesisFault.{GenesisFault}
 use Rattle.nr_blocks.specs.declared.genesis.Genesis.{Genesis}
 use Rattle.nr_top.specs.declared.status.Status.{Status}
-use Rattle.nr_top.specs.declared.status.Status.TheVariants.{Done, Usage, Config as faulty_config, Genesis as faulty_genesis, Blocks as faulty_blocks, Unsupported, ReadFault, WriteFault, NoMemory}
+use Rattle.nr_top.specs.declared.status.Status.TheVariants.{Done, Usage, Config as faulty_config, Genesis as faulty_genesis, Blocks as faulty_blocks, Schedule as faulty_schedule, Unsupported, ReadFault, WriteFault, NoMemory}
 
 -- What the sink holds grew by a front of these bytes, where it tells.
 abbrev pub GrewInPart : Option (List ℕ) → Option (List ℕ) → List ℕ → Type 0
@@ -38,6 +45,9 @@ Serves (faulty_genesis kind a b c) Untold old new = new ≡ old
 Serves (faulty_blocks kind a) (Report text) old new = ⊥
 Serves (faulty_blocks kind a) (Refused status) old new = (status ≡ faulty_blocks kind a) × (new ≡ old)
 Serves (faulty_blocks kind a) Untold old new = new ≡ old
+Serves (faulty_schedule kind line) (Report text) old new = ⊥
+Serves (faulty_schedule kind line) (Refused status) old new = (status ≡ faulty_schedule kind line) × (new ≡ old)
+Serves (faulty_schedule kind line) Untold old new = new ≡ old
 Serves (Unsupported form) (Report text) old new = ⊥
 Serves (Unsupported form) (Refused status) old new = (status ≡ Unsupported form) × (new ≡ old)
 Serves (Unsupported form) Untold old new = new ≡ old
@@ -61,6 +71,7 @@ cause NoMemory = Failing
 cause (faulty_config kind entry) = Refusing
 cause (faulty_genesis kind a b c) = Refusing
 cause (faulty_blocks kind a) = Refusing
+cause (faulty_schedule kind line) = Refusing
 cause (Unsupported form) = Refusing
 cause Usage = Other
 cause Done = Other
@@ -100,14 +111,24 @@ Loaded (Ok read) long limit None = Unit {0}
 Loaded (Ok read) long limit (Some bytes) = (length bytes ≤ limit) × (read.items ≡ bytes)
 Loaded (Err status) long limit held = IsLong (cause status) status long limit held
 
--- what the word for a configuration gives: itself, or a status, whatever the genesis and the blocks are
+-- what the word for a configuration gives: itself, or a status, whatever the other files are and are for
 abbrev pub Configures : Result Config Status → Configured → Type 0
 Configures (Ok c) (By d) = c ≡ d
 Configures (Ok c) (Bars status) = ⊥
 Configures (Ok c) Unknown = Unit {0}
-Configures (Err status) given = (genesis blocks : Option (List ℕ)) → Stops status (by_configured given genesis blocks)
+Configures (Err status) given = (p : Purpose) (genesis blocks : Option (List ℕ)) → Stops status (by_configured p given genesis blocks)
 
--- what a genesis gives: itself, or a status, whatever the blocks are
+-- what a genesis gives: itself, or a status, whatever the blocks are and are for
 abbrev pub Founds : Config → Result Genesis Status → Result Genesis GenesisFault → Type 0
 Founds c (Ok g) read = (read ≡ Ok g) × IsSoundGenesis c g
-Founds c (Err status) read = (blocks : Option (List ℕ)) → Stops status (by_genesis_read c read blocks)
+Founds c (Err status) read = (p : Purpose) (blocks : Option (List ℕ)) → Stops status (by_genesis_read p c read blocks)
+
+-- what the blocks give: themselves, where they are supported, or a status, whatever they are for
+abbrev pub Follows : Result (List Block) Status → Result (List Block) BlocksFault → Type 0
+Follows (Ok bs) read = (read ≡ Ok bs) × (are_supported_blocks bs ≡ true)
+Follows (Err status) read = (p : Purpose) (c : Config) (g : Genesis) → Stops status (by_blocks_read p c g read)
+
+-- what a schedule gives: its lines, of shards that are there, or a status
+abbrev pub Schedules : ℕ → Result (Vec Line) Status → Result (List Line) ScheduleFault → Type 0
+Schedules shards (Ok lines) read = (read ≡ Ok lines.items) × AreThere shards lines.items
+Schedules shards (Err status) read = (x : Chain) → Stops status (by_schedule_read x read)

@@ -67,15 +67,16 @@ command (a ∷ b ∷ c ∷ d ∷ e ∷ []) = five_words a b c d e
 command (a ∷ b ∷ c ∷ d ∷ e ∷ f ∷ words) = None
 
 -- ---- what is supported
--- the configuration, the genesis and the blocks of a replay
+-- the configuration, the genesis and the blocks of a replay, and the schedule that drives it, where there is one
 pub record Names : Type 0 where
   pub config : List ℕ
   pub genesis : List ℕ
   pub blocks : List ℕ
+  pub schedule : Option (List ℕ)
 
 abbrev pub supported_files : Command → Option Names
-supported_files (Run config genesis blocks) = Some (record { config = config; genesis = genesis; blocks = blocks })
-supported_files (Check config genesis blocks schedule) = None
+supported_files (Run config genesis blocks) = Some (record { config = config; genesis = genesis; blocks = blocks; schedule = None })
+supported_files (Check config genesis blocks schedule) = Some (record { config = config; genesis = genesis; blocks = blocks; schedule = Some schedule })
 supported_files (Generate start shards blocks) = None
 
 -- the built-in configuration loads no file

@@ -15,9 +15,14 @@ use Rattle.nr_blocks.specs.declared.fault.BlocksFault.TheVariants as blocks
 use Rattle.nr_blocks.specs.declared.fault.GenesisFault.{GenesisFault}
 use Rattle.nr_blocks.specs.declared.fault.GenesisFault.TheVariants as genesis
 use Rattle.nr_blocks.specs.declared.genesis.Genesis.{Genesis}
-use Rattle.nr_top.specs.Run.{chain, run_text}
+use Rattle.nr_chunk.specs.Chain.{Chain, shards_of}
+use Rattle.nr_top.specs.Run.{chain, check_text, run_text}
+use Rattle.nr_top.specs.Schedule.{schedule_read}
+use Rattle.nr_top.specs.declared.schedule.Line.{Line}
+use Rattle.nr_top.specs.declared.schedule.ScheduleFault.{ScheduleFault}
+use Rattle.nr_top.specs.declared.schedule.ScheduleFault.TheVariants as schedule
 use Rattle.nr_top.specs.declared.status.Status.{Status}
-use Rattle.nr_top.specs.declared.status.Status.TheVariants.{Usage, Unsupported, Config as faulty_config, Genesis as faulty_genesis, Blocks as faulty_blocks, NoMemory}
+use Rattle.nr_top.specs.declared.status.Status.TheVariants.{Usage, Unsupported, Config as faulty_config, Genesis as faulty_genesis, Blocks as faulty_blocks, Schedule as faulty_schedule, NoMemory}
 
 abbrev pub texts : List (String Global) → List (List ℕ)
 texts words = map (λ word. string_bytes word) words
@@ -26,15 +31,19 @@ texts words = map (λ word. string_bytes word) words
 abbrev pub config_files : List ℕ → List (List ℕ)
 config_files word = cond (is_free word) [] (word ∷ [])
 
+abbrev pub schedule_files : Option (List ℕ) → List (List ℕ)
+schedule_files None = []
+schedule_files (Some name) = name ∷ []
+
 abbrev pub loads_of : Option Names → List (List ℕ)
 loads_of None = []
-loads_of (Some names) = config_files names.config ++ names.genesis ∷ names.blocks ∷ []
+loads_of (Some names) = config_files names.config ++ names.genesis ∷ names.blocks ∷ schedule_files names.schedule
 
 abbrev pub files_of : Option Command → List (List ℕ)
 files_of None = []
 files_of (Some c) = loads_of (supported_files c)
 
--- ---- files: at most 1 MiB of configuration, 64 MiB of genesis and 256 MiB of blocks
+-- ---- files: at most 1 MiB of configuration, 64 MiB of genesis, 256 MiB of blocks and 1 MiB of schedule
 abbrev pub config_limit : ℕ
 config_limit = 1048576
 
@@ -43,6 +52,9 @@ genesis_limit = 67108864
 
 abbrev pub blocks_limit : ℕ
 blocks_limit = 268435456
+
+abbrev pub schedule_limit : ℕ
+schedule_limit = 1048576
 
 -- ---- a report, or the first refusal; Untold where the answer depends on bytes that the shelf doesn't tell
 pub data Given : Type 0 where
@@ -108,32 +120,57 @@ blocks_status blocks.Memory = NoMemory
 abbrev pub too_long_blocks : Status
 too_long_blocks = faulty_blocks 0 0
 
-abbrev pub by_blocks : Config → Genesis → List Block → Given
-by_blocks c g bs = cond (are_supported_blocks bs) (Report (run_text (chain c g bs))) (Refused (Unsupported 2))
+-- ---- what the blocks are for: a run to the end, or one by a schedule, of whose file this is told; the schedule's fault, by kind and line
+pub data Purpose : Type 0 where
+  ToTheEnd : Purpose
+  Scheduled : Option (List ℕ) → Purpose
 
-abbrev pub by_blocks_read : Config → Genesis → Result (List Block) BlocksFault → Given
-by_blocks_read c g (Ok bs) = by_blocks c g bs
-by_blocks_read c g (Err fault) = Refused (blocks_status fault)
+abbrev pub schedule_status : ScheduleFault → Status
+schedule_status (schedule.NoLine n) = faulty_schedule 1 n
+schedule_status schedule.Memory = NoMemory
 
-abbrev pub by_blocks_file : Config → Genesis → Option (List ℕ) → Given
-by_blocks_file c g bytes = by_file blocks_limit too_long_blocks (λ file. by_blocks_read c g (blocks_read (length g.layout + 1) file)) bytes
+abbrev pub too_long_schedule : Status
+too_long_schedule = faulty_schedule 0 0
 
-abbrev pub by_genesis_read : Config → Result Genesis GenesisFault → Option (List ℕ) → Given
-by_genesis_read c (Ok g) blocks = by_blocks_file c g blocks
-by_genesis_read c (Err fault) blocks = Refused (genesis_status fault)
+abbrev pub by_schedule_read : Chain → Result (List Line) ScheduleFault → Given
+by_schedule_read x (Ok lines) = Report (check_text x lines)
+by_schedule_read x (Err fault) = Refused (schedule_status fault)
 
-abbrev pub by_files : Config → Option (List ℕ) → Option (List ℕ) → Given
-by_files c genesis blocks = by_file genesis_limit too_long_genesis (λ file. by_genesis_read c (genesis_read c file) blocks) genesis
+abbrev pub by_purpose : Purpose → Chain → Given
+by_purpose ToTheEnd x = Report (run_text x)
+by_purpose (Scheduled bytes) x = by_file schedule_limit too_long_schedule (λ file. by_schedule_read x (schedule_read (shards_of x) file)) bytes
+
+-- ---- files in their order: the blocks, behind them what they are for
+abbrev pub by_blocks : Purpose → Config → Genesis → List Block → Given
+by_blocks p c g bs = cond (are_supported_blocks bs) (by_purpose p (chain c g bs)) (Refused (Unsupported 2))
+
+abbrev pub by_blocks_read : Purpose → Config → Genesis → Result (List Block) BlocksFault → Given
+by_blocks_read p c g (Ok bs) = by_blocks p c g bs
+by_blocks_read p c g (Err fault) = Refused (blocks_status fault)
+
+abbrev pub by_blocks_file : Purpose → Config → Genesis → Option (List ℕ) → Given
+by_blocks_file p c g bytes = by_file blocks_limit too_long_blocks (λ file. by_blocks_read p c g (blocks_read (length g.layout + 1) file)) bytes
+
+abbrev pub by_genesis_read : Purpose → Config → Result Genesis GenesisFault → Option (List ℕ) → Given
+by_genesis_read p c (Ok g) blocks = by_blocks_file p c g blocks
+by_genesis_read p c (Err fault) blocks = Refused (genesis_status fault)
+
+abbrev pub by_files : Purpose → Config → Option (List ℕ) → Option (List ℕ) → Given
+by_files p c genesis blocks = by_file genesis_limit too_long_genesis (λ file. by_genesis_read p c (genesis_read c file) blocks) genesis
 
 -- ---- the whole, in the order in which the files are read
-abbrev pub by_configured : Configured → Option (List ℕ) → Option (List ℕ) → Given
-by_configured (By c) genesis blocks = by_files c genesis blocks
-by_configured (Bars status) genesis blocks = Refused status
-by_configured Unknown genesis blocks = Untold
+abbrev pub by_configured : Purpose → Configured → Option (List ℕ) → Option (List ℕ) → Given
+by_configured p (By c) genesis blocks = by_files p c genesis blocks
+by_configured p (Bars status) genesis blocks = Refused status
+by_configured p Unknown genesis blocks = Untold
+
+abbrev pub purpose_of : Option (List ℕ) → (List ℕ → Option (List ℕ)) → Purpose
+purpose_of None held = ToTheEnd
+purpose_of (Some name) held = Scheduled (held name)
 
 abbrev pub by_supported : Option Names → (List ℕ → Option (List ℕ)) → Given
 by_supported None held = Refused (Unsupported 0)
-by_supported (Some names) held = by_configured (configured names.config (held names.config)) (held names.genesis) (held names.blocks)
+by_supported (Some names) held = by_configured (purpose_of names.schedule held) (configured names.config (held names.config)) (held names.genesis) (held names.blocks)
 
 abbrev pub by_command : Option Command → (List ℕ → Option (List ℕ)) → Given
 by_command None held = Refused Usage

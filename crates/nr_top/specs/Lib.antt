@@ -2,8 +2,12 @@ pub mod Calls
 pub mod Command
 pub mod Blocks
 pub mod Totals
+pub mod Schedule
+pub mod Checking
+pub mod Counting
 pub mod Run
-pub mod Over
+pub mod Moments
+pub mod Driving
 pub mod Input
 pub mod Answers
 pub mod Words

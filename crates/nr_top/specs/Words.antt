@@ -1,11 +1,12 @@
 -- Words as lent texts.
+use Rattle.std.specs.Option.{option_copied}
 use Rattle.nr_top.specs.Command.{Command, Run, Check, Generate, Names}
 use Rattle.nr_top.specs.declared.command.FileNames.{FileNames}
 use Rattle.nr_top.specs.declared.command.Words.{Words}
 use Rattle.nr_top.specs.declared.command.Words.TheVariants.{RunFiles, CheckSchedule, GenerateInput}
 
 abbrev pub names_in : FileNames → Names
-names_in n = record { config = n.config.now; genesis = n.genesis.now; blocks = n.blocks.now }
+names_in n = record { config = n.config.now; genesis = n.genesis.now; blocks = n.blocks.now; schedule = option_copied n.schedule }
 
 -- the command that lent words are
 abbrev pub command_in : Words → Command

@@ -36,6 +36,8 @@ pub(crate) struct FileNames<'a> {
     pub(crate) config: &'a str,
     pub(crate) genesis: &'a str,
     pub(crate) blocks: &'a str,
+    /// The schedule that drives it, where it doesn't just go to its end.
+    pub(crate) schedule: Option<&'a str>,
 }
 
 /// A word that isn't empty and doesn't begin with a dash.
@@ -79,7 +81,7 @@ fn is_numeral(word: &[u8]) -> bool
 }
 
 /// The number that a word spells, where it is one of these.
-fn number_in(least: u64, most: u64, word: &str) -> Option<u64>
+fn number_of(least: u64, most: u64, word: &str) -> Option<u64>
     ensures { result ≡ number_in least most word.now }
 {
     if !is_numeral(word.as_bytes()) {
@@ -93,6 +95,16 @@ fn number_in(least: u64, most: u64, word: &str) -> Option<u64>
                 None
             }
         }
+        Err(_) => None,
+    }
+}
+
+/// The same of a word in bytes, which may be no text.
+pub(crate) fn number_in(least: u64, most: u64, word: &[u8]) -> Option<u64>
+    ensures { result ≡ number_in least most word.now }
+{
+    match str::from_utf8(word) {
+        Ok(word) => number_of(least, most, word),
         Err(_) => None,
     }
 }
@@ -134,9 +146,9 @@ fn check_of<'a>(
 fn generate_of<'a>(start: &str, shards: &str, blocks: &str) -> Option<Words<'a>>
     ensures { option_map command_in result ≡ generate_of start.now shards.now blocks.now }
 {
-    let start = number_in(0, u64::MAX, start)?;
-    let shards = number_in(1, 16, shards)?;
-    let blocks = number_in(1, 256, blocks)?;
+    let start = number_of(0, u64::MAX, start)?;
+    let shards = number_of(1, 16, shards)?;
+    let blocks = number_of(1, 256, blocks)?;
     Some(Words::GenerateInput {
         start,
         shards,
@@ -198,8 +210,20 @@ pub(crate) fn supported_files<'a>(words: &Words<'a>) -> Option<FileNames<'a>>
             config: *config,
             genesis: *genesis,
             blocks: *blocks,
+            schedule: None,
         }),
-        _ => None,
+        Words::CheckSchedule {
+            config,
+            genesis,
+            blocks,
+            schedule,
+        } => Some(FileNames {
+            config: *config,
+            genesis: *genesis,
+            blocks: *blocks,
+            schedule: Some(*schedule),
+        }),
+        Words::GenerateInput { .. } => None,
     }
 }
 

@@ -8,7 +8,8 @@ use std::fmt;
 
 impl Status {
     /// The exit status of a program that ends with this answer: 0 `Done`, 1 `Usage`, 2 `Config`,
-    /// 3 `Genesis`, 4 `Blocks`, 5 `ReadFault`, 6 `WriteFault`, 7 `NoMemory` and 9 `Unsupported`.
+    /// 3 `Genesis`, 4 `Blocks`, 5 `ReadFault`, 6 `WriteFault`, 7 `NoMemory`, 8 `Schedule` and
+    /// 9 `Unsupported`.
     pub fn exit_status(&self) -> u8
         ensures { result ≡ exit_status self.now }
     {
@@ -21,6 +22,7 @@ impl Status {
             Status::ReadFault => 5,
             Status::WriteFault => 6,
             Status::NoMemory => 7,
+            Status::Schedule { .. } => 8,
             Status::Unsupported { .. } => 9,
         }
     }
@@ -37,6 +39,7 @@ impl fmt::Display for Status {
             Status::Config { kind, entry } => write!(f, "{number} {kind} {entry}"),
             Status::Genesis { kind, a, b, c } => write!(f, "{number} {kind} {a} {b} {c}"),
             Status::Blocks { kind, a } => write!(f, "{number} {kind} {a}"),
+            Status::Schedule { kind, line } => write!(f, "{number} {kind} {line}"),
             Status::Unsupported { form } => write!(f, "{number} {form}"),
             Status::Done => write!(f, "{number}"),
             Status::Usage => write!(f, "{number}"),

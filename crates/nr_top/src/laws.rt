@@ -1,15 +1,24 @@
 //! What holds of every run.
 
-ghost use Rattle.std.specs.Prelude.{List};
+ghost use Rattle.std.specs.Prelude.{◌≡◌, List};
 ghost use Rattle.nr_blocks.specs.declared.block.Block.{Block};
 ghost use Rattle.nr_blocks.specs.declared.genesis.Genesis.{Genesis};
-ghost use Rattle.nr_chunk.specs.Chain.{IsChain};
+ghost use Rattle.nr_chunk.specs.Chain.{IsChain, rules_of};
 ghost use Rattle.nr_config.specs.Config.{Config};
-ghost use Rattle.nr_top.specs.Run.{chain, totals};
-ghost use Rattle.nr_top.specs.Totals.{AddsUp};
+ghost use Rattle.nr_overlap.specs.Inside.{AreInside};
+ghost use Rattle.nr_overlap.specs.Next.{left};
+ghost use Rattle.nr_overlap.specs.Run.{ending, opening, run_of};
+ghost use Rattle.nr_overlap.specs.declared.event.Event.{Event};
+ghost use Rattle.nr_top.specs.Checking.{events_left};
+ghost use Rattle.nr_top.specs.Run.{chain};
+ghost use Rattle.nr_top.specs.Totals.{AddUp, totals_at};
 
-/// The totals of a run add up: what the accounts have, what receipts hold and what was burnt are
-/// together the supply of the genesis. It does nothing when it runs.
+/// The totals add up: what the accounts have, what receipts hold and what was burnt are together the
+/// supply of the genesis, and as many receipts were routed as are executed, postponed, delayed and in
+/// flight. So it is of a run, and wherever the events of a schedule lead. From there the events of `rest`
+/// lead to the end. It does nothing when it runs.
 pub fn totals_law()
-    ensures { (c : Config) (g : Genesis) (bs : List Block) → IsChain (chain c g bs) → AddsUp (totals (chain c g bs)) }
+    ensures run { (c : Config) (g : Genesis) (bs : List Block) → IsChain (chain c g bs) → AddUp (totals_at (chain c g bs) (ending (rules_of (chain c g bs)))) }
+    ensures check { (c : Config) (g : Genesis) (bs : List Block) → IsChain (chain c g bs) → (es : List Event) → AreInside (rules_of (chain c g bs)).shards es → AddUp (totals_at (chain c g bs) (run_of (rules_of (chain c g bs)) (opening (rules_of (chain c g bs))) es)) }
+    ensures rest { (c : Config) (g : Genesis) (bs : List Block) (es : List Event) → let r = rules_of (chain c g bs) in AreInside r.shards es → let ps = run_of r (opening r) es in run_of r ps (events_left r (left r ps) ps) ≡ ending r }
 {}

@@ -2,6 +2,7 @@
 #![tactic(auto)]
 
 mod calls;
+mod checking;
 mod command;
 mod configuration;
 mod exit;
@@ -10,6 +11,7 @@ mod loading;
 mod refused;
 mod replay;
 mod run;
+mod schedule;
 mod status;
 mod supported_blocks;
 mod tally;

@@ -1,9 +1,10 @@
 //! The status that tells why a file is refused.
 
 ghost use Rattle.std.specs.Prelude.{◌≡◌};
-ghost use Rattle.nr_top.specs.Input.{blocks_status, config_status, genesis_status};
+ghost use Rattle.nr_top.specs.Input.{blocks_status, config_status, genesis_status, schedule_status};
 ghost use Rattle.nr_top.specs.declared.status.Status.TheVariants.{Blocks as faulty_blocks, Genesis as faulty_genesis};
 
+use crate::schedule::ScheduleFault;
 use crate::status::Status;
 use nr_blocks::{BlocksFault, GenesisFault};
 use nr_config::ConfigFault;
@@ -63,5 +64,15 @@ pub(crate) fn blocks_status(fault: BlocksFault) -> Status
         BlocksFault::TooMany => refused_blocks(4, 0),
         BlocksFault::Stake { at } => refused_blocks(5, at),
         BlocksFault::Memory => Status::NoMemory,
+    }
+}
+
+/// The status of a faulty schedule.
+pub(crate) fn schedule_status(fault: ScheduleFault) -> Status
+    ensures { result ≡ schedule_status fault }
+{
+    match fault {
+        ScheduleFault::NoLine { line } => Status::Schedule { kind: 1, line },
+        ScheduleFault::Memory => Status::NoMemory,
     }
 }

@@ -1,18 +1,17 @@
-//! The genesis and the report that the bytes of files give.
+//! What the bytes of files give.
 
-ghost use Rattle.std.specs.Prelude.{◌≢◌, ◌+◌, Ok, Err, length};
-ghost use Rattle.nr_blocks.specs.Genesis.{IsSoundGenesis};
+ghost use Rattle.std.specs.Prelude.{◌≢◌, ◌<◌, Ok, Err};
 ghost use Rattle.nr_blocks.specs.Judging.{blocks_read, genesis_read};
-ghost use Rattle.nr_top.specs.Answers.{Founds, Prepares};
-ghost use Rattle.nr_top.specs.Input.{by_blocks, by_blocks_read};
+ghost use Rattle.nr_top.specs.Answers.{Founds, Follows, Schedules};
+ghost use Rattle.nr_top.specs.Schedule.{schedule_read};
 ghost use Rattle.nr_top.specs.declared.status.Status.TheVariants.{ReadFault};
 
-use crate::refused::{blocks_status, genesis_status};
-use crate::run::report;
+use crate::refused::{blocks_status, genesis_status, schedule_status};
+use crate::schedule::{Line, read_schedule};
 use crate::status::Status;
 use crate::supported_blocks::are_supported;
 use nr_blocks::{Block, Genesis, read_blocks, read_genesis};
-use nr_bytes::{Blob, List};
+use nr_bytes::List;
 use nr_config::Config;
 use std::alloc::Global;
 
@@ -30,40 +29,39 @@ pub(crate) fn genesis_of(alloc: Global, config: &Config, bytes: &[u8]) -> Result
     }
 }
 
-/// The report of blocks without fault.
-fn reported(
-    alloc: Global,
-    config: &Config,
-    genesis: Genesis,
-    blocks: List<Block>,
-) -> Result<Blob, Status>
-    requires sound { IsSoundGenesis config.now genesis }
-    ensures prepares { Prepares result (by_blocks config.now genesis blocks) }
+/// Blocks without fault, where they are supported.
+fn supported(blocks: List<Block>) -> Result<List<Block>, Status>
+    ensures follows { Follows result (Ok blocks) }
     ensures no_fault { result ≢ Err ReadFault }
 {
-    if !are_supported(blocks.inner()) {
-        return Err(OTHER_BLOCKS);
-    }
-    match report(alloc, *config, genesis, blocks) {
-        Ok(report) => Ok(report),
-        Err(_) => Err(Status::NoMemory),
+    if are_supported(blocks.inner()) {
+        Ok(blocks)
+    } else {
+        Err(OTHER_BLOCKS)
     }
 }
 
-/// The report of the blocks that the bytes of a file give.
+/// The blocks that the bytes of a file give for so many shards.
 #[tactic(auto, using(crate::proofs::Stopping::blocks_were_read))]
-pub(crate) fn report_of(
-    alloc: Global,
-    config: &Config,
-    genesis: Genesis,
-    bytes: &[u8],
-) -> Result<Blob, Status>
-    requires { IsSoundGenesis config.now genesis }
-    ensures prepares { Prepares result (by_blocks_read config.now genesis (blocks_read (length genesis.layout + 1) bytes.now)) }
+pub(crate) fn blocks_of(alloc: Global, shards: u32, bytes: &[u8]) -> Result<List<Block>, Status>
+    ensures follows { Follows result (blocks_read shards bytes.now) }
     ensures no_fault { result ≢ Err ReadFault }
 {
-    match read_blocks(alloc, bytes, genesis.layout.shards()) {
-        Ok(blocks) => reported(alloc, config, genesis, blocks),
+    match read_blocks(alloc, bytes, shards) {
+        Ok(blocks) => supported(blocks),
         Err(fault) => Err(blocks_status(fault)),
+    }
+}
+
+/// The lines that the bytes of a schedule give for so many shards.
+#[tactic(auto, using(crate::proofs::Stopping::schedule_was_read, crate::proofs::Pieces::schedule_there))]
+pub(crate) fn schedule_of(alloc: Global, shards: u32, bytes: &[u8]) -> Result<Vec<Line>, Status>
+    requires { 0 < shards }
+    ensures schedules { Schedules shards result (schedule_read shards bytes.now) }
+    ensures no_fault { result ≢ Err ReadFault }
+{
+    match read_schedule(alloc, shards, bytes) {
+        Ok(lines) => Ok(lines),
+        Err(fault) => Err(schedule_status(fault)),
     }
 }

@@ -4,9 +4,12 @@ ghost use Rattle.std.specs.Prelude.{◌≡◌, ◌+◌, ◌++◌, IfOk, OnOk};
 ghost use Rattle.nr_blocks.specs.Genesis.{IsSoundGenesis};
 ghost use Rattle.nr_chunk.specs.Chain.{rules_of};
 ghost use Rattle.nr_overlap.specs.Moment.{report_at};
-ghost use Rattle.nr_top.specs.Over.{IsOver};
-ghost use Rattle.nr_top.specs.Run.{chain, report_text, height_text, chunks_text, run_text};
-ghost use Rattle.nr_top.specs.Totals.{totals_of, tally_at};
+ghost use Rattle.nr_overlap.specs.Run.{ending, opening};
+ghost use Rattle.nr_top.specs.Moments.{IsMoment, chain_of};
+ghost use Rattle.nr_top.specs.Checking.{report_text};
+ghost use Rattle.nr_top.specs.Run.{chain, height_text, chunks_text, run_text};
+ghost use Rattle.nr_places.specs.Totals.{tally_at};
+ghost use Rattle.nr_top.specs.Totals.{totals_of};
 
 use crate::calls::NoCalls;
 use crate::tally::tally_all;
@@ -22,6 +25,24 @@ use std::alloc::{AllocError, Global};
 /// A chain at work.
 pub(crate) type Run = Core<ChainRun<NoCalls>>;
 
+/// A chain before its first chunk.
+pub(crate) fn begin(
+    alloc: Global,
+    config: Config,
+    genesis: Genesis,
+    blocks: List<Block>,
+) -> Result<Run, AllocError>
+    requires { IsSoundGenesis config genesis }
+    ensures chain { IfOk result (λ core. chain_of core ≡ chain config genesis blocks) }
+    ensures moment { IfOk result IsMoment }
+    ensures first { IfOk result (λ core. core.positions ≡ opening (rules_of (chain_of core))) }
+{
+    let chain = ChainRun::new(config, genesis, blocks, NoCalls { config });
+    let core = Core::new(alloc, chain)?;
+    let _ = core.phases().shards();
+    Ok(core)
+}
+
 /// Runs all blocks.
 fn run(
     alloc: Global,
@@ -29,26 +50,25 @@ fn run(
     genesis: Genesis,
     blocks: List<Block>,
 ) -> Result<Run, AllocError>
-    requires sound { IsSoundGenesis config genesis }
-    ensures chain { IfOk result (λ core. chain core.phases.config core.phases.genesis core.phases.blocks ≡ chain config genesis blocks) }
-    ensures over { IfOk result (λ core. IsOver (chain core.phases.config core.phases.genesis core.phases.blocks) core.positions core.lost) }
+    requires { IsSoundGenesis config genesis }
+    ensures chain { IfOk result (λ core. chain_of core ≡ chain config genesis blocks) }
+    ensures moment { IfOk result IsMoment }
+    ensures last { IfOk result (λ core. core.positions ≡ ending (rules_of (chain_of core))) }
 {
-    let chain = ChainRun::new(config, genesis, blocks, NoCalls { config });
-    let mut core = Core::new(alloc, chain)?;
+    let mut core = begin(alloc, config, genesis, blocks)?;
     run_serially(&mut core)?;
-    let _ = core.phases().shards();
     Ok(core)
 }
 
 /// Adds the text of a chunk, where it is sealed.
-fn add_report(
+pub(crate) fn add_report(
     alloc: Global,
     core: &Run,
     shard: ShardId,
     height: Height,
     text: &mut Blob,
 ) -> Result<(), AllocError>
-    ensures { OnOk result (text.new ≡ text.old ++ report_text (report_at (rules_of (chain core.now.phases.config core.now.phases.genesis core.now.phases.blocks)) core.now.positions shard.0 height.0)) }
+    ensures { OnOk result (text.new ≡ text.old ++ report_text (report_at (rules_of (chain_of core.now)) core.now.positions shard.0 height.0)) }
 {
     match core.report(shard, height) {
         Some(report) => write_chunk(alloc, report, text),
@@ -59,7 +79,7 @@ fn add_report(
 /// Adds the text of the chunks of a height.
 #[tactic(auto, unfolding(crate::specs::Run::text_below))]
 fn add_height(alloc: Global, core: &Run, height: Height, text: &mut Blob) -> Result<(), AllocError>
-    ensures { OnOk result (text.new ≡ text.old ++ height_text (chain core.now.phases.config core.now.phases.genesis core.now.phases.blocks) core.now.positions height.0) }
+    ensures { OnOk result (text.new ≡ text.old ++ height_text (chain_of core.now) core.now.positions height.0) }
 {
     for shard in 0..core.phases().shards() {
         add_report(alloc, core, ShardId(shard), height, text)?;
@@ -70,7 +90,7 @@ fn add_height(alloc: Global, core: &Run, height: Height, text: &mut Blob) -> Res
 /// The text of the chunks.
 #[tactic(auto, unfolding(crate::specs::Run::text_below))]
 fn chunks_text(alloc: Global, core: &Run) -> Result<Blob, AllocError>
-    ensures { IfOk result (λ text. text ≡ chunks_text (chain core.now.phases.config core.now.phases.genesis core.now.phases.blocks) core.now.positions) }
+    ensures { IfOk result (λ text. text ≡ chunks_text (chain_of core.now) core.now.positions) }
 {
     let mut text = Blob::of(Vec::new(alloc));
     for below in 0..core.phases().heights() {
@@ -80,9 +100,9 @@ fn chunks_text(alloc: Global, core: &Run) -> Result<Blob, AllocError>
 }
 
 /// The totals, where there was this much at first.
-fn totals(alloc: Global, core: &Run, supply: u128) -> Result<Totals, AllocError>
-    requires over { IsOver (chain core.now.phases.config core.now.phases.genesis core.now.phases.blocks) core.now.positions core.now.lost }
-    ensures { IfOk result (λ totals. totals ≡ totals_of supply (tally_at (chain core.now.phases.config core.now.phases.genesis core.now.phases.blocks) core.now.positions)) }
+pub(crate) fn totals(alloc: Global, core: &Run, supply: u128) -> Result<Totals, AllocError>
+    requires moment { IsMoment core.now }
+    ensures { IfOk result (λ totals. totals ≡ totals_of supply (tally_at (chain_of core.now) core.now.positions)) }
 {
     let tally = tally_all(alloc, core)?;
     let places = tally.places;

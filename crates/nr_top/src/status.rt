@@ -25,6 +25,11 @@ pub enum Status {
     /// height), 4 where there are more than 256 blocks, and 5 where an action of staking stands (`a`
     /// is its place).
     Blocks { kind: u32, a: u64 },
+    /// The file is no schedule for the shards of the genesis. The kind is 0 where it is longer than
+    /// 1 MiB (the line is then 0), and 1 where a line, counted from 1, has none of the forms `open S`,
+    /// `take S SOURCE HEIGHT`, `seal S`, `publish S` and `rest`, has no line feed behind it, or names a
+    /// shard that isn't there.
+    Schedule { kind: u32, line: u64 },
     /// What was given isn't supported yet: 0 the command, 2 the blocks.
     Unsupported { form: u32 },
     /// A file could not be read.

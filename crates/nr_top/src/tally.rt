@@ -1,11 +1,10 @@
-//! What a run holds where it is over.
+//! What a run holds at a moment.
 
 ghost use Rattle.std.specs.Prelude.{◌≡◌, ◌+◌, ◌^◌, ◌<◌, ◌≤◌, true, length, IfOk, IfSome};
 ghost use Rattle.nr_chunk.specs.Chain.{rules_of};
 ghost use Rattle.nr_overlap.specs.Moment.{report_at, flight_at};
-ghost use Rattle.nr_top.specs.Over.{IsOver};
-ghost use Rattle.nr_top.specs.Run.{chain};
-ghost use Rattle.nr_top.specs.Totals.{nothing, plus, plus_counts, list_tally, report_tally, flying_from, held_by, sealed_by, tally_of, tally_at, tally_below};
+ghost use Rattle.nr_top.specs.Moments.{IsMoment, chain_of};
+ghost use Rattle.nr_places.specs.Totals.{nothing, plus, plus_counts, list_tally, report_tally, flying_from, held_by, sealed_by, tally_of, tally_at, tally_below};
 
 use crate::run::Run;
 use nr_chunk::Tally;
@@ -61,14 +60,17 @@ fn add(a: Tally, b: Tally) -> Result<Tally, AllocError>
     sum_of(a, b).ok_or(AllocError)
 }
 
-/// What a shard holds.
+/// What a shard holds in its world, or in its chunk at work.
 fn held_by(alloc: Global, core: &Run, shard: ShardId) -> Result<Tally, AllocError>
-    requires over { IsOver (chain core.now.phases.config core.now.phases.genesis core.now.phases.blocks) core.now.positions core.now.lost }
-    requires inside { shard.0 < (rules_of (chain core.now.phases.config core.now.phases.genesis core.now.phases.blocks)).shards }
-    ensures { IfOk result (λ tally. tally ≡ held_by (chain core.now.phases.config core.now.phases.genesis core.now.phases.blocks) core.now.positions shard.0) }
+    requires moment { IsMoment core.now }
+    requires inside { shard.0 < (rules_of (chain_of core.now)).shards }
+    ensures { IfOk result (λ tally. tally ≡ held_by (chain_of core.now) core.now.positions shard.0) }
 {
-    match core.world(shard) {
-        Some(world) => core.phases().tally_world(alloc, world),
+    if let Some(world) = core.world(shard) {
+        return core.phases().tally_world(alloc, world);
+    }
+    match core.working(shard) {
+        Some(working) => core.phases().tally_working(alloc, working),
         None => unreachable!(),
     }
 }
@@ -83,7 +85,7 @@ fn fits(report: &ChunkResult) -> bool
 
 /// What a sealed chunk burnt, routed and executed.
 fn reported_by(core: &Run, shard: ShardId, height: Height) -> Result<Tally, AllocError>
-    ensures { IfOk result (λ tally. tally ≡ report_tally (report_at (rules_of (chain core.now.phases.config core.now.phases.genesis core.now.phases.blocks)) core.now.positions shard.0 height.0)) }
+    ensures { IfOk result (λ tally. tally ≡ report_tally (report_at (rules_of (chain_of core.now)) core.now.positions shard.0 height.0)) }
 {
     match core.report(shard, height) {
         Some(report) => {
@@ -99,11 +101,10 @@ fn reported_by(core: &Run, shard: ShardId, height: Height) -> Result<Tally, Allo
 
 /// What a list holds that no chunk took.
 fn flying(core: &Run, source: ShardId, height: Height, dest: ShardId) -> Tally
-    requires over { IsOver (chain core.now.phases.config core.now.phases.genesis core.now.phases.blocks) core.now.positions core.now.lost }
-    requires source { source.0 < (rules_of (chain core.now.phases.config core.now.phases.genesis core.now.phases.blocks)).shards }
-    requires dest { dest.0 < (rules_of (chain core.now.phases.config core.now.phases.genesis core.now.phases.blocks)).shards }
-    requires height { height.0 ≤ (rules_of (chain core.now.phases.config core.now.phases.genesis core.now.phases.blocks)).heights }
-    ensures { result ≡ list_tally core.now.phases.config (flight_at (rules_of (chain core.now.phases.config core.now.phases.genesis core.now.phases.blocks)) core.now.positions source.0 height.0 dest.0) }
+    requires moment { IsMoment core.now }
+    requires source { source.0 < (rules_of (chain_of core.now)).shards }
+    requires dest { dest.0 < (rules_of (chain_of core.now)).shards }
+    ensures { result ≡ list_tally core.now.phases.config (flight_at (rules_of (chain_of core.now)) core.now.positions source.0 height.0 dest.0) }
 {
     match core.flight(source, height, dest) {
         Some(list) => core.phases().tally_list(list),
@@ -112,12 +113,11 @@ fn flying(core: &Run, source: ShardId, height: Height, dest: ShardId) -> Tally
 }
 
 /// What the lists of a chunk hold that no chunk took.
-#[tactic(auto, unfolding(crate::specs::Totals::tally_below))]
+#[tactic(auto, unfolding(nr_places::specs::Totals::tally_below))]
 fn flying_from(core: &Run, shard: ShardId, height: Height) -> Result<Tally, AllocError>
-    requires over { IsOver (chain core.now.phases.config core.now.phases.genesis core.now.phases.blocks) core.now.positions core.now.lost }
-    requires inside { shard.0 < (rules_of (chain core.now.phases.config core.now.phases.genesis core.now.phases.blocks)).shards }
-    requires height { height.0 ≤ (rules_of (chain core.now.phases.config core.now.phases.genesis core.now.phases.blocks)).heights }
-    ensures { IfOk result (λ tally. tally ≡ flying_from (chain core.now.phases.config core.now.phases.genesis core.now.phases.blocks) core.now.positions shard.0 height.0) }
+    requires moment { IsMoment core.now }
+    requires inside { shard.0 < (rules_of (chain_of core.now)).shards }
+    ensures { IfOk result (λ tally. tally ≡ flying_from (chain_of core.now) core.now.positions shard.0 height.0) }
 {
     let mut sum = nothing();
     for dest in 0..core.phases().shards() {
@@ -128,10 +128,9 @@ fn flying_from(core: &Run, shard: ShardId, height: Height) -> Result<Tally, Allo
 
 /// What a chunk holds that is sealed.
 fn sealed_by(core: &Run, shard: ShardId, height: Height) -> Result<Tally, AllocError>
-    requires over { IsOver (chain core.now.phases.config core.now.phases.genesis core.now.phases.blocks) core.now.positions core.now.lost }
-    requires inside { shard.0 < (rules_of (chain core.now.phases.config core.now.phases.genesis core.now.phases.blocks)).shards }
-    requires height { height.0 ≤ (rules_of (chain core.now.phases.config core.now.phases.genesis core.now.phases.blocks)).heights }
-    ensures { IfOk result (λ tally. tally ≡ sealed_by (chain core.now.phases.config core.now.phases.genesis core.now.phases.blocks) core.now.positions shard.0 height.0) }
+    requires moment { IsMoment core.now }
+    requires inside { shard.0 < (rules_of (chain_of core.now)).shards }
+    ensures { IfOk result (λ tally. tally ≡ sealed_by (chain_of core.now) core.now.positions shard.0 height.0) }
 {
     let report = reported_by(core, shard, height)?;
     let lists = flying_from(core, shard, height)?;
@@ -139,11 +138,11 @@ fn sealed_by(core: &Run, shard: ShardId, height: Height) -> Result<Tally, AllocE
 }
 
 /// What all sealed chunks of a shard hold.
-#[tactic(auto, unfolding(crate::specs::Totals::tally_below))]
+#[tactic(auto, unfolding(nr_places::specs::Totals::tally_below))]
 fn all_sealed_by(core: &Run, shard: ShardId) -> Result<Tally, AllocError>
-    requires over { IsOver (chain core.now.phases.config core.now.phases.genesis core.now.phases.blocks) core.now.positions core.now.lost }
-    requires inside { shard.0 < (rules_of (chain core.now.phases.config core.now.phases.genesis core.now.phases.blocks)).shards }
-    ensures { IfOk result (λ tally. tally ≡ tally_below (rules_of (chain core.now.phases.config core.now.phases.genesis core.now.phases.blocks)).heights (λ h. sealed_by (chain core.now.phases.config core.now.phases.genesis core.now.phases.blocks) core.now.positions shard.0 (h + 1))) }
+    requires moment { IsMoment core.now }
+    requires inside { shard.0 < (rules_of (chain_of core.now)).shards }
+    ensures { IfOk result (λ tally. tally ≡ tally_below (rules_of (chain_of core.now)).heights (λ h. sealed_by (chain_of core.now) core.now.positions shard.0 (h + 1))) }
 {
     let mut sum = nothing();
     for below in 0..core.phases().heights() {
@@ -153,9 +152,9 @@ fn all_sealed_by(core: &Run, shard: ShardId) -> Result<Tally, AllocError>
 }
 
 fn tally_of(alloc: Global, core: &Run, shard: ShardId) -> Result<Tally, AllocError>
-    requires over { IsOver (chain core.now.phases.config core.now.phases.genesis core.now.phases.blocks) core.now.positions core.now.lost }
-    requires inside { shard.0 < (rules_of (chain core.now.phases.config core.now.phases.genesis core.now.phases.blocks)).shards }
-    ensures { IfOk result (λ tally. tally ≡ tally_of (chain core.now.phases.config core.now.phases.genesis core.now.phases.blocks) core.now.positions shard.0) }
+    requires moment { IsMoment core.now }
+    requires inside { shard.0 < (rules_of (chain_of core.now)).shards }
+    ensures { IfOk result (λ tally. tally ≡ tally_of (chain_of core.now) core.now.positions shard.0) }
 {
     let held = held_by(alloc, core, shard)?;
     let sealed = all_sealed_by(core, shard)?;
@@ -167,10 +166,10 @@ fn tally_of(alloc: Global, core: &Run, shard: ShardId) -> Result<Tally, AllocErr
 /// # Errors
 ///
 /// Where memory runs out, or a sum doesn't fit its number.
-#[tactic(auto, unfolding(crate::specs::Totals::tally_below))]
+#[tactic(auto, unfolding(nr_places::specs::Totals::tally_below))]
 pub(crate) fn tally_all(alloc: Global, core: &Run) -> Result<Tally, AllocError>
-    requires over { IsOver (chain core.now.phases.config core.now.phases.genesis core.now.phases.blocks) core.now.positions core.now.lost }
-    ensures { IfOk result (λ tally. tally ≡ tally_at (chain core.now.phases.config core.now.phases.genesis core.now.phases.blocks) core.now.positions) }
+    requires moment { IsMoment core.now }
+    ensures { IfOk result (λ tally. tally ≡ tally_at (chain_of core.now) core.now.positions) }
 {
     let mut sum = nothing();
     for shard in 0..core.phases().shards() {

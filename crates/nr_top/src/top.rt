@@ -1,21 +1,27 @@
 //! The top call.
 
-ghost use Rattle.std.specs.Prelude.{◌≡◌, ◌≢◌, ◌++◌, ◌∷◌, [], Err};
+ghost use Rattle.std.specs.Prelude.{◌≡◌, ◌≢◌, ◌+◌, ◌++◌, ◌∷◌, [], Err, Some, length};
+ghost use Rattle.std.specs.Option.{option_copied};
 ghost use Rattle.nr_blocks.specs.Genesis.{IsSoundGenesis};
 ghost use Rattle.nr_bytes.specs.Outside.{Rose};
 ghost use Rattle.nr_top.specs.Answers.{Serves, Prepares, AsksFront};
-ghost use Rattle.nr_top.specs.Input.{texts, input, configured, config_files, by_configured, by_files, by_blocks_file, files_of};
+ghost use Rattle.nr_top.specs.Input.{texts, input, configured, by_configured, by_files, by_blocks_file, by_purpose, by_schedule_read, purpose_of, ToTheEnd, Scheduled, files_of, loads_of, schedule_files};
+ghost use Rattle.nr_top.specs.Run.{chain};
+ghost use Rattle.nr_top.specs.Schedule.{schedule_read};
+ghost use Rattle.nr_top.specs.Words.{names_in};
 ghost use Rattle.nr_top.specs.Command.{command};
 ghost use Rattle.nr_top.specs.declared.status.Status.TheVariants.{Done, ReadFault, WriteFault};
 
+use crate::checking::check;
 use crate::command::{FileNames, command_of, supported_files};
 use crate::configuration::configuration;
 use crate::loading::load;
-use crate::replay::{genesis_of, report_of};
+use crate::replay::{blocks_of, genesis_of, schedule_of};
+use crate::run::report;
 use crate::status::Status;
 use crate::writing::write_all;
-use nr_blocks::Genesis;
-use nr_bytes::{Blob, Shelf, Sink};
+use nr_blocks::{Block, Genesis};
+use nr_bytes::{Blob, List, Shelf, Sink};
 use nr_config::Config;
 use std::alloc::Global;
 
@@ -34,63 +40,145 @@ const LONG_GENESIS: Status = Status::Genesis {
 
 const LONG_BLOCKS: Status = Status::Blocks { kind: 0, a: 0 };
 
-/// Loads the blocks, and makes the report.
+/// The most bytes of a schedule, 1 MiB.
+const SCHEDULE_LIMIT: usize = 1_048_576;
+
+const LONG_SCHEDULE: Status = Status::Schedule { kind: 0, line: 0 };
+
+/// Runs a chain to its end, and makes the report.
+fn reported(
+    alloc: Global,
+    config: &Config,
+    genesis: Genesis,
+    blocks: List<Block>,
+) -> Result<Blob, Status>
+    requires { IsSoundGenesis config.now genesis }
+    ensures prepares { Prepares result (by_purpose ToTheEnd (chain config.now genesis blocks)) }
+    ensures no_fault { result ≢ Err ReadFault }
+{
+    match report(alloc, *config, genesis, blocks) {
+        Ok(text) => Ok(text),
+        Err(_) => Err(Status::NoMemory),
+    }
+}
+
+/// Drives a chain by the bytes of a schedule, and makes the text.
+fn driven(
+    alloc: Global,
+    config: &Config,
+    genesis: Genesis,
+    blocks: List<Block>,
+    bytes: &[u8],
+) -> Result<Blob, Status>
+    requires { IsSoundGenesis config.now genesis }
+    ensures prepares { Prepares result (by_schedule_read (chain config.now genesis blocks) (schedule_read (length genesis.layout + 1) bytes.now)) }
+    ensures no_fault { result ≢ Err ReadFault }
+{
+    let lines = schedule_of(alloc, genesis.layout.shards(), bytes)?;
+    match check(alloc, *config, genesis, blocks, &lines) {
+        Ok(text) => Ok(text),
+        Err(_) => Err(Status::NoMemory),
+    }
+}
+
+/// Loads the schedule, and makes the text.
 #[tactic(auto, using(crate::proofs::Stopping::file_prepares))]
+fn prepare_schedule<S: Shelf>(
+    alloc: Global,
+    config: &Config,
+    genesis: Genesis,
+    blocks: List<Block>,
+    schedule: &str,
+    shelf: &mut S,
+) -> Result<Blob, Status>
+    requires { IsSoundGenesis config.now genesis }
+    ensures prepares { Prepares result (by_purpose (Scheduled (S.held shelf.old schedule.now)) (chain config.now genesis blocks)) }
+    ensures asked { AsksFront (S.asked shelf.old) (S.asked shelf.new) (schedule.now ∷ []) }
+    ensures failed { result ≡ Err ReadFault → Rose (S.faults shelf.old) (S.faults shelf.new) }
+{
+    let bytes = load(alloc, schedule, LONG_SCHEDULE, SCHEDULE_LIMIT, shelf)?;
+    let text = driven(alloc, config, genesis, blocks, &bytes)?;
+    Ok(text)
+}
+
+/// Makes the text of a chain, for what it is.
+fn prepare_text<S: Shelf>(
+    alloc: Global,
+    config: &Config,
+    genesis: Genesis,
+    blocks: List<Block>,
+    schedule: Option<&str>,
+    shelf: &mut S,
+) -> Result<Blob, Status>
+    requires { IsSoundGenesis config.now genesis }
+    ensures prepares { Prepares result (by_purpose (purpose_of (option_copied schedule.entry) (S.held shelf.old)) (chain config.now genesis blocks)) }
+    ensures asked { AsksFront (S.asked shelf.old) (S.asked shelf.new) (schedule_files (option_copied schedule.entry)) }
+    ensures failed { result ≡ Err ReadFault → Rose (S.faults shelf.old) (S.faults shelf.new) }
+{
+    match schedule {
+        None => reported(alloc, config, genesis, blocks),
+        Some(schedule) => prepare_schedule(alloc, config, genesis, blocks, schedule, shelf),
+    }
+}
+
+/// Loads the blocks, and makes the text.
+#[tactic(auto, using(crate::proofs::Stopping::file_prepares, crate::proofs::Stopping::blocks_prepare))]
 fn prepare_blocks<S: Shelf>(
     alloc: Global,
     config: &Config,
     genesis: Genesis,
-    blocks: &str,
+    names: &FileNames<'_>,
     shelf: &mut S,
 ) -> Result<Blob, Status>
     requires { IsSoundGenesis config.now genesis }
-    ensures prepares { Prepares result (by_blocks_file config.now genesis (S.held shelf.old blocks.now)) }
-    ensures asked { AsksFront (S.asked shelf.old) (S.asked shelf.new) (blocks.now ∷ []) }
+    ensures prepares { let n = names_in names.now in Prepares result (by_blocks_file (purpose_of n.schedule (S.held shelf.old)) config.now genesis (S.held shelf.old n.blocks)) }
+    ensures asked { let n = names_in names.now in AsksFront (S.asked shelf.old) (S.asked shelf.new) (n.blocks ∷ schedule_files n.schedule) }
     ensures failed { result ≡ Err ReadFault → Rose (S.faults shelf.old) (S.faults shelf.new) }
 {
-    let bytes = load(alloc, blocks, LONG_BLOCKS, BLOCKS_LIMIT, shelf)?;
-    let report = report_of(alloc, config, genesis, &bytes)?;
-    Ok(report)
+    let bytes = load(alloc, names.blocks, LONG_BLOCKS, BLOCKS_LIMIT, shelf)?;
+    let blocks = blocks_of(alloc, genesis.layout.shards(), &bytes)?;
+    let text = prepare_text(alloc, config, genesis, blocks, names.schedule, shelf)?;
+    Ok(text)
 }
 
-/// Loads genesis and blocks, and makes the report.
+/// Loads the genesis and the files behind it, and makes the text.
 #[tactic(auto, using(crate::proofs::Stopping::file_prepares))]
 fn prepare_files<S: Shelf>(
     alloc: Global,
     config: &Config,
-    genesis: &str,
-    blocks: &str,
+    names: &FileNames<'_>,
     shelf: &mut S,
 ) -> Result<Blob, Status>
-    ensures prepares { Prepares result (by_files config.now (S.held shelf.old genesis.now) (S.held shelf.old blocks.now)) }
-    ensures asked { AsksFront (S.asked shelf.old) (S.asked shelf.new) (genesis.now ∷ blocks.now ∷ []) }
+    ensures prepares { let n = names_in names.now in Prepares result (by_files (purpose_of n.schedule (S.held shelf.old)) config.now (S.held shelf.old n.genesis) (S.held shelf.old n.blocks)) }
+    ensures asked { let n = names_in names.now in AsksFront (S.asked shelf.old) (S.asked shelf.new) (n.genesis ∷ n.blocks ∷ schedule_files n.schedule) }
     ensures failed { result ≡ Err ReadFault → Rose (S.faults shelf.old) (S.faults shelf.new) }
 {
-    let bytes = load(alloc, genesis, LONG_GENESIS, GENESIS_LIMIT, shelf)?;
+    let bytes = load(alloc, names.genesis, LONG_GENESIS, GENESIS_LIMIT, shelf)?;
     let genesis = genesis_of(alloc, config, &bytes)?;
-    let report = prepare_blocks(alloc, config, genesis, blocks, shelf)?;
-    Ok(report)
+    let text = prepare_blocks(alloc, config, genesis, names, shelf)?;
+    Ok(text)
 }
 
-/// Loads all files, and makes the report.
+/// Loads all files, and makes the text.
 #[tactic(auto, using(crate::proofs::Stopping::configured_prepares))]
 fn prepare<S: Shelf>(alloc: Global, names: &FileNames<'_>, shelf: &mut S) -> Result<Blob, Status>
-    ensures prepares { Prepares result (by_configured (configured names.now.config.now (S.held shelf.old names.now.config.now)) (S.held shelf.old names.now.genesis.now) (S.held shelf.old names.now.blocks.now)) }
-    ensures asked { AsksFront (S.asked shelf.old) (S.asked shelf.new) (config_files names.now.config.now ++ names.now.genesis.now ∷ names.now.blocks.now ∷ []) }
+    ensures prepares { let n = names_in names.now in Prepares result (by_configured (purpose_of n.schedule (S.held shelf.old)) (configured n.config (S.held shelf.old n.config)) (S.held shelf.old n.genesis) (S.held shelf.old n.blocks)) }
+    ensures asked { AsksFront (S.asked shelf.old) (S.asked shelf.new) (loads_of (Some (names_in names.now))) }
     ensures failed { result ≡ Err ReadFault → Rose (S.faults shelf.old) (S.faults shelf.new) }
 {
     let config = configuration(alloc, names.config, shelf)?;
-    let report = prepare_files(alloc, &config, names.genesis, names.blocks, shelf)?;
-    Ok(report)
+    let text = prepare_files(alloc, &config, names, shelf)?;
+    Ok(text)
 }
 
 /// Does what the words ask for: `run CONFIG GENESIS BLOCKS` replays the blocks of a file over the
-/// genesis of another one, and writes the report. CONFIG is `free`, the built-in configuration, or
-/// the name of a file.
+/// genesis of another one, and writes the report. `check CONFIG GENESIS BLOCKS SCHEDULE` drives the
+/// shards by the lines of a schedule, and writes what each line does and the totals where they lead.
+/// CONFIG is `free`, the built-in configuration, or the name of a file.
 ///
 /// # Answers
 ///
-/// - `Done`: the report was written whole.
+/// - `Done`: the text was written whole.
 /// - `Usage`: the words are none of `run CONFIG GENESIS BLOCKS`, `check CONFIG GENESIS BLOCKS SCHEDULE`
 ///   and `gen NUMBER SHARDS BLOCKS`, where no word is empty or begins with `-` and the numbers are
 ///   decimal without leading zeros, up to 2^64 - 1, from 1 to 16 and from 1 to 256. Nothing was
@@ -101,15 +189,17 @@ fn prepare<S: Shelf>(alloc: Global, names: &FileNames<'_>, shelf: &mut S) -> Res
 ///   numbers that `Status` says; `nr_blocks::read_genesis` gives it. Nothing was written.
 /// - `Blocks`: the blocks are longer than 256 MiB (kind 0), or their first fault, by the kind and the
 ///   number that `Status` says; `nr_blocks::read_blocks` gives it. Nothing was written.
-/// - `Unsupported`: the words are a command other than `run` (form 0), or a transaction of the blocks
-///   calls a contract (form 2). Nothing was written; with form 0 nothing was loaded.
+/// - `Schedule`: the schedule is longer than 1 MiB (kind 0), or has a line of none of the forms or with
+///   a shard that isn't there (kind 1), by the first such line. Nothing was written.
+/// - `Unsupported`: the words are the command `gen` (form 0), or a transaction of the blocks calls a
+///   contract (form 2). Nothing was written; with form 0 nothing was loaded.
 /// - `ReadFault`: a file could not be read. Nothing was written.
-/// - `WriteFault`: the sink failed. A front of the report was written.
+/// - `WriteFault`: the sink failed. A front of the text was written.
 /// - `NoMemory`: memory ran out. It counts as that where a total doesn't fit its number of 64 or 128
 ///   bits. Nothing was written.
 ///
 /// Of several refusals the first in this order comes: `Usage`, form 0, `Config`, `Genesis`, `Blocks`,
-/// form 2. A file is loaded after all before it has passed.
+/// form 2, `Schedule`. A file is loaded after all before it has passed.
 pub fn serial<S: Shelf, K: Sink>(
     alloc: Global,
     words: &[String],

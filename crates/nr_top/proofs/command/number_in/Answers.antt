@@ -1,9 +1,5 @@
-use Rattle.std.proofs.Common.{◌≡◌, true, arith}
-use Rattle.nr_top.specs.Command.{is_numeral}
-use Rattle.nr_top.proofs.Commands.{too_large}
+use Rattle.nr_top.proofs.Commands.{no_text}
 use Rattle.nr_top.proofs.command.number_in.Goals as goal
 
 pub returns-in-Err : goal.returns-in-Err
-returns-in-Err c =
-    let numeral : is_numeral c.args.word.now ≡ true = cc in
-    too_large c.args.least c.args.most c.args.word.now numeral (omega arith) c.in-Err.ensures.value.0
+returns-in-Err c = no_text c.args.least c.args.most c.args.word.now c.in-Err.ensures.cases.0

@@ -1,0 +1,161 @@
+//! Schedules that drive a run: what they write, and which are refused.
+
+use crate::config_text::{FEES, config_text};
+use crate::setting::{Ended, ROOM, end_of, shelf_of_all, shelf_with, text_of, words_of};
+use crate::{schedules, sharded, worked};
+use nr_bytes::MemorySink;
+use nr_top::{Status, serial};
+use std::alloc::Global;
+use std::test::Fail;
+
+/// The words of a check.
+const WORDS: [&str; 5] = ["check", "free", "G", "B", "S"];
+
+/// What the shelf tells where all files were asked for.
+const ALL: &str = "Some([\"G\", \"B\", \"S\"])";
+
+/// The most bytes of a schedule.
+const LIMIT: usize = 1_048_576;
+
+/// One schedule with what it writes, each put together of pieces.
+struct Row {
+    genesis: &'static str,
+    blocks: &'static str,
+    schedule: &'static [&'static str],
+    text: &'static [&'static str],
+}
+
+const ROWS: [Row; 5] = [
+    Row {
+        genesis: sharded::MISSING_GENESIS,
+        blocks: sharded::MISSING_BLOCKS,
+        schedule: &[schedules::SKEWED],
+        text: &[schedules::SKEWED_LINES, schedules::SKEWED_TOTALS],
+    },
+    Row {
+        genesis: sharded::MISSING_GENESIS,
+        blocks: sharded::MISSING_BLOCKS,
+        schedule: &[schedules::SKEWED, "rest\nopen 0\n"],
+        text: &[
+            schedules::SKEWED_LINES,
+            schedules::REST_LINES,
+            schedules::REST_TOTALS,
+        ],
+    },
+    Row {
+        genesis: worked::GENESIS,
+        blocks: worked::TRANSFER,
+        schedule: &[schedules::OUT_OF_ORDER],
+        text: &[schedules::OUT_OF_ORDER_LINES],
+    },
+    Row {
+        genesis: worked::GENESIS,
+        blocks: worked::TRANSFER,
+        schedule: &["rest\n"],
+        text: &[schedules::REST_ALONE_LINES],
+    },
+    Row {
+        genesis: worked::NO_GENESIS,
+        blocks: worked::NO_BLOCKS,
+        schedule: &[],
+        text: &[worked::EMPTY_REPORT],
+    },
+];
+
+/// How a check ends.
+fn check(alloc: Global, genesis: &str, blocks: &str, schedule: &[u8]) -> Result<Ended, Fail> {
+    let shelf = shelf_with(alloc, genesis, blocks, "S", schedule)?;
+    end_of(alloc, &WORDS, shelf)
+}
+
+/// How a check ends over one transfer.
+fn check_transfer(alloc: Global, schedule: &[u8]) -> Result<Ended, Fail> {
+    check(alloc, worked::GENESIS, worked::TRANSFER, schedule)
+}
+
+#[test]
+fn schedules_write_their_steps(rt: HostRuntime) -> Result<(), Fail> {
+    for row in &ROWS {
+        let schedule = text_of(rt.alloc(), row.schedule)?;
+        let text = text_of(rt.alloc(), row.text)?;
+        let ended = check(rt.alloc(), row.genesis, row.blocks, schedule.as_bytes())?;
+        assert_eq!(rt; ended.status, Status::Done);
+        assert!(rt; ended.asked(rt.alloc(), ALL)?);
+        assert_eq!(rt; ended.sink.bytes(), text.as_bytes());
+    }
+    Ok(())
+}
+
+/// A schedule that is refused, and its first faulty line.
+const FAULTY: [(&[u8], u64); 18] = [
+    (b"\n", 1),
+    (b"open 0\n\n", 2),
+    (b"open 0", 1),
+    (b"open 0\nseal 0\nrest", 3),
+    (b"open 00\n", 1),
+    (b"open 1\n", 1),
+    (b"open -0\n", 1),
+    (b"open 0 \n", 1),
+    (b"open  0\n", 1),
+    (b"open 0\r\n", 1),
+    (b"open\n", 1),
+    (b"Open 0\n", 1),
+    (b"rest 0\n", 1),
+    (b"take 0 0\n", 1),
+    (b"open 0\ntake 0 1 1\n", 2),
+    (b"take 0 0 18446744073709551616\n", 1),
+    (b"take 0 0 1 1\n", 1),
+    (b"open \xff\n", 1),
+];
+
+#[test]
+fn faulty_lines_are_told(rt: HostRuntime) -> Result<(), Fail> {
+    for (schedule, line) in FAULTY {
+        let ended = check_transfer(rt.alloc(), schedule)?;
+        assert_eq!(rt; ended.status, Status::Schedule { kind: 1, line });
+        assert!(rt; ended.wrote_nothing(rt.alloc(), ALL)?);
+    }
+    Ok(())
+}
+
+#[test]
+fn schedules_have_a_greatest_length(rt: HostRuntime) -> Result<(), Fail> {
+    for (bytes, kind, line) in [(LIMIT, 1, 1), (LIMIT + 1, 0, 0)] {
+        let schedule = vec![in rt.alloc(); b'\n'; bytes]?;
+        let ended = check_transfer(rt.alloc(), &schedule)?;
+        assert_eq!(rt; ended.status, Status::Schedule { kind, line });
+    }
+    Ok(())
+}
+
+/// What a check under a configuration's file ends with, where a load or a write fails.
+fn check_failing(alloc: Global, load: u64, write: u64) -> Result<(Status, MemorySink), Fail> {
+    let config = config_text(alloc, &[&FEES])?;
+    let words = words_of(alloc, &["check", "C", "G", "B", "S"])?;
+    let more: [(&str, &[u8]); 2] = [("C", config.as_bytes()), ("S", b"rest\n")];
+    let mut shelf = shelf_of_all(alloc, worked::GENESIS, worked::TRANSFER, &more, &[load])?;
+    let fail = Vec::from_slice(alloc, &[write])?;
+    let mut sink = MemorySink::new(alloc, 10, fail, ROOM)?;
+    let status = serial(alloc, &words, &mut shelf, &mut sink);
+    Ok((status, sink))
+}
+
+#[test]
+fn each_load_may_fail(rt: HostRuntime) -> Result<(), Fail> {
+    for load in 1..5 {
+        let (status, sink) = check_failing(rt.alloc(), load, 0)?;
+        assert_eq!(rt; status, Status::ReadFault);
+        assert!(rt; sink.bytes().is_empty());
+    }
+    Ok(())
+}
+
+#[test]
+fn each_write_may_fail(rt: HostRuntime) -> Result<(), Fail> {
+    for (write, front) in [(1, ""), (2, "ok\nok\nchun"), (3, "ok\nok\nchunk 1 0 c870")] {
+        let (status, sink) = check_failing(rt.alloc(), 0, write)?;
+        assert_eq!(rt; status, Status::WriteFault);
+        assert_eq!(rt; sink.bytes(), front.as_bytes());
+    }
+    Ok(())
+}
