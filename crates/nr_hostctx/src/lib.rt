@@ -19,8 +19,6 @@ mod registers;
 mod seen;
 mod stops;
 mod storage;
-#[cfg(test)]
-mod tests;
 mod texts;
 
 pub use context::HostContext;
