@@ -10,6 +10,8 @@ mod making;
 mod nodes;
 mod putting;
 mod settling;
+#[cfg(test)]
+mod tests;
 mod threads;
 mod turn;
 
