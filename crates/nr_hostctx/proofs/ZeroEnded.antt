@@ -6,9 +6,11 @@ use Rattle.memchr.specs.Find.{IsFirstByte, is_byte}
 use Rattle.memchr.proofs.lemmas.ValueLemmas.{IsFirstByte-value}
 use Rattle.nr_hostctx.specs.Logs.{before_zero}
 
-pub zero_found : (bytes : List ℕ) (r : Option ℕ) → IsFirstByte (is_byte 0) bytes r → before_zero bytes ≡ option_map (λ i. take i bytes) r
+pub zero_found : (bytes : List ℕ) (r : Option ℕ) → IsFirstByte (is_byte 0) bytes r
+    → before_zero bytes ≡ option_map (λ i. take i bytes) r
 unfolding before_zero
-zero_found bytes r h = ap (λ (o : Option ℕ). option_map (λ i. take i bytes) o) (sym (IsFirstByte-value (is_byte 0) bytes r h))
+zero_found bytes r h =
+    ap (λ (o : Option ℕ). option_map (λ i. take i bytes) o) (sym (IsFirstByte-value (is_byte 0) bytes r h))
 
 no_zero : before_zero [] ≡ None
 no_zero = zero_found [] None (λ k low high passes. absurd (omega arith))

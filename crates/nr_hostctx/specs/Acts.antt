@@ -1,5 +1,8 @@
--- The rules that hold of every binding. A binding is a chain of acts, each of which works on the state of the call and gives a value, or stops the call. After the NEAR Nomicon, "Bindings Specification"; gas and faults are this project's.
-use Rattle.std.specs.Prelude.{◌≡◌, ◌≢◌, ℕ, ◌+◌, ◌-◌, ◌*◌, Bool, if◌then◌else◌, List, length, Option, Some, None, Result, Ok, Err, nat_le}
+-- The rules that hold of every binding. A binding is a chain of acts, each of which works on the state of the call and
+-- gives a value, or stops the call. After the NEAR Nomicon, "Bindings Specification"; gas and faults are this
+-- project's.
+use Rattle.std.specs.Prelude.{◌≡◌, ◌≢◌, ℕ, ◌+◌, ◌-◌, ◌*◌, Bool, if◌then◌else◌, List, length, Option, Some, None, Result}
+use Rattle.std.specs.Prelude.{Ok, Err, nat_le}
 use Rattle.nr_config.specs.Config.{Config, host_base, host_byte}
 use Rattle.nr_guest.specs.Guest.{RegisterView, argument, argument_size, set_register}
 use Rattle.nr_guest.specs.declared.fault.GuestFault.{GuestFault}
@@ -29,10 +32,12 @@ abbrev pub ◌>>=◌ : {A B : Type 0} → Act A → (A → Act B) → Act B
 act >>= next = λ s. onward (act s) next
 
 -- a call of the code did this, and left all else of the state that it borrows, unless memory ran out
-abbrev pub Leads : {S : Type 0} {G : Ghosts S} {A : Type 0} → HostContext S G → HostContext S G → Came A → Came A → Type 0
+abbrev pub Leads : {S : Type 0} {G : Ghosts S} {A : Type 0} → HostContext S G → HostContext S G → Came A → Came A
+    → Type 0
 Leads old new came shown = (came ≡ shown) × (rest_in new ≡ rest_in old)
 
-abbrev pub Does : {S : Type 0} {G : Ghosts S} {A : Type 0} → Result A HostStop → HostContext S G → HostContext S G → Act A → Type 0
+abbrev pub Does : {S : Type 0} {G : Ghosts S} {A : Type 0} → Result A HostStop → HostContext S G → HostContext S G
+    → Act A → Type 0
 Does (Ok value) old new act = Leads old new (act (state_of old)) (Goes (state_of new) value)
 Does (Err why) old new act = why ≢ stop.Memory → Leads old new (act (state_of old)) (Stops (state_of new) why)
 
@@ -106,7 +111,8 @@ abbrev pub pay_bytes : ℕ → Act (Unit {0})
 pay_bytes n = pay (λ c. host_byte c * n)
 
 -- ---- byte arguments
--- a register or a range of the guest's memory: a register that isn't there is a fault, its bytes are paid for, and a range that isn't inside is a fault
+-- a register or a range of the guest's memory: a register that isn't there is a fault, its bytes are paid for, and a
+-- range that isn't inside is a fault
 abbrev pub argument_size_at : ℕ → ℕ → Act ℕ
 argument_size_at len ptr = λ s. from_guest (argument_size s.registers len ptr) s
 
@@ -129,24 +135,24 @@ guest_bytes len ptr = do
   range_at len ptr
 
 -- ---- bytes that are written
-abbrev pub with_registers : Option RegisterView → Act (Unit {0})
-with_registers None = fault register_limit
-with_registers (Some r) = λ s. Goes (record s { registers = r }) tt
+abbrev pub registers_or_fault : Option RegisterView → Act (Unit {0})
+registers_or_fault None = fault register_limit
+registers_or_fault (Some r) = λ s. Goes (record s { registers = r }) tt
 
 abbrev pub put_register : ℕ → List ℕ → Act (Unit {0})
-put_register id bytes = λ s. with_registers (set_register s.registers id bytes) s
+put_register id bytes = λ s. registers_or_fault (set_register s.registers id bytes) s
 
 unfoldable pub to_register : ℕ → List ℕ → Act (Unit {0})
 to_register id bytes = do
   paid ← pay_bytes (length bytes)
   put_register id bytes
 
-abbrev pub with_guest : Option (List ℕ) → Act (Unit {0})
-with_guest None = fault out_of_bounds
-with_guest (Some bytes) = λ s. Goes (record s { guest = bytes }) tt
+abbrev pub guest_or_fault : Option (List ℕ) → Act (Unit {0})
+guest_or_fault None = fault out_of_bounds
+guest_or_fault (Some bytes) = λ s. Goes (record s { guest = bytes }) tt
 
 abbrev pub put_guest : ℕ → List ℕ → Act (Unit {0})
-put_guest ptr bytes = λ s. with_guest (put_over s.guest ptr bytes) s
+put_guest ptr bytes = λ s. guest_or_fault (put_over s.guest ptr bytes) s
 
 unfoldable pub to_guest : ℕ → List ℕ → Act (Unit {0})
 to_guest ptr bytes = do

@@ -1,4 +1,5 @@
--- The bindings of the context, each as its row. After the NEAR Nomicon, "Bindings Specification", Context API and Economics API.
+-- The bindings of the context, each as its row. After the NEAR Nomicon, "Bindings Specification", Context API and
+-- Economics API.
 use Rattle.std.specs.Prelude.{ℕ, ◌+◌}
 use Rattle.nr_bytes.specs.Numbers.{little}
 use Rattle.nr_ids.specs.Keys.{key_bytes}

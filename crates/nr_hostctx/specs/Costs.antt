@@ -1,4 +1,4 @@
--- What sending costs a call: less where the receiver is the account itself. This project's own.
+-- What sending costs a call, by whether the receiver is the account itself. This project's own.
 use Rattle.std.specs.Prelude.{ℕ, ◌+◌, Bool, cond, List}
 use Rattle.std.specs.Str.{bytes_eq}
 use Rattle.nr_config.specs.Config.{Config}

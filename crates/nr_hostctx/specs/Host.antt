@@ -1,4 +1,5 @@
--- The bindings as a host of the machine: gas left, and calls. Between calls the guest's memory stands with the machine. This project's own.
+-- The bindings as a host of the machine: gas left, and calls. Between calls the guest's memory stands with the machine.
+-- This project's own.
 use Rattle.std.specs.Prelude.{◌≡◌, ℕ, ◌-◌, ◌≤◌, true, List, [], Option, Result, Ok, Err, refl}
 use Rattle.std.proofs.Common.{◌∙◌}
 use Rattle.nr_wasmmem.specs.Meaning.{HostMeaning, Called, Answer, Gives, OutOfGas, Fails}
@@ -44,13 +45,15 @@ meaning =
     }
 
 -- a call leaves no more gas, unless memory ran out
-abbrev pub LeavesGas : {S : Type 0} {G : Ghosts S} → Result (Option ℕ) HostStop → HostContext S G → HostContext S G → Type 0
+abbrev pub LeavesGas : {S : Type 0} {G : Ghosts S} → Result (Option ℕ) HostStop → HostContext S G → HostContext S G
+    → Type 0
 LeavesGas (Ok value) old new = gas_left (state_of new).gas ≤ gas_left (state_of old).gas
 LeavesGas (Err stop.Gas) old new = gas_left (state_of new).gas ≤ gas_left (state_of old).gas
 LeavesGas (Err (stop.Fault kind)) old new = gas_left (state_of new).gas ≤ gas_left (state_of old).gas
 LeavesGas (Err stop.Memory) old new = Unit {0}
 
--- ---- what a host holds on to: the state that it borrows, of which all but the world is as before unless memory ran out
+-- ---- what a host holds on to
+-- the state that it borrows, of which all but the world is as before unless memory ran out
 pub record Holds {S : Type 0} {G : Ghosts S} (old new : HostContext S G) : Type 0 where
   pub state : borrowed new ≡ borrowed old
   pub whole : is_whole new ≡ true → (is_whole old ≡ true) × (rest_in new ≡ rest_in old)
@@ -59,4 +62,8 @@ pub holds_here : {S : Type 0} {G : Ghosts S} → (a : HostContext S G) → Holds
 holds_here a = record { state = refl; whole = λ h. (h, refl) }
 
 pub holds_on : {S : Type 0} {G : Ghosts S} → (a b c : HostContext S G) → Holds a b → Holds b c → Holds a c
-holds_on a b c h k = record { state = k.state ∙ h.state; whole = λ w. (((h.whole (k.whole w).0)).0, (k.whole w).1 ∙ (h.whole (k.whole w).0).1) }
+holds_on a b c h k =
+    record {
+      state = k.state ∙ h.state;
+      whole = λ w. ((h.whole (k.whole w).0).0, (k.whole w).1 ∙ (h.whole (k.whole w).0).1);
+    }

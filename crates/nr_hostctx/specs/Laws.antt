@@ -71,11 +71,13 @@ row_answers host.PromiseResult a s = some_answers _
 row_answers host.PromiseReturn a s = none_answers _
 
 -- ---- gas and memory
-no_more : (s : Store HostState) (came : Came (Option ℕ)) → gas_left (after_of came).gas ≤ gas_left s.host.gas → gas_left (called came).store.host.gas ≤ gas_left s.host.gas
+no_more : (s : Store HostState) (came : Came (Option ℕ)) → gas_left (after_of came).gas ≤ gas_left s.host.gas
+    → gas_left (called came).store.host.gas ≤ gas_left s.host.gas
 no_more s (Goes t v) h = h
 no_more s (Stops t w) h = h
 
-same_size : (s : Store HostState) (came : Came (Option ℕ)) → length (after_of came).guest ≡ length s.memory → length (called came).store.memory ≡ length s.memory
+same_size : (s : Store HostState) (came : Came (Option ℕ)) → length (after_of came).guest ≡ length s.memory
+    → length (called came).store.memory ≡ length s.memory
 same_size s (Goes t v) h = h
 same_size s (Stops t w) h = h
 
@@ -83,7 +85,11 @@ pub meaning_is_host : IsHost meaning
 meaning_is_host =
     record {
       gas_is = λ s n h. omega (arith, h);
-      no_more_gas = λ s f args. no_more s (row f args (with_guest s.host s.memory)) (row_bounded f args (with_guest s.host s.memory)).gas;
+      no_more_gas = λ s f args.
+          no_more s (row f args (with_guest s.host s.memory))
+          (row_bounded f args (with_guest s.host s.memory)).gas;
       result = λ s f args. row_answers f args (with_guest s.host s.memory);
-      size = λ s f args. same_size s (row f args (with_guest s.host s.memory)) (row_bounded f args (with_guest s.host s.memory)).guest;
+      size = λ s f args.
+          same_size s (row f args (with_guest s.host s.memory))
+          (row_bounded f args (with_guest s.host s.memory)).guest;
     }

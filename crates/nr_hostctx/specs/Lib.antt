@@ -13,6 +13,7 @@ pub mod Promises
 pub mod PromiseActions
 pub mod Rows
 pub mod Host
+pub mod Kept
 pub mod Bounds
 pub mod Laws
 pub mod Holding

@@ -1,5 +1,7 @@
--- The bindings of logs, of the returned value and of panics, each as its row. After the NEAR Nomicon, "Bindings Specification", Miscellaneous API.
-use Rattle.std.specs.Prelude.{ℕ, ◌+◌, ◌*◌, ◌++◌, [], ◌∷◌, Bool, not, cond, ◌||◌, nat_le, nat_lt, if◌then◌else◌, List, length, drop, take, sum_by, Option}
+-- The bindings of logs, of the returned value and of panics, each as its row. After the NEAR Nomicon, "Bindings
+-- Specification", Miscellaneous API.
+use Rattle.std.specs.Prelude.{ℕ, ◌+◌, ◌*◌, ◌++◌, [], ◌∷◌, Bool, not, cond, ◌||◌, nat_le, nat_lt, if◌then◌else◌, List}
+use Rattle.std.specs.Prelude.{length, drop, take, sum_by, Option}
 use Rattle.std.specs.Option.{option_map}
 use Rattle.std.specs.Str.{is_utf8, bytes_eq}
 use Rattle.memchr.specs.Find.{places, first_of, is_byte}
@@ -9,7 +11,8 @@ use Rattle.nr_guest.specs.Guest.{is_register}
 use Rattle.nr_records.specs.declared.receipt.DataReceiver.{DataReceiver}
 use Rattle.nr_state.specs.declared.calls.Returned.TheVariants.{Value}
 use Rattle.nr_wasmmem.specs.declared.fault.HostStop.TheVariants as stop
-use Rattle.nr_hostctx.specs.Acts.{Act, Goes, Stops, ◌>>=◌, give, fault, fault_if, or_fault, burn, begin, pay_bytes, bytes_of, guest_bytes}
+use Rattle.nr_hostctx.specs.Acts.{Act, Goes, Stops, ◌>>=◌, give, fault, fault_if, or_fault, burn, begin, pay_bytes}
+use Rattle.nr_hostctx.specs.Acts.{bytes_of, guest_bytes}
 use Rattle.nr_hostctx.specs.Costs.{both_fees}
 use Rattle.nr_hostctx.specs.Faults.{bad_utf8, too_many_logs, guest_panic, return_too_long, out_of_bounds}
 use Rattle.nr_hostctx.specs.State.{HostState}

@@ -1,5 +1,7 @@
--- The bindings that give a promise's receipt an action, each as its row. After the NEAR Nomicon, "Bindings Specification", Promises API; the fees and the order of the faults are this project's.
-use Rattle.std.specs.Prelude.{◌≡◌, ℕ, ◌+◌, ◌==◌, Bool, true, false, not, is_some, nat_le, nat_lt, if◌then◌else◌, List, [], ◌∷◌, length, Option, Some, None, Result, Ok, Err}
+-- The bindings that give a promise's receipt an action, each as its row. After the NEAR Nomicon, "Bindings
+-- Specification", Promises API; the fees and the order of the faults are this project's.
+use Rattle.std.specs.Prelude.{◌≡◌, ℕ, ◌+◌, ◌==◌, Bool, true, false, not, is_some, nat_le, nat_lt, if◌then◌else◌, List}
+use Rattle.std.specs.Prelude.{[], ◌∷◌, length, Option, Some, None, Result, Ok, Err}
 use Rattle.std.specs.List.{slice_split}
 use Rattle.std.specs.Str.{is_utf8}
 use Rattle.nr_bytes.specs.Numbers.{number}
@@ -21,10 +23,13 @@ use Rattle.nr_records.specs.declared.fault.RecordFault.{RecordFault}
 use Rattle.nr_wasmmem.specs.declared.fault.HostStop.{HostStop}
 use Rattle.nr_wasmmem.specs.declared.fault.HostStop.TheVariants as stop
 use Rattle.nr_hostctx.specs.Accounts.{account_of}
-use Rattle.nr_hostctx.specs.Acts.{Act, Goes, Stops, ◌>>=◌, give, look, fault, fault_if, burn, promise, begin, bytes_of, guest_bytes}
-use Rattle.nr_hostctx.specs.Faults.{promise_stop, bad_utf8, empty_method, balance_exceeded, bad_public_key, too_many_actions}
+use Rattle.nr_hostctx.specs.Acts.{Act, Goes, Stops, ◌>>=◌, give, look, fault, fault_if, burn, promise, begin, bytes_of}
+use Rattle.nr_hostctx.specs.Acts.{guest_bytes}
+use Rattle.nr_hostctx.specs.Faults.{promise_stop, bad_utf8, empty_method, balance_exceeded, bad_public_key}
+use Rattle.nr_hostctx.specs.Faults.{too_many_actions}
 use Rattle.nr_hostctx.specs.Costs.{is_local, sending}
-use Rattle.nr_hostctx.specs.Promises.{from_book, with_book, account_id, inputs_at, place_for_one, create_promise, chain_promise}
+use Rattle.nr_hostctx.specs.Promises.{from_book, with_book, account_id, inputs_at, place_for_one, create_promise}
+use Rattle.nr_hostctx.specs.Promises.{chain_promise}
 use Rattle.nr_hostctx.specs.Ready.{world_less}
 use Rattle.nr_hostctx.specs.State.{HostState}
 use Rattle.nr_hostctx.specs.declared.promise_actions.CallArguments.{CallArguments}
@@ -202,7 +207,10 @@ allowance_of amount = if amount == 0 then None else Some amount
 
 abbrev pub call_key : ℕ → ℕ → List ℕ → List ℕ → AccessKey
 call_key nonce amount receiver methods =
-    record { nonce = nonce; permission = Call (record { allowance = allowance_of amount; receiver = receiver; methods = methods_in methods }) }
+    record {
+      nonce = nonce;
+      permission = Call (record { allowance = allowance_of amount; receiver = receiver; methods = methods_in methods });
+    }
 
 unfoldable pub promise_batch_action_add_key_with_full_access : ℕ → ℕ → ℕ → ℕ → Act (Unit {0})
 promise_batch_action_add_key_with_full_access index klen kptr nonce = do

@@ -28,6 +28,7 @@ pub record IsReady (s : StateView) (c : Config) (id : List ℕ) : Type 0 where
   pub stands : IsSome (get s.world.accounts id)
 
 abbrev pub Spends : {E : Type 0} → Result Bool E → ℕ → List ℕ → StateView → StateView → Type 0
-Spends (Ok true) n id old new = (n ≤ (account_in old.world id).amount) × (new ≡ with_world old (world_less old.world id n))
+Spends (Ok true) n id old new =
+    (n ≤ (account_in old.world id).amount) × (new ≡ with_world old (world_less old.world id n))
 Spends (Ok false) n id old new = ((account_in old.world id).amount < n) × (new ≡ old)
 Spends (Err e) n id old new = Unit {0}

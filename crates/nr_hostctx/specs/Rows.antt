@@ -1,4 +1,5 @@
--- The bindings by their names: what a call of each comes to, for its arguments. After the NEAR Nomicon, "Bindings Specification".
+-- The bindings by their names: what a call of each comes to, for its arguments. After the NEAR Nomicon, "Bindings
+-- Specification".
 use Rattle.std.specs.Prelude.{ℕ, List, Option, Some, None, slice_index, Result, Ok, Err, ◌≡◌}
 use Rattle.nr_wasmmem.specs.declared.fault.HostStop.{HostStop}
 use Rattle.nr_wasmtypes.specs.declared.host.HostFn.{HostFn}
@@ -64,16 +65,25 @@ row host.StorageHasKey a = some (storage.storage_has_key (arg a 0) (arg a 1))
 row host.PromiseBatchCreate a = some (promise.promise_batch_create (arg a 0) (arg a 1))
 row host.PromiseBatchThen a = some (promise.promise_batch_then (arg a 0) (arg a 1) (arg a 2))
 row host.PromiseAnd a = some (promise.promise_and (arg a 0) (arg a 1))
-row host.PromiseCreate a = some (act.promise_create (arg a 0) (arg a 1) (arg a 2) (arg a 3) (arg a 4) (arg a 5) (arg a 6) (arg a 7))
-row host.PromiseThen a = some (act.promise_then (arg a 0) (arg a 1) (arg a 2) (arg a 3) (arg a 4) (arg a 5) (arg a 6) (arg a 7) (arg a 8))
+row host.PromiseCreate a =
+    some (act.promise_create (arg a 0) (arg a 1) (arg a 2) (arg a 3) (arg a 4) (arg a 5) (arg a 6) (arg a 7))
+row host.PromiseThen a =
+    some (act.promise_then (arg a 0) (arg a 1) (arg a 2) (arg a 3) (arg a 4) (arg a 5) (arg a 6) (arg a 7) (arg a 8))
 row host.PromiseBatchActionCreateAccount a = none (act.promise_batch_action_create_account (arg a 0))
-row host.PromiseBatchActionDeployContract a = none (act.promise_batch_action_deploy_contract (arg a 0) (arg a 1) (arg a 2))
-row host.PromiseBatchActionFunctionCall a = none (act.promise_batch_action_function_call (arg a 0) (arg a 1) (arg a 2) (arg a 3) (arg a 4) (arg a 5) (arg a 6))
+row host.PromiseBatchActionDeployContract a =
+    none (act.promise_batch_action_deploy_contract (arg a 0) (arg a 1) (arg a 2))
+row host.PromiseBatchActionFunctionCall a =
+    none (act.promise_batch_action_function_call (arg a 0) (arg a 1) (arg a 2) (arg a 3) (arg a 4) (arg a 5) (arg a 6))
 row host.PromiseBatchActionTransfer a = none (act.promise_batch_action_transfer (arg a 0) (arg a 1))
-row host.PromiseBatchActionAddKeyWithFullAccess a = none (act.promise_batch_action_add_key_with_full_access (arg a 0) (arg a 1) (arg a 2) (arg a 3))
-row host.PromiseBatchActionAddKeyWithFunctionCall a = none (act.promise_batch_action_add_key_with_function_call (arg a 0) (arg a 1) (arg a 2) (arg a 3) (arg a 4) (arg a 5) (arg a 6) (arg a 7) (arg a 8))
+row host.PromiseBatchActionAddKeyWithFullAccess a =
+    none (act.promise_batch_action_add_key_with_full_access (arg a 0) (arg a 1) (arg a 2) (arg a 3))
+row host.PromiseBatchActionAddKeyWithFunctionCall a =
+    none
+    (act.promise_batch_action_add_key_with_function_call
+    (arg a 0) (arg a 1) (arg a 2) (arg a 3) (arg a 4) (arg a 5) (arg a 6) (arg a 7) (arg a 8))
 row host.PromiseBatchActionDeleteKey a = none (act.promise_batch_action_delete_key (arg a 0) (arg a 1) (arg a 2))
-row host.PromiseBatchActionDeleteAccount a = none (act.promise_batch_action_delete_account (arg a 0) (arg a 1) (arg a 2))
+row host.PromiseBatchActionDeleteAccount a =
+    none (act.promise_batch_action_delete_account (arg a 0) (arg a 1) (arg a 2))
 row host.PromiseResultsCount a = some promise.promise_results_count
 row host.PromiseResult a = some (promise.promise_result (arg a 0) (arg a 1))
 row host.PromiseReturn a = none (promise.promise_return (arg a 0))

@@ -1,4 +1,5 @@
--- What the bindings of a call work on, as data. After the NEAR Nomicon, "Runtime Specification", VMContext and Bindings Specification.
+-- What the bindings of a call work on, as data. After the NEAR Nomicon, "Runtime Specification", VMContext and Bindings
+-- Specification.
 use Rattle.std.specs.Prelude.{◌≡◌, ℕ, Bool, [], length}
 use Rattle.nr_config.specs.Config.{Config}
 use Rattle.nr_guest.specs.Guest.{no_registers}
@@ -59,6 +60,10 @@ state_of h =
     }
 
 -- ---- what a host keeps of the state that it borrows
+-- the state as it is
+abbrev pub state_in : {S : Type 0} {G : Ghosts S} → HostContext S G → StateView
+state_in h = h.callee.state.now
+
 -- which one it is
 abbrev pub borrowed : {S : Type 0} {G : Ghosts S} → HostContext S G → ℕ
 borrowed h = h.callee.state.ghost_name
@@ -68,7 +73,7 @@ abbrev pub rest_of : StateView → StateView
 rest_of s = with_world s no_world
 
 abbrev pub rest_in : {S : Type 0} {G : Ghosts S} → HostContext S G → StateView
-rest_in h = rest_of h.callee.state.now
+rest_in h = rest_of (state_in h)
 
 -- no call wanted for memory
 abbrev pub is_whole : {S : Type 0} {G : Ghosts S} → HostContext S G → Bool

@@ -33,7 +33,7 @@ pub struct HostContext<'a, S: Store> {
 }
 
 impl<'a, S: Store> HostContext<'a, S> {
-    ghost use Rattle.nr_hostctx.specs.State.{state_of, fresh, end_of, borrowed, rest_of, rest_in, is_whole};
+    ghost use Rattle.nr_hostctx.specs.State.{state_of, fresh, end_of, borrowed, state_in, rest_of, rest_in, is_whole};
 
     /// The host of a call that has done nothing, with the call's gas as its limit.
     ///
@@ -74,18 +74,23 @@ impl<'a, S: Store> HostContext<'a, S> {
         self.counter.burnt
     }
 
-    /// How the call ended, where no binding stopped it. It is never refused.
-    pub fn finish(self) -> Result<CallEnd, AllocError>
-        ensures { result ≡ Ok (end_of (state_of self.entry)) }
+    /// How the call ended, where no binding stopped it, and the state that was lent.
+    pub fn finish(self) -> (CallEnd, &'a mut ShardState<S>)
+        ensures end { result.0 ≡ end_of (state_of self.entry) }
+        ensures state { result.1.now ≡ state_in self.entry }
+        ensures borrows { result.1.ghost_name ≡ borrowed self.entry }
     {
         let (made, next_ordinal) = self.book.finish();
-        Ok(CallEnd {
+        let end = CallEnd {
             burnt: self.counter.burnt,
             promised: self.counter.promised,
             returned: self.returned,
             made,
             next_ordinal,
             logs: self.logs.into_list(),
-        })
+        };
+        let callee = self.callee;
+        let state = callee.state;
+        (end, state)
     }
 }

@@ -5,4 +5,11 @@ use Rattle.nr_hostctx.proofs.fees.both_fees.Goals as goal
 
 pub overflow_add-result : goal.overflow_add-result
 overflow_add-result c =
-    omega (arith, c.fee_of.ensures, c.fee_of-2.ensures, fee_bound c.args.config.now c.sending.result c.args.which c.entry-cost.ensures.valid, fee_bound c.args.config.now Execute c.args.which c.entry-cost.ensures.valid)
+    let valid = c.entry-cost.ensures.valid in
+    omega (
+      arith,
+      c.fee_of.ensures,
+      c.fee_of-2.ensures,
+      fee_bound c.args.config.now c.sending.result c.args.which valid,
+      fee_bound c.args.config.now Execute c.args.which valid,
+    )

@@ -9,4 +9,6 @@ returns-in-None-clause-does g c =
     let callee = c.args.self.now.callee in
     λ ne. rw c.exceed.ensures.stop (c.exceed.ensures.burns
     (outputs_cost callee.config.now callee.context.now.current callee.context.now.outputs c.args.count)
-    (past_gas _ (subst (λ (o : List DataReceiver). 2 ^ 128 ≤ outputs_cost callee.config.now callee.context.now.current o c.args.count) c.inner-outputs.ensures c.in-None.ensures)))
+    (past_gas _
+    (subst (λ (o : List DataReceiver). 2 ^ 128 ≤ outputs_cost callee.config.now callee.context.now.current o c.args.count)
+    c.inner-outputs.ensures c.in-None.ensures)))

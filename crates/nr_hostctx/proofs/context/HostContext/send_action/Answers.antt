@@ -6,6 +6,7 @@ use Rattle.nr_hostctx.proofs.context.HostContext.send_action.Goals as goal
 
 pub returns-in-None-clause-does : goal.returns-in-None-clause-does
 returns-in-None-clause-does g c =
+    let config = c.args.self.now.callee.config.now in
     λ ne. rw c.exceed.ensures.stop (c.exceed.ensures.burns
-    (action_fee c.args.self.now.callee.config.now (sending c.args.local) c.args.action.now)
-    (subst (λ (p : Payment). 2 ^ 64 ≤ action_fee c.args.self.now.callee.config.now p c.args.action.now) c.sending.ensures c.in-None.ensures))
+    (action_fee config (sending c.args.local) c.args.action.now)
+    (subst (λ (p : Payment). 2 ^ 64 ≤ action_fee config p c.args.action.now) c.sending.ensures c.in-None.ensures))
