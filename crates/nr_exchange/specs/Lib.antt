@@ -1,4 +1,6 @@
 pub mod Plan
+pub mod SerialPlan
+pub mod Laws
 pub mod Notes
 pub mod Places
 pub mod Rule

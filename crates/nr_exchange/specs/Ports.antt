@@ -4,18 +4,17 @@ use Rattle.nr_exchange.specs.declared.note.Note.{Note}
 use Rattle.nr_exchange.specs.declared.port.Parcel.{Parcel}
 use Rattle.nr_exchange.specs.declared.port.Parcel.TheVariants.{Whole, Abandoned}
 use Rattle.nr_exchange.specs.declared.port.NotYet.{NotYet}
-use Rattle.nr_overlap.specs.Rules.{Rules}
 use Rattle.nr_exchange.specs.Plan.{Plan, list_of}
 use Rattle.nr_exchange.specs.Notes.{fresh, looked, claims}
 use Rattle.nr_exchange.specs.Steps.{Tells}
 use Rattle.nr_exchange.specs.Views.{ExchangeView, PortView}
 
--- the port was made with the exchange, whose run has these rules
-pub record IsPortOf {P W K L R : Type 0} (rules : P → Rules W K L R) (e : ExchangeView P) (p : PortView P) : Type 0 where
+-- the port was made with the exchange, whose run has this plan
+pub record IsPortOf {P L : Type 0} (plan : P → Plan L) (e : ExchangeView P) (p : PortView P) : Type 0 where
   pub name : p.name ≡ e.name
   pub run : p.note.run ≡ e.run
-  pub inside : p.note.shard < (rules e.run).shards
-  pub linked : length p.note.links ≡ (rules e.run).shards
+  pub inside : p.note.shard < (plan e.run).shards
+  pub linked : length p.note.links ≡ (plan e.run).shards
 
 module _ {P : Type 0} where
   -- a port that has done nothing

@@ -2,7 +2,6 @@
 ghost use Rattle.std.specs.Prelude.{◌≡◌, ◌<◌, ◌≤◌, [], IfOk};
 ghost use Rattle.std.specs.Mem.Slots.{slots_items, slots_len, IsFull};
 ghost use Rattle.atomic_table.specs.Table.{Final};
-ghost use Rattle.nr_exchange.specs.Plan.{plan_of};
 ghost use Rattle.nr_exchange.specs.Notes.{fresh};
 ghost use Rattle.nr_exchange.specs.Places.{places};
 ghost use Rattle.nr_exchange.specs.Ports.{AreMade};
@@ -11,9 +10,9 @@ ghost use Rattle.nr_exchange.specs.Rule.{ExchangeRule};
 use crate::law::{Law, Next};
 use crate::note::Note;
 use crate::places::count_places;
+use crate::planned::Planned;
 use crate::port::Port;
 use atomic_table::{Closed, Seat, Table};
-use nr_overlap::Phases;
 use std::alloc::{AllocError, Global};
 use std::marker::Model;
 
@@ -22,21 +21,20 @@ use std::marker::Model;
 /// A published word is the number of heights that its shard has published, plus 2^32 where the shard has abandoned the
 /// run. Contracts see the exchange's name and its run.
 #[derive(Drop)]
-pub struct Exchange<P: Phases> {
+pub struct Exchange<P: Planned> {
     pub(crate) table: Table<Option<P::Parcel>, Note<P>, P, Law, Global>,
     pub(crate) shards: u32,
     pub(crate) heights: u64,
 }
 
-impl<P: Phases> Model for Exchange<P> {
-    ghost use Rattle.nr_exchange.specs.Plan.{plan_of};
+impl<P: Planned> Model for Exchange<P> {
     ghost use Rattle.nr_exchange.specs.Views.{ExchangeView, IsSized};
 
     ghost Value = { ExchangeView P };
 
     ghost view = { λ e. record { name = e.table.shared.table_id; run = e.table.shared.key } };
 
-    ghost invariant = { λ e. IsSized (plan_of (P.rules e.table.shared.key)) e.table.shared.table_id e.shards e.heights × P.is_run e.table.shared.key };
+    ghost invariant = { λ e. IsSized (P.plan e.table.shared.key) e.table.shared.table_id e.shards e.heights × P.is_run e.table.shared.key };
 }
 
 /// An exchange for a run, and the ports of its shards in order of number. None of them has published, taken or
@@ -45,14 +43,14 @@ impl<P: Phases> Model for Exchange<P> {
 /// # Errors
 ///
 /// Where there is no memory for them.
-pub fn make_exchange<P: Phases>(
+pub fn make_exchange<P: Planned>(
     alloc: Global,
     run: &P,
 ) -> Result<(Exchange<P>, Vec<Port<P>>), AllocError>
-    requires some { 0 < (P.rules run.now).shards }
-    requires small { (P.rules run.now).heights ≤ 100000 }
+    requires some { 0 < (P.plan run.now).shards }
+    requires small { (P.plan run.now).heights ≤ 100000 }
     ensures run { IfOk result (λ made. made.0.run ≡ run.now) }
-    ensures ports { IfOk result (λ made. AreMade made.0 (P.rules run.now).shards (P.rules run.now).shards made.1.items) }
+    ensures ports { IfOk result (λ made. AreMade made.0 (P.plan run.now).shards (P.plan run.now).shards made.1.items) }
 {
     let shards = run.shards();
     let heights = run.heights();
@@ -69,14 +67,14 @@ pub fn make_exchange<P: Phases>(
 }
 
 /// Splits the seat of port 0 into the seats of all ports.
-fn split_all<P: Phases>(
+fn split_all<P: Planned>(
     alloc: Global,
     exchange: &Exchange<P>,
     seat: Seat<Option<P::Parcel>, Note<P>>,
 ) -> Result<Vec<Port<P>>, AllocError>
-    requires seat { (seat.table_id ≡ exchange.now.name) × (seat.me ≡ (fresh exchange.now.run (P.rules exchange.now.run).shards 0 1, [])) }
-    requires some { 0 < (P.rules exchange.now.run).shards }
-    ensures { IfOk result (λ ports. AreMade exchange.now (P.rules exchange.now.run).shards (P.rules exchange.now.run).shards ports.items) }
+    requires seat { (seat.table_id ≡ exchange.now.name) × (seat.me ≡ (fresh exchange.now.run (P.plan exchange.now.run).shards 0 1, [])) }
+    requires some { 0 < (P.plan exchange.now.run).shards }
+    ensures { IfOk result (λ ports. AreMade exchange.now (P.plan exchange.now.run).shards (P.plan exchange.now.run).shards ports.items) }
 {
     let mut ports = Vec::new(alloc);
     ports.push(Port {
@@ -98,14 +96,14 @@ fn split_all<P: Phases>(
     Ok(ports)
 }
 
-impl<P: Phases> Exchange<P> {
+impl<P: Planned> Exchange<P> {
     /// The words and the places of an exchange that no thread shares any more. They are those of a state that keeps
     /// the exchange rule.
     pub fn close(self) -> Closed<Option<P::Parcel>, Global>
-        ensures rule { Final (ExchangeRule self.run (plan_of (P.rules self.run))) (slots_items result.words) (slots_items result.slots) }
+        ensures rule { Final (ExchangeRule self.run (P.plan self.run)) (slots_items result.words) (slots_items result.slots) }
         ensures full { IsFull result.words × IsFull result.slots }
-        ensures words { slots_len result.words ≡ (P.rules self.run).shards }
-        ensures places { slots_len result.slots ≡ places (plan_of (P.rules self.run)) }
+        ensures words { slots_len result.words ≡ (P.plan self.run).shards }
+        ensures places { slots_len result.slots ≡ places (P.plan self.run) }
     {
         let Exchange {
             table,
@@ -116,6 +114,6 @@ impl<P: Phases> Exchange<P> {
     }
 }
 
-unsafe impl<P: Phases> Send for Exchange<P> {}
+unsafe impl<P: Planned> Send for Exchange<P> {}
 
-unsafe impl<P: Phases> Sync for Exchange<P> {}
+unsafe impl<P: Planned> Sync for Exchange<P> {}

@@ -1,20 +1,19 @@
 //! The exchange rule as a rule of a table, and the kinds of step that keep it. These types are for the proofs alone.
 use crate::note::Note;
+use crate::planned::Planned;
 use atomic_table::{Play, Split, TableRule};
-use nr_overlap::Phases;
 use std::marker::PhantomData;
 
 /// The exchange rule.
 pub struct Law;
 
-impl<P: Phases> TableRule<Option<P::Parcel>, Note<P>, P> for Law {
-    ghost use Rattle.nr_exchange.specs.Plan.{plan_of};
+impl<P: Planned> TableRule<Option<P::Parcel>, Note<P>, P> for Law {
     ghost use Rattle.nr_exchange.specs.Notes.{fresh};
     ghost use Rattle.nr_exchange.specs.Rule.{ExchangeRule};
 
-    ghost holds = { λ run. ExchangeRule run (plan_of (P.rules run)) };
+    ghost holds = { λ run. ExchangeRule run (P.plan run) };
 
-    ghost first = { λ run. fresh run (P.rules run).shards 0 1 };
+    ghost first = { λ run. fresh run (P.plan run).shards 0 1 };
 }
 
 /// A load of a published word.
@@ -22,11 +21,10 @@ pub struct Look<P> {
     marker: PhantomData<P>,
 }
 
-impl<P: Phases> Play<Option<P::Parcel>, Note<P>> for Look<P> {
-    ghost use Rattle.nr_exchange.specs.Plan.{plan_of};
+impl<P: Planned> Play<Option<P::Parcel>, Note<P>> for Look<P> {
     ghost use Rattle.nr_exchange.specs.Steps.{Looks};
 
-    ghost then = { Looks (λ run. plan_of (P.rules run)) };
+    ghost then = { Looks P.plan };
 }
 
 /// A load that claims the next list where it is published.
@@ -34,11 +32,10 @@ pub struct Try<P> {
     marker: PhantomData<P>,
 }
 
-impl<P: Phases> Play<Option<P::Parcel>, Note<P>> for Try<P> {
-    ghost use Rattle.nr_exchange.specs.Plan.{plan_of};
+impl<P: Planned> Play<Option<P::Parcel>, Note<P>> for Try<P> {
     ghost use Rattle.nr_exchange.specs.Steps.{Tries};
 
-    ghost then = { Tries (λ run. plan_of (P.rules run)) };
+    ghost then = { Tries P.plan };
 }
 
 /// A load of the own word that takes out a place of the next height.
@@ -46,11 +43,10 @@ pub struct Hold<P> {
     marker: PhantomData<P>,
 }
 
-impl<P: Phases> Play<Option<P::Parcel>, Note<P>> for Hold<P> {
-    ghost use Rattle.nr_exchange.specs.Plan.{plan_of};
+impl<P: Planned> Play<Option<P::Parcel>, Note<P>> for Hold<P> {
     ghost use Rattle.nr_exchange.specs.Steps.{Holds};
 
-    ghost then = { Holds (λ run. plan_of (P.rules run)) };
+    ghost then = { Holds P.plan };
 }
 
 /// The places of the next height go home, and the number rises.
@@ -58,11 +54,10 @@ pub struct Raise<P> {
     marker: PhantomData<P>,
 }
 
-impl<P: Phases> Play<Option<P::Parcel>, Note<P>> for Raise<P> {
-    ghost use Rattle.nr_exchange.specs.Plan.{plan_of};
+impl<P: Planned> Play<Option<P::Parcel>, Note<P>> for Raise<P> {
     ghost use Rattle.nr_exchange.specs.Steps.{Raises};
 
-    ghost then = { Raises (λ run. plan_of (P.rules run)) };
+    ghost then = { Raises P.plan };
 }
 
 /// The mark of abandonment is added.
@@ -70,11 +65,10 @@ pub struct GiveUp<P> {
     marker: PhantomData<P>,
 }
 
-impl<P: Phases> Play<Option<P::Parcel>, Note<P>> for GiveUp<P> {
-    ghost use Rattle.nr_exchange.specs.Plan.{plan_of};
+impl<P: Planned> Play<Option<P::Parcel>, Note<P>> for GiveUp<P> {
     ghost use Rattle.nr_exchange.specs.Steps.{GivesUp};
 
-    ghost then = { GivesUp (λ run. plan_of (P.rules run)) };
+    ghost then = { GivesUp P.plan };
 }
 
 /// The next port is split off port 0.
@@ -82,10 +76,10 @@ pub struct Next<P> {
     marker: PhantomData<P>,
 }
 
-impl<P: Phases> Split<Note<P>> for Next<P> {
+impl<P: Planned> Split<Note<P>> for Next<P> {
     ghost use Rattle.nr_exchange.specs.Notes.{fresh, one_made};
 
     ghost left = { one_made };
 
-    ghost right = { λ v. fresh v.run (P.rules v.run).shards v.made 0 };
+    ghost right = { λ v. fresh v.run (P.plan v.run).shards v.made 0 };
 }

@@ -7,8 +7,10 @@ mod exchange;
 mod law;
 mod note;
 mod places;
+mod planned;
 mod port;
 
 pub use exchange::{Exchange, make_exchange};
 pub use note::{Link, Note};
+pub use planned::{Planned, Serial};
 pub use port::{Full, NotYet, Parcel, Port};

@@ -1,16 +1,16 @@
 //! The port of a shard, and what it does on the exchange.
 ghost use Rattle.std.specs.Prelude.{◌≡◌, ◌+◌, ◌<◌, ◌≤◌, true, false, IsOk};
-ghost use Rattle.nr_exchange.specs.Plan.{plan_of, IsNextChunk};
+ghost use Rattle.nr_exchange.specs.Plan.{IsNextChunk};
 ghost use Rattle.nr_exchange.specs.Notes.{link, raised, gives_up, holding};
 ghost use Rattle.nr_exchange.specs.Ports.{IsPortOf, Takes, Marks};
 
 use crate::exchange::Exchange;
 use crate::law::{GiveUp, Look, Raise, Try};
 use crate::note::Note;
+use crate::planned::Planned;
 use atomic_table::Seat;
 use nr_bytes::List;
 use nr_ids::{Height, ShardId};
-use nr_overlap::Phases;
 use std::marker::Model;
 
 /// What `Port::try_take` found.
@@ -44,13 +44,13 @@ const MARK: u64 = 1 << 32;
 /// Contracts see the exchange's name and a `Note`: what the shard has published, and of each source what was claimed
 /// and seen, and how often its word was loaded.
 #[derive(Drop)]
-pub struct Port<P: Phases> {
+pub struct Port<P: Planned> {
     pub(crate) seat: Seat<Option<P::Parcel>, Note<P>>,
     pub(crate) shard: u32,
     pub(crate) abandoned: bool,
 }
 
-impl<P: Phases> Model for Port<P> {
+impl<P: Planned> Model for Port<P> {
     ghost use Rattle.std.specs.Prelude.{◌≡◌};
     ghost use Rattle.nr_exchange.specs.Views.{PortView};
 
@@ -61,9 +61,9 @@ impl<P: Phases> Model for Port<P> {
     ghost invariant = { λ p. (p.shard ≡ p.seat.me.0.shard) × (p.abandoned ≡ p.seat.me.0.abandoned) × (p.seat.me.0.out ≡ 0) };
 }
 
-unsafe impl<P: Phases> Send for Port<P> {}
+unsafe impl<P: Planned> Send for Port<P> {}
 
-impl<P: Phases> Port<P> {
+impl<P: Planned> Port<P> {
     /// The shard whose port it is.
     pub fn shard(&self) -> ShardId
         ensures { result.0 ≡ self.now.note.shard }
@@ -86,11 +86,11 @@ impl<P: Phases> Port<P> {
         source: ShardId,
         height: Height,
     ) -> Result<Parcel<P::Parcel>, NotYet>
-        requires port { IsPortOf P.rules exchange.now self.old }
-        requires inside { source.0 < (P.rules exchange.now.run).shards }
-        requires next { IsNextChunk (plan_of (P.rules exchange.now.run)) source.0 (link self.old.note source.0).claimed height.0 }
-        ensures port { IsPortOf P.rules exchange.now self.new }
-        ensures takes { Takes (plan_of (P.rules exchange.now.run)) source.0 height.0 self.old.note result self.new.note }
+        requires port { IsPortOf P.plan exchange.now self.old }
+        requires inside { source.0 < (P.plan exchange.now.run).shards }
+        requires next { IsNextChunk (P.plan exchange.now.run) source.0 (link self.old.note source.0).claimed height.0 }
+        ensures port { IsPortOf P.plan exchange.now self.new }
+        ensures takes { Takes (P.plan exchange.now.run) source.0 height.0 self.old.note result self.new.note }
     {
         let words = &exchange.table.shared;
         let word = words.load::<Try<P>>(&mut self.seat, source.0 as usize);
@@ -119,14 +119,14 @@ impl<P: Phases> Port<P> {
         height: Height,
         lists: List<P::Parcel>,
     ) -> Result<(), Full<P::Parcel>>
-        requires port { IsPortOf P.rules exchange.now self.old }
+        requires port { IsPortOf P.plan exchange.now self.old }
         requires next { height.0 ≡ self.old.note.number + 1 }
-        requires last { height.0 ≤ (P.rules exchange.now.run).heights }
-        requires there { (P.rules exchange.now.run).present self.old.note.shard height.0 ≡ true }
-        requires lists { lists ≡ (plan_of (P.rules exchange.now.run)).lists self.old.note.shard height.0 }
-        ensures port { IsPortOf P.rules exchange.now self.new }
+        requires last { height.0 ≤ (P.plan exchange.now.run).heights }
+        requires there { (P.plan exchange.now.run).present self.old.note.shard height.0 ≡ true }
+        requires lists { lists ≡ (P.plan exchange.now.run).lists self.old.note.shard height.0 }
+        ensures port { IsPortOf P.plan exchange.now self.new }
         ensures fits { IsOk result }
-        ensures raised { self.new.note ≡ raised (holding self.old.note (P.rules exchange.now.run).shards) }
+        ensures raised { self.new.note ≡ raised (holding self.old.note (P.plan exchange.now.run).shards) }
     {
         let words = &exchange.table.shared;
         exchange.put_all(&mut self.seat, self.shard, height.0, lists);
@@ -136,11 +136,11 @@ impl<P: Phases> Port<P> {
 
     /// Goes past the shard's next height, whose chunk is missing.
     pub fn skip(&mut self, exchange: &Exchange<P>, height: Height)
-        requires port { IsPortOf P.rules exchange.now self.old }
+        requires port { IsPortOf P.plan exchange.now self.old }
         requires next { height.0 ≡ self.old.note.number + 1 }
-        requires last { height.0 ≤ (P.rules exchange.now.run).heights }
-        requires missing { (P.rules exchange.now.run).present self.old.note.shard height.0 ≡ false }
-        ensures port { IsPortOf P.rules exchange.now self.new }
+        requires last { height.0 ≤ (P.plan exchange.now.run).heights }
+        requires missing { (P.plan exchange.now.run).present self.old.note.shard height.0 ≡ false }
+        ensures port { IsPortOf P.plan exchange.now self.new }
         ensures raised { self.new.note ≡ raised self.old.note }
     {
         exchange
@@ -151,8 +151,8 @@ impl<P: Phases> Port<P> {
 
     /// Marks the run as abandoned by this shard. A port that has done so does nothing.
     pub fn abandon(&mut self, exchange: &Exchange<P>)
-        requires port { IsPortOf P.rules exchange.now self.old }
-        ensures port { IsPortOf P.rules exchange.now self.new }
+        requires port { IsPortOf P.plan exchange.now self.old }
+        ensures port { IsPortOf P.plan exchange.now self.new }
         ensures marked { self.new.note ≡ gives_up self.old.note }
     {
         if !self.abandoned {
@@ -166,9 +166,9 @@ impl<P: Phases> Port<P> {
 
     /// Whether a shard has abandoned the run, by one load of its published word.
     pub fn has_abandoned(&mut self, exchange: &Exchange<P>, shard: ShardId) -> bool
-        requires port { IsPortOf P.rules exchange.now self.old }
-        requires inside { shard.0 < (P.rules exchange.now.run).shards }
-        ensures port { IsPortOf P.rules exchange.now self.new }
+        requires port { IsPortOf P.plan exchange.now self.old }
+        requires inside { shard.0 < (P.plan exchange.now.run).shards }
+        ensures port { IsPortOf P.plan exchange.now self.new }
         ensures marks { Marks shard.0 self.old.note result self.new.note }
     {
         exchange

@@ -9,7 +9,7 @@ use crate::answer::Answer;
 use crate::pair::{Chunk, Pair, Sent};
 use atomic_table::Closed;
 use nr_bytes::List;
-use nr_exchange::{Exchange, NotYet, Parcel, Port, make_exchange};
+use nr_exchange::{Exchange, NotYet, Parcel, Port, Serial, make_exchange};
 use nr_ids::{Height, ShardId};
 use nr_overlap::Phases;
 use std::alloc::{AllocError, Global};
@@ -21,11 +21,11 @@ const B: ShardId = ShardId(1);
 
 /// Asks for shard 0's list of a height.
 #[tactic(auto, using(crate::proofs::Asks::next_chunk, crate::proofs::Asks::still_claimed, crate::proofs::Asks::now_claimed))]
-fn ask(exchange: &Exchange<Pair>, port: &mut Port<Pair>, height: u64) -> Answer
-    requires port { IsPortOf (λ _. rules) exchange.now port.old }
+fn ask(exchange: &Exchange<Serial<Pair>>, port: &mut Port<Serial<Pair>>, height: u64) -> Answer
+    requires port { IsPortOf (λ _. plan_of rules) exchange.now port.old }
     requires next { height ≡ (link port.old.note 0).claimed + 1 }
     requires last { height ≤ 2 }
-    ensures port { IsPortOf (λ _. rules) exchange.now port.new }
+    ensures port { IsPortOf (λ _. plan_of rules) exchange.now port.new }
     ensures claimed { (link port.new.note 0).claimed ≡ claimed_by result height (link port.old.note 0).claimed }
 {
     match port.try_take(exchange, A, Height(height)) {
@@ -47,14 +47,14 @@ fn first_lists(alloc: Global) -> Result<List<Sent>, AllocError>
 
 /// Shard 1 asks, shard 0 publishes, shard 1 asks again, shard 0 gives up, and shard 1 asks for the next list.
 fn exchanged(
-    exchange: &Exchange<Pair>,
-    giver: &mut Port<Pair>,
-    taker: &mut Port<Pair>,
+    exchange: &Exchange<Serial<Pair>>,
+    giver: &mut Port<Serial<Pair>>,
+    taker: &mut Port<Serial<Pair>>,
     lists: List<Sent>,
 ) -> ([Answer; 3], [bool; 2])
-    requires giver { IsPortOf (λ _. rules) exchange.now giver.old }
+    requires giver { IsPortOf (λ _. plan_of rules) exchange.now giver.old }
     requires first { (giver.old.note.shard ≡ 0) × (giver.old.note.number ≡ 0) }
-    requires taker { IsPortOf (λ _. rules) exchange.now taker.old }
+    requires taker { IsPortOf (λ _. plan_of rules) exchange.now taker.old }
     requires second { (taker.old.note.shard ≡ 1) × (taker.old.note.number ≡ 0) }
     requires none { (link taker.old.note 0).claimed ≡ 0 }
     requires lists { lists ≡ (plan_of rules).lists 0 1 }
@@ -95,7 +95,7 @@ fn words(mut closed: Closed<Option<Sent>, Global>) -> (u64, u64)
 fn a_list_comes_once_it_is_published(rt: HostRuntime) -> Result<(), Fail> {
     let alloc = rt.alloc();
     let lists = first_lists(alloc)?;
-    let (exchange, mut ports) = make_exchange(alloc, &Pair)?;
+    let (exchange, mut ports) = make_exchange(alloc, &Serial(Pair))?;
     assert_eq!(rt; ports.len(), 2);
     let (Some(mut taker), Some(mut giver)) = (ports.pop(), ports.pop()) else {
         unreachable!();

@@ -6,7 +6,6 @@ use Rattle.nr_exchange.specs.Views.{ExchangeView, PortView}
 use Rattle.nr_exchange.specs.Notes.{fresh, one_made}
 use Rattle.nr_exchange.specs.Ports.{start_port, AreMade}
 use Rattle.nr_exchange.proofs.Makes.{forks_for}
-use Rattle.nr_exchange.proofs.Ties.{plan}
 use Rattle.nr_exchange.proofs.exchange.split_all.Goals as goal
 
 alike : {A : Type 0} (a b : A) → ◌≡◌ {A = Option A} (Some a) (Some b) → a ≡ b
@@ -19,9 +18,9 @@ split_seat-seat-requires g c =
     let seen = alike _ _ (sym (slice_get_read c.loop-shard.ports.items (length c.loop-shard.ports.items) 0 c.index_mut.result.now refl (omega arith) c.index_mut.ensures.value) ∙ c.loop-shard.invariant.front) in
     let front = c.behind-ports.view_is ∙ seen in (
       ap (λ q. q.name) front ∙ sym (ap (λ e. e.name) c.exchange.view_is),
-      subst (λ (n : ℕ). 0 < n) (sym inv.0.words) (subst (λ e. 0 < (g.P.Phases.rules e.run).shards) (sym c.exchange.view_is) c.requires.some),
-      forks_for (plan g.P.Phases.rules) c.exchange.inside.table.shared.key c.behind-ports.inside.seat.id c.behind-ports.inside.seat.me.0 c.loop-shard.shard
-          (ap (λ q. q.note) front ∙ (λ k. fresh (sym c.exchange.view_is k).run (g.P.Phases.rules (sym c.exchange.view_is k).run).shards 0 c.loop-shard.shard))
+      subst (λ (n : ℕ). 0 < n) (sym inv.0.words) (subst (λ e. 0 < (g.P.Planned.plan e.run).shards) (sym c.exchange.view_is) c.requires.some),
+      forks_for g.P.Planned.plan c.exchange.inside.table.shared.key c.behind-ports.inside.seat.id c.behind-ports.inside.seat.me.0 c.loop-shard.shard
+          (ap (λ q. q.note) front ∙ (λ k. fresh (sym c.exchange.view_is k).run (g.P.Planned.plan (sym c.exchange.view_is k).run).shards 0 c.loop-shard.shard))
           (subst (λ (n : ℕ). c.loop-shard.shard < n) inv.0.shards_is c.loop-shard-test.true),
     )
 
@@ -56,9 +55,9 @@ loop-shard-preserved g c =
     let seen = alike _ _ (sym (slice_get_read c.loop-shard.ports.items (length c.loop-shard.ports.items) 0 c.index_mut.result.now refl (omega arith) c.index_mut.ensures.value) ∙ c.loop-shard.invariant.front) in
     let front = c.behind-ports.view_is ∙ seen in
     let e = c.args.exchange.now in
-    let n = (g.P.Phases.rules e.run).shards in
+    let n = (g.P.Planned.plan e.run).shards in
     let split = c.split_seat-seat.ensures in
     subst (λ ports. AreMade e n (c.loop-shard.shard + 1) ports) (sym c.in_ok-push-2.ensures.items)
     (more e n c.loop-shard.shard c.loop-shard.ports.items _ _ c.loop-shard.invariant (omega arith)
     (λ k. record { name = (split.0 ∙ ap (λ q. q.name) front) k; note = (ap (λ m. m.0) split.2 ∙ ap (λ q. one_made q.note) front) k })
-    (λ k. record { name = (split.3 ∙ ap (λ q. q.name) front) k; note = (ap (λ m. m.0) split.4 ∙ ap (λ q. fresh q.note.run (g.P.Phases.rules q.note.run).shards q.note.made 0) front) k }))
+    (λ k. record { name = (split.3 ∙ ap (λ q. q.name) front) k; note = (ap (λ m. m.0) split.4 ∙ ap (λ q. fresh q.note.run (g.P.Planned.plan q.note.run).shards q.note.made 0) front) k }))

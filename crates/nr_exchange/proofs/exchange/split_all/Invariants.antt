@@ -2,4 +2,4 @@ use Rattle.nr_exchange.specs.Ports.{AreMade}
 use Rattle.nr_exchange.proofs.exchange.split_all.Given as goal
 
 abbrev pub invariant-loop-shard : goal.invariant-loop-shard
-invariant-loop-shard g l = AreMade l.fn.exchange (g.P.Phases.rules l.fn.exchange.run).shards l.shard l.ports.items
+invariant-loop-shard g l = AreMade l.fn.exchange (g.P.Planned.plan l.fn.exchange.run).shards l.shard l.ports.items

@@ -8,7 +8,6 @@ use Rattle.nr_exchange.specs.Places.{place}
 use Rattle.nr_exchange.specs.Notes.{held, holding}
 use Rattle.nr_exchange.specs.Places.{carry}
 use Rattle.nr_exchange.proofs.Holding.{holding_is, next_left, then_left, left_below}
-use Rattle.nr_exchange.proofs.Ties.{plan}
 use Rattle.nr_exchange.proofs.exchange.Exchange.put_all.Goals as goal
 
 pub put_one-requires-clause-run : goal.put_one-requires-clause-run
@@ -35,7 +34,7 @@ overflow_add-dest g c =
     let e = left_is (into_iter_items c.loop-list.rest) (into_iter_items c.next.new.self) c.args.lists c.loop-list.dest c.in-Some.list c.loop-list.invariant.left c.in-Some.ensures.items in
     let lt : c.loop-list.dest < length c.args.lists = left_below c.args.lists c.loop-list.dest c.in-Some.list (into_iter_items c.next.new.self) e in
     let all = c.requires.all in
-    let same = c.self.invariant.0.shards_is ∙ ap (λ e. (g.P.Phases.rules e.run).shards) c.self.view_is in
+    let same = c.self.invariant.0.shards_is ∙ ap (λ e. (g.P.Planned.plan e.run).shards) c.self.view_is in
     omega (arith, lt, all, same)
 
 kept : {P L : Type 0} (p : Plan L) (v : Note P) (s h d : ℕ) (rest : List (ℕ × Option L)) (all : List L) (x : L) (me me' : Note P × List (ℕ × Option L))
@@ -52,6 +51,6 @@ loop-list-preserved g c =
       name = c.put_one.ensures.same.0 ∙ c.loop-list.invariant.name;
       id = c.put_one.ensures.same.1 ∙ c.loop-list.invariant.id;
       within = (let lt : c.loop-list.dest < length c.args.lists = left_below c.args.lists c.loop-list.dest c.in-Some.list (into_iter_items c.next.new.self) e in let all = c.requires.all in omega (arith, lt, all));
-      me = kept (plan g.P.Phases.rules c.args.self.now.run) c.args.seat.now.me.0 c.args.shard c.args.height c.loop-list.dest c.args.seat.now.me.1 c.args.lists c.in-Some.list c.loop-list.seat.me c.put_one.new.seat.me
+      me = kept (g.P.Planned.plan c.args.self.now.run) c.args.seat.now.me.0 c.args.shard c.args.height c.loop-list.dest c.args.seat.now.me.1 c.args.lists c.in-Some.list c.loop-list.seat.me c.put_one.new.seat.me
           c.loop-list.invariant.me c.put_one.ensures.me c.requires.lists (next_left c.args.lists c.loop-list.dest c.in-Some.list (into_iter_items c.next.new.self) e);
     }
