@@ -1,6 +1,6 @@
 -- Bounds of what bindings count with.
-use Rattle.std.proofs.Common.{◌≡◌, ℕ, ◌+◌, ◌*◌, ◌^◌, ◌<◌, ◌≤◌, arith}
-use Rattle.nr_config.specs.Config.{Config, entry, greatest, max_key_bytes, max_value_bytes, IsValidConfig}
+use Rattle.std.proofs.Common.{◌+◌, ◌*◌, ◌^◌, ◌<◌, ◌≤◌, arith}
+use Rattle.nr_config.specs.Config.{Config, greatest, max_key_bytes, max_value_bytes, IsValidConfig}
 use Rattle.nr_config.specs.Table.{table}
 use Rattle.nr_config.proofs.Bounds.{fee-bound}
 use Rattle.nr_fees.specs.Fees.{fee}

@@ -1,5 +1,5 @@
 -- A write leaves the account standing.
-use Rattle.std.proofs.Common.{◌≡◌, ℕ, ◌∙◌, cond, ap, List, Option, Some, None, refl}
+use Rattle.std.proofs.Common.{ℕ, ◌∙◌, cond, ap, List, Option, Some, None, refl}
 use Rattle.std.specs.Prelude.{IsSome, is_some}
 use Rattle.std.specs.FinMap.{get}
 use Rattle.nr_config.specs.Config.{Config}

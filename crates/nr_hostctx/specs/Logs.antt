@@ -1,6 +1,6 @@
 -- The bindings of logs, of the returned value and of panics, each as its row. After the NEAR Nomicon, "Bindings
 -- Specification", Miscellaneous API.
-use Rattle.std.specs.Prelude.{ℕ, ◌+◌, ◌*◌, ◌++◌, [], ◌∷◌, Bool, not, cond, ◌||◌, nat_le, nat_lt, if◌then◌else◌, List}
+use Rattle.std.specs.Prelude.{ℕ, ◌+◌, ◌*◌, ◌++◌, [], ◌∷◌, not, ◌||◌, nat_le, nat_lt, if◌then◌else◌, List}
 use Rattle.std.specs.Prelude.{length, drop, take, sum_by, Option}
 use Rattle.std.specs.Option.{option_map}
 use Rattle.std.specs.Str.{is_utf8, bytes_eq}
@@ -15,7 +15,6 @@ use Rattle.nr_hostctx.specs.Acts.{Act, Goes, Stops, ◌>>=◌, give, fault, faul
 use Rattle.nr_hostctx.specs.Acts.{bytes_of, guest_bytes}
 use Rattle.nr_hostctx.specs.Costs.{both_fees}
 use Rattle.nr_hostctx.specs.Faults.{bad_utf8, too_many_logs, guest_panic, return_too_long, out_of_bounds}
-use Rattle.nr_hostctx.specs.State.{HostState}
 
 -- ---- a text: where no length is given it ends before the first zero byte, of which there has to be one
 unfoldable pub before_zero : List ℕ → Option (List ℕ)

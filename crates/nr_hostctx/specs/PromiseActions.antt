@@ -1,6 +1,6 @@
 -- The bindings that give a promise's receipt an action, each as its row. After the NEAR Nomicon, "Bindings
 -- Specification", Promises API; the fees and the order of the faults are this project's.
-use Rattle.std.specs.Prelude.{◌≡◌, ℕ, ◌+◌, ◌==◌, Bool, true, false, not, is_some, nat_le, nat_lt, if◌then◌else◌, List}
+use Rattle.std.specs.Prelude.{◌≡◌, ℕ, ◌+◌, ◌==◌, Bool, true, false, nat_le, nat_lt, if◌then◌else◌, List}
 use Rattle.std.specs.Prelude.{[], ◌∷◌, length, Option, Some, None, Result, Ok, Err}
 use Rattle.std.specs.List.{slice_split}
 use Rattle.std.specs.Str.{is_utf8}
@@ -15,7 +15,6 @@ use Rattle.nr_promises.specs.declared.fault.PromiseFault.{PromiseFault}
 use Rattle.nr_records.specs.Ids.{key_at}
 use Rattle.nr_records.specs.Reading.{all_of}
 use Rattle.nr_records.specs.declared.access_key.AccessKey.{AccessKey}
-use Rattle.nr_records.specs.declared.access_key.Permission.{Permission}
 use Rattle.nr_records.specs.declared.access_key.Permission.TheVariants.{Call, Full}
 use Rattle.nr_records.specs.declared.action.Action.{Action}
 use Rattle.nr_records.specs.declared.action.Action.TheVariants as action
@@ -28,10 +27,9 @@ use Rattle.nr_hostctx.specs.Acts.{guest_bytes}
 use Rattle.nr_hostctx.specs.Faults.{promise_stop, bad_utf8, empty_method, balance_exceeded, bad_public_key}
 use Rattle.nr_hostctx.specs.Faults.{too_many_actions}
 use Rattle.nr_hostctx.specs.Costs.{is_local, sending}
-use Rattle.nr_hostctx.specs.Promises.{from_book, with_book, account_id, inputs_at, place_for_one, create_promise}
+use Rattle.nr_hostctx.specs.Promises.{from_book, account_id, inputs_at, place_for_one, create_promise}
 use Rattle.nr_hostctx.specs.Promises.{chain_promise}
 use Rattle.nr_hostctx.specs.Ready.{world_less}
-use Rattle.nr_hostctx.specs.State.{HostState}
 use Rattle.nr_hostctx.specs.declared.promise_actions.CallArguments.{CallArguments}
 
 -- ---- arguments

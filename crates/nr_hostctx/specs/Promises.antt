@@ -1,6 +1,6 @@
 -- The bindings that make promises and read their results, each as its row. After the NEAR Nomicon, "Bindings
 -- Specification", Promises API; the fees and the order of the faults are this project's.
-use Rattle.std.specs.Prelude.{◌≡◌, ◌<◌, ◌≤◌, ℕ, ◌+◌, ◌*◌, ◌^◌, Bool, not, is_some, is_none, nat_le, nat_lt}
+use Rattle.std.specs.Prelude.{◌≡◌, ◌<◌, ◌≤◌, ℕ, ◌*◌, ◌^◌, is_none, nat_le, nat_lt}
 use Rattle.std.specs.Prelude.{if◌then◌else◌, List, length, map, take, drop, Option, Some, None, Result, Ok, Err}
 use Rattle.std.specs.List.{slice_get, range_with_len}
 use Rattle.nr_bytes.specs.Numbers.{number}
@@ -16,11 +16,10 @@ use Rattle.nr_promises.specs.declared.fault.PromiseFault.{PromiseFault}
 use Rattle.nr_state.specs.declared.calls.Returned.TheVariants.{Promise}
 use Rattle.nr_wasmmem.specs.declared.fault.HostStop.{HostStop}
 use Rattle.nr_wasmmem.specs.declared.fault.HostStop.TheVariants.{Fault, Memory}
-use Rattle.nr_hostctx.specs.Acts.{Act, Goes, Stops, ◌>>=◌, give, look, fault, fault_if, or_fault, burn, promise, pay}
+use Rattle.nr_hostctx.specs.Acts.{Act, Goes, Stops, ◌>>=◌, give, look, fault, fault_if, or_fault, burn, promise}
 use Rattle.nr_hostctx.specs.Acts.{begin, bytes_of, guest_bytes, to_register}
 use Rattle.nr_hostctx.specs.Faults.{promise_stop, out_of_bounds, bad_account_id, too_many_promises, bad_result}
 use Rattle.nr_hostctx.specs.Costs.{is_local, sending, both_fees}
-use Rattle.nr_hostctx.specs.State.{HostState}
 
 -- ---- the book of promises: what it answers, and the book after it
 abbrev pub from_book : {A : Type 0} → Result A PromiseFault → Act A

@@ -1,4 +1,4 @@
-use Rattle.std.proofs.Common.{List, ◌≤◌, ◌^◌, subst, arith}
+use Rattle.std.proofs.Common.{List, ◌≤◌, ◌^◌, subst}
 use Rattle.nr_records.specs.declared.receipt.DataReceiver.{DataReceiver}
 use Rattle.nr_hostctx.specs.Logs.{outputs_cost}
 use Rattle.nr_hostctx.proofs.Spending.{past_gas}
