@@ -7,7 +7,7 @@ use nr_store::PlainStore;
 use std::marker::Model;
 
 /// Gas as data.
-#[derive(Debug, Drop)]
+#[derive(Drop)]
 pub struct Gas {
     pub burnt: u64,
     pub promised: u64,
