@@ -17,3 +17,8 @@ pub mod Sounds
 pub mod Steps
 pub mod Tied
 pub mod Views
+pub mod Begins
+pub mod Marking
+pub mod Pushing
+pub mod Renaming
+pub mod Sliding

@@ -1,5 +1,5 @@
 -- Rows of children, and the usage of a part.
-use Rattle.std.proofs.Common.{◌≡◌, ◌==◌, ◌<◌, ◌≤◌, ◌+◌, ◌-◌, ◌*◌, ◌/◌, ◌%◌, ℕ, zero, suc, Bool, true, false, cond, not, List, [], ◌∷◌, ◌++◌, length, replicate, get_or, Option, Some, None, refl, ap, sym, ◌∙◌, subst, eq-eqb, length-append, inl, inr, arith}
+use Rattle.std.proofs.Common.{◌≡◌, ◌==◌, ◌<◌, ◌≤◌, ◌+◌, ◌-◌, ◌*◌, ◌/◌, ◌%◌, ℕ, zero, suc, Bool, true, false, cond, not, List, [], ◌∷◌, ◌++◌, length, map, take, replicate, get_or, Option, Some, None, refl, ap, sym, ◌∙◌, subst, eq-eqb, length-append, inl, inr, arith}
 use Rattle.std.specs.Prelude.{is_some, count_by}
 use Rattle.std.specs.Option.{is_none}
 use mathlib.Core.Bool.{false≢true}
@@ -9,7 +9,7 @@ use Rattle.nr_triedef.specs.Node.{key_part, paired, part_flag}
 use Rattle.nr_triedef.specs.Root.{part_usage}
 use Rattle.nr_trienodes.specs.Shape.{child, no_children}
 use Rattle.nr_trienodes.specs.Tries.{front_usage}
-use Rattle.nr_trienodes.specs.Views.{IsIn, row_of}
+use Rattle.nr_trienodes.specs.Views.{IsIn}
 
 pub child_get : {A : Type 0} (cs : List (Option A)) (x : ℕ) → get_or cs x None ≡ child cs x
 child_get [] x = refl
@@ -77,3 +77,32 @@ pub front_none : (part : List ℕ) (leaf : Bool) → leaf ≡ false → length p
 front_none part true e none = absurd cc
 front_none [] false e none = refl
 front_none (x ∷ part) false e none = absurd (omega arith)
+
+pub none_there : (cs : List (Option ℕ)) → length cs ≡ 16 → is_empty cs ≡ true → no_children ≡ cs
+none_there cs len e = all_none cs len (λ k lt. at k (get_or cs k None) refl)
+  where
+    at : (k : ℕ) (o : Option ℕ) → get_or cs k None ≡ o → get_or cs k None ≡ None
+    at k None is = is
+    at k (Some c) is = absurd (false≢true (sym (some_child cs k (ap is_some is)) ∙ e))
+
+-- ---- a row with a number for each child
+pub child_map : (f : ℕ → Option ℕ) (xs : List ℕ) (x d : ℕ) → x < length xs → f (get_or xs x d) ≡ child (map f xs) x
+child_map f [] x d lt = absurd (omega arith)
+child_map f (n ∷ xs) zero d lt = refl
+child_map f (n ∷ xs) (suc x) d lt = child_map f xs x d (omega arith)
+
+pub each_same : (f : ℕ → Option ℕ) (xs : List ℕ) (ys : List (Option ℕ)) → length xs ≡ length ys
+    → ((k : ℕ) → k < length xs → f (get_or xs k 0) ≡ get_or ys k None) → map f xs ≡ ys
+each_same f [] [] e h = refl
+each_same f [] (y ∷ ys) e h = absurd (omega arith)
+each_same f (x ∷ xs) [] e h = absurd (omega arith)
+each_same f (x ∷ xs) (y ∷ ys) e h =
+    (λ i. h 0 (omega arith) i ∷ each_same f xs ys (omega arith) (λ k lt. h (suc k) (omega arith)) i)
+
+-- ---- a short part
+pub take_made : (xs ys : List ℕ) → length xs ≤ length ys → ((k : ℕ) → k < length xs → get_or ys k 0 ≡ get_or xs k 0)
+    → take (length xs) ys ≡ xs
+take_made [] ys le h = refl
+take_made (x ∷ xs) [] le h = absurd (omega arith)
+take_made (x ∷ xs) (y ∷ ys) le h =
+    (λ i. h 0 (omega arith) i ∷ take_made xs ys (omega arith) (λ k lt. h (suc k) (omega arith)) i)

@@ -4,15 +4,15 @@ use Rattle.std.proofs.lemmas.Bool.{ne_eqb, eqb-true}
 use Rattle.std.proofs.lemmas.List.{reverse-append, map-append, length-map, length-reverse, length-set, get_or-set_same, get_or-set_other, take-append-drop, length-take}
 use Rattle.std.proofs.Math.Seq.{drop-append_seam}
 use Rattle.std.specs.Prelude.{is_some, count_by, sum_by}
-use Rattle.std.specs.Option.{option_map, is_none}
-use Rattle.std.specs.Arc.{arc_value}
+use Rattle.std.specs.Option.{option_map}
 use Rattle.nr_ids.specs.declared.key.Hash32.{Hash32}
 use Rattle.nr_triedef.specs.declared.hash.Summary.{Summary}
 use Rattle.nr_triedef.specs.Node.{IsNibbles}
 use Rattle.nr_triedef.specs.Root.{usage_below}
+use Rattle.nr_trienodes.specs.Bodies.{value_of, row_of}
 use Rattle.nr_trienodes.specs.Shape.{Shape, shape_at, child}
 use Rattle.nr_trienodes.specs.Tries.{summary_at, own_usage, IsLinked}
-use Rattle.nr_trienodes.specs.Views.{shape, shapes, row_of, Sound, Adds, KeepsHash}
+use Rattle.nr_trienodes.specs.Views.{shape, shapes, Sound, Adds, KeepsHash}
 use Rattle.nr_trienodes.specs.declared.nodes.Node.{Node}
 use Rattle.nr_trienodes.proofs.Folds.{not_same}
 use Rattle.nr_trienodes.proofs.Sounds.{CanStand, CanKeep, sound_drop, sound_newer, kept, sum_by-map, count-children, usage_is}
@@ -119,19 +119,18 @@ can_stand v part value row usage sum alone len small linked back es ea eu =
       hash = refl;
     }
 
-not_not : (b c : Bool) → c ≡ not b → not c ≡ b
-not_not true c e = ap not e
-not_not false c e = ap not e
-
-pub pushed : (nodes new : List Node) (v : List Shape) (id : ℕ) (n : Node) (part : List ℕ) (row : List (Option ℕ)) (sum : ℕ) (alone : Bool) → shapes nodes ≡ v → Sound (shapes nodes) → id ≡ length v → id + 1 < 2 ^ 32 → n.hash ≡ None → part ≡ n.part.items → row_of n.row ≡ row → length row ≡ 16
-    → IsNibbles n.part.items → IsLinked (option_map arc_value n.value) row → ((x c : ℕ) → child row x ≡ Some c → c < length v) → sum ≡ sum_by (λ c. usage_below (option_map (summary_at v) c)) row → (count_by is_some row == 0) ≡ is_none n.row → is_some n.row ≡ not alone → n.usage ≡ own_usage part (option_map arc_value n.value) alone sum → new ≡ nodes ++ n ∷ []
-    → Added new v id n.part.items (option_map arc_value n.value) row
-pushed nodes new v id n part row sum alone e sound ei few none ep er len small linked back es ec ea eu en =
-    let s : Shape = record { part = n.part.items; value = option_map arc_value n.value; below = row; usage = n.usage; hash = None } in
-    let is : shape n ≡ s = (λ i. let t : Shape = record { part = n.part.items; value = option_map arc_value n.value; below = er i; usage = n.usage; hash = none i } in t) in
-    let usage : n.usage ≡ own_usage n.part.items (option_map arc_value n.value) alone sum = eu ∙ ap (λ (p : List ℕ). own_usage p (option_map arc_value n.value) alone sum) ep in
-    let count : (count_by is_some row == 0) ≡ alone = ec ∙ not_not alone (is_some n.row) ea in
-    added nodes new v id n s e sound ei few is refl (can_stand v n.part.items (option_map arc_value n.value) row n.usage sum alone len small linked back es count usage) en
+pub pushed : (nodes new : List Node) (v : List Shape) (id : ℕ) (n : Node) (part : List ℕ) (value : Option (List ℕ))
+    (row : List (Option ℕ)) (sum : ℕ) (alone : Bool) → shapes nodes ≡ v → Sound (shapes nodes) → id ≡ length v
+    → id + 1 < 2 ^ 32 → n.hash ≡ None → n.part ≡ part → value_of n.body ≡ value → row_of n.body ≡ row → length row ≡ 16
+    → IsNibbles part → IsLinked value row → ((x c : ℕ) → child row x ≡ Some c → c < length v)
+    → sum ≡ sum_by (λ c. usage_below (option_map (summary_at v) c)) row → alone ≡ (count_by is_some row == 0)
+    → n.usage ≡ own_usage part value alone sum → new ≡ nodes ++ n ∷ [] → Added new v id part value row
+pushed nodes new v id n part value row sum alone e sound ei few none ep ev er len small linked back es ec eu en =
+    let s : Shape = record { part = part; value = value; below = row; usage = n.usage; hash = None } in
+    let is : shape n ≡ s =
+    (λ i. let t : Shape = record { part = ep i; value = ev i; below = er i; usage = n.usage; hash = none i } in t) in
+    added nodes new v id n s e sound ei few is refl
+    (can_stand v part value row n.usage sum alone len small linked back es (sym ec) eu) en
 
 pub record Kept (nodes : List Node) (v : List Shape) (id : ℕ) (hash : Hash32) : Type 0 where
   pub keeps : KeepsHash v (shapes nodes) id hash

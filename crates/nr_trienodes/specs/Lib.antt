@@ -4,3 +4,8 @@ pub mod Tries
 pub mod Roots
 pub mod Turns
 pub mod Hashing
+pub mod Listing
+pub mod Naming
+pub mod Packing
+pub mod Parts
+pub mod Bodies

@@ -1,10 +1,10 @@
--- Roots: the finite maps that nodes stand for, and what stays of them.
+-- Roots: the finite maps that nodes stand for, and what stays of them. This project's own.
 use Rattle.std.specs.Prelude.{◌≡◌, ◌<◌, ◌≤◌, ℕ, ◌+◌, ◌*◌, ◌^◌, List, [], ◌∷◌, length, map, Option, Some, None, IsSome, Result, Ok, Err}
 use Rattle.std.specs.FinMap.{empty, from_sorted}
 use Rattle.nr_triedef.specs.Node.{nibbles, paired}
 use Rattle.nr_triedef.specs.Root.{Paths, Contents}
 use Rattle.nr_trienodes.specs.Shape.{Shape}
-use Rattle.nr_trienodes.specs.Tries.{found, paths_at, cost_at}
+use Rattle.nr_trienodes.specs.Tries.{found, paths_at, cost_at, count_at}
 use Rattle.nr_trienodes.specs.declared.fault.NodesFault.{NodesFault}
 use Rattle.nr_trienodes.specs.declared.fault.NodesFault.TheVariants.{Full, Memory}
 use Rattle.nr_trienodes.specs.declared.nodes.NodeId.{NodeId}
@@ -31,6 +31,11 @@ contents nodes (Some id) = from_sorted (packed (paths_at nodes id.0))
 unfoldable pub cost : List Shape → Option NodeId → ℕ
 cost nodes None = 0
 cost nodes (Some id) = cost_at nodes id.0
+
+-- how many nodes the trie of a root has
+abbrev pub root_count : List Shape → Option NodeId → ℕ
+root_count nodes None = 0
+root_count nodes (Some id) = count_at nodes id.0
 
 -- old roots stay
 pub record Keeps (old new : List Shape) : Type 0 where

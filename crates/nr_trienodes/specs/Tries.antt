@@ -1,4 +1,4 @@
--- What a node stands for: the look-up of a key, its paths in order, and its hash and memory usage.
+-- What a node stands for: the look-up of a key, its paths in order, its hash and memory usage, and what making its hash costs. This project's own; the hashes are those of the Nomicon, Data Structures, Merkle Proofs and Trie.
 use Rattle.std.specs.Prelude.{◌≡◌, ℕ, suc, ◌+◌, ◌==◌, ◌≤◌, ◌&&◌, Bool, true, false, cond, List, [], ◌∷◌, ◌++◌, length, map, Option, Some, None, is_some, count_by, sum_by}
 use Rattle.nr_triedef.specs.declared.hash.Summary.{Summary}
 use Rattle.nr_triedef.specs.Node.{key_part, summary}

@@ -1,22 +1,15 @@
--- What an arena's fields stand for, and what holds of its nodes.
+-- What an arena's fields stand for, and what holds of its nodes. This project's own.
 use Rattle.std.specs.Prelude.{◌≡◌, ◌≢◌, ◌<◌, ℕ, ◌^◌, List, ◌∷◌, length, map, reverse, Option, Some, None, is_some, true}
-use Rattle.std.specs.Option.{option_map}
-use Rattle.std.specs.Arc.{arc_value}
-use Rattle.std.specs.declared.alloc.Global.{Global}
-use Rattle.std.specs.declared.boxed.Box.{Box}
 use Rattle.nr_ids.specs.declared.key.Hash32.{Hash32}
 use Rattle.nr_triedef.specs.Node.{IsNibbles}
-use Rattle.nr_trienodes.specs.Shape.{Shape, no_children, child, shape_at}
+use Rattle.nr_trienodes.specs.Bodies.{value_of, row_of}
+use Rattle.nr_trienodes.specs.Shape.{Shape, child, shape_at}
 use Rattle.nr_trienodes.specs.Tries.{summary_at, IsLinked}
 use Rattle.nr_trienodes.specs.declared.nodes.Node.{Node}
 use Rattle.nr_trienodes.specs.declared.nodes.Nodes.TheInside.{Inside}
 
-abbrev pub row_of : Option (Box (List (Option ℕ)) Global) → List (Option ℕ)
-row_of None = no_children
-row_of (Some row) = row.value
-
 abbrev pub shape : Node → Shape
-shape n = record { part = n.part.items; value = option_map arc_value n.value; below = row_of n.row; usage = n.usage; hash = n.hash }
+shape n = record { part = n.part; value = value_of n.body; below = row_of n.body; usage = n.usage; hash = n.hash }
 
 abbrev pub shapes : List Node → List Shape
 shapes nodes = reverse (map shape nodes)

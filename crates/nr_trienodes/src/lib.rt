@@ -2,17 +2,22 @@
 //! and old roots stay while new ones are made.
 #![tactic(auto)]
 
+mod body;
 mod cutting;
 mod fault;
 mod finding;
 mod hashing;
+mod listing;
 mod making;
 mod nodes;
+mod packed;
+mod part;
 mod putting;
 mod settling;
 #[cfg(test)]
 mod tests;
 mod threads;
+mod trimming;
 mod turn;
 
 pub use fault::NodesFault;

@@ -8,7 +8,9 @@ ghost use Rattle.nr_trienodes.specs.Shape.{shape_at};
 ghost use Rattle.nr_trienodes.specs.Tries.{is_leaf, summary_at};
 ghost use Rattle.nr_trienodes.specs.Hashing.{HasHashes, IsWarm, weight_at};
 
-use crate::nodes::{Nodes, Row};
+use crate::body::is_alone;
+use crate::nodes::Nodes;
+use crate::packed::Row;
 use nr_ids::Hash32;
 use nr_triedef::{Node, Steps, Summary, bytes_of, hash_node, key_part, node_text, value_hash};
 use std::alloc::{AllocError, Global};
@@ -220,18 +222,6 @@ fn summaries(nodes: &Nodes, row: &Row) -> [Option<Summary>; 16]
         below[i] = summary_in(nodes, row[i]);
     }
     below
-}
-
-#[tactic(auto, using(crate::proofs::Rows::all_none, crate::proofs::Rows::some_child, crate::proofs::Rows::no_child))]
-fn is_alone(row: &Row) -> bool
-    ensures { result ≡ (count_by is_some row.now == 0) }
-{
-    for i in 0..16 {
-        if row[i].is_some() {
-            return false;
-        }
-    }
-    true
 }
 
 // The summary of a node that is no leaf, of which all children's hashes are kept.

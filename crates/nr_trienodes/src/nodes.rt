@@ -1,14 +1,20 @@
 //! The arena.
 
-ghost use Rattle.std.specs.Prelude.{◌≡◌, ◌<◌, ◌≤◌, ◌-◌, ◌+◌, ◌^◌, ◌==◌, ◌*◌, ◌/◌, ℕ, true, [], length, drop, is_some, count_by, sum_by, Some, IfOk, OnErr};
-ghost use Rattle.std.specs.Option.{option_copied, option_map, is_none};
+ghost use Rattle.std.specs.Prelude.{◌≡◌, ◌<◌, ◌≤◌, ◌-◌, ◌+◌, ◌^◌, ◌==◌, ◌*◌, ◌/◌, ℕ, true, [], length, map, drop, slice_set, is_some, count_by, sum_by, Some, IfOk, OnErr};
+ghost use Rattle.std.specs.Option.{option_copied, option_map};
 ghost use Rattle.std.specs.Arc.{arc_value};
 ghost use Rattle.nr_triedef.specs.Node.{IsNibbles};
 ghost use Rattle.nr_triedef.specs.Root.{usage_below, value_usage};
+ghost use Rattle.nr_trienodes.specs.Packing.{IsPackable};
 ghost use Rattle.nr_trienodes.specs.Shape.{shape_at, child};
 ghost use Rattle.nr_trienodes.specs.Tries.{summary_at, front_usage, own_usage, IsLinked};
-ghost use Rattle.nr_trienodes.specs.Views.{shape, row_of, Sound, IsIn, Adds, KeepsHash};
+ghost use Rattle.nr_trienodes.specs.Naming.{new_name, renamed, with_names, IsKept, IsClosed, IsSlid, AreNamed, SlidesOn};
+ghost use Rattle.nr_trienodes.specs.Views.{shape, shapes, Sound, IsIn, Adds, KeepsHash};
 
+use crate::body::{Body, is_alone};
+use crate::packed::{Packed, Row};
+use crate::part::Part;
+use crate::trimming::{Names, is_kept};
 use nr_bytes::Blob;
 use nr_triedef::NodeHash;
 use std::alloc::{AllocError, Global};
@@ -19,16 +25,12 @@ use std::sync::Arc;
 #[derive(Clone, Copy, Debug, PartialEq, Eq)]
 pub struct NodeId(pub(crate) u32);
 
-/// The children of a node, by their nibbles.
-pub(crate) type Row = [Option<u32>; 16];
-
 // A node stands for the keys that begin with its part: the value whose key ends behind the part, and
 // those below the child of each next nibble.
 #[derive(Drop)]
 struct Node {
-    part: Vec<u8>,
-    value: Option<Arc<Blob>>,
-    row: Option<Box<Row>>,
+    part: Part,
+    body: Body,
     usage: u64,
     hash: Option<NodeHash>,
 }
@@ -53,19 +55,85 @@ impl Model for Nodes {
     ghost invariant = { IsArena };
 }
 
-#[tactic(auto, using(crate::proofs::Rows::all_none, crate::proofs::Rows::some_child, crate::proofs::Rows::no_child))]
-fn boxed(alloc: Global, row: Row) -> Result<Option<Box<Row>>, AllocError>
-    ensures row { IfOk result (λ held. row_of held ≡ row) }
-    ensures sixteen { length row ≡ 16 }
-    ensures count { IfOk result (λ held. (count_by is_some row == 0) ≡ is_none held) }
+fn name_of(names: &[Option<u32>], child: Option<u32>) -> Option<u32>
+    requires { IsIn (length names.now) child }
+    ensures { result ≡ renamed names.now child }
 {
-    for i in 0..16 {
-        if row[i].is_some() {
-            let held = Box::new(alloc, row)?;
-            return Ok(Some(held));
-        }
+    match child {
+        None => None,
+        Some(id) => names[id as usize],
     }
-    Ok(None)
+}
+
+// Gives the children their new names.
+fn rename_row(row: &mut Row, names: &[Option<u32>])
+    requires { (x c : ℕ) → child row.old x ≡ Some c → c < length names.now }
+    ensures { row.new ≡ map (renamed names.now) row.old }
+{
+    for x in 0..16 {
+        row[x] = name_of(names, row[x]);
+    }
+}
+
+// Gives the children of a packed row their new names.
+fn rename_packed(row: &mut Packed, names: &[Option<u32>])
+    requires children { (x c : ℕ) → child row.old x ≡ Some c → c < length names.now }
+    requires packable { IsPackable (map (renamed names.now) row.old) }
+    ensures { row.new ≡ map (renamed names.now) row.old }
+{
+    let mut children = row.row();
+    rename_row(&mut children, names);
+    *row = Packed::of(&children);
+}
+
+fn rename_node(node: &mut Node, names: &[Option<u32>])
+    requires children { (x c : ℕ) → child (shape node.old).below x ≡ Some c → c < length names.now }
+    requires packable { IsPackable (with_names names.now (shape node.old)).below }
+    ensures { shape node.new ≡ with_names names.now (shape node.old) }
+{
+    match &mut node.body {
+        Body::Bare => {}
+        Body::Value(_) => {}
+        Body::Children(row) => rename_packed(row, names),
+        Body::Both(both) => rename_packed(&mut both.row, names),
+    }
+}
+
+// Moves a node to a lower place, with the new names of its children.
+fn move_node(nodes: &mut Vec<Node>, names: &[Option<u32>], id: usize, to: usize)
+    requires there { id < length nodes.old.items }
+    requires lower { to ≤ id }
+    requires children { (x c : ℕ) → child (shape_at (shapes nodes.old.items) id).below x ≡ Some c → c < length names.now }
+    requires packable { IsPackable (with_names names.now (shape_at (shapes nodes.old.items) id)).below }
+    ensures { IsSlid names.now (shapes nodes.old.items) (shapes nodes.new.items) id to }
+{
+    rename_node(&mut nodes[id], names);
+    nodes.swap(to, id);
+}
+
+fn set_name(names: &mut Names, id: usize, name: u32)
+    requires { id < length names.old.items }
+    ensures { names.new.items ≡ slice_set names.old.items id (Some name) }
+{
+    names[id] = Some(name);
+}
+
+// Gives a node the next name, where it is kept, and answers the name behind it.
+fn slide_one(nodes: &mut Vec<Node>, names: &mut Names, id: usize, next: u32) -> u32
+    requires there { id < length nodes.old.items }
+    requires lower { next ≤ id }
+    requires long { length names.old.items ≡ length nodes.old.items }
+    requires few { length nodes.old.items < 2 ^ 32 }
+    requires children { (x c : ℕ) → child (shape_at (shapes nodes.old.items) id).below x ≡ Some c → c < id }
+    requires names { (c name : ℕ) → c < id → new_name names.old.items c ≡ Some name → name < next }
+    ensures { SlidesOn (shapes nodes.old.items) (shapes nodes.new.items) names.old.items names.new.items id next result }
+{
+    if !is_kept(names, id) {
+        return next;
+    }
+    set_name(names, id, next);
+    move_node(nodes, names, id, next as usize);
+    next + 1
 }
 
 impl Nodes {
@@ -123,7 +191,7 @@ impl Nodes {
         requires { id < length self.now }
         ensures { option_copied result ≡ (shape_at self.now id).value }
     {
-        match &self.node(id).value {
+        match self.node(id).body.value() {
             None => None,
             Some(value) => Some(value.inner()),
         }
@@ -134,7 +202,7 @@ impl Nodes {
         requires { id < length self.now }
         ensures { IfOk result (λ value. option_map arc_value value ≡ (shape_at self.now id).value) }
     {
-        match &self.node(id).value {
+        match self.node(id).body.value() {
             None => Ok(None),
             Some(value) => {
                 let other = Arc::try_clone(value)?;
@@ -147,9 +215,9 @@ impl Nodes {
         requires { id < length self.now }
         ensures { result ≡ (shape_at self.now id).below }
     {
-        match &self.node(id).row {
+        match self.node(id).body.children() {
             None => [None; 16],
-            Some(row) => **row,
+            Some(row) => row.row(),
         }
     }
 
@@ -161,9 +229,9 @@ impl Nodes {
         ensures smaller { (c : ℕ) → result ≡ Some c → c < id }
     {
         let _alloc = self.alloc;
-        match &self.node(id).row {
+        match self.node(id).body.children() {
             None => None,
-            Some(row) => row[nibble as usize],
+            Some(row) => row.at(nibble),
         }
     }
 
@@ -236,17 +304,32 @@ impl Nodes {
             return Err(AllocError);
         }
         let below = self.usage_below(&row)?;
-        let row = boxed(self.alloc, row)?;
-        let usage = usage_of(&part, &value, row.is_none(), below)?;
+        let alone = is_alone(&row);
+        let usage = usage_of(&part, &value, alone, below)?;
+        let body = Body::of(self.alloc, value, &row)?;
         let node = Node {
-            part,
-            value,
-            row,
+            part: Part::of(part),
+            body,
             usage,
             hash: None,
         };
         self.nodes.push(node)?;
         Ok(id)
+    }
+
+    /// Drops the nodes that aren't kept, and gives the others their new names in order.
+    pub(crate) fn slide(&mut self, names: &mut Names)
+        requires long { length names.old.items ≡ length self.old }
+        requires closed { IsClosed self.old names.old.items 0 }
+        ensures named { AreNamed names.new.items self.old self.new }
+        ensures count { length self.new ≡ count_by is_some names.old.items }
+        ensures kept { (id : ℕ) → IsKept names.old.items id → IsKept names.new.items id }
+    {
+        let mut next = 0;
+        for id in 0..self.nodes.len() {
+            next = slide_one(&mut self.nodes, names, id, next);
+        }
+        self.nodes.truncate(next as usize);
     }
 
     /// Drops all but the oldest nodes.

@@ -9,7 +9,8 @@ ghost use Rattle.nr_trienodes.specs.Tries.{IsLinked};
 ghost use Rattle.nr_trienodes.specs.Views.{Sound, IsIn};
 ghost use Rattle.nr_trienodes.specs.Turns.{AreSteps, Extends, Settles, Sprouts, Climbs, LinksSo, left};
 
-use crate::nodes::{Nodes, Row};
+use crate::nodes::Nodes;
+use crate::packed::Row;
 use crate::turn::{Way, rest_of};
 use nr_bytes::Blob;
 use std::alloc::AllocError;

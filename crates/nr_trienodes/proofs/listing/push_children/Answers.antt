@@ -1,0 +1,12 @@
+use Rattle.std.proofs.Common.{◌≡◌, ◌<◌, ◌-◌, suc, arith, ap, subst, sym, length}
+use Rattle.std.specs.Prelude.{List, ℕ, Option}
+use Rattle.nr_trienodes.specs.Shape.{shape_at}
+use Rattle.nr_trienodes.specs.Listing.{RowPushed}
+use Rattle.nr_trienodes.proofs.Pushing.{row_down}
+use Rattle.nr_trienodes.proofs.listing.push_children.Goals as goal
+
+pub row-preserved : goal.row-preserved
+row-preserved c = record {
+  few = omega (arith, c.row.invariant.few);
+  pushed = row_down c.args.nodes.now c.args.node c.row-row.result c.args.key.now c.row.left c.args.places.now.items c.row.places.items c.push_child.new.places.items c.allocator-alloc.ensures c.requires.there c.row-row.ensures c.row-test.true c.row.invariant.few c.requires.small c.row.invariant.pushed c.in_ok-push_child.ensures;
+}

@@ -1,0 +1,6 @@
+use Rattle.std.proofs.Common.{◌≡◌, ◌<◌, ℕ, length, get_or, None}
+use Rattle.nr_trienodes.specs.Packing.{child_of}
+use Rattle.nr_trienodes.proofs.packed.Packed.row.Given as goal
+
+abbrev pub invariant-loop-x : goal.invariant-loop-x
+invariant-loop-x l = record { full : length l.row ≡ 16; made : (k : ℕ) → k < l.x → child_of (get_or l.self-inside.numbers k 0) ≡ get_or l.row k None }

@@ -1,0 +1,9 @@
+use Rattle.std.proofs.Common.{◌≡◌, ◌≤◌, length}
+use Rattle.nr_trienodes.specs.Naming.{BelowMarked}
+use Rattle.nr_trienodes.proofs.trimming.mark_below.Given as goal
+
+abbrev pub invariant-down : goal.invariant-down
+invariant-down l = record { few : l.left ≤ length l.nodes; below : BelowMarked l.nodes l.initial.names.items l.names.items l.left }
+
+abbrev pub decreases-down : goal.decreases-down
+decreases-down l = l.left

@@ -1,0 +1,110 @@
+//! What a node holds: a value, children, or both.
+
+ghost use Rattle.std.specs.Prelude.{◌≡◌, ◌==◌, length, count_by, is_some, IfOk};
+ghost use Rattle.std.specs.Option.{option_copied, option_map};
+ghost use Rattle.std.specs.Arc.{arc_value};
+ghost use Rattle.nr_trienodes.specs.Shape.{no_children};
+ghost use Rattle.nr_trienodes.specs.Packing.{IsPackable};
+ghost use Rattle.nr_trienodes.specs.Bodies.{value_of, row_of, row_in};
+
+use crate::packed::{Packed, Row};
+use nr_bytes::Blob;
+use std::alloc::{AllocError, Global};
+use std::sync::Arc;
+
+/// A value that nodes share, and children.
+#[derive(Drop)]
+pub(crate) struct Both {
+    pub(crate) value: Arc<Blob>,
+    pub(crate) row: Packed,
+}
+
+/// What stands at and below a node.
+#[derive(Drop)]
+pub(crate) enum Body {
+    Bare,
+    Value(Arc<Blob>),
+    Children(Box<Packed>),
+    Both(Box<Both>),
+}
+
+/// Whether no child is there.
+#[tactic(auto, using(crate::proofs::Rows::all_none, crate::proofs::Rows::some_child, crate::proofs::Rows::no_child))]
+pub(crate) fn is_alone(row: &Row) -> bool
+    ensures { result ≡ (count_by is_some row.now == 0) }
+{
+    for i in 0..16 {
+        if row[i].is_some() {
+            return false;
+        }
+    }
+    true
+}
+
+// What has no children.
+fn alone(value: Option<Arc<Blob>>) -> Body
+    ensures value { value_of result ≡ option_map arc_value value }
+    ensures row { row_of result ≡ no_children }
+{
+    match value {
+        None => Body::Bare,
+        Some(value) => Body::Value(value),
+    }
+}
+
+// What has children.
+fn with_row(alloc: Global, value: Option<Arc<Blob>>, row: Packed) -> Result<Body, AllocError>
+    ensures value { IfOk result (λ body. value_of body ≡ option_map arc_value value) }
+    ensures row { IfOk result (λ body. row_of body ≡ row) }
+{
+    match value {
+        None => {
+            let row = Box::new(alloc, row)?;
+            Ok(Body::Children(row))
+        }
+        Some(value) => {
+            let both = Box::new(alloc, Both { value, row })?;
+            Ok(Body::Both(both))
+        }
+    }
+}
+
+impl Body {
+    /// What has this value and these children.
+    pub(crate) fn of(alloc: Global, value: Option<Arc<Blob>>, row: &Row) -> Result<Body, AllocError>
+        requires { IsPackable row.now }
+        ensures value { IfOk result (λ body. value_of body ≡ option_map arc_value value) }
+        ensures row { IfOk result (λ body. row_of body ≡ row.now) }
+        ensures sixteen { length row.now ≡ 16 }
+    {
+        if is_alone(row) {
+            return Ok(alone(value));
+        }
+        let body = with_row(alloc, value, Packed::of(row))?;
+        Ok(body)
+    }
+
+    /// The value.
+    pub(crate) fn value(&self) -> Option<&Arc<Blob>>
+        ensures { option_map arc_value (option_copied result) ≡ value_of self.now }
+    {
+        match self {
+            Body::Bare => None,
+            Body::Value(value) => Some(value),
+            Body::Children(_) => None,
+            Body::Both(both) => Some(&both.value),
+        }
+    }
+
+    /// The children.
+    pub(crate) fn children(&self) -> Option<&Packed>
+        ensures { row_in (option_copied result) ≡ row_of self.now }
+    {
+        match self {
+            Body::Bare => None,
+            Body::Value(_) => None,
+            Body::Children(row) => Some(&**row),
+            Body::Both(both) => Some(&both.row),
+        }
+    }
+}
