@@ -1,0 +1,13 @@
+//! Tests of both stores side by side.
+#![tactic(auto)]
+
+#[cfg(test)]
+mod calls;
+#[cfg(test)]
+mod counting;
+#[cfg(test)]
+mod many;
+#[cfg(test)]
+mod pair;
+#[cfg(test)]
+mod roots;
