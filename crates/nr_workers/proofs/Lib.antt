@@ -1,0 +1,10 @@
+pub mod Each
+pub mod Orders
+pub mod Takings
+pub mod Inboxes
+pub mod Pairs
+pub mod Rows
+pub mod Moves
+pub mod Slots
+pub mod Fresh
+pub mod Finishing

@@ -1,0 +1,303 @@
+//! The steps of a worker.
+
+ghost use Rattle.std.specs.Prelude.{◌≡◌, ℕ, ◌+◌, ◌<◌, ◌≤◌, true, false, IfOk, IfSome, OnOk};
+ghost use Rattle.nr_overlap.specs.Serial.{with_list};
+ghost use Rattle.nr_exchange.specs.Plan.{plan_of};
+ghost use Rattle.nr_exchange.specs.Notes.{link};
+ghost use Rattle.nr_exchange.specs.Ports.{IsPortOf};
+ghost use Rattle.nr_exchange.specs.SerialPlan.{serial_plan};
+ghost use Rattle.nr_workers.specs.Stages.{IsWorkerAt, IsWorker};
+ghost use Rattle.nr_workers.specs.declared.worker.Stage.TheVariants.{Idle, Opened, Ended};
+
+use crate::gate::{Gate, Moment};
+use crate::inbox::Found;
+use crate::left::Left;
+use crate::worker::{Stage, Worker};
+use nr_bytes::List;
+use nr_exchange::{Exchange, Port, Serial};
+use nr_ids::Height;
+use nr_overlap::Phases;
+use std::alloc::{AllocError, Global};
+use std::mem;
+
+/// What a turn came to.
+#[derive(Clone, Copy, Debug, PartialEq, Eq)]
+pub(crate) enum Turn {
+    /// The worker made a step.
+    Moved,
+    /// The next list isn't there yet.
+    Waits,
+    /// There is nothing more to do.
+    Done,
+    /// The worker gave up.
+    Failed,
+}
+
+/// Goes past a height without a chunk.
+fn skip_next<P: Phases>(
+    phases: &P,
+    exchange: &Exchange<Serial<P>>,
+    worker: &mut Worker<P>,
+    world: P::World,
+)
+    requires run { phases.now ≡ exchange.now.run.0 }
+    requires at { IsWorkerAt P.rules exchange.now worker.old (Idle world) }
+    requires below { worker.old.height < (P.rules exchange.now.run.0).heights }
+    requires missing { (P.rules exchange.now.run.0).present worker.old.shard.0 (worker.old.height + 1) ≡ false }
+    ensures shard { worker.new.shard ≡ worker.old.shard }
+    ensures at { IsWorkerAt P.rules exchange.now worker.new worker.new.stage }
+{
+    let _heights = phases.heights();
+    worker.inbox.port.skip(exchange, Height(worker.height + 1));
+    worker.height += 1;
+    worker.stage = Stage::Idle(world);
+}
+
+/// Opens the next chunk.
+fn open_next<P: Phases, G: Gate>(
+    alloc: Global,
+    phases: &P,
+    exchange: &Exchange<Serial<P>>,
+    gate: &G,
+    worker: &mut Worker<P>,
+    world: P::World,
+) -> Result<(), AllocError>
+    requires run { phases.now ≡ exchange.now.run.0 }
+    requires at { IsWorkerAt P.rules exchange.now worker.old (Idle world) }
+    requires below { worker.old.height < (P.rules exchange.now.run.0).heights }
+    requires there { (P.rules exchange.now.run.0).present worker.old.shard.0 (worker.old.height + 1) ≡ true }
+    ensures shard { worker.new.shard ≡ worker.old.shard }
+    ensures at { OnOk result (IsWorkerAt P.rules exchange.now worker.new worker.new.stage) }
+    ensures port { IsPortOf (serial_plan P.rules) exchange.now worker.new.inbox.port }
+{
+    let _shards = phases.shards();
+    let _heights = phases.heights();
+    let height = Height(worker.height + 1);
+    gate.pass(worker.shard, height, Moment::BeforeOpen);
+    let working = phases.open_chunk(alloc, worker.shard, height, world)?;
+    worker.stage = Stage::Opened(working);
+    Ok(())
+}
+
+/// Comes to the end behind the last height.
+fn end_next<P: Phases>(
+    alloc: Global,
+    phases: &P,
+    exchange: &Exchange<Serial<P>>,
+    worker: &mut Worker<P>,
+    world: P::World,
+) -> Result<(), AllocError>
+    requires run { phases.now ≡ exchange.now.run.0 }
+    requires at { IsWorkerAt P.rules exchange.now worker.old (Idle world) }
+    requires last { worker.old.height ≡ (P.rules exchange.now.run.0).heights }
+    ensures shard { worker.new.shard ≡ worker.old.shard }
+    ensures at { OnOk result (IsWorkerAt P.rules exchange.now worker.new worker.new.stage) }
+    ensures port { IsPortOf (serial_plan P.rules) exchange.now worker.new.inbox.port }
+{
+    let _exchange = exchange;
+    let _heights = phases.heights();
+    let left = Left::new(alloc, worker.inbox.done + 1, phases.shards())?;
+    worker.stage = Stage::Ended(world, left);
+    Ok(())
+}
+
+/// Gives a list to the chunk, if there is one.
+fn give<P: Phases>(
+    alloc: Global,
+    phases: &P,
+    working: &mut P::Working,
+    list: Option<P::Parcel>,
+) -> Result<(), AllocError>
+    requires list { IfSome list (λ l. P.can_take phases.now working.old l) }
+    ensures { OnOk result (working.new ≡ with_list (P.rules phases.now) working.old list) }
+{
+    match list {
+        Some(list) => phases.take_list(alloc, working, list),
+        None => Ok(()),
+    }
+}
+
+/// Publishes the lists of a chunk.
+fn publish<P: Phases>(
+    exchange: &Exchange<Serial<P>>,
+    port: &mut Port<Serial<P>>,
+    height: Height,
+    lists: List<P::Parcel>,
+)
+    requires port { IsPortOf (serial_plan P.rules) exchange.now port.old }
+    requires next { height.0 ≡ port.old.note.number + 1 }
+    requires last { height.0 ≤ (P.rules exchange.now.run.0).heights }
+    requires there { (P.rules exchange.now.run.0).present port.old.note.shard height.0 ≡ true }
+    requires lists { lists ≡ (plan_of (P.rules exchange.now.run.0)).lists port.old.note.shard height.0 }
+    ensures port { IsPortOf (serial_plan P.rules) exchange.now port.new }
+    ensures shard { port.new.note.shard ≡ port.old.note.shard }
+    ensures number { port.new.note.number ≡ height.0 }
+    ensures claims { (t : ℕ) → (link port.new.note t).claimed ≡ (link port.old.note t).claimed }
+{
+    let Ok(()) = port.publish(exchange, height, lists) else {
+        unreachable!();
+    };
+}
+
+/// Seals the chunk, and publishes its lists.
+fn seal_next<P: Phases, G: Gate>(
+    alloc: Global,
+    phases: &P,
+    exchange: &Exchange<Serial<P>>,
+    gate: &G,
+    worker: &mut Worker<P>,
+    working: P::Working,
+) -> Result<(), AllocError>
+    requires run { phases.now ≡ exchange.now.run.0 }
+    requires at { IsWorkerAt P.rules exchange.now worker.old (Opened working) }
+    requires all { worker.old.height ≤ worker.old.inbox.done }
+    ensures shard { worker.new.shard ≡ worker.old.shard }
+    ensures at { OnOk result (IsWorkerAt P.rules exchange.now worker.new worker.new.stage) }
+    ensures port { IsPortOf (serial_plan P.rules) exchange.now worker.new.inbox.port }
+{
+    let _shards = phases.shards();
+    let _heights = phases.heights();
+    let (world, report, lists) = phases.seal_chunk(alloc, working)?;
+    worker.reports.push(report)?;
+    let height = Height(worker.height + 1);
+    gate.pass(worker.shard, height, Moment::AfterSeal);
+    publish(exchange, &mut worker.inbox.port, height, lists);
+    gate.pass(worker.shard, height, Moment::AfterPublish);
+    worker.height += 1;
+    worker.stage = Stage::Idle(world);
+    Ok(())
+}
+
+/// Tries to take the next list into the chunk, or else seals it.
+fn opened_turn<P: Phases, G: Gate>(
+    alloc: Global,
+    phases: &P,
+    exchange: &Exchange<Serial<P>>,
+    gate: &G,
+    worker: &mut Worker<P>,
+    mut working: P::Working,
+) -> Result<Turn, AllocError>
+    requires run { phases.now ≡ exchange.now.run.0 }
+    requires at { IsWorkerAt P.rules exchange.now worker.old (Opened working) }
+    ensures shard { worker.new.shard ≡ worker.old.shard }
+    ensures at { OnOk result (IsWorkerAt P.rules exchange.now worker.new worker.new.stage) }
+    ensures port { IsPortOf (serial_plan P.rules) exchange.now worker.new.inbox.port }
+{
+    let _shards = phases.shards();
+    match worker.inbox.take_next(phases, exchange, worker.height)? {
+        Found::Passed(list) => {
+            give(alloc, phases, &mut working, list)?;
+            worker.stage = Stage::Opened(working);
+            Ok(Turn::Moved)
+        }
+        Found::Waits => {
+            worker.stage = Stage::Opened(working);
+            Ok(Turn::Waits)
+        }
+        Found::All => {
+            seal_next(alloc, phases, exchange, gate, worker, working)?;
+            Ok(Turn::Moved)
+        }
+    }
+}
+
+/// Tries to take the next list that no chunk takes.
+fn ended_turn<P: Phases>(
+    phases: &P,
+    exchange: &Exchange<Serial<P>>,
+    worker: &mut Worker<P>,
+    world: P::World,
+    mut left: Left<P::Parcel>,
+) -> Result<Turn, AllocError>
+    requires run { phases.now ≡ exchange.now.run.0 }
+    requires at { IsWorkerAt P.rules exchange.now worker.old (Ended world left) }
+    ensures shard { worker.new.shard ≡ worker.old.shard }
+    ensures at { OnOk result (IsWorkerAt P.rules exchange.now worker.new worker.new.stage) }
+    ensures port { IsPortOf (serial_plan P.rules) exchange.now worker.new.inbox.port }
+{
+    let source = worker.inbox.source;
+    match worker.inbox.take_next(phases, exchange, worker.height)? {
+        Found::Passed(list) => {
+            left.push(source, list)?;
+            worker.stage = Stage::Ended(world, left);
+            Ok(Turn::Moved)
+        }
+        Found::Waits => {
+            worker.stage = Stage::Ended(world, left);
+            Ok(Turn::Waits)
+        }
+        Found::All => {
+            worker.stage = Stage::Ended(world, left);
+            Ok(Turn::Done)
+        }
+    }
+}
+
+fn idle_turn<P: Phases, G: Gate>(
+    alloc: Global,
+    phases: &P,
+    exchange: &Exchange<Serial<P>>,
+    gate: &G,
+    worker: &mut Worker<P>,
+    world: P::World,
+) -> Result<Turn, AllocError>
+    requires run { phases.now ≡ exchange.now.run.0 }
+    requires at { IsWorkerAt P.rules exchange.now worker.old (Idle world) }
+    ensures shard { worker.new.shard ≡ worker.old.shard }
+    ensures at { OnOk result (IsWorkerAt P.rules exchange.now worker.new worker.new.stage) }
+    ensures port { IsPortOf (serial_plan P.rules) exchange.now worker.new.inbox.port }
+{
+    if worker.height >= phases.heights() {
+        end_next(alloc, phases, exchange, worker, world)?;
+    } else if phases.present(worker.shard, Height(worker.height + 1)) {
+        open_next(alloc, phases, exchange, gate, worker, world)?;
+    } else {
+        skip_next(phases, exchange, worker, world);
+    }
+    Ok(Turn::Moved)
+}
+
+fn try_turn<P: Phases, G: Gate>(
+    alloc: Global,
+    phases: &P,
+    exchange: &Exchange<Serial<P>>,
+    gate: &G,
+    worker: &mut Worker<P>,
+) -> Result<Turn, AllocError>
+    requires run { phases.now ≡ exchange.now.run.0 }
+    requires sound { IsWorker P.rules exchange.now worker.old }
+    ensures shard { worker.new.shard ≡ worker.old.shard }
+    ensures at { OnOk result (IsWorkerAt P.rules exchange.now worker.new worker.new.stage) }
+    ensures port { IsPortOf (serial_plan P.rules) exchange.now worker.new.inbox.port }
+{
+    match mem::replace(&mut worker.stage, Stage::Lost) {
+        Stage::Idle(world) => idle_turn(alloc, phases, exchange, gate, worker, world),
+        Stage::Opened(working) => opened_turn(alloc, phases, exchange, gate, worker, working),
+        Stage::Ended(world, left) => ended_turn(phases, exchange, worker, world, left),
+        Stage::Lost => Err(AllocError),
+    }
+}
+
+/// Makes the next step of a worker. Where memory is wanting, or a source has abandoned the run, the worker abandons
+/// it too.
+pub(crate) fn make_turn<P: Phases, G: Gate>(
+    alloc: Global,
+    phases: &P,
+    exchange: &Exchange<Serial<P>>,
+    gate: &G,
+    worker: &mut Worker<P>,
+) -> Turn
+    requires run { phases.now ≡ exchange.now.run.0 }
+    requires sound { IsWorker P.rules exchange.now worker.old }
+    ensures sound { IsWorker P.rules exchange.now worker.new }
+    ensures shard { worker.new.shard ≡ worker.old.shard }
+{
+    match try_turn(alloc, phases, exchange, gate, worker) {
+        Ok(turn) => turn,
+        Err(_) => {
+            worker.stage = Stage::Lost;
+            worker.inbox.port.abandon(exchange);
+            Turn::Failed
+        }
+    }
+}
