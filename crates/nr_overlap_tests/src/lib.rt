@@ -12,5 +12,7 @@ mod sums;
 mod tests;
 
 pub use bag::Bag;
+pub use roll::Roll;
+pub use roll_call::{Calling, Last, Name};
 pub use small_chain::SmallChain;
 pub use sums::everything_adds_up;
