@@ -1,0 +1,4 @@
+pub mod Judging
+pub mod Making
+pub mod Counting
+pub mod Ending

@@ -1,0 +1,7 @@
+pub mod Runs
+pub mod Verdicts
+pub mod Loading
+pub mod Preparing
+pub mod Contract
+pub mod Calls
+pub mod Law

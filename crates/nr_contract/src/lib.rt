@@ -1,0 +1,13 @@
+//! Calls of contracts: the code of an account runs over the state of its shard.
+#![tactic(auto)]
+
+mod caller;
+mod methods;
+mod parts;
+mod preparing;
+mod refused;
+#[cfg(test)]
+mod tests;
+mod threads;
+
+pub use caller::ContractCaller;

@@ -1,0 +1,96 @@
+//! The machine of a call, before its method runs.
+
+ghost use Rattle.std.specs.Prelude.{◌≡◌, IfOk, Ok, IsTrue};
+ghost use Rattle.nr_config.specs.Config.{max_pages};
+ghost use Rattle.nr_wasmexec.specs.Making.{program_of, method_of};
+ghost use Rattle.nr_wasmvalid.specs.Modules.{IsValid};
+ghost use Rattle.nr_contract.specs.Loading.{judged, named, read, prepared};
+ghost use Rattle.nr_contract.specs.Preparing.{Prepares, CanRun, with_machine, with_method};
+
+use crate::methods::has_method;
+use crate::parts::{BAD_CODE, NO_METHOD, SEGMENT, decode_part, invalid};
+use crate::refused::Refused;
+use nr_config::Config;
+use nr_wasmbin::{DecodeFault, decode};
+use nr_wasmexec::{Machine, MakeFault};
+use nr_wasmtypes::Module;
+use nr_wasmvalid::{Valid, validate};
+use std::alloc::Global;
+
+fn with_method(machine: Machine, method: &[u8]) -> Result<(Machine, u32), Refused>
+    ensures prepares { Prepares result (with_method machine (method_of machine.program method.now)) }
+    ensures runs { IfOk result CanRun }
+{
+    match machine.method(method) {
+        Some(func) => Ok((machine, func)),
+        None => Err(Refused::Failed {
+            kind: NO_METHOD,
+            part: 0,
+        }),
+    }
+}
+
+#[tactic(auto, using(crate::proofs::Making::found_in))]
+fn prepare_valid(
+    alloc: Global,
+    valid: Valid,
+    method: &[u8],
+    config: &Config,
+) -> Result<(Machine, u32), Refused>
+    requires { IsValid (max_pages config.now) valid }
+    ensures prepares { Prepares result
+        (with_machine config.now (named valid (method_of (program_of valid) method.now))) }
+    ensures runs { IfOk result CanRun }
+{
+    if !has_method(valid.module(), method) {
+        return Err(Refused::Failed {
+            kind: NO_METHOD,
+            part: 0,
+        });
+    }
+    match Machine::new(alloc, valid, config) {
+        Ok(machine) => with_method(machine, method),
+        Err(MakeFault::Segment) => Err(Refused::Failed {
+            kind: BAD_CODE,
+            part: SEGMENT,
+        }),
+        Err(MakeFault::Memory) => Err(Refused::Memory),
+    }
+}
+
+#[tactic(auto, using(crate::proofs::Making::passes_on, crate::proofs::Making::stops_at))]
+fn prepare_module(
+    alloc: Global,
+    module: Module,
+    method: &[u8],
+    config: &Config,
+) -> Result<(Machine, u32), Refused>
+    ensures prepares { Prepares result (with_machine config.now (read config.now method.now (Ok «module»))) }
+    ensures runs { IfOk result CanRun }
+{
+    match validate(alloc, module, config) {
+        Ok(valid) => prepare_valid(alloc, valid, method, config),
+        Err(fault) => Err(invalid(fault)),
+    }
+}
+
+/// Decodes and validates the code, looks the method up, and makes the machine.
+#[tactic(auto, unfolding(crate::specs::Loading::prepared))]
+pub(crate) fn prepare(
+    alloc: Global,
+    code: &[u8],
+    method: &[u8],
+    config: &Config,
+) -> Result<(Machine, u32), Refused>
+    ensures prepares { Prepares result (prepared config.now code.now method.now) }
+    ensures runs { IfOk result CanRun }
+{
+    match decode(alloc, code, config) {
+        Ok(module) => prepare_module(alloc, module, method, config),
+        Err(DecodeFault::Memory) => Err(Refused::Memory),
+        Err(fault) => Err(Refused::Failed {
+            kind: BAD_CODE,
+            part: decode_part(fault),
+        }),
+    }
+}
