@@ -1,0 +1,6 @@
+pub mod Amounts
+pub mod Loops
+pub mod Only
+pub mod PlainLaws
+pub mod RecordLaws
+pub mod FileLaws

@@ -1,0 +1,31 @@
+-- Transactions as JSON values, with the names of NEAR's JSON (Nomicon, DataStructures, Transaction).
+use Rattle.std.specs.Prelude.{Ok, codes}
+use Rattle.nr_bytes.specs.Reading.{◌>>=◌}
+use Rattle.nr_records.specs.declared.transaction.Transaction.{Transaction}
+use Rattle.serde_json.specs.Data.{Data, string, object, Members, no_members, put}
+use Rattle.nr_json.specs.Faults.{Read}
+use Rattle.nr_json.specs.Members.{member_of}
+use Rattle.nr_json.specs.Plain.{number_json, number_of}
+use Rattle.nr_json.specs.Keys.{id_of, hash_json, hash_of, key_json, key_of}
+use Rattle.nr_json.specs.Lists.{list_json, list_of}
+use Rattle.nr_json.specs.Actions.{action_json, action_of}
+
+abbrev pub transaction_members : Transaction → Members
+transaction_members t =
+    put (codes "actions") (list_json action_json t.actions)
+    (put (codes "block_hash") (hash_json t.block_hash)
+    (put (codes "receiver_id") (string t.receiver)
+    (put (codes "nonce") (number_json t.nonce) (put (codes "public_key") (key_json t.public_key) (put (codes "signer_id") (string t.signer) no_members)))))
+
+abbrev pub transaction_json : Transaction → Data
+transaction_json t = object (transaction_members t)
+
+unfoldable pub transaction_of : Data → Read Transaction
+transaction_of d = do
+  signer ← member_of (codes "signer_id") id_of d
+  public_key ← member_of (codes "public_key") key_of d
+  nonce ← member_of (codes "nonce") number_of d
+  receiver ← member_of (codes "receiver_id") id_of d
+  block_hash ← member_of (codes "block_hash") hash_of d
+  actions ← member_of (codes "actions") (list_of action_of) d
+  Ok (record { signer = signer; public_key = public_key; nonce = nonce; receiver = receiver; block_hash = block_hash; actions = actions })

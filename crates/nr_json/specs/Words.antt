@@ -1,0 +1,19 @@
+-- What is wrong with a value, in words that follow its path. This project's own.
+use Rattle.std.specs.Prelude.{ℕ, List, codes}
+use Rattle.nr_json.specs.declared.fault.Wrong.{Wrong}
+use Rattle.nr_json.specs.declared.fault.Wrong.TheVariants.{Missing, NoObject, NoList, NoText, NoNumber, NoAmount, NoBytes, NoHash, NoKey, NoAccountId, NoAction, NoPermission, NoKind}
+
+abbrev pub words : Wrong → List ℕ
+words Missing = codes "is missing"
+words NoObject = codes "is no object"
+words NoList = codes "is no list"
+words NoText = codes "is no text"
+words NoNumber = codes "is no whole number from 0 to 18446744073709551615"
+words NoAmount = codes "is no amount: a text of decimal digits, at most 340282366920938463463374607431768211455"
+words NoBytes = codes "is no text of pairs of hexadecimal digits"
+words NoHash = codes "is no text of 64 hexadecimal digits"
+words NoKey = codes "is no key: `ed25519:` and 64 hexadecimal digits, or `secp256k1:` and 128"
+words NoAccountId = codes "is no account id"
+words NoAction = codes "is no action"
+words NoPermission = codes "is no permission"
+words NoKind = codes "is no kind of entry: `account`, `code`, `key` or `datum`"
