@@ -1,5 +1,5 @@
 use Rattle.std.proofs.Common.{◌≡◌}
-use Rattle.near_bench.proofs.fill_nested.Given as goal
+use Rattle.near_bench.proofs.stores.fill_nested.Given as goal
 
 abbrev pub invariant-loop-turn : goal.invariant-loop-turn
 invariant-loop-turn g l = g.S.Store.marks l.store ≡ g.S.Store.marks l.initial.store

@@ -1,0 +1,217 @@
+//! Operations of a store, done many times.
+
+ghost use Rattle.std.specs.Prelude.{◌≡◌, ◌<◌, [], OnOk};
+
+use nr_store::PlainStore;
+use nr_triedef::{Steps, Store};
+use nr_trieupdate::TrieStore;
+use std::alloc::{AllocError, Global};
+use std::marker::Brand;
+use std::sync::ledger::{Blank, Ledger};
+
+/// Which store is measured.
+#[derive(Clone, Copy, Debug)]
+enum Kind {
+    Plain,
+    Trie,
+}
+
+/// What is measured.
+#[derive(Clone, Copy, Debug)]
+enum Operation {
+    /// The filling alone.
+    Fill,
+    /// A look-up.
+    Get,
+    /// Another value at a key that stands.
+    Set,
+    /// A key taken out and put in again.
+    Remove,
+    /// A checkpoint, one change, and the checkpoint dropped.
+    Keep,
+    /// A checkpoint, one change, and the change taken back.
+    Back,
+    /// The root.
+    Root,
+    /// One change, and the root.
+    Change,
+    /// The root of keys that each begin with all shorter ones.
+    Nested,
+}
+
+/// What is to be done.
+#[derive(Clone, Copy, Debug)]
+pub struct Task {
+    kind: Kind,
+    operation: Operation,
+    keys: u32,
+    /// How many times.
+    pub turns: u32,
+}
+
+fn kind_of(word: &str) -> Option<Kind> {
+    match word {
+        "plain" => Some(Kind::Plain),
+        "trie" => Some(Kind::Trie),
+        _ => None,
+    }
+}
+
+fn operation_of(word: &str) -> Option<Operation> {
+    match word {
+        "fill" => Some(Operation::Fill),
+        "get" => Some(Operation::Get),
+        "set" => Some(Operation::Set),
+        "remove" => Some(Operation::Remove),
+        "keep" => Some(Operation::Keep),
+        "back" => Some(Operation::Back),
+        "root" => Some(Operation::Root),
+        "change" => Some(Operation::Change),
+        "nested" => Some(Operation::Nested),
+        _ => None,
+    }
+}
+
+/// A key, spread over the order of all keys.
+fn key_of(number: u32) -> [u8; 4] {
+    number.wrapping_mul(2_654_435_769).to_be_bytes()
+}
+
+fn fill<S: Store>(store: &mut S, keys: u32) -> Result<(), AllocError>
+    ensures { S.marks store.new ≡ S.marks store.old }
+{
+    for number in 0..keys {
+        store.set(&key_of(number), b"value")?;
+    }
+    Ok(())
+}
+
+/// Fills with the keys `a`, `aa` and so on.
+fn fill_nested<S: Store>(store: &mut S, alloc: Global, keys: u32) -> Result<(), AllocError>
+    ensures { S.marks store.new ≡ S.marks store.old }
+{
+    let mut key = Vec::new(alloc);
+    for _turn in 0..keys {
+        key.push(b'a')?;
+        store.set(key.as_slice(), b"v")?;
+    }
+    Ok(())
+}
+
+fn counted_root<S: Store, L: Ledger>(store: &mut S, blank: Blank) -> Result<(), AllocError>
+    requires name { blank.name ≡ L.name }
+    requires parts { blank.parts ≡ L.parts }
+    requires whole { 0 < blank.parts }
+    ensures marks { S.marks store.new ≡ S.marks store.old }
+{
+    let mut steps = Steps::<L>::new(blank);
+    store.root(&mut steps)?;
+    Ok(())
+}
+
+fn root<S: Store>(store: &mut S) -> Result<(), AllocError>
+    ensures marks { S.marks store.new ≡ S.marks store.old }
+{
+    counted_root::<S, Brand>(store, Blank::new(1))
+}
+
+fn turn<S: Store>(
+    store: &mut S,
+    operation: Operation,
+    key: &[u8],
+    value: &[u8],
+) -> Result<(), AllocError>
+    requires { S.marks store.old ≡ [] }
+    ensures { OnOk result (S.marks store.new ≡ []) }
+{
+    match operation {
+        Operation::Fill => {}
+        Operation::Get => {
+            let _ = store.get(key);
+        }
+        Operation::Set => store.set(key, value)?,
+        Operation::Remove => {
+            store.remove(key)?;
+            store.set(key, value)?;
+        }
+        Operation::Keep => {
+            store.reserve_marks(1)?;
+            store.mark();
+            store.set(key, value)?;
+            store.keep();
+        }
+        Operation::Back => {
+            store.reserve_marks(1)?;
+            store.mark();
+            store.set(key, value)?;
+            store.back();
+        }
+        Operation::Change => {
+            store.set(key, value)?;
+            root(store)?;
+        }
+        Operation::Root | Operation::Nested => root(store)?,
+    }
+    Ok(())
+}
+
+fn turns_of<S: Store>(
+    store: &mut S,
+    operation: Operation,
+    keys: u32,
+    turns: u32,
+) -> Result<(), AllocError>
+    requires empty { S.marks store.old ≡ [] }
+    requires some { 0 < keys }
+{
+    for number in 0..turns {
+        turn(
+            store,
+            operation,
+            &key_of(number % keys),
+            &number.to_be_bytes(),
+        )?;
+    }
+    Ok(())
+}
+
+fn do_all<S: Store>(store: &mut S, alloc: Global, task: Task) -> Result<(), AllocError>
+    requires empty { S.marks store.old ≡ [] }
+{
+    match task.operation {
+        Operation::Nested => fill_nested(store, alloc, task.keys)?,
+        _ => fill(store, task.keys)?,
+    }
+    if let Operation::Change = task.operation {
+        root(store)?;
+    }
+    if task.keys > 0 {
+        turns_of(store, task.operation, task.keys, task.turns)?;
+    }
+    Ok(())
+}
+
+/// Fills a store, and does the operation on it.
+///
+/// # Errors
+///
+/// Where memory ran out.
+pub fn run(alloc: Global, task: Task) -> Result<(), AllocError> {
+    match task.kind {
+        Kind::Plain => do_all(&mut PlainStore::new(alloc), alloc, task),
+        Kind::Trie => do_all(&mut TrieStore::new(alloc), alloc, task),
+    }
+}
+
+/// What the words ask for: the store, the operation, the keys and the turns.
+pub fn task_of(words: &[String]) -> Option<Task> {
+    match words {
+        [kind, operation, keys, turns] => Some(Task {
+            kind: kind_of(kind.as_str())?,
+            operation: operation_of(operation.as_str())?,
+            keys: keys.parse::<u32>().ok()?,
+            turns: turns.parse::<u32>().ok()?,
+        }),
+        _ => None,
+    }
+}
