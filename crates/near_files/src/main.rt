@@ -1,0 +1,54 @@
+//! Writes the blocks file of a chain from a JSON text, and a JSON text of a blocks file.
+//!
+//! The words are `blocks JSON` or `show blocks FILE`. The exit status is 0 where it was written; 1 where
+//! the words are no command, 5 where a file could not be read, 6 where the output could not be written,
+//! 7 where memory ran out and 20 where a file is refused. A line on standard error then has the status,
+//! or for 20 the words that say what is wrong.
+#![tactic(auto)]
+
+use nr_bytes::{FileShelf, StdoutSink};
+use nr_files::{Status, serve_files};
+use std::alloc::Global;
+use std::io;
+use std::process::ExitCode;
+use std::rt::{Env, Files};
+
+/// The words behind the program's own name.
+fn words_of<R: Env + AllocGlobal>(rt: &R, alloc: Global) -> io::Result<Vec<String>> {
+    let mut words = Vec::new(alloc);
+    for word in std::env::args(rt)?.skip(1) {
+        words.push(word)?;
+    }
+    Ok(words)
+}
+
+/// The answer where the words could not be had: one that isn't UTF-8 makes no command.
+fn refused(error: &io::Error) -> Status {
+    if error.kind() == io::ErrorKind::OutOfMemory {
+        Status::NoMemory
+    } else {
+        Status::Usage
+    }
+}
+
+/// Runs the command of the words over the process's files and output.
+fn run<R: Env + Files + Print + AllocGlobal>(rt: &R, alloc: Global) -> Status {
+    match words_of(rt, alloc) {
+        Ok(words) => {
+            let mut shelf = FileShelf::new(rt);
+            let mut sink = StdoutSink::new(rt);
+            serve_files(alloc, &words, &mut shelf, &mut sink)
+        }
+        Err(error) => refused(&error),
+    }
+}
+
+fn main(rt: HostRuntime) -> ExitCode {
+    let status = run(&rt, rt.alloc());
+    let number = status.exit_status();
+    if number > 0 {
+        // A line that can't be printed changes no status.
+        let _ = rt.eprintln(status);
+    }
+    ExitCode::from(number)
+}

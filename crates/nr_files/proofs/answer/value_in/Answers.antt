@@ -1,0 +1,15 @@
+use Rattle.std.proofs.Common.{◌≡◌, true}
+use Rattle.serde_json.specs.View.{view}
+use Rattle.nr_files.specs.Due.{value_in}
+use Rattle.nr_files.specs.Lines.{no_json}
+use Rattle.nr_files.proofs.Steps.{value_found, no_value, refused}
+use Rattle.nr_files.proofs.answer.value_in.Goals as goal
+
+pub returns-in-Ok : goal.returns-in-Ok
+returns-in-Ok c = value_found c.args.text.now (view c.in-Ok.value) c.in-Ok.ensures.ok.0 c.in-Ok.ensures.ok.1
+
+-- an error that is not of memory
+pub returns-in-Err-2 : goal.returns-in-Err-2
+returns-in-Err-2 c =
+    let none = no_value c.args.text.now (c.in-Err.ensures.err (λ m. let t : c.is_memory.result ≡ true = c.is_memory.ensures.1 m in cc)) in
+    refused c.faulty.result no_json (value_in c.args.text.now) c.faulty.ensures none

@@ -1,0 +1,5 @@
+pub mod Command
+pub mod Lines
+pub mod Due
+pub mod Answers
+pub mod Exit

@@ -1,0 +1,105 @@
+//! What a file asks for.
+
+ghost use Rattle.std.specs.Prelude.{◌≡◌, IfOk, OnErr, Err};
+ghost use Rattle.serde_json.specs.View.{view};
+ghost use Rattle.nr_records.specs.Reading.{all_of};
+ghost use Rattle.nr_blocks.specs.Judging.{with_fault};
+ghost use Rattle.nr_files.specs.Answers.{AnswersAs, Answers};
+ghost use Rattle.nr_files.specs.Due.{IsTextOf, value_in, made_blocks, shown_blocks, of_bytes};
+ghost use Rattle.nr_files.specs.Lines.{fault_line, unread_line};
+ghost use Rattle.nr_files.specs.declared.status.Status.TheVariants.{NoMemory};
+
+use crate::command::Work;
+use crate::status::Status;
+use crate::telling::{faulty, json_status, unread_status};
+use nr_blocks::BlocksFile;
+use nr_bytes::Blob;
+use nr_json::Form;
+use nr_records::{Spelled, decode, encode};
+use serde_json::Value;
+use std::alloc::Global;
+
+/// The value of a JSON text.
+fn value_in(alloc: Global, text: &[u8]) -> Result<Value, Status>
+    ensures { AnswersAs view result (value_in text.now) }
+{
+    match Value::from_slice(alloc, text) {
+        Ok(value) => Ok(value),
+        Err(fault) if fault.is_memory() => Err(Status::NoMemory),
+        Err(_) => Err(faulty(alloc, "the text is no JSON")),
+    }
+}
+
+/// The record that a JSON value stands for.
+fn record_in<T: Form>(alloc: Global, value: &Value) -> Result<T, Status>
+    ensures { AnswersAs (λ x. x) result (with_fault fault_line (T.reading (view value.now))) }
+{
+    match T::from_json(alloc, value) {
+        Ok(found) => Ok(found),
+        Err(fault) => Err(json_status(alloc, fault)),
+    }
+}
+
+/// The record that bytes spell.
+fn record_of<T: Spelled>(alloc: Global, bytes: &[u8]) -> Result<T, Status>
+    ensures { AnswersAs (λ x. x) result (with_fault unread_line (all_of T.reading bytes.now)) }
+{
+    match decode::<T>(alloc, bytes) {
+        Ok(found) => Ok(found),
+        Err(fault) => Err(unread_status(alloc, fault)),
+    }
+}
+
+/// The bytes that spell a record.
+fn spelling_of<T: Spelled>(alloc: Global, value: &T) -> Result<Blob, Status>
+    ensures ok { IfOk result (λ bytes. bytes ≡ T.spelling value.now) }
+    ensures err { OnErr result (result ≡ Err NoMemory) }
+{
+    match encode(alloc, value) {
+        Ok(bytes) => Ok(bytes),
+        Err(_) => Err(Status::NoMemory),
+    }
+}
+
+/// The text of a record's JSON value.
+fn text_of<T: Form>(alloc: Global, value: &T) -> Result<Blob, Status>
+    ensures ok { IfOk result (λ bytes. IsTextOf (T.json value.now) bytes) }
+    ensures err { OnErr result (result ≡ Err NoMemory) }
+{
+    let Ok(json) = value.to_json(alloc) else {
+        return Err(Status::NoMemory);
+    };
+    match json.to_vec_pretty(alloc) {
+        Ok(text) => Ok(Blob::of(text)),
+        Err(_) => Err(Status::NoMemory),
+    }
+}
+
+#[tactic(auto, using(crate::proofs::Steps::refuses_on), unfolding(crate::specs::Due::made_blocks))]
+fn made_blocks(alloc: Global, text: &[u8]) -> Result<Blob, Status>
+    ensures { Answers result (made_blocks text.now) }
+{
+    let value = value_in(alloc, text)?;
+    let file = record_in::<BlocksFile>(alloc, &value)?;
+    let bytes = spelling_of(alloc, &file)?;
+    Ok(bytes)
+}
+
+#[tactic(auto, using(crate::proofs::Steps::refuses_on), unfolding(crate::specs::Due::shown_blocks))]
+fn shown_blocks(alloc: Global, bytes: &[u8]) -> Result<Blob, Status>
+    ensures { Answers result (shown_blocks bytes.now) }
+{
+    let file = record_of::<BlocksFile>(alloc, bytes)?;
+    let text = text_of(alloc, &file)?;
+    Ok(text)
+}
+
+/// What some bytes ask for.
+pub(crate) fn of_bytes(alloc: Global, work: Work, bytes: &[u8]) -> Result<Blob, Status>
+    ensures { Answers result (of_bytes work bytes.now) }
+{
+    match work {
+        Work::MakeBlocks => made_blocks(alloc, bytes),
+        Work::ShowBlocks => shown_blocks(alloc, bytes),
+    }
+}

@@ -1,0 +1,41 @@
+//! How a program ends with an answer.
+
+ghost use Rattle.std.specs.Prelude.{◌≡◌, Some};
+ghost use Rattle.nr_files.specs.Exit.{exit_status, status_line};
+
+use crate::status::Status;
+use std::fmt;
+
+impl Status {
+    /// The exit status of a program that ends with this answer: 0 `Done`, 1 `Usage`, 5 `ReadFault`,
+    /// 6 `WriteFault`, 7 `NoMemory` and 20 `Faulty`.
+    pub fn exit_status(&self) -> u8
+        ensures { result ≡ exit_status self.now }
+    {
+        match self {
+            Status::Done => 0,
+            Status::Usage => 1,
+            Status::ReadFault => 5,
+            Status::WriteFault => 6,
+            Status::NoMemory => 7,
+            Status::Faulty { .. } => 20,
+        }
+    }
+}
+
+/// The line that tells the answer: why a file is refused, in words; otherwise the exit status in decimal.
+impl fmt::Display for Status {
+    ghost output = { λ status. Some (status_line status) };
+
+    fn fmt<W: fmt::Write>(&self, f: &mut fmt::Formatter<W>) -> fmt::Result {
+        let number = self.exit_status();
+        match self {
+            Status::Faulty { line } => f.write_str(line.inner()),
+            Status::Done => write!(f, "{number}"),
+            Status::Usage => write!(f, "{number}"),
+            Status::ReadFault => write!(f, "{number}"),
+            Status::WriteFault => write!(f, "{number}"),
+            Status::NoMemory => write!(f, "{number}"),
+        }
+    }
+}
