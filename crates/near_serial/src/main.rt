@@ -1,8 +1,9 @@
-//! Replays the blocks of a file, one after another or by the steps of a schedule, and writes the report.
+//! Replays the blocks of a file, one after another or by the steps of a schedule, and writes the report; or
+//! runs a chain that is generated from numbers, and writes its totals and the digest of its report.
 //!
-//! The commands that are supported are `run CONFIG GENESIS BLOCKS` and
-//! `check CONFIG GENESIS BLOCKS SCHEDULE`, where CONFIG is `free` or the name of a file. The exit status
-//! is that of the answer; for one above 0 a line on standard error has it, with its numbers.
+//! The commands are `run CONFIG GENESIS BLOCKS`, `check CONFIG GENESIS BLOCKS SCHEDULE` and
+//! `gen NUMBER SHARDS BLOCKS`, where CONFIG is `free` or the name of a file. The exit status is that of the
+//! answer; for one above 0 a line on standard error has it, with its numbers.
 #![tactic(auto)]
 
 use nr_bytes::{FileShelf, StdoutSink};

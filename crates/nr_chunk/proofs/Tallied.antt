@@ -13,8 +13,12 @@ pub len_values : {K X : Type 0} {R : K → K → Ordering} (m : FinMap R X) → 
 len_values m = length-map (entries m) (λ e. e.1) ∙ sym (len-entries m)
 
 abbrev pub tally_of : ℕ → ℕ → ℕ → ℕ → ℕ → Tally
-tally_of accounts waits late postponed delayed = record { accounts = accounts; receipts = waits + late; burnt = 0; places = five 0 0 postponed delayed 0 }
+tally_of accounts waits late postponed delayed =
+    record { accounts = accounts; receipts = waits + late; burnt = 0; places = five 0 0 postponed delayed 0 }
 
-pub tally_is : (c : Config) (w : World) (accounts waits late postponed delayed : ℕ) → accounts ≡ accounts_tokens w → waits ≡ list_tokens c (values w.postponed) → late ≡ list_tokens c w.delayed
-    → postponed ≡ length (values w.postponed) → delayed ≡ length w.delayed → tally_of accounts waits late postponed delayed ≡ tally_world c w
-tally_is c w accounts waits late postponed delayed a b d e f = λ i. tally_of (a i) (b i) (d i) ((e ∙ len_values w.postponed) i) (f i)
+pub tally_is : (c : Config) (w : World) (accounts waits late postponed delayed : ℕ) → accounts ≡ accounts_tokens w
+    → waits ≡ list_tokens c (values w.postponed) → late ≡ list_tokens c w.delayed
+    → postponed ≡ length (values w.postponed) → delayed ≡ length w.delayed
+    → tally_of accounts waits late postponed delayed ≡ tally_world c w
+tally_is c w accounts waits late postponed delayed a b d e f =
+    λ i. tally_of (a i) (b i) (d i) ((e ∙ len_values w.postponed) i) (f i)

@@ -1,5 +1,7 @@
--- A chain: its configuration, what calls of contracts mean, its genesis and its blocks; and the phases of its chunks. After the Nomicon, Chain Specification.
-use Rattle.std.specs.Prelude.{◌≡◌, ℕ, zero, suc, ◌+◌, ◌^◌, ◌≤◌, true, List, [], length, Option, Some, None, slice_get, unwrap_or, is_some}
+-- A chain: its configuration, what calls of contracts mean, its genesis and its blocks; and the phases of its chunks.
+-- After the Nomicon, Chain Specification.
+use Rattle.std.specs.Prelude.{◌≡◌, ℕ, zero, suc, ◌+◌, ◌^◌, ◌≤◌, true, List, [], length, Option, Some, None, slice_get}
+use Rattle.std.specs.Prelude.{unwrap_or, is_some}
 use Rattle.std.specs.List.{AllByRecursion}
 use Rattle.std.specs.Option.{option_and_then}
 use Rattle.nr_blocks.specs.Genesis.{AreSoundEntries, entries_of, genesis_world}
@@ -29,7 +31,8 @@ pub record Chain : Type 0 where
 
 -- that of a run
 abbrev pub chain_with : Config → Genesis → List Block → (World → CallContext → Called) → Chain
-chain_with c g blocks call = record { config = c; call = call; boundaries = g.layout; entries = g.entries; blocks = blocks }
+chain_with c g blocks call =
+    record { config = c; call = call; boundaries = g.layout; entries = g.entries; blocks = blocks }
 
 abbrev pub shards_of : Chain → ℕ
 shards_of x = length x.boundaries + 1
@@ -92,7 +95,8 @@ AreBounded c list = AllByRecursion (IsBounded c) list
 abbrev pub working_tokens : Config → Working → ℕ
 working_tokens c k = world_tokens c k.world + list_tokens c k.outgoing + k.burnt
 
--- the world is valid, the list's receipts fit in their numbers, and with what the list brings there are at most 2^127 tokens
+-- the world is valid, the list's receipts fit in their numbers, and with what the list brings there are at most 2^127
+-- tokens
 pub record CanTake (x : Chain) (k : Working) (list : List Receipt) : Type 0 where
   pub whole : k.whole ≡ true
   pub config : k.config ≡ x.config

@@ -1,5 +1,7 @@
--- A chunk in three folds over a working state: opening, taking a list, sealing. After the Nomicon, Runtime Specification (Applying a chunk) and Chain Specification (Chunks).
-use Rattle.std.specs.Prelude.{ℕ, ◌+◌, ◌-◌, ◌^◌, min, Bool, true, false, cond, List, [], ◌∷◌, ◌++◌, map, fold, Option, Ok, Err, nat_lt}
+-- A chunk in three folds over a working state: opening, taking a list, sealing. After the Nomicon, Runtime
+-- Specification (Applying a chunk) and Chain Specification (Chunks).
+use Rattle.std.specs.Prelude.{ℕ, ◌+◌, ◌-◌, ◌^◌, min, Bool, true, false, cond, List, [], ◌∷◌, ◌++◌, map, fold, Option}
+use Rattle.std.specs.Prelude.{Ok, Err, nat_lt}
 use Rattle.std.specs.Str.{bytes_eq}
 use Rattle.nr_config.specs.Config.{Config, chunk_gas_limit}
 use Rattle.nr_ids.specs.declared.number.ShardId.{ShardId}
@@ -34,7 +36,18 @@ use Rattle.nr_txconvert.specs.declared.converted.Converted.{Converted}
 -- ---- a chunk begins with nothing burnt and nothing made
 abbrev pub begun : Kept → ShardId → Place → Working
 begun w shard place =
-    record { whole = true; config = w.config; shard = shard; place = place; world = w.world; gas = 0; burnt = 0; local = 0; outgoing = []; lines = [] }
+    record {
+      whole = true;
+      config = w.config;
+      shard = shard;
+      place = place;
+      world = w.world;
+      gas = 0;
+      burnt = 0;
+      local = 0;
+      outgoing = [];
+      lines = [];
+    }
 
 -- gas stays at the greatest number of its field
 abbrev pub spent : ℕ → ℕ → ℕ
@@ -98,8 +111,10 @@ put_aside true k local r = record { working = record k { local = k.local + 1 }; 
 put_aside false k local r = record { working = record k { outgoing = k.outgoing ++ r ∷ [] }; local = local }
 
 abbrev pub by_conversion : Opening → Transaction → Conversion → Opening
-by_conversion o tx (Ok made) = put_aside (is_local tx) (with_converted o.working tx made.0 made.1) o.local made.1.receipt
-by_conversion o tx (Err fault) = record { working = with_line o.working (refused (transaction_hash tx) fault); local = o.local }
+by_conversion o tx (Ok made) =
+    put_aside (is_local tx) (with_converted o.working tx made.0 made.1) o.local made.1.receipt
+by_conversion o tx (Err fault) =
+    record { working = with_line o.working (refused (transaction_hash tx) fault); local = o.local }
 
 unfoldable pub convert_next : Config → Opening → Transaction → Opening
 convert_next c o tx = by_conversion o tx (convert c o.working.world tx o.working.place)
@@ -133,7 +148,8 @@ module _ (c : Config) (call : World → CallContext → Called) where
   abbrev pub serve_all : Working → List Receipt → Working
   serve_all k list = fold serve k list
 
-  -- The queue is served until the gas is used up or it is empty. What joins it meanwhile is not served, since the gas doesn't fall.
+  -- The queue is served until the gas is used up or it is empty. What joins it meanwhile is not served, since the gas
+  -- doesn't fall.
   unfoldable pub serve_queue : List Receipt → Working → Working
   serve_queue [] k = k
   serve_queue (r ∷ rest) k = cond (has_gas c k) (serve_queue rest (serve (without_front k (r ∷ rest)) r)) k

@@ -15,7 +15,10 @@ use Rattle.nr_state.specs.declared.place.Place.{Place}
 use Rattle.nr_state.specs.contracts.place.Place as place
 
 abbrev pub kept_code : Coded Kept
-kept_code = code_by (Config × World) (coded× (coded_list coded_ℕ) world_code) (λ k. (k.config, k.world)) (λ p. record { config = p.0; world = p.1 }) (λ _. refl)
+kept_code = code_by (Config × World) (coded× (coded_list coded_ℕ) world_code) (λ k. (k.config, k.world)) (λ p. record {
+  config = p.0;
+  world = p.1;
+}) (λ _. refl)
 
 abbrev Where : Type 0
 Where = Bool × (Config × (ShardId × (Place × World)))
@@ -24,10 +27,13 @@ abbrev Did : Type 0
 Did = ℕ × (ℕ × (ℕ × (List Receipt × List ChunkLine)))
 
 abbrev where_code : Coded Where
-where_code = coded× coded_bool (coded× (coded_list coded_ℕ) (coded× shard.the_row.coded (coded× place.the_row.coded world_code)))
+where_code =
+    coded× coded_bool (coded× (coded_list coded_ℕ) (coded× shard.the_row.coded (coded× place.the_row.coded world_code)))
 
 abbrev did_code : Coded Did
-did_code = coded× coded_ℕ (coded× coded_ℕ (coded× coded_ℕ (coded× (coded_list receipt.the_row.coded) (coded_list line.the_row.coded))))
+did_code =
+    coded× coded_ℕ (coded× coded_ℕ
+    (coded× coded_ℕ (coded× (coded_list receipt.the_row.coded) (coded_list line.the_row.coded))))
 
 abbrev apart : Working → Where × Did
 apart k = ((k.whole, (k.config, (k.shard, (k.place, k.world)))), (k.gas, (k.burnt, (k.local, (k.outgoing, k.lines)))))

@@ -1,5 +1,6 @@
 -- The first worlds have together the tokens that the entries of a genesis state, and nothing waits in them.
-use Rattle.std.proofs.Common.{◌≡◌, ℕ, zero, suc, ◌+◌, ◌<◌, ◌≤◌, true, false, cond, List, [], ◌∷◌, length, map, inl, inr, refl, sym, ap, ◌∙◌, arith}
+use Rattle.std.proofs.Common.{◌≡◌, ℕ, zero, suc, ◌+◌, ◌<◌, ◌≤◌, true, false, cond, List, [], ◌∷◌, length, map, inl, inr}
+use Rattle.std.proofs.Common.{refl, sym, ap, ◌∙◌, arith}
 use Rattle.std.specs.Prelude.{◌==◌, sum_by}
 use Rattle.std.specs.FinMap.{empty, entries, values, len-empty, len-entries}
 use Rattle.std.proofs.lemmas.List.{nil_from_length}
@@ -22,10 +23,12 @@ use Rattle.nr_state.specs.World.{pair_cmp, account_tokens, accounts_tokens}
 -- ---- nothing waits
 no_sum : (f : Receipt → ℕ) → sum_by f (values (empty {X = Receipt} {R = pair_cmp})) ≡ 0
 no_sum f =
-    let none : entries (empty {X = Receipt} {R = pair_cmp}) ≡ [] = nil_from_length _ (sym (len-entries (empty {X = Receipt} {R = pair_cmp})) ∙ len-empty pair_cmp Receipt) in
+    let none : entries (empty {X = Receipt} {R = pair_cmp}) ≡ [] =
+    nil_from_length _ (sym (len-entries (empty {X = Receipt} {R = pair_cmp})) ∙ len-empty pair_cmp Receipt) in
     ap (λ (es : List ((List ℕ × List ℕ) × Receipt)). sum_by f (map (λ e. e.1) es)) none
 
-pub genesis_waits : (f : Receipt → ℕ) (es : List GenesisEntry) → postponed_sum f (genesis_world es) + delayed_sum f (genesis_world es) ≡ 0
+pub genesis_waits : (f : Receipt → ℕ) (es : List GenesisEntry)
+    → postponed_sum f (genesis_world es) + delayed_sum f (genesis_world es) ≡ 0
 unfolding genesis_world
 genesis_waits f es = omega (arith, no_sum f)
 
@@ -33,7 +36,8 @@ pub genesis_small : (es : List GenesisEntry) → IsSmall (genesis_world es)
 unfolding genesis_world
 genesis_small es = record { postponed = no_sum large; delayed = refl }
 
-genesis_tokens : (c : Config) (es : List GenesisEntry) → world_tokens c (genesis_world es) ≡ accounts_tokens (genesis_world es)
+genesis_tokens : (c : Config) (es : List GenesisEntry)
+    → world_tokens c (genesis_world es) ≡ accounts_tokens (genesis_world es)
 unfolding genesis_world
 genesis_tokens c es = omega (arith, no_sum (receipt_tokens c))
 
@@ -58,14 +62,17 @@ with_more k a g s = cond (k == s) (a + g s) (g s)
 more_past : (n k a : ℕ) (g : ℕ → ℕ) → n ≤ k → sum_below n (with_more k a g) ≡ sum_below n g
 unfolding with_more
 more_past zero k a g l = refl
-more_past (suc n) k a g l = (λ i. more_past n k a g (omega (arith, l)) i + cond (eq_other k n (λ e. omega (arith, e, l)) i) (a + g n) (g n))
+more_past (suc n) k a g l =
+    (λ i. more_past n k a g (omega (arith, l)) i + cond (eq_other k n (λ e. omega (arith, e, l)) i) (a + g n) (g n))
 
 more_within : (n k a : ℕ) (g : ℕ → ℕ) → k < n → sum_below n (with_more k a g) ≡ a + sum_below n g
 unfolding with_more
 more_within zero k a g l = absurd (omega (arith, l))
 more_within (suc n) k a g l = elim (same_or_not k n) [
-  | inl e ↦ (λ i. more_past n k a g (omega (arith, e)) i + cond (eq_same k n e i) (a + g n) (g n)) ∙ regroup a (sum_below n g) (g n)
-  | inr ne ↦ (λ i. more_within n k a g (omega (arith, l, ne)) i + cond (eq_other k n ne i) (a + g n) (g n)) ∙ group a (sum_below n g) (g n)
+  | inl e ↦ (λ i. more_past n k a g (omega (arith, e)) i + cond (eq_same k n e i) (a + g n) (g n))
+      ∙ regroup a (sum_below n g) (g n)
+  | inr ne ↦ (λ i. more_within n k a g (omega (arith, l, ne)) i + cond (eq_other k n ne i) (a + g n) (g n))
+      ∙ group a (sum_below n g) (g n)
 ]
   where
     regroup : (a b c : ℕ) → b + (a + c) ≡ a + (b + c)
@@ -86,10 +93,13 @@ module _ (bs : List (List ℕ)) where
   abbrev part : List GenesisEntry → ℕ → ℕ
   part es s = supply (entries_of bs s es)
 
-  part_cons : (e : GenesisEntry) (es : List GenesisEntry) (s : ℕ) → part (e ∷ es) s ≡ with_more (shard_of bs (owner e)) (entry_tokens e) (part es) s
+  part_cons : (e : GenesisEntry) (es : List GenesisEntry) (s : ℕ)
+      → part (e ∷ es) s ≡ with_more (shard_of bs (owner e)) (entry_tokens e) (part es) s
   unfolding with_more
   part_cons e es s =
-      elim (lives_in bs s e) as (λ b. supply (cond b (e ∷ entries_of bs s es) (entries_of bs s es)) ≡ cond b (entry_tokens e + part es s) (part es s)) [
+      elim (lives_in bs s e) as
+      (λ b. supply (cond b (e ∷ entries_of bs s es) (entries_of bs s es)) ≡ cond b (entry_tokens e + part es s)
+      (part es s)) [
         | true ↦ supply_cons e (entries_of bs s es)
         | false ↦ refl
       ]
@@ -97,12 +107,16 @@ module _ (bs : List (List ℕ)) where
   parts_all : (es : List GenesisEntry) → sum_below (length bs + 1) (part es) ≡ supply es
   parts_all [] = sum_zero (length bs + 1)
   parts_all (e ∷ es) =
-      sum_alike (length bs + 1) (part (e ∷ es)) (with_more (shard_of bs (owner e)) (entry_tokens e) (part es)) (part_cons e es)
-      ∙ more_within (length bs + 1) (shard_of bs (owner e)) (entry_tokens e) (part es) (omega (arith, at_most bs (owner e)))
+      sum_alike (length bs + 1) (part (e ∷ es)) (with_more (shard_of bs (owner e)) (entry_tokens e) (part es))
+      (part_cons e es)
+      ∙ more_within (length bs + 1) (shard_of bs (owner e)) (entry_tokens e) (part es)
+      (omega (arith, at_most bs (owner e)))
       ∙ ap (λ t. entry_tokens e + t) (parts_all es)
       ∙ sym (supply_cons e es)
 
-  pub first_tokens : (c : Config) (es : List GenesisEntry) → AreSoundEntries c es → sum_below (length bs + 1) (λ s. world_tokens c (genesis_world (entries_of bs s es))) ≡ supply es
+  pub first_tokens : (c : Config) (es : List GenesisEntry) → AreSoundEntries c es
+      → sum_below (length bs + 1) (λ s. world_tokens c (genesis_world (entries_of bs s es))) ≡ supply es
   first_tokens c es sound =
-      sum_alike (length bs + 1) (λ s. world_tokens c (genesis_world (entries_of bs s es))) (part es) (λ s. genesis_tokens c (entries_of bs s es) ∙ shard_tokens c es sound bs s)
+      sum_alike (length bs + 1) (λ s. world_tokens c (genesis_world (entries_of bs s es))) (part es)
+      (λ s. genesis_tokens c (entries_of bs s es) ∙ shard_tokens c es sound bs s)
       ∙ parts_all es

@@ -18,7 +18,8 @@ use Rattle.nr_records.specs.declared.receipt.Receipt.{Receipt}
 abbrev counts : Bool → ℕ
 counts b = cond b 1 0
 
-one_more : (a : Action) (rest : List Action) → count_by is_large (a ∷ rest) ≡ counts (is_large a) + count_by is_large rest
+one_more : (a : Action) (rest : List Action)
+    → count_by is_large (a ∷ rest) ≡ counts (is_large a) + count_by is_large rest
 one_more a rest = sum_by-cons (λ (b : Action). cond (is_large b) 1 0) a rest
 
 below : (a : Action) → counts (is_large a) ≡ 0 → attached a < 2 ^ 64
@@ -28,9 +29,11 @@ below a e = gt_of (2 ^ 64) (attached a) (by (is_large a) e)
     by true e = absurd (omega arith)
     by false e = refl
 
-small_actions : (actions : List Action) → count_by is_large actions ≡ 0 → AllByRecursion (λ a. attached a < 2 ^ 64) actions
+small_actions : (actions : List Action) → count_by is_large actions ≡ 0
+    → AllByRecursion (λ a. attached a < 2 ^ 64) actions
 small_actions [] e = tt
-small_actions (a ∷ rest) e = (below a (omega (arith, one_more a rest, e)), small_actions rest (omega (arith, one_more a rest, e)))
+small_actions (a ∷ rest) e =
+    (below a (omega (arith, one_more a rest, e)), small_actions rest (omega (arith, one_more a rest, e)))
 
 none_large : (actions : List Action) → AllByRecursion (λ a. attached a < 2 ^ 64) actions → count_by is_large actions ≡ 0
 none_large [] h = refl
@@ -51,7 +54,8 @@ pub not_large : (c : Config) (r : Receipt) → IsGood c r → large r ≡ 0
 not_large c r good = none_in r.body good.calls
 
 -- ---- lists of receipts
-pub are_good : (c : Config) (list : List Receipt) → AreBounded c list → AllByRecursion (λ (q : Receipt). HasSmallCalls q.body) list → AreGood c list
+pub are_good : (c : Config) (list : List Receipt) → AreBounded c list
+    → AllByRecursion (λ (q : Receipt). HasSmallCalls q.body) list → AreGood c list
 are_good c [] h k = tt
 are_good c (r ∷ rest) h k = (record { bounded = h.0; calls = k.0 }, are_good c rest h.1 k.1)
 

@@ -1,9 +1,11 @@
 -- Each phase of the serial run may be called, and no token is lost.
-use Rattle.std.proofs.Common.{◌≡◌, ℕ, ◌+◌, ◌^◌, ◌<◌, ◌≤◌, true, List, [], Some, length, refl, sym, ap, subst, ◌∙◌, arith}
+use Rattle.std.proofs.Common.{◌≡◌, ℕ, ◌+◌, ◌^◌, ◌<◌, ◌≤◌, true, List, [], Some, length, refl, sym, ap, subst, ◌∙◌}
+use Rattle.std.proofs.Common.{arith}
 use Rattle.std.specs.Prelude.{slice_get, unwrap_or}
 use Rattle.nr_blocks.proofs.ValidFirst.{first_valid}
 use Rattle.nr_chunk.specs.Amounts.{tokens}
-use Rattle.nr_chunk.specs.Chain.{Chain, IsChain, CanOpen, CanTake, CanSeal, chunk_at, first_world, opened, place_at, rules_of, shards_of, working_tokens}
+use Rattle.nr_chunk.specs.Chain.{Chain, IsChain, CanOpen, CanTake, CanSeal, chunk_at, first_world, opened, place_at}
+use Rattle.nr_chunk.specs.Chain.{rules_of, shards_of, working_tokens}
 use Rattle.nr_chunk.specs.Chunk.{begun, take_list}
 use Rattle.nr_chunk.specs.Goodness.{IsGood, AreGood, IsGoodWork, IsGoodWorld}
 use Rattle.nr_chunk.specs.Serving.{Pays, Promise}
@@ -68,7 +70,8 @@ module _ (x : Chain) (is : IsChain x) where
   first_small = omega (arith, first_tokens x.boundaries c x.entries is.entries, is.entries.bounded)
 
   begins : (s : ℕ) → IsGoodWorld c (first_world x s)
-  begins s = record { config = refl; valid = first_valid c x.entries is.entries x.boundaries s; small = genesis_small _ }
+  begins s =
+      record { config = refl; valid = first_valid c x.entries is.entries x.boundaries s; small = genesis_small _ }
 
   -- ---- opening
   opens_holds : (s h : ℕ) (w : Kept) → IsGoodWorld c w → Holds c (world_tokens c w.world) (opened x s h w)
@@ -78,25 +81,35 @@ module _ (x : Chain) (is : IsChain x) where
       opened_holds c pays x.call promise (world_tokens c w.world) (begun w shard place) (unwrap_or (chunk_at x s h) [])
       (begun_holds c w shard place good (gas_price-fits c is.config)) good.valid.tokens
 
-  opens_at : (s h : ℕ) → IsGoodWorld c (world_after r s h) → Holds c (world_tokens c (world_after r s h).world) (work r s h 0)
-  opens_at s h good = subst (Holds c (world_tokens c (world_after r s h).world)) (sym (work_first r s h)) (opens_holds s (h + 1) (world_after r s h) good)
+  opens_at : (s h : ℕ) → IsGoodWorld c (world_after r s h)
+      → Holds c (world_tokens c (world_after r s h).world) (work r s h 0)
+  opens_at s h good =
+      subst (Holds c (world_tokens c (world_after r s h).world)) (sym (work_first r s h))
+      (opens_holds s (h + 1) (world_after r s h) good)
 
   -- ---- taking
-  takes_at : (s h n : ℕ) (pair : ℕ × ℕ) (list : List Receipt) → slice_get (due_after r s h) n ≡ Some pair → list_to r (sealing_at r pair.1 pair.0) s ≡ Some list
-      → IsGoodWork c (work r s h n) → AreGood c list → working_tokens c (work r s h n) + list_tokens c list ≤ first_sum r m
+  takes_at : (s h n : ℕ) (pair : ℕ × ℕ) (list : List Receipt) → slice_get (due_after r s h) n ≡ Some pair
+      → list_to r (sealing_at r pair.1 pair.0) s ≡ Some list
+      → IsGoodWork c (work r s h n) → AreGood c list
+      → working_tokens c (work r s h n) + list_tokens c list ≤ first_sum r m
       → Holds c (working_tokens c (work r s h n) + list_tokens c list) (work r s h (n + 1))
   takes_at s h n pair list next list_is good sent few =
       let k : Working = work r s h n in
-      let step : work r s h (n + 1) ≡ take_list c x.call k list = work_next r s h n pair next ∙ ap (with_list r k) list_is in
+      let step : work r s h (n + 1) ≡ take_list c x.call k list =
+      work_next r s h n pair next ∙ ap (with_list r k) list_is in
       let held : Holds c (working_tokens c k) k = record { good = good; tokens = refl } in
-      subst (Holds c (working_tokens c k + list_tokens c list)) (sym step) (all_served c x.call promise list (working_tokens c k) k held sent (omega (arith, few, first_small)))
+      subst (Holds c (working_tokens c k + list_tokens c list)) (sym step)
+      (all_served c x.call promise list (working_tokens c k) k held sent (omega (arith, few, first_small)))
 
   -- ---- sealing
   sealed_world : (k : Working) → IsGoodWork c k → IsGoodWorld c (r.seals k).world
   sealed_world k good = record { config = good.config; valid = good.valid; small = good.fine.small }
 
-  pub sealed_list : (k : Working) → IsGoodWork c k → (d : ℕ) (list : List Receipt) → slice_get (r.seals k).lists d ≡ Some list → AreGood c list
-  sealed_list k good d list e = each_at (AreGood c) (parts x.boundaries (shards_of x) k.outgoing) d list (each_routed (IsGood c) x.boundaries (shards_of x) k.outgoing good.fine.sent) e
+  pub sealed_list : (k : Working) → IsGoodWork c k → (d : ℕ) (list : List Receipt)
+      → slice_get (r.seals k).lists d ≡ Some list → AreGood c list
+  sealed_list k good d list e =
+      each_at (AreGood c) (parts x.boundaries (shards_of x) k.outgoing) d list
+      (each_routed (IsGood c) x.boundaries (shards_of x) k.outgoing good.fine.sent) e
 
   pub sealed_tokens : (s h : ℕ) (k : Working) → left_by r m s h (r.seals k) ≡ working_tokens c k
   sealed_tokens s h k = omega (arith, routed_all (receipt_tokens c) x.boundaries k.outgoing)
@@ -106,15 +119,18 @@ module _ (x : Chain) (is : IsChain x) where
   stays = record {
     begins = λ s l. begins s;
     opens = λ s h l below there good small. let held = opens_at s h good in (held.good, held.tokens);
-    takes = λ s h n pair list l below there next list_is good sent few. let held = takes_at s h n pair list next list_is good sent few in (held.good, held.tokens);
-    seals = λ s h l below there good few. let k : Working = last_work r s h in (sealed_world k good, sealed_list k good, sealed_tokens s (h + 1) k);
+    takes = λ s h n pair list l below there next list_is good sent few. let held =
+        takes_at s h n pair list next list_is good sent few in (held.good, held.tokens);
+    seals = λ s h l below there good few. let k : Working = last_work r s h in
+        (sealed_world k good, sealed_list k good, sealed_tokens s (h + 1) k);
   }
 
   -- ---- what stands behind the chunks and in them
   pub good_after : (s h : ℕ) → s < r.shards → h ≤ r.heights → IsGoodWorld c (world_after r s h)
   good_after s h l high = (good_world r m one_each never GoodWorldAt GoodWorkAt GoodListTo stays s h l high).0
 
-  pub good_working : (s h n : ℕ) → s < r.shards → h < r.heights → r.present s (h + 1) ≡ true → n ≤ length (due_after r s h)
+  pub good_working : (s h n : ℕ) → s < r.shards → h < r.heights → r.present s (h + 1) ≡ true
+      → n ≤ length (due_after r s h)
       → IsGoodWork c (work r s h n) × (working_tokens c (work r s h n) ≤ 2 ^ 127)
   good_working s h n l below there few =
       let good = good_work r m one_each never GoodWorldAt GoodWorkAt GoodListTo stays s h n l below there few in
@@ -124,10 +140,22 @@ module _ (x : Chain) (is : IsChain x) where
   pub laws_of : AreLawful (rules_of x) (CanOpen x) (CanTake x) (CanSeal x)
   laws_of = record {
     one_each = one_each;
-    opens = λ s h l below there. let good = good_after s h l (omega (arith, below)) in record { there = there; config = good.config; valid = good.valid };
+    opens = λ s h l below there. let good = good_after s h l (omega (arith, below)) in record {
+      there = there;
+      config = good.config;
+      valid = good.valid;
+    };
     takes = λ s h n pair list l below there next list_is.
-        let good = good_taken r m one_each never GoodWorldAt GoodWorkAt GoodListTo stays s h n pair list l below there next list_is in
-        record { whole = good.0.fine.whole; config = good.0.config; valid = good.0.valid; bounded = are_bounded c list good.1; room = omega (arith, good.2, first_small) };
+        let good =
+        good_taken r m one_each never GoodWorldAt GoodWorkAt GoodListTo stays s h n pair list l below there next
+        list_is in
+        record {
+          whole = good.0.fine.whole;
+          config = good.0.config;
+          valid = good.0.valid;
+          bounded = are_bounded c list good.1;
+          room = omega (arith, good.2, first_small);
+        };
     seals = λ s h l below there. (good_working s h (length (due_after r s h)) l below there (omega arith)).0.fine.whole;
   }
 

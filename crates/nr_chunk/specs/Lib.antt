@@ -4,6 +4,7 @@ pub mod Refused
 pub mod Chunk
 pub mod Chain
 pub mod Serving
+pub mod Store
 pub mod Works
 pub mod Amounts
 pub mod Tallies

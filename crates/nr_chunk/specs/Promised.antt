@@ -12,9 +12,12 @@ use Rattle.nr_state.specs.Keeping.{IsKept}
 use Rattle.nr_state.specs.Valid.{IsValidWorld}
 use Rattle.nr_state.specs.World.{World}
 use Rattle.nr_state.specs.declared.calls.CallContext.{CallContext}
-use Rattle.nr_state.proofs.ValidQueues.{received_kept, used_kept, postponed_kept, released_kept, delayed_kept, served_kept}
+use Rattle.nr_state.proofs.ValidQueues.{received_kept, used_kept, postponed_kept, released_kept, delayed_kept}
+use Rattle.nr_state.proofs.ValidQueues.{served_kept}
 use Rattle.nr_state.proofs.ValidTokens.{moves_tokens}
-use Rattle.nr_state.proofs.ValidWorlds.{set_key_kept, key_again_kept, key_alike, removed_key_kept, set_code_kept, set_datum_kept, removed_datum_kept, with_account_kept, account_made_kept, without_account_kept}
+use Rattle.nr_state.proofs.ValidWorlds.{set_key_kept, key_again_kept, key_alike, removed_key_kept, set_code_kept}
+use Rattle.nr_state.proofs.ValidWorlds.{set_datum_kept, removed_datum_kept, with_account_kept, account_made_kept}
+use Rattle.nr_state.proofs.ValidWorlds.{without_account_kept}
 use Rattle.nr_txconvert.proofs.Paying.{conversion_pays}
 
 all_kept : (config : Config) (w : World) → IsValidWorld config w → IsKept config w
@@ -39,12 +42,16 @@ all_kept config w v = record {
 
 action_laws : (c : Config) (call : World → CallContext → Called) → IsCaller c call → AreActionLaws c call
 action_laws c call caller =
-    laws_for c c call refl caller (λ config call w f last a after g caller valid within e. act_done config (all_kept config) (moves_tokens config) w valid f call caller last a after g within e)
+    laws_for c c call refl caller
+    (λ config call w f last a after g caller valid within e. act_done config (all_kept config) (moves_tokens config)
+    w valid f call caller last a after g within e)
     (λ config call w f last a kind part burnt caller e. failure_burns config call caller w f last a kind part burnt e)
 
 pub promise_of : (c : Config) (call : World → CallContext → Called) → IsValidConfig c → IsCaller c call → Promise c call
 promise_of c call config caller = record {
-  executed = λ w r act inputs place valid body bounded within. is_executed c r act inputs place body (all_kept c) (moves_tokens c) config call (action_laws c call caller) w valid bounded within;
+  executed =
+      λ w r act inputs place valid body bounded within. is_executed c r act inputs place body (all_kept c)
+      (moves_tokens c) config call (action_laws c call caller) w valid bounded within;
   settled = λ r act place body bounded. is_settled c r act place body bounded;
   offered = λ w r after o v bounded within e. offering_keeps c w v r bounded within after o e;
   delayed = λ w r v bounded within. delaying_keeps c w r v bounded within;

@@ -1,9 +1,12 @@
--- The line of a refused transaction: the refusal's number, and its fields in order with zeros for the rest. This project's own numbers.
+-- The line of a refused transaction: the refusal's number, and its fields in order with zeros for the rest. This
+-- project's own numbers.
 use Rattle.nr_ids.specs.declared.key.Hash32.{Hash32}
 use Rattle.nr_records.specs.declared.chunk_result.ChunkLine.{ChunkLine}
 use Rattle.nr_records.specs.declared.chunk_result.ChunkLine.TheVariants.{TxRefused}
 use Rattle.nr_txconvert.specs.declared.fault.TxFault.{TxFault}
-use Rattle.nr_txconvert.specs.declared.fault.TxFault.TheVariants.{NoSigner, NoKey, Nonce, TooManyActions, GasTooLarge, KeyForbids, CostOverflow, Allowance, Balance, StorageStake, Memory}
+use Rattle.nr_txconvert.specs.declared.fault.TxFault.TheVariants.{NoSigner, NoKey, Nonce, TooManyActions, GasTooLarge}
+use Rattle.nr_txconvert.specs.declared.fault.TxFault.TheVariants.{KeyForbids, CostOverflow, Allowance, Balance}
+use Rattle.nr_txconvert.specs.declared.fault.TxFault.TheVariants.{StorageStake, Memory}
 
 abbrev pub refused : Hash32 → TxFault → ChunkLine
 refused hash NoSigner = TxRefused hash 1 0 0

@@ -26,7 +26,8 @@ use Rattle.nr_txconvert.specs.Conversion.{convert}
 use Rattle.nr_txconvert.specs.Keeping.{IsPaid}
 use Rattle.nr_txconvert.specs.declared.converted.Converted.{Converted}
 
--- a working state and the receipts that it is still to serve: the world is valid, the gas prices and the prepaid gas of all these receipts fit in 64 bits, and together there are at most 2^127 tokens
+-- a working state and the receipts that it is still to serve: the world is valid, the gas prices and the prepaid gas
+-- of all these receipts fit in 64 bits, and together there are at most 2^127 tokens
 pub record CanServe (c : Config) (k : Working) (list : List Receipt) : Type 0 where
   pub config : k.config ≡ c
   pub valid : IsValidWorld c k.world
@@ -47,13 +48,20 @@ datum_of r (Datum d) = Some r.receipt_id
 -- ---- what executing, settling, offering and delaying keep
 pub record Promise (c : Config) (call : World → CallContext → Called) : Type 0 where
   pub executed : (w : World) (r : Receipt) (act : ActionReceipt) (inputs : List (Option (List ℕ))) (place : Place)
-      → IsValidWorld c w → r.body ≡ Act act → IsBounded c r → world_tokens c w + receipt_tokens c r ≤ 2 ^ 127 → IsExecuted c w r (execute c call w r act inputs place)
-  pub settled : (r : Receipt) (act : ActionReceipt) (place : Place) → r.body ≡ Act act → IsBounded c r → IsSettled c r (settle_clash c r act place)
-  pub offered : (w : World) (r : Receipt) (after : World) (o : Offered) → IsValidWorld c w → IsBounded c r → world_tokens c w + list_tokens c (r ∷ []) ≤ 2 ^ 127
+      → IsValidWorld c w → r.body ≡ Act act → IsBounded c r → world_tokens c w + receipt_tokens c r ≤ 2 ^ 127
+      → IsExecuted c w r (execute c call w r act inputs place)
+  pub settled : (r : Receipt) (act : ActionReceipt) (place : Place) → r.body ≡ Act act → IsBounded c r
+      → IsSettled c r (settle_clash c r act place)
+  pub offered : (w : World) (r : Receipt) (after : World) (o : Offered) → IsValidWorld c w → IsBounded c r
+      → world_tokens c w + list_tokens c (r ∷ []) ≤ 2 ^ 127
       → offer w r ≡ (after, o) → IsOffered c w r after o
-  pub delayed : (w : World) (r : Receipt) → IsValidWorld c w → IsBounded c r → world_tokens c w + list_tokens c (r ∷ []) ≤ 2 ^ 127 → IsDelayed c w r (with_delayed w r)
-  pub served : (w : World) (r : Receipt) → IsValidWorld c w → slice_get w.delayed 0 ≡ Some r → IsServed c w r (served_front w w.delayed)
+  pub delayed : (w : World) (r : Receipt) → IsValidWorld c w → IsBounded c r
+      → world_tokens c w + list_tokens c (r ∷ []) ≤ 2 ^ 127 → IsDelayed c w r (with_delayed w r)
+  pub served : (w : World) (r : Receipt) → IsValidWorld c w → slice_get w.delayed 0 ≡ Some r
+      → IsServed c w r (served_front w w.delayed)
 
 -- what converting keeps
 abbrev pub Pays : Config → Type 0
-Pays c = (w : World) (tx : Transaction) (place : Place) (after : World) (made : Converted) → IsValidWorld c w → convert c w tx place ≡ Ok (after, made) → IsPaid c w place.price after made
+Pays c =
+    (w : World) (tx : Transaction) (place : Place) (after : World) (made : Converted) → IsValidWorld c w
+    → convert c w tx place ≡ Ok (after, made) → IsPaid c w place.price after made

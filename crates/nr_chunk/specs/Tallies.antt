@@ -1,4 +1,5 @@
--- What a part of a run holds: tokens of accounts and of receipts, burnt tokens, and how many receipts were routed, executed, postponed, delayed and are in flight. This project's own.
+-- What a part of a run holds: tokens of accounts and of receipts, burnt tokens, and how many receipts were routed,
+-- executed, postponed, delayed and are in flight. This project's own.
 use Rattle.std.specs.Prelude.{ℕ, ◌+◌, Bool, true, false, List, [], ◌∷◌, length, count_by}
 use Rattle.std.specs.FinMap.{len}
 use Rattle.nr_chunk.specs.Views.{Working}
@@ -29,7 +30,13 @@ abbrev pub executions : List ChunkLine → ℕ
 executions lines = count_by is_execution lines
 
 abbrev pub tally_world : Config → World → Tally
-tally_world c w = record { accounts = accounts_tokens w; receipts = waiting_tokens c w; burnt = 0; places = five 0 0 (len w.postponed) (length w.delayed) 0 }
+tally_world c w =
+    record {
+      accounts = accounts_tokens w;
+      receipts = waiting_tokens c w;
+      burnt = 0;
+      places = five 0 0 (len w.postponed) (length w.delayed) 0;
+    }
 
 -- a chunk at work has routed its local receipts alone
 abbrev pub tally_working : Config → Working → Tally
@@ -42,7 +49,14 @@ tally_working c k =
     }
 
 abbrev pub tally_report : ChunkResult → Tally
-tally_report r = record { accounts = 0; receipts = 0; burnt = r.burnt; places = five (r.local + count_by is_sent r.lines) (executions r.lines) 0 0 0 }
+tally_report r =
+    record {
+      accounts = 0;
+      receipts = 0;
+      burnt = r.burnt;
+      places = five (r.local + count_by is_sent r.lines) (executions r.lines) 0 0 0;
+    }
 
 abbrev pub tally_list : Config → List Receipt → Tally
-tally_list c list = record { accounts = 0; receipts = list_tokens c list; burnt = 0; places = five 0 0 0 0 (length list) }
+tally_list c list =
+    record { accounts = 0; receipts = list_tokens c list; burnt = 0; places = five 0 0 0 0 (length list) }

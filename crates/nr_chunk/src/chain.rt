@@ -1,6 +1,7 @@
 ghost use Rattle.std.specs.Prelude.{◌≡◌};
 ghost use Rattle.nr_blocks.specs.Genesis.{IsSoundGenesis};
 
+use crate::state::ChunkStore;
 use nr_blocks::{Block, Genesis};
 use nr_bytes::List;
 use nr_config::Config;
@@ -8,12 +9,11 @@ use nr_config::entries::GAS_PRICE;
 use nr_join::laws::joining_laws;
 use nr_receipt::laws::execution_laws;
 use nr_state::Caller;
-use nr_store::PlainStore;
 use nr_txconvert::laws::conversion_laws;
 
 /// A chain whose chunks are worked on: its configuration, its genesis and its blocks, and who runs its contracts.
 #[derive(Drop)]
-pub struct ChainRun<C: Caller<PlainStore>> {
+pub struct ChainRun<C: Caller<ChunkStore>> {
     pub(crate) config: Config,
     pub(crate) genesis: Genesis,
     pub(crate) blocks: List<Block>,
@@ -22,7 +22,7 @@ pub struct ChainRun<C: Caller<PlainStore>> {
     ghost same: { C.config caller ≡ config },
 }
 
-impl<C: Caller<PlainStore>> ChainRun<C> {
+impl<C: Caller<ChunkStore>> ChainRun<C> {
     ghost use Rattle.nr_chunk.specs.Chain.{chain_with, IsChain};
     ghost use Rattle.nr_chunk.specs.Serving.{Pays, Promise};
 

@@ -12,12 +12,12 @@ ghost use Rattle.nr_state.specs.Valid.{IsValidWorld, IsBounded};
 
 use crate::chain::ChainRun;
 use crate::lines::tell;
+use crate::state::ChunkStore;
 use crate::work::Work;
 use nr_bytes::{Blob, List};
 use nr_receipt::{Executed, execute, settle_clash};
 use nr_records::{Body, ChunkLine, Receipt};
 use nr_state::Caller;
-use nr_store::PlainStore;
 use std::alloc::{AllocError, Global};
 
 /// Gas stays at 2^64 - 1 where it would be more.
@@ -41,7 +41,7 @@ fn note(work: &mut Work, executed: Executed) -> Result<(), AllocError>
 }
 
 /// Executes a receipt of actions that has its data.
-pub(crate) fn run<C: Caller<PlainStore>>(
+pub(crate) fn run<C: Caller<ChunkStore>>(
     alloc: Global,
     work: &mut Work,
     chain: &ChainRun<C>,
@@ -68,7 +68,7 @@ pub(crate) fn run<C: Caller<PlainStore>>(
 }
 
 /// Settles a receipt of actions that clashes, and loses a datum that does.
-pub(crate) fn clash<C: Caller<PlainStore>>(
+pub(crate) fn clash<C: Caller<ChunkStore>>(
     alloc: Global,
     work: &mut Work,
     chain: &ChainRun<C>,

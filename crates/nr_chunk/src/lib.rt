@@ -22,4 +22,5 @@ mod work;
 pub use chain::ChainRun;
 pub use chunk_work::ChunkWork;
 pub use chunk_world::ChunkWorld;
+pub use state::ChunkStore;
 pub use tally::Tally;

@@ -13,13 +13,12 @@ use crate::executing::spend;
 use crate::lines::tell;
 use crate::refused::line;
 use crate::serving::{serve_all, serve_delayed};
-use crate::state::State;
+use crate::state::{ChunkStore, State};
 use crate::work::Work;
 use nr_bytes::List;
 use nr_ids::{Hash32, ShardId};
 use nr_records::{ChunkLine, Receipt, Transaction, hash_of};
 use nr_state::{Caller, Place};
-use nr_store::PlainStore;
 use nr_txconvert::{Converted, TxFault, convert_hashed};
 use std::alloc::{AllocError, Global};
 
@@ -95,7 +94,7 @@ fn note_converted(
 }
 
 /// Converts a transaction.
-fn convert_next<C: Caller<PlainStore>>(
+fn convert_next<C: Caller<ChunkStore>>(
     alloc: Global,
     work: &mut Work,
     chain: &ChainRun<C>,
@@ -126,7 +125,7 @@ fn convert_next<C: Caller<PlainStore>>(
 }
 
 /// Converts the transactions in order, and gives the receipts for their own signers.
-fn convert_all<C: Caller<PlainStore>>(
+fn convert_all<C: Caller<ChunkStore>>(
     alloc: Global,
     work: &mut Work,
     chain: &ChainRun<C>,
@@ -153,7 +152,7 @@ fn convert_all<C: Caller<PlainStore>>(
 /// # Errors
 ///
 /// Where there is no memory.
-pub(crate) fn open<C: Caller<PlainStore>>(
+pub(crate) fn open<C: Caller<ChunkStore>>(
     alloc: Global,
     chain: &ChainRun<C>,
     state: State,

@@ -10,6 +10,7 @@ use crate::chunk_world::ChunkWorld;
 use crate::opening::open;
 use crate::sealing::seal;
 use crate::serving::serve_all;
+use crate::state::ChunkStore;
 use nr_blocks::{Block, fill};
 use nr_bytes::List;
 use nr_config::entries::GAS_PRICE;
@@ -17,7 +18,6 @@ use nr_ids::{Height, ShardId};
 use nr_overlap::Phases;
 use nr_records::{ChunkResult, Receipt, Transaction};
 use nr_state::{Caller, Place};
-use nr_store::PlainStore;
 use std::alloc::{AllocError, Global};
 
 fn block_at(blocks: &[Block], height: Height) -> Option<&Block>
@@ -57,7 +57,7 @@ fn timestamp(blocks: &[Block], height: Height) -> u64
     }
 }
 
-fn place_at<C: Caller<PlainStore>>(chain: &ChainRun<C>, height: Height) -> Place
+fn place_at<C: Caller<ChunkStore>>(chain: &ChainRun<C>, height: Height) -> Place
     ensures { result ≡ place_at (chain_with chain.now.config chain.now.genesis chain.now.blocks (C.meaning chain.now.caller)) height.0 }
 {
     Place {
@@ -67,7 +67,7 @@ fn place_at<C: Caller<PlainStore>>(chain: &ChainRun<C>, height: Height) -> Place
     }
 }
 
-impl<C: Caller<PlainStore>> Phases for ChainRun<C> {
+impl<C: Caller<ChunkStore>> Phases for ChainRun<C> {
     ghost use Rattle.nr_chunk.specs.Chain.{chain_with, rules_of, IsChain, CanOpen, CanTake, CanSeal};
     ghost use Rattle.nr_chunk.specs.Lawful.{laws_of};
 
@@ -105,7 +105,7 @@ impl<C: Caller<PlainStore>> Phases for ChainRun<C> {
     }
 
     fn begin(&self, alloc: Global, shard: ShardId) -> Result<ChunkWorld, AllocError> {
-        let store = PlainStore::new(alloc);
+        let store = ChunkStore::new(alloc);
         let state = fill(alloc, &self.genesis, shard, store, &self.config)?;
         Ok(ChunkWorld { state })
     }

@@ -10,6 +10,7 @@ ghost use Rattle.nr_records.specs.declared.receipt.Receipt.{Receipt as Receipts}
 use crate::chain::ChainRun;
 use crate::executing::{clash, run};
 use crate::lines::tell;
+use crate::state::ChunkStore;
 use crate::work::Work;
 use nr_bytes::List;
 use nr_config::entries::CHUNK_GAS_LIMIT;
@@ -17,11 +18,10 @@ use nr_ids::Hash32;
 use nr_join::{Offered, delay, next_delayed, offer};
 use nr_records::{Body, ChunkLine, Receipt};
 use nr_state::Caller;
-use nr_store::PlainStore;
 use std::alloc::{AllocError, Global};
 
 /// Whether the chunk has burnt less than its gas limit.
-fn has_gas<C: Caller<PlainStore>>(work: &Work, chain: &ChainRun<C>) -> bool
+fn has_gas<C: Caller<ChunkStore>>(work: &Work, chain: &ChainRun<C>) -> bool
     ensures { result ≡ has_gas chain.now.config (working_of work.now) }
 {
     work.gas < chain.config.entry(CHUNK_GAS_LIMIT)
@@ -60,7 +60,7 @@ fn datum_of(receipt: &Receipt) -> Option<Hash32>
 }
 
 /// Offers a receipt to the state, and does what becomes of it.
-fn offer_to<C: Caller<PlainStore>>(
+fn offer_to<C: Caller<ChunkStore>>(
     alloc: Global,
     work: &mut Work,
     chain: &ChainRun<C>,
@@ -86,7 +86,7 @@ fn offer_to<C: Caller<PlainStore>>(
 
 /// Serves a receipt: offers it where the chunk has gas left, and else puts it behind the delayed ones.
 #[tactic(auto, unfolding(crate::specs::Chunk::serve))]
-fn serve<C: Caller<PlainStore>>(
+fn serve<C: Caller<ChunkStore>>(
     alloc: Global,
     work: &mut Work,
     chain: &ChainRun<C>,
@@ -105,7 +105,7 @@ fn serve<C: Caller<PlainStore>>(
 }
 
 /// Serves receipts in order.
-pub(crate) fn serve_all<C: Caller<PlainStore>>(
+pub(crate) fn serve_all<C: Caller<ChunkStore>>(
     alloc: Global,
     work: &mut Work,
     chain: &ChainRun<C>,
@@ -136,7 +136,7 @@ fn take_front(alloc: Global, work: &mut Work) -> Result<Option<Receipt>, AllocEr
 }
 
 /// Serves the delayed receipts, the oldest first, until none is left or the gas is used up.
-pub(crate) fn serve_delayed<C: Caller<PlainStore>>(
+pub(crate) fn serve_delayed<C: Caller<ChunkStore>>(
     alloc: Global,
     work: &mut Work,
     chain: &ChainRun<C>,

@@ -1,5 +1,8 @@
 use nr_state::ShardState;
-use nr_store::PlainStore;
+use nr_trieupdate::TrieStore;
+
+/// The store in which each shard's state stands.
+pub type ChunkStore = TrieStore;
 
 /// The state of a shard.
-pub(crate) type State = ShardState<PlainStore>;
+pub(crate) type State = ShardState<ChunkStore>;

@@ -11,14 +11,13 @@ ghost use Rattle.nr_fees.specs.Fees.{receipt_tokens};
 use crate::chain::ChainRun;
 use crate::chunk_work::ChunkWork;
 use crate::chunk_world::ChunkWorld;
-use crate::state::State;
+use crate::state::{ChunkStore, State};
 use nr_bytes::List;
 use nr_config::Config;
 use nr_fees::receipt_tokens;
 use nr_records::{Account, ChunkLine, ChunkResult, Receipt};
 use nr_state::Caller;
 use nr_state::listings::{accounts, delayed, postponed};
-use nr_store::PlainStore;
 use std::alloc::{AllocError, Global};
 
 /// What a part of a run holds. Tokens are in the ledger's smallest unit.
@@ -115,7 +114,7 @@ fn tally_state(alloc: Global, config: &Config, state: &State) -> Result<Tally, A
     })
 }
 
-impl<C: Caller<PlainStore>> ChainRun<C> {
+impl<C: Caller<ChunkStore>> ChainRun<C> {
     /// What a world holds.
     ///
     /// # Errors

@@ -3,9 +3,9 @@
 use crate::chain::ChainRun;
 use crate::chunk_work::ChunkWork;
 use crate::chunk_world::ChunkWorld;
+use crate::state::ChunkStore;
 use crate::tally::Tally;
 use nr_state::Caller;
-use nr_store::PlainStore;
 
 fn is_send<T: Send>() {}
 
@@ -17,6 +17,6 @@ fn _worlds_works_and_tallies() {
     is_send_and_sync::<Tally>();
 }
 
-fn _runs<C: Caller<PlainStore> + Send + Sync>() {
+fn _runs<C: Caller<ChunkStore> + Send + Sync>() {
     is_send_and_sync::<ChainRun<C>>();
 }

@@ -252,24 +252,3 @@ fn faulty_blocks_are_refused(rt: HostRuntime) -> Result<(), Fail> {
     }
     Ok(())
 }
-
-/// Blocks without a fault: the second action calls a method `f`.
-const CALL: Pieces = &[
-    ONE_CHUNK,
-    "01000000",
-    BY_ALICE,
-    TO_BOB,
-    "02000000",
-    FIVE,
-    "020100000066000000000000000000000000",
-    "00000000000000000000000000000000",
-];
-
-#[test]
-fn calls_are_not_supported(rt: HostRuntime) -> Result<(), Fail> {
-    let blocks = text_of(rt.alloc(), CALL)?;
-    let ended = run(rt.alloc(), worked::GENESIS, blocks.as_str())?;
-    assert_eq!(rt; ended.status, Status::Unsupported { form: 2 });
-    assert!(rt; ended.wrote_nothing(rt.alloc(), BOTH)?);
-    Ok(())
-}

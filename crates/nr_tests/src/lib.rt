@@ -4,6 +4,8 @@
 #[cfg(test)]
 mod by_config;
 #[cfg(test)]
+mod called;
+#[cfg(test)]
 mod checked;
 #[cfg(test)]
 mod config_text;

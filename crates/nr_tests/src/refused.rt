@@ -46,21 +46,6 @@ fn words_of_no_command_are_usage(rt: HostRuntime) -> Result<(), Fail> {
 }
 
 #[test]
-fn later_commands_load_nothing(rt: HostRuntime) -> Result<(), Fail> {
-    let rows: [&[&str]; 3] = [
-        &["gen", "7", "4", "200"],
-        &["gen", "0", "1", "1"],
-        &["gen", "18446744073709551615", "16", "256"],
-    ];
-    for row in rows {
-        let ended = answer_to(rt.alloc(), row)?;
-        assert_eq!(rt; ended.status, Status::Unsupported { form: 0 });
-        assert!(rt; ended.wrote_nothing(rt.alloc(), "None")?);
-    }
-    Ok(())
-}
-
-#[test]
 fn failed_loads_are_read_faults(rt: HostRuntime) -> Result<(), Fail> {
     for call in [1, 2] {
         let words = words_of(rt.alloc(), &["run", "free", "G", "B"])?;

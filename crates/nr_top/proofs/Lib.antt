@@ -9,3 +9,4 @@ pub mod Pieces
 pub mod Onward
 pub mod Standing
 pub mod Drives
+pub mod Digesting

@@ -3,8 +3,10 @@ use Rattle.std.proofs.Common.{◌≡◌, ℕ, ◌^◌, ◌<◌, ◌≤◌, true,
 use Rattle.nr_chunk.specs.Chain.{Chain, IsChain, AreBounded, rules_of, working_tokens}
 use Rattle.nr_chunk.specs.GoodReceipts.{are_bounded}
 use Rattle.nr_chunk.specs.Lasting.{IsGoodMoment, good_during, reached_by, reached_end, tried_reached}
+use Rattle.nr_chunk.specs.Store.{StateStore}
 use Rattle.nr_chunk.specs.Views.{Kept, Working}
 use Rattle.nr_config.specs.Config.{Config}
+use Rattle.nr_contract.specs.declared.caller.ContractCaller.{ContractCaller}
 use Rattle.nr_overlap.specs.Held.{IsReached}
 use Rattle.nr_overlap.specs.Inside.{IsInside}
 use Rattle.nr_overlap.specs.Moment.{world_at, working_at, world_in, working_in, flight_at}
@@ -19,17 +21,15 @@ use Rattle.nr_records.specs.declared.receipt.Receipt.{Receipt}
 use Rattle.nr_state.specs.Tokens.{list_tokens}
 use Rattle.nr_state.specs.Valid.{IsValidWorld}
 use Rattle.nr_state.specs.declared.calls.Caller.{Ghosts}
-use Rattle.nr_store.specs.declared.plain.PlainStore.{PlainStore}
 use Rattle.nr_top.specs.Moments.{Chains, IsMoment, chain_of}
-use Rattle.nr_top.specs.declared.calls.NoCalls.{NoCalls}
 
-pub first_moment : {g : Ghosts NoCalls PlainStore} (core : Chains g) → IsChain (chain_of core) → core.lost ≡ false → core.positions ≡ opening (rules_of (chain_of core)) → IsMoment core
+pub first_moment : {g : Ghosts ContractCaller StateStore} (core : Chains g) → IsChain (chain_of core) → core.lost ≡ false → core.positions ≡ opening (rules_of (chain_of core)) → IsMoment core
 first_moment core is whole first = record { chain = is; whole = whole; reached = subst (IsReached (rules_of (chain_of core))) (sym first) (reached_by (rules_of (chain_of core)) [] tt) }
 
-pub last_moment : {g : Ghosts NoCalls PlainStore} (old new : Chains g) → IsMoment old → new ≡ whole_at old (ending (rules_of (chain_of old))) → IsMoment new
+pub last_moment : {g : Ghosts ContractCaller StateStore} (old new : Chains g) → IsMoment old → new ≡ whole_at old (ending (rules_of (chain_of old))) → IsMoment new
 last_moment old new is e = subst IsMoment (sym e) (record { chain = is.chain; whole = refl; reached = reached_end (rules_of (chain_of old)) })
 
-pub tried_moment : {g : Ghosts NoCalls PlainStore} (old new : Chains g) (e : Event) → IsMoment old → IsInside (rules_of (chain_of old)).shards e → new ≡ whole_at old (tried (rules_of (chain_of old)) old.positions e) → IsMoment new
+pub tried_moment : {g : Ghosts ContractCaller StateStore} (old new : Chains g) (e : Event) → IsMoment old → IsInside (rules_of (chain_of old)).shards e → new ≡ whole_at old (tried (rules_of (chain_of old)) old.positions e) → IsMoment new
 tried_moment old new e is inside made =
     subst IsMoment (sym made) (record { chain = is.chain; whole = refl; reached = tried_reached (rules_of (chain_of old)) old.positions e is.reached inside })
 
@@ -44,7 +44,7 @@ module _ {W K L R : Type 0} (r : Rules W K L R) where
   holds_some s p e f = some_held s p.number p.taken p.stage e f
 
 -- ---- what stands at a moment can be counted
-module _ {g : Ghosts NoCalls PlainStore} (core : Chains g) (is : IsMoment core) where
+module _ {g : Ghosts ContractCaller StateStore} (core : Chains g) (is : IsMoment core) where
   abbrev x : Chain
   x = chain_of core
 

@@ -1,5 +1,5 @@
 -- What a status before the writing is right for, and what the loads leave of the answer.
-use Rattle.std.proofs.Common.{◌≡◌, ℕ, Bool, false, cond, ltb, List, length, Option, Some, None, Result, Ok, Err, subst, sym}
+use Rattle.std.proofs.Common.{◌≡◌, ℕ, false, ltb, List, length, Option, Some, None, Result, Ok, Err, subst, sym}
 use Rattle.std.specs.Prelude.{◌≢◌}
 use Rattle.std.specs.Global.{Vec}
 use Rattle.std.proofs.lemmas.Bool.{le-ltb}
@@ -14,12 +14,12 @@ use Rattle.nr_config.specs.declared.fault.ConfigFault.TheVariants as config_faul
 use Rattle.nr_blocks.specs.declared.block.Block.{Block}
 use Rattle.nr_blocks.specs.declared.genesis.Genesis.{Genesis}
 use Rattle.nr_top.specs.Answers.{Cause, Failing, Refusing, Other, cause, StopsFor, Prepares, Loaded, Configures, Follows}
-use Rattle.nr_top.specs.Input.{Given, Refused, Untold, Configured, By, Bars, Unknown, Purpose, config_status, genesis_status, blocks_status, schedule_status, by_file, by_reading, by_config_bytes, by_configured, by_files, by_purpose, by_blocks_read, config_limit, too_long_config}
+use Rattle.nr_top.specs.Input.{Given, Untold, Configured, By, Bars, Unknown, Purpose, config_status, genesis_status, blocks_status, schedule_status, by_file, by_reading, by_config_bytes, by_configured, by_files, by_purpose, by_blocks_read, config_limit, too_long_config}
 use Rattle.nr_top.specs.Run.{chain}
 use Rattle.nr_top.specs.declared.schedule.ScheduleFault.{ScheduleFault}
 use Rattle.nr_top.specs.declared.schedule.ScheduleFault.TheVariants as schedule
 use Rattle.nr_top.specs.declared.status.Status.{Status}
-use Rattle.nr_top.specs.declared.status.Status.TheVariants.{ReadFault, Unsupported}
+use Rattle.nr_top.specs.declared.status.Status.TheVariants.{ReadFault}
 
 -- ---- what isn't told
 untold_for : (k : Cause) (status : Status) (given : Given) → StopsFor k status given → StopsFor k status Untold
@@ -54,8 +54,7 @@ configured_prepares p c Unknown r genesis blocks is h = untold r (by_files p c g
 -- ---- blocks
 pub blocks_prepare : (p : Purpose) (c : Config) (g : Genesis) (bs : List Block) (r : Result (List ℕ) Status) (read : Result (List Block) BlocksFault) → Follows (Ok bs) read → Prepares r (by_purpose p (chain c g bs)) → Prepares r (by_blocks_read p c g read)
 blocks_prepare p c g bs r read follows h =
-    subst (λ (t : Result (List Block) BlocksFault). Prepares r (by_blocks_read p c g t)) (sym follows.0)
-    (subst (λ (b : Bool). Prepares r (cond b (by_purpose p (chain c g bs)) (Refused (Unsupported 2)))) (sym follows.1) h)
+    subst (λ (t : Result (List Block) BlocksFault). Prepares r (by_blocks_read p c g t)) (sym follows) h
 
 -- ---- no fault in a file is one of loading it
 pub config_was_read : (fault : ConfigFault) → config_status fault ≢ ReadFault

@@ -1,10 +1,9 @@
--- Which answers of the top call are right for what was asked for, and what the sink then took.
-use Rattle.std.specs.Prelude.{◌≡◌, ℕ, true, ◌<◌, ◌≤◌, List, ◌++◌, length, Option, Some, None, IfSome, Result, Ok, Err}
+-- Which answers of the top call are right for what was asked for, and what the sink then took. This project's own.
+use Rattle.std.specs.Prelude.{◌≡◌, ℕ, ◌<◌, ◌≤◌, List, ◌++◌, length, Option, Some, None, IfSome, Result, Ok, Err}
 use Rattle.nr_bytes.specs.Outside.{Grew}
 use Rattle.std.specs.Global.{Vec}
 use Rattle.nr_config.specs.Config.{Config}
 use Rattle.nr_chunk.specs.Chain.{Chain}
-use Rattle.nr_top.specs.Blocks.{are_supported_blocks}
 use Rattle.nr_top.specs.Input.{Given, Report, Refused, Untold, Configured, By, Bars, Unknown, Purpose, by_configured, by_genesis_read, by_blocks_read, by_schedule_read}
 use Rattle.nr_top.specs.Schedule.{AreThere}
 use Rattle.nr_top.specs.declared.schedule.Line.{Line}
@@ -15,7 +14,7 @@ use Rattle.nr_blocks.specs.Genesis.{IsSoundGenesis}
 use Rattle.nr_blocks.specs.declared.fault.GenesisFault.{GenesisFault}
 use Rattle.nr_blocks.specs.declared.genesis.Genesis.{Genesis}
 use Rattle.nr_top.specs.declared.status.Status.{Status}
-use Rattle.nr_top.specs.declared.status.Status.TheVariants.{Done, Usage, Config as faulty_config, Genesis as faulty_genesis, Blocks as faulty_blocks, Schedule as faulty_schedule, Unsupported, ReadFault, WriteFault, NoMemory}
+use Rattle.nr_top.specs.declared.status.Status.TheVariants.{Done, Usage, Config as faulty_config, Genesis as faulty_genesis, Blocks as faulty_blocks, Schedule as faulty_schedule, ReadFault, WriteFault, NoMemory}
 
 -- What the sink holds grew by a front of these bytes, where it tells.
 abbrev pub GrewInPart : Option (List ℕ) → Option (List ℕ) → List ℕ → Type 0
@@ -48,9 +47,6 @@ Serves (faulty_blocks kind a) Untold old new = new ≡ old
 Serves (faulty_schedule kind line) (Report text) old new = ⊥
 Serves (faulty_schedule kind line) (Refused status) old new = (status ≡ faulty_schedule kind line) × (new ≡ old)
 Serves (faulty_schedule kind line) Untold old new = new ≡ old
-Serves (Unsupported form) (Report text) old new = ⊥
-Serves (Unsupported form) (Refused status) old new = (status ≡ Unsupported form) × (new ≡ old)
-Serves (Unsupported form) Untold old new = new ≡ old
 Serves ReadFault given old new = new ≡ old
 Serves NoMemory given old new = new ≡ old
 
@@ -72,7 +68,6 @@ cause (faulty_config kind entry) = Refusing
 cause (faulty_genesis kind a b c) = Refusing
 cause (faulty_blocks kind a) = Refusing
 cause (faulty_schedule kind line) = Refusing
-cause (Unsupported form) = Refusing
 cause Usage = Other
 cause Done = Other
 cause WriteFault = Other
@@ -123,9 +118,9 @@ abbrev pub Founds : Config → Result Genesis Status → Result Genesis GenesisF
 Founds c (Ok g) read = (read ≡ Ok g) × IsSoundGenesis c g
 Founds c (Err status) read = (p : Purpose) (blocks : Option (List ℕ)) → Stops status (by_genesis_read p c read blocks)
 
--- what the blocks give: themselves, where they are supported, or a status, whatever they are for
+-- what the blocks give: themselves, or a status, whatever they are for
 abbrev pub Follows : Result (List Block) Status → Result (List Block) BlocksFault → Type 0
-Follows (Ok bs) read = (read ≡ Ok bs) × (are_supported_blocks bs ≡ true)
+Follows (Ok bs) read = read ≡ Ok bs
 Follows (Err status) read = (p : Purpose) (c : Config) (g : Genesis) → Stops status (by_blocks_read p c g read)
 
 -- what a schedule gives: its lines, of shards that are there, or a status

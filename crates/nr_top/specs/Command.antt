@@ -4,10 +4,16 @@ use Rattle.std.specs.List.{list_all}
 use Rattle.std.specs.Str.{bytes_eq}
 use Rattle.std.specs.Str.Parse.{digits_value}
 
--- what the words ask for: a replay of blocks over a genesis under a configuration, the replay of a schedule, or a generated input
+-- the files of a replay: the configuration, the genesis and the blocks, and the schedule that drives it, where there is one
+pub record Names : Type 0 where
+  pub config : List ℕ
+  pub genesis : List ℕ
+  pub blocks : List ℕ
+  pub schedule : Option (List ℕ)
+
+-- what the words ask for: the replay of blocks over a genesis under a configuration, or the run of a chain that three numbers generate
 pub data Command : Type 0 where
-  Run : List ℕ → List ℕ → List ℕ → Command
-  Check : List ℕ → List ℕ → List ℕ → List ℕ → Command
+  Replay : Names → Command
   Generate : ℕ → ℕ → ℕ → Command
 
 -- ---- words
@@ -35,10 +41,12 @@ number_in least most word = cond (is_numeral word && (nat_le least (digits_value
 
 -- ---- commands
 abbrev pub run_of : List ℕ → List ℕ → List ℕ → Option Command
-run_of config genesis blocks = cond (is_plain config && (is_plain genesis && is_plain blocks)) (Some (Run config genesis blocks)) None
+run_of config genesis blocks =
+    cond (is_plain config && (is_plain genesis && is_plain blocks)) (Some (Replay (record { config = config; genesis = genesis; blocks = blocks; schedule = None }))) None
 
 abbrev pub check_of : List ℕ → List ℕ → List ℕ → List ℕ → Option Command
-check_of config genesis blocks schedule = cond (is_plain config && (is_plain genesis && (is_plain blocks && is_plain schedule))) (Some (Check config genesis blocks schedule)) None
+check_of config genesis blocks schedule =
+    cond (is_plain config && (is_plain genesis && (is_plain blocks && is_plain schedule))) (Some (Replay (record { config = config; genesis = genesis; blocks = blocks; schedule = Some schedule }))) None
 
 abbrev pub generated : Option ℕ → Option ℕ → Option ℕ → Option Command
 generated None shards blocks = None
@@ -65,19 +73,6 @@ command (a ∷ b ∷ c ∷ []) = None
 command (a ∷ b ∷ c ∷ d ∷ []) = four_words a b c d
 command (a ∷ b ∷ c ∷ d ∷ e ∷ []) = five_words a b c d e
 command (a ∷ b ∷ c ∷ d ∷ e ∷ f ∷ words) = None
-
--- ---- what is supported
--- the configuration, the genesis and the blocks of a replay, and the schedule that drives it, where there is one
-pub record Names : Type 0 where
-  pub config : List ℕ
-  pub genesis : List ℕ
-  pub blocks : List ℕ
-  pub schedule : Option (List ℕ)
-
-abbrev pub supported_files : Command → Option Names
-supported_files (Run config genesis blocks) = Some (record { config = config; genesis = genesis; blocks = blocks; schedule = None })
-supported_files (Check config genesis blocks schedule) = Some (record { config = config; genesis = genesis; blocks = blocks; schedule = Some schedule })
-supported_files (Generate start shards blocks) = None
 
 -- the built-in configuration loads no file
 abbrev pub is_free : List ℕ → Bool

@@ -1,7 +1,7 @@
 -- How a program ends with an answer: its exit status, and the line that tells it. This project's own.
 use Rattle.std.specs.Prelude.{ℕ, List, [], ◌∷◌, ◌++◌, decimal}
 use Rattle.nr_top.specs.declared.status.Status.{Status}
-use Rattle.nr_top.specs.declared.status.Status.TheVariants.{Done, Usage, Config, Genesis, Blocks, Schedule, Unsupported, ReadFault, WriteFault, NoMemory}
+use Rattle.nr_top.specs.declared.status.Status.TheVariants.{Done, Usage, Config, Genesis, Blocks, Schedule, ReadFault, WriteFault, NoMemory}
 
 abbrev pub exit_status : Status → ℕ
 exit_status Done = 0
@@ -13,7 +13,6 @@ exit_status ReadFault = 5
 exit_status WriteFault = 6
 exit_status NoMemory = 7
 exit_status (Schedule kind line) = 8
-exit_status (Unsupported form) = 9
 
 -- the numbers that it tells
 abbrev pub numbers : Status → List ℕ
@@ -26,7 +25,6 @@ numbers ReadFault = []
 numbers WriteFault = []
 numbers NoMemory = []
 numbers (Schedule kind line) = kind ∷ line ∷ []
-numbers (Unsupported form) = form ∷ []
 
 -- in decimal, each with a space before it
 abbrev pub spaced : List ℕ → List ℕ

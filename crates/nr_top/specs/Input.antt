@@ -2,8 +2,7 @@
 use Rattle.std.specs.Prelude.{ℕ, ◌+◌, List, [], ◌∷◌, ◌++◌, map, cond, Option, Some, None, Result, Ok, Err, nat_lt, string_bytes, length}
 use Rattle.std.specs.Global.{Global}
 use Rattle.std.specs.declared.string.String.{String}
-use Rattle.nr_top.specs.Blocks.{are_supported_blocks}
-use Rattle.nr_top.specs.Command.{Command, Names, command, supported_files, is_free}
+use Rattle.nr_top.specs.Command.{Command, Replay, Generate, Names, command, is_free}
 use Rattle.nr_config.specs.Config.{Config, free}
 use Rattle.nr_config.specs.Reading.{configuration}
 use Rattle.nr_config.specs.declared.fault.ConfigFault.{ConfigFault}
@@ -16,18 +15,19 @@ use Rattle.nr_blocks.specs.declared.fault.GenesisFault.{GenesisFault}
 use Rattle.nr_blocks.specs.declared.fault.GenesisFault.TheVariants as genesis
 use Rattle.nr_blocks.specs.declared.genesis.Genesis.{Genesis}
 use Rattle.nr_chunk.specs.Chain.{Chain, shards_of}
+use Rattle.nr_top.specs.Generated.{generated_text}
 use Rattle.nr_top.specs.Run.{chain, check_text, run_text}
 use Rattle.nr_top.specs.Schedule.{schedule_read}
 use Rattle.nr_top.specs.declared.schedule.Line.{Line}
 use Rattle.nr_top.specs.declared.schedule.ScheduleFault.{ScheduleFault}
 use Rattle.nr_top.specs.declared.schedule.ScheduleFault.TheVariants as schedule
 use Rattle.nr_top.specs.declared.status.Status.{Status}
-use Rattle.nr_top.specs.declared.status.Status.TheVariants.{Usage, Unsupported, Config as faulty_config, Genesis as faulty_genesis, Blocks as faulty_blocks, Schedule as faulty_schedule, NoMemory}
+use Rattle.nr_top.specs.declared.status.Status.TheVariants.{Usage, Config as faulty_config, Genesis as faulty_genesis, Blocks as faulty_blocks, Schedule as faulty_schedule, NoMemory}
 
 abbrev pub texts : List (String Global) → List (List ℕ)
 texts words = map (λ word. string_bytes word) words
 
--- the files that a command loads, in order; one that isn't supported loads none
+-- the files that a command loads, in order; a generated chain loads none
 abbrev pub config_files : List ℕ → List (List ℕ)
 config_files word = cond (is_free word) [] (word ∷ [])
 
@@ -35,13 +35,13 @@ abbrev pub schedule_files : Option (List ℕ) → List (List ℕ)
 schedule_files None = []
 schedule_files (Some name) = name ∷ []
 
-abbrev pub loads_of : Option Names → List (List ℕ)
-loads_of None = []
-loads_of (Some names) = config_files names.config ++ names.genesis ∷ names.blocks ∷ schedule_files names.schedule
+abbrev pub loads_of : Command → List (List ℕ)
+loads_of (Replay names) = config_files names.config ++ names.genesis ∷ names.blocks ∷ schedule_files names.schedule
+loads_of (Generate start shards blocks) = []
 
 abbrev pub files_of : Option Command → List (List ℕ)
 files_of None = []
-files_of (Some c) = loads_of (supported_files c)
+files_of (Some c) = loads_of c
 
 -- ---- files: at most 1 MiB of configuration, 64 MiB of genesis, 256 MiB of blocks and 1 MiB of schedule
 abbrev pub config_limit : ℕ
@@ -108,7 +108,7 @@ genesis_status genesis.Memory = NoMemory
 abbrev pub too_long_genesis : Status
 too_long_genesis = faulty_genesis 0 0 0 0
 
--- ---- the blocks: their faults, by kind and number; then whether they are supported
+-- ---- the blocks: their faults, by kind and number
 abbrev pub blocks_status : BlocksFault → Status
 blocks_status (blocks.Spelling at) = faulty_blocks 1 at
 blocks_status (blocks.ShardCount height) = faulty_blocks 2 height
@@ -141,11 +141,8 @@ by_purpose ToTheEnd x = Report (run_text x)
 by_purpose (Scheduled bytes) x = by_file schedule_limit too_long_schedule (λ file. by_schedule_read x (schedule_read (shards_of x) file)) bytes
 
 -- ---- files in their order: the blocks, behind them what they are for
-abbrev pub by_blocks : Purpose → Config → Genesis → List Block → Given
-by_blocks p c g bs = cond (are_supported_blocks bs) (by_purpose p (chain c g bs)) (Refused (Unsupported 2))
-
 abbrev pub by_blocks_read : Purpose → Config → Genesis → Result (List Block) BlocksFault → Given
-by_blocks_read p c g (Ok bs) = by_blocks p c g bs
+by_blocks_read p c g (Ok bs) = by_purpose p (chain c g bs)
 by_blocks_read p c g (Err fault) = Refused (blocks_status fault)
 
 abbrev pub by_blocks_file : Purpose → Config → Genesis → Option (List ℕ) → Given
@@ -168,13 +165,13 @@ abbrev pub purpose_of : Option (List ℕ) → (List ℕ → Option (List ℕ)) �
 purpose_of None held = ToTheEnd
 purpose_of (Some name) held = Scheduled (held name)
 
-abbrev pub by_supported : Option Names → (List ℕ → Option (List ℕ)) → Given
-by_supported None held = Refused (Unsupported 0)
-by_supported (Some names) held = by_configured (purpose_of names.schedule held) (configured names.config (held names.config)) (held names.genesis) (held names.blocks)
+abbrev pub by_command : Command → (List ℕ → Option (List ℕ)) → Given
+by_command (Replay names) held = by_configured (purpose_of names.schedule held) (configured names.config (held names.config)) (held names.genesis) (held names.blocks)
+by_command (Generate start shards blocks) held = Report (generated_text start shards blocks)
 
-abbrev pub by_command : Option Command → (List ℕ → Option (List ℕ)) → Given
-by_command None held = Refused Usage
-by_command (Some c) held = by_supported (supported_files c) held
+abbrev pub by_words : Option Command → (List ℕ → Option (List ℕ)) → Given
+by_words None held = Refused Usage
+by_words (Some c) held = by_command c held
 
 abbrev pub input : List (List ℕ) → (List ℕ → Option (List ℕ)) → Given
-input words held = by_command (command words) held
+input words held = by_words (command words) held

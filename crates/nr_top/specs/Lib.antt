@@ -1,13 +1,13 @@
-pub mod Calls
 pub mod Command
-pub mod Blocks
 pub mod Totals
 pub mod Schedule
 pub mod Checking
 pub mod Counting
 pub mod Run
+pub mod Generated
 pub mod Moments
 pub mod Driving
+pub mod Hashing
 pub mod Input
 pub mod Answers
 pub mod Words

@@ -4,18 +4,18 @@ use Rattle.nr_blocks.specs.declared.block.Block.{Block}
 use Rattle.nr_blocks.specs.declared.genesis.Genesis.{Genesis}
 use Rattle.nr_chunk.specs.Chain.{Chain, chain_with, rules_of}
 use Rattle.nr_config.specs.Config.{Config}
+use Rattle.nr_contract.specs.Contract.{call}
 use Rattle.nr_overlap.specs.Moment.{report_at}
 use Rattle.nr_overlap.specs.Run.{ending, opening, run_of}
 use Rattle.nr_overlap.specs.declared.event.Event.{Event}
 use Rattle.nr_overlap.specs.declared.position.Position.{Position}
 use Rattle.nr_report.specs.Lines.{totals_text}
-use Rattle.nr_top.specs.Calls.{no_call}
 use Rattle.nr_top.specs.Checking.{events_of, events_text, report_text}
 use Rattle.nr_top.specs.Totals.{totals_at}
 use Rattle.nr_top.specs.declared.schedule.Line.{Line}
 
 abbrev pub chain : Config → Genesis → List Block → Chain
-chain c g bs = chain_with c g bs no_call
+chain c g bs = chain_with c g bs (call c)
 
 -- ---- the text of the chunks that are sealed
 -- the text of each number below n, one after another

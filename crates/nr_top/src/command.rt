@@ -1,31 +1,20 @@
 //! The words of the command line.
 
-ghost use Rattle.std.specs.Prelude.{◌≡◌, option_map};
+ghost use Rattle.std.specs.Prelude.{◌≡◌, ◌≤◌, IfSome, option_map};
 ghost use Rattle.std.specs.List.{list_all};
-ghost use Rattle.nr_top.specs.Command.{command, supported_files, four_words, five_words, run_of, check_of, generate_of, number_in, is_plain, is_digit, has_no_leading_zero, is_numeral, is_free};
+ghost use Rattle.nr_top.specs.Command.{command, four_words, five_words, run_of, check_of, generate_of, number_in, is_plain, is_digit, has_no_leading_zero, is_numeral, is_free};
 ghost use Rattle.nr_top.specs.Input.{texts};
-ghost use Rattle.nr_top.specs.Words.{names_in, command_in};
+ghost use Rattle.nr_top.specs.Words.{CanRun, command_in};
 
 /// The words of a command.
 #[derive(Clone, Copy, Debug)]
 pub(crate) enum Words<'a> {
-    /// `run CONFIG GENESIS BLOCKS`
-    RunFiles {
-        config: &'a str,
-        genesis: &'a str,
-        blocks: &'a str,
-    },
-    /// `check CONFIG GENESIS BLOCKS SCHEDULE`
-    CheckSchedule {
-        config: &'a str,
-        genesis: &'a str,
-        blocks: &'a str,
-        schedule: &'a str,
-    },
+    /// `run CONFIG GENESIS BLOCKS` or `check CONFIG GENESIS BLOCKS SCHEDULE`
+    ReplayFiles(FileNames<'a>),
     /// `gen NUMBER SHARDS BLOCKS`
     GenerateInput {
         start: u64,
-        shards: u64,
+        shards: u32,
         blocks: u64,
     },
 }
@@ -82,7 +71,8 @@ fn is_numeral(word: &[u8]) -> bool
 
 /// The number that a word spells, where it is one of these.
 fn number_of(least: u64, most: u64, word: &str) -> Option<u64>
-    ensures { result ≡ number_in least most word.now }
+    ensures number { result ≡ number_in least most word.now }
+    ensures within { IfSome result (λ number. (least ≤ number) × (number ≤ most)) }
 {
     if !is_numeral(word.as_bytes()) {
         return None;
@@ -110,14 +100,16 @@ pub(crate) fn number_in(least: u64, most: u64, word: &[u8]) -> Option<u64>
 }
 
 fn run_of<'a>(config: &'a str, genesis: &'a str, blocks: &'a str) -> Option<Words<'a>>
-    ensures { option_map command_in result ≡ run_of config.now genesis.now blocks.now }
+    ensures command { option_map command_in result ≡ run_of config.now genesis.now blocks.now }
+    ensures can_run { IfSome result CanRun }
 {
     if is_plain(config) && is_plain(genesis) && is_plain(blocks) {
-        Some(Words::RunFiles {
+        Some(Words::ReplayFiles(FileNames {
             config,
             genesis,
             blocks,
-        })
+            schedule: None,
+        }))
     } else {
         None
     }
@@ -129,25 +121,27 @@ fn check_of<'a>(
     blocks: &'a str,
     schedule: &'a str,
 ) -> Option<Words<'a>>
-    ensures { option_map command_in result ≡ check_of config.now genesis.now blocks.now schedule.now }
+    ensures command { option_map command_in result ≡ check_of config.now genesis.now blocks.now schedule.now }
+    ensures can_run { IfSome result CanRun }
 {
     if is_plain(config) && is_plain(genesis) && is_plain(blocks) && is_plain(schedule) {
-        Some(Words::CheckSchedule {
+        Some(Words::ReplayFiles(FileNames {
             config,
             genesis,
             blocks,
-            schedule,
-        })
+            schedule: Some(schedule),
+        }))
     } else {
         None
     }
 }
 
 fn generate_of<'a>(start: &str, shards: &str, blocks: &str) -> Option<Words<'a>>
-    ensures { option_map command_in result ≡ generate_of start.now shards.now blocks.now }
+    ensures command { option_map command_in result ≡ generate_of start.now shards.now blocks.now }
+    ensures can_run { IfSome result CanRun }
 {
     let start = number_of(0, u64::MAX, start)?;
-    let shards = number_of(1, 16, shards)?;
+    let shards = number_of(1, 16, shards)? as u32;
     let blocks = number_of(1, 256, blocks)?;
     Some(Words::GenerateInput {
         start,
@@ -157,7 +151,8 @@ fn generate_of<'a>(start: &str, shards: &str, blocks: &str) -> Option<Words<'a>>
 }
 
 fn four_words<'a>(verb: &str, a: &'a str, b: &'a str, c: &'a str) -> Option<Words<'a>>
-    ensures { option_map command_in result ≡ four_words verb.now a.now b.now c.now }
+    ensures command { option_map command_in result ≡ four_words verb.now a.now b.now c.now }
+    ensures can_run { IfSome result CanRun }
 {
     if verb == "run" {
         run_of(a, b, c)
@@ -169,7 +164,8 @@ fn four_words<'a>(verb: &str, a: &'a str, b: &'a str, c: &'a str) -> Option<Word
 }
 
 fn five_words<'a>(verb: &str, a: &'a str, b: &'a str, c: &'a str, d: &'a str) -> Option<Words<'a>>
-    ensures { option_map command_in result ≡ five_words verb.now a.now b.now c.now d.now }
+    ensures command { option_map command_in result ≡ five_words verb.now a.now b.now c.now d.now }
+    ensures can_run { IfSome result CanRun }
 {
     if verb == "check" {
         check_of(a, b, c, d)
@@ -181,7 +177,8 @@ fn five_words<'a>(verb: &str, a: &'a str, b: &'a str, c: &'a str, d: &'a str) ->
 /// The command that the words are.
 #[tactic(auto, unfolding(crate::specs::Command::command))]
 pub(crate) fn command_of(words: &[String]) -> Option<Words<'_>>
-    ensures { option_map command_in result ≡ command (texts words.now) }
+    ensures command { option_map command_in result ≡ command (texts words.now) }
+    ensures can_run { IfSome result CanRun }
 {
     match words {
         [verb, a, b, c] => four_words(verb.as_str(), a.as_str(), b.as_str(), c.as_str()),
@@ -194,36 +191,6 @@ pub(crate) fn command_of(words: &[String]) -> Option<Words<'_>>
         ),
         [_, _, _, _, _, _, ..] => None,
         _ => None,
-    }
-}
-
-/// The names of the files of a replay.
-pub(crate) fn supported_files<'a>(words: &Words<'a>) -> Option<FileNames<'a>>
-    ensures { option_map names_in result ≡ supported_files (command_in words.now) }
-{
-    match words {
-        Words::RunFiles {
-            config,
-            genesis,
-            blocks,
-        } => Some(FileNames {
-            config: *config,
-            genesis: *genesis,
-            blocks: *blocks,
-            schedule: None,
-        }),
-        Words::CheckSchedule {
-            config,
-            genesis,
-            blocks,
-            schedule,
-        } => Some(FileNames {
-            config: *config,
-            genesis: *genesis,
-            blocks: *blocks,
-            schedule: Some(*schedule),
-        }),
-        Words::GenerateInput { .. } => None,
     }
 }
 

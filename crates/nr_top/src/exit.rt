@@ -8,8 +8,8 @@ use std::fmt;
 
 impl Status {
     /// The exit status of a program that ends with this answer: 0 `Done`, 1 `Usage`, 2 `Config`,
-    /// 3 `Genesis`, 4 `Blocks`, 5 `ReadFault`, 6 `WriteFault`, 7 `NoMemory`, 8 `Schedule` and
-    /// 9 `Unsupported`.
+    /// 3 `Genesis`, 4 `Blocks`, 5 `ReadFault`, 6 `WriteFault`, 7 `NoMemory` and
+    /// 8 `Schedule`.
     pub fn exit_status(&self) -> u8
         ensures { result ≡ exit_status self.now }
     {
@@ -23,7 +23,6 @@ impl Status {
             Status::WriteFault => 6,
             Status::NoMemory => 7,
             Status::Schedule { .. } => 8,
-            Status::Unsupported { .. } => 9,
         }
     }
 }
@@ -40,7 +39,6 @@ impl fmt::Display for Status {
             Status::Genesis { kind, a, b, c } => write!(f, "{number} {kind} {a} {b} {c}"),
             Status::Blocks { kind, a } => write!(f, "{number} {kind} {a}"),
             Status::Schedule { kind, line } => write!(f, "{number} {kind} {line}"),
-            Status::Unsupported { form } => write!(f, "{number} {form}"),
             Status::Done => write!(f, "{number}"),
             Status::Usage => write!(f, "{number}"),
             Status::ReadFault => write!(f, "{number}"),

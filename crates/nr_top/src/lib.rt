@@ -1,11 +1,11 @@
 //! The replay of a chain: from the words and the bytes of the files to the bytes of the report.
 #![tactic(auto)]
 
-mod calls;
 mod checking;
 mod command;
 mod configuration;
 mod exit;
+mod generated;
 mod laws;
 mod loading;
 mod refused;
@@ -13,7 +13,6 @@ mod replay;
 mod run;
 mod schedule;
 mod status;
-mod supported_blocks;
 mod tally;
 mod top;
 mod writing;

@@ -1,6 +1,6 @@
 //! What the bytes of files give.
 
-ghost use Rattle.std.specs.Prelude.{◌≢◌, ◌<◌, Ok, Err};
+ghost use Rattle.std.specs.Prelude.{◌≢◌, ◌<◌, Err};
 ghost use Rattle.nr_blocks.specs.Judging.{blocks_read, genesis_read};
 ghost use Rattle.nr_top.specs.Answers.{Founds, Follows, Schedules};
 ghost use Rattle.nr_top.specs.Schedule.{schedule_read};
@@ -9,13 +9,10 @@ ghost use Rattle.nr_top.specs.declared.status.Status.TheVariants.{ReadFault};
 use crate::refused::{blocks_status, genesis_status, schedule_status};
 use crate::schedule::{Line, read_schedule};
 use crate::status::Status;
-use crate::supported_blocks::are_supported;
 use nr_blocks::{Block, Genesis, read_blocks, read_genesis};
 use nr_bytes::List;
 use nr_config::Config;
 use std::alloc::Global;
-
-const OTHER_BLOCKS: Status = Status::Unsupported { form: 2 };
 
 /// The genesis that the bytes of a file give.
 #[tactic(auto, using(crate::proofs::Stopping::genesis_was_read))]
@@ -29,18 +26,6 @@ pub(crate) fn genesis_of(alloc: Global, config: &Config, bytes: &[u8]) -> Result
     }
 }
 
-/// Blocks without fault, where they are supported.
-fn supported(blocks: List<Block>) -> Result<List<Block>, Status>
-    ensures follows { Follows result (Ok blocks) }
-    ensures no_fault { result ≢ Err ReadFault }
-{
-    if are_supported(blocks.inner()) {
-        Ok(blocks)
-    } else {
-        Err(OTHER_BLOCKS)
-    }
-}
-
 /// The blocks that the bytes of a file give for so many shards.
 #[tactic(auto, using(crate::proofs::Stopping::blocks_were_read))]
 pub(crate) fn blocks_of(alloc: Global, shards: u32, bytes: &[u8]) -> Result<List<Block>, Status>
@@ -48,7 +33,7 @@ pub(crate) fn blocks_of(alloc: Global, shards: u32, bytes: &[u8]) -> Result<List
     ensures no_fault { result ≢ Err ReadFault }
 {
     match read_blocks(alloc, bytes, shards) {
-        Ok(blocks) => supported(blocks),
+        Ok(blocks) => Ok(blocks),
         Err(fault) => Err(blocks_status(fault)),
     }
 }

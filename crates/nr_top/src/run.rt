@@ -11,19 +11,19 @@ ghost use Rattle.nr_top.specs.Run.{chain, height_text, chunks_text, run_text};
 ghost use Rattle.nr_places.specs.Totals.{tally_at};
 ghost use Rattle.nr_top.specs.Totals.{totals_of};
 
-use crate::calls::NoCalls;
 use crate::tally::tally_all;
 use nr_blocks::{Block, Genesis};
 use nr_bytes::{Blob, List};
 use nr_chunk::ChainRun;
 use nr_config::Config;
+use nr_contract::ContractCaller;
 use nr_ids::{Height, ShardId};
 use nr_overlap::{Core, Phases, run_serially};
 use nr_report::{Totals, write_chunk, write_totals};
 use std::alloc::{AllocError, Global};
 
 /// A chain at work.
-pub(crate) type Run = Core<ChainRun<NoCalls>>;
+pub(crate) type Run = Core<ChainRun<ContractCaller>>;
 
 /// A chain before its first chunk.
 pub(crate) fn begin(
@@ -37,14 +37,15 @@ pub(crate) fn begin(
     ensures moment { IfOk result IsMoment }
     ensures first { IfOk result (λ core. core.positions ≡ opening (rules_of (chain_of core))) }
 {
-    let chain = ChainRun::new(config, genesis, blocks, NoCalls { config });
+    let caller = ContractCaller::new(&config);
+    let chain = ChainRun::new(config, genesis, blocks, caller);
     let core = Core::new(alloc, chain)?;
     let _ = core.phases().shards();
     Ok(core)
 }
 
 /// Runs all blocks.
-fn run(
+pub(crate) fn run(
     alloc: Global,
     config: Config,
     genesis: Genesis,

@@ -5,7 +5,7 @@
 /// entries of the file, and a height is the one that the block states.
 #[derive(Clone, Copy, Debug, PartialEq, Eq)]
 pub enum Status {
-    /// The report was written.
+    /// The text was written.
     Done,
     /// The words are no command.
     Usage,
@@ -30,11 +30,9 @@ pub enum Status {
     /// `take S SOURCE HEIGHT`, `seal S`, `publish S` and `rest`, has no line feed behind it, or names a
     /// shard that isn't there.
     Schedule { kind: u32, line: u64 },
-    /// What was given isn't supported yet: 0 the command, 2 the blocks.
-    Unsupported { form: u32 },
     /// A file could not be read.
     ReadFault,
-    /// The report could not be written whole.
+    /// The text could not be written whole.
     WriteFault,
     /// Memory ran out.
     NoMemory,

@@ -1,20 +1,22 @@
 //! The top call.
 
-ghost use Rattle.std.specs.Prelude.{◌≡◌, ◌≢◌, ◌+◌, ◌++◌, ◌∷◌, [], Err, Some, length};
+ghost use Rattle.std.specs.Prelude.{◌≡◌, ◌≢◌, ◌+◌, ◌++◌, ◌∷◌, [], Err, length};
 ghost use Rattle.std.specs.Option.{option_copied};
 ghost use Rattle.nr_blocks.specs.Genesis.{IsSoundGenesis};
 ghost use Rattle.nr_bytes.specs.Outside.{Rose};
 ghost use Rattle.nr_top.specs.Answers.{Serves, Prepares, AsksFront};
-ghost use Rattle.nr_top.specs.Input.{texts, input, configured, by_configured, by_files, by_blocks_file, by_purpose, by_schedule_read, purpose_of, ToTheEnd, Scheduled, files_of, loads_of, schedule_files};
+ghost use Rattle.nr_top.specs.Input.{Report, texts, input, configured, by_command, by_configured, by_files, by_blocks_file, by_purpose, by_schedule_read, purpose_of, ToTheEnd, Scheduled, files_of, loads_of, schedule_files};
+ghost use Rattle.nr_top.specs.Generated.{generated_text};
 ghost use Rattle.nr_top.specs.Run.{chain};
 ghost use Rattle.nr_top.specs.Schedule.{schedule_read};
-ghost use Rattle.nr_top.specs.Words.{names_in};
-ghost use Rattle.nr_top.specs.Command.{command};
+ghost use Rattle.nr_top.specs.Words.{CanGenerate, CanRun, command_in, names_in};
+ghost use Rattle.nr_top.specs.Command.{Replay, command};
 ghost use Rattle.nr_top.specs.declared.status.Status.TheVariants.{Done, ReadFault, WriteFault};
 
 use crate::checking::check;
-use crate::command::{FileNames, command_of, supported_files};
+use crate::command::{FileNames, Words, command_of};
 use crate::configuration::configuration;
+use crate::generated::generated;
 use crate::loading::load;
 use crate::replay::{blocks_of, genesis_of, schedule_of};
 use crate::run::report;
@@ -163,7 +165,7 @@ fn prepare_files<S: Shelf>(
 #[tactic(auto, using(crate::proofs::Stopping::configured_prepares))]
 fn prepare<S: Shelf>(alloc: Global, names: &FileNames<'_>, shelf: &mut S) -> Result<Blob, Status>
     ensures prepares { let n = names_in names.now in Prepares result (by_configured (purpose_of n.schedule (S.held shelf.old)) (configured n.config (S.held shelf.old n.config)) (S.held shelf.old n.genesis) (S.held shelf.old n.blocks)) }
-    ensures asked { AsksFront (S.asked shelf.old) (S.asked shelf.new) (loads_of (Some (names_in names.now))) }
+    ensures asked { AsksFront (S.asked shelf.old) (S.asked shelf.new) (loads_of (Replay (names_in names.now))) }
     ensures failed { result ≡ Err ReadFault → Rose (S.faults shelf.old) (S.faults shelf.new) }
 {
     let config = configuration(alloc, names.config, shelf)?;
@@ -171,10 +173,41 @@ fn prepare<S: Shelf>(alloc: Global, names: &FileNames<'_>, shelf: &mut S) -> Res
     Ok(text)
 }
 
+/// Generates a chain, runs it to its end, and makes the text.
+fn summarized(alloc: Global, start: u64, shards: u32, blocks: u64) -> Result<Blob, Status>
+    requires { CanGenerate shards blocks }
+    ensures prepares { Prepares result (Report (generated_text start shards blocks)) }
+    ensures no_fault { result ≢ Err ReadFault }
+{
+    match generated(alloc, start, shards, blocks) {
+        Ok(text) => Ok(text),
+        Err(_) => Err(Status::NoMemory),
+    }
+}
+
+/// Makes the text that a command asks for.
+fn text_of<S: Shelf>(alloc: Global, command: &Words<'_>, shelf: &mut S) -> Result<Blob, Status>
+    requires { CanRun command.now }
+    ensures prepares { Prepares result (by_command (command_in command.now) (S.held shelf.old)) }
+    ensures asked { AsksFront (S.asked shelf.old) (S.asked shelf.new) (loads_of (command_in command.now)) }
+    ensures failed { result ≡ Err ReadFault → Rose (S.faults shelf.old) (S.faults shelf.new) }
+{
+    match command {
+        Words::ReplayFiles(names) => prepare(alloc, names, shelf),
+        Words::GenerateInput {
+            start,
+            shards,
+            blocks,
+        } => summarized(alloc, *start, *shards, *blocks),
+    }
+}
+
 /// Does what the words ask for: `run CONFIG GENESIS BLOCKS` replays the blocks of a file over the
 /// genesis of another one, and writes the report. `check CONFIG GENESIS BLOCKS SCHEDULE` drives the
 /// shards by the lines of a schedule, and writes what each line does and the totals where they lead.
-/// CONFIG is `free`, the built-in configuration, or the name of a file.
+/// CONFIG is `free`, the built-in configuration, or the name of a file. `gen NUMBER SHARDS BLOCKS` runs the
+/// chain that these numbers generate, under the built-in configuration for such chains, and writes the
+/// numbers, how many chunks were sealed, the SHA-256 digest of the report, and the totals.
 ///
 /// # Answers
 ///
@@ -191,15 +224,13 @@ fn prepare<S: Shelf>(alloc: Global, names: &FileNames<'_>, shelf: &mut S) -> Res
 ///   number that `Status` says; `nr_blocks::read_blocks` gives it. Nothing was written.
 /// - `Schedule`: the schedule is longer than 1 MiB (kind 0), or has a line of none of the forms or with
 ///   a shard that isn't there (kind 1), by the first such line. Nothing was written.
-/// - `Unsupported`: the words are the command `gen` (form 0), or a transaction of the blocks calls a
-///   contract (form 2). Nothing was written; with form 0 nothing was loaded.
 /// - `ReadFault`: a file could not be read. Nothing was written.
 /// - `WriteFault`: the sink failed. A front of the text was written.
 /// - `NoMemory`: memory ran out. It counts as that where a total doesn't fit its number of 64 or 128
 ///   bits. Nothing was written.
 ///
-/// Of several refusals the first in this order comes: `Usage`, form 0, `Config`, `Genesis`, `Blocks`,
-/// form 2, `Schedule`. A file is loaded after all before it has passed.
+/// Of several refusals the first in this order comes: `Usage`, `Config`, `Genesis`, `Blocks`, `Schedule`.
+/// A file is loaded after all before it has passed; `gen` loads none.
 pub fn serial<S: Shelf, K: Sink>(
     alloc: Global,
     words: &[String],
@@ -219,14 +250,11 @@ pub fn serial<S: Shelf, K: Sink>(
     let Some(command) = command_of(words) else {
         return Status::Usage;
     };
-    let Some(names) = supported_files(&command) else {
-        return Status::Unsupported { form: 0 };
-    };
-    let report = match prepare(alloc, &names, shelf) {
-        Ok(report) => report,
+    let text = match text_of(alloc, &command, shelf) {
+        Ok(text) => text,
         Err(status) => return status,
     };
-    match write_all(sink, report.inner()) {
+    match write_all(sink, text.inner()) {
         Ok(()) => Status::Done,
         Err(_) => Status::WriteFault,
     }
