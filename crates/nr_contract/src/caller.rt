@@ -11,7 +11,7 @@ ghost use Rattle.nr_hostctx.specs.Host.{meaning, with_guest, Holds};
 ghost use Rattle.nr_hostctx.specs.State.{state_of};
 ghost use Rattle.nr_contract.specs.Calls.{Runs, DrivesTo, StaysWhole, ended_as};
 
-use crate::keeping::Shelf;
+use crate::keeping::KeptModules;
 use crate::parts::{FAILED_BINDING, OUT_OF_GAS, TRAPPED};
 use crate::preparing::prepare_kept;
 use crate::refused::Refused;
@@ -37,7 +37,7 @@ use std::marker::Model;
 #[derive(Debug, Drop)]
 pub struct ContractCaller {
     config: Config,
-    shelf: Shelf,
+    modules: KeptModules,
 }
 
 impl Model for ContractCaller {
@@ -55,7 +55,7 @@ impl ContractCaller {
     {
         ContractCaller {
             config: *config,
-            shelf: Shelf::new(),
+            modules: KeptModules::new(),
         }
     }
 }
@@ -136,7 +136,7 @@ fn run_code<S: Store>(
     state: &mut ShardState<S>,
     context: &CallContext,
     config: &Config,
-    shelf: &Shelf,
+    modules: &KeptModules,
 ) -> Result<CallEnd, CallStop>
     requires whole { state.old.whole ≡ true }
     requires stands { IsSome (get state.old.world.accounts context.now.current) }
@@ -157,12 +157,12 @@ fn run_code<S: Store>(
     }
     let load = load as u64;
     let method = context.method.inner().as_bytes();
-    let (prepared, copy) = prepare_kept(alloc, shelf, code, method, config);
+    let (prepared, copy) = prepare_kept(alloc, modules, code, method, config);
     match prepared {
         Ok((mut machine, func)) => {
             let result = run_method(alloc, state, context, config, &mut machine, func, load);
             if let Some(code) = copy {
-                shelf.put(code, machine.into_code(), config);
+                modules.put(code, machine.into_code(), config);
             }
             result
         }
@@ -203,7 +203,7 @@ impl<S: Store> Caller<S> for ContractCaller {
             return Err(CallStop::Memory);
         }
         state.mark();
-        let result = run_code(alloc, state, context, &self.config, &self.shelf);
+        let result = run_code(alloc, state, context, &self.config, &self.modules);
         match &result {
             Ok(_) => state.keep(),
             Err(CallStop::Failed { .. }) => state.back(),

@@ -45,13 +45,13 @@ fn holds(place: &Option<Kept>, code: &[u8], config: &Config) -> bool
 
 /// Modules kept, each in a place of its own. Threads share it, and none waits for another.
 #[derive(Debug, Drop)]
-pub(crate) struct Shelf {
+pub(crate) struct KeptModules {
     places: [Mutex<Option<Kept>>; 8],
 }
 
-impl Shelf {
-    pub(crate) fn new() -> Shelf {
-        Shelf {
+impl KeptModules {
+    pub(crate) fn new() -> KeptModules {
+        KeptModules {
             places: [
                 Mutex::new(None),
                 Mutex::new(None),
@@ -81,7 +81,7 @@ impl Shelf {
         None
     }
 
-    /// Keeps a module, where there is an empty place that no other thread is at.
+    /// Keeps a module, at an empty place or else at the first one, where no other thread is there.
     pub(crate) fn put(&self, code: Blob, valid: Valid, config: &Config)
         requires { IsLoaded (max_code config.now) (max_pages config.now) code valid }
     {
@@ -98,6 +98,9 @@ impl Shelf {
                     return;
                 }
             }
+        }
+        if let Some(mut place) = self.places[0].try_lock() {
+            *place = Some(kept);
         }
     }
 }

@@ -7,7 +7,7 @@ ghost use Rattle.nr_wasmvalid.specs.Modules.{IsValid};
 ghost use Rattle.nr_contract.specs.Loading.{judged, named, read, prepared};
 ghost use Rattle.nr_contract.specs.Preparing.{IsLoaded, Prepares, CanRun, RunsOver, with_machine, with_method};
 
-use crate::keeping::Shelf;
+use crate::keeping::KeptModules;
 use crate::methods::has_method;
 use crate::parts::{BAD_CODE, NO_METHOD, SEGMENT, decode_part, invalid};
 use crate::refused::Refused;
@@ -108,7 +108,7 @@ fn prepare(
 #[tactic(auto, using(crate::proofs::Making::prepares_loaded, crate::proofs::Making::loaded_in))]
 pub(crate) fn prepare_kept(
     alloc: Global,
-    shelf: &Shelf,
+    modules: &KeptModules,
     code: &[u8],
     method: &[u8],
     config: &Config,
@@ -119,7 +119,7 @@ pub(crate) fn prepare_kept(
         (λ found. IsLoaded (max_code config.now) (max_pages config.now) code.now found.0.program.code) }
     ensures copy { IfSome result.1 (λ copy. copy ≡ code.now) }
 {
-    match shelf.take(code, config) {
+    match modules.take(code, config) {
         Some(kept) => (
             prepare_valid(alloc, kept.valid, method, config),
             Some(kept.code),
