@@ -2,7 +2,6 @@
 #![tactic(auto)]
 
 mod checking;
-mod command;
 mod configuration;
 mod exit;
 mod generated;

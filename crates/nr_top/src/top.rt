@@ -5,16 +5,15 @@ ghost use Rattle.std.specs.Option.{option_copied};
 ghost use Rattle.nr_blocks.specs.Genesis.{IsSoundGenesis};
 ghost use Rattle.nr_bytes.specs.Outside.{Rose};
 ghost use Rattle.nr_top.specs.Answers.{Serves, Prepares, AsksFront};
-ghost use Rattle.nr_top.specs.Input.{Report, texts, input, configured, by_command, by_configured, by_files, by_blocks_file, by_purpose, by_schedule_read, purpose_of, ToTheEnd, Scheduled, files_of, loads_of, schedule_files};
+ghost use Rattle.nr_top.specs.Input.{Report, input, configured, by_command, by_configured, by_files, by_blocks_file, by_purpose, by_schedule_read, purpose_of, ToTheEnd, Scheduled, files_of, loads_of, schedule_files};
 ghost use Rattle.nr_top.specs.Generated.{generated_text};
 ghost use Rattle.nr_top.specs.Run.{chain};
 ghost use Rattle.nr_top.specs.Schedule.{schedule_read};
-ghost use Rattle.nr_top.specs.Words.{CanGenerate, CanRun, command_in, names_in};
-ghost use Rattle.nr_top.specs.Command.{Replay, command};
+ghost use Rattle.nr_words.specs.Words.{CanGenerate, CanRun, command_in, names_in, texts};
+ghost use Rattle.nr_words.specs.Command.{Replay, command};
 ghost use Rattle.nr_top.specs.declared.status.Status.TheVariants.{Done, ReadFault, WriteFault};
 
 use crate::checking::check;
-use crate::command::{FileNames, Words, command_of};
 use crate::configuration::configuration;
 use crate::generated::generated;
 use crate::loading::load;
@@ -25,6 +24,7 @@ use crate::writing::write_all;
 use nr_blocks::{Block, Genesis};
 use nr_bytes::{Blob, List, Shelf, Sink};
 use nr_config::Config;
+use nr_words::{FileNames, Words, serial_command};
 use std::alloc::Global;
 
 /// The most bytes of a genesis, 64 MiB.
@@ -247,8 +247,10 @@ pub fn serial<S: Shelf, K: Sink>(
     // Only the files of the command were asked for, in their order.
     ensures asked { AsksFront (S.asked shelf.old) (S.asked shelf.new) (files_of (command (texts words.now))) }
 {
-    let Some(command) = command_of(words) else {
-        return Status::Usage;
+    let command = match serial_command(alloc, words) {
+        Ok(Some(command)) => command,
+        Ok(None) => return Status::Usage,
+        Err(_) => return Status::NoMemory,
     };
     let text = match text_of(alloc, &command, shelf) {
         Ok(text) => text,
