@@ -1,6 +1,6 @@
 //! Nodes made in place of others, so that each is a leaf or has two links.
 
-ghost use Rattle.std.specs.Prelude.{◌≡◌, ◌<◌, ◌≤◌, ◌+◌, ◌++◌, ◌∷◌, ℕ, length, take, drop, slice_set, Some, IfOk};
+ghost use Rattle.std.specs.Prelude.{◌≡◌, ◌<◌, ◌≤◌, ◌+◌, ◌++◌, ◌∷◌, ℕ, length, take, drop, slice_set, is_some, true, Some, IfOk};
 ghost use Rattle.std.specs.Option.{option_map};
 ghost use Rattle.std.specs.Arc.{arc_value};
 ghost use Rattle.nr_triedef.specs.Node.{IsNibbles};
@@ -110,6 +110,21 @@ pub(crate) fn settle(
     }
 }
 
+// The node with another child in place of one.
+#[tactic(auto, using(crate::proofs::Settled::adds_settles, crate::proofs::Settled::adds_extends, crate::proofs::Sets::extends_refl))]
+fn relink(nodes: &mut Nodes, node: u32, nibble: u8, below: u32) -> Result<u32, AllocError>
+    requires node { node < length nodes.old }
+    requires nibble { nibble < 16 }
+    requires below { below < length nodes.old }
+    requires some { is_some (child (shape_at nodes.old node).below nibble) ≡ true }
+    ensures few { length nodes.new ≤ length nodes.old + 1 }
+    ensures grows { Extends nodes.old nodes.new }
+    ensures settled { IfOk result (λ id. Settles nodes.old nodes.new (shape_at nodes.old node).part (shape_at nodes.old node).value (slice_set (shape_at nodes.old node).below nibble (Some below)) (Some id)) }
+{
+    let id = nodes.relink(node, nibble, below)?;
+    Ok(id)
+}
+
 /// The node with another child.
 pub(crate) fn replace_child(
     nodes: &mut Nodes,
@@ -124,6 +139,12 @@ pub(crate) fn replace_child(
     ensures grows { Extends nodes.old nodes.new }
     ensures settled { IfOk result (λ id. Settles nodes.old nodes.new (shape_at nodes.old node).part (shape_at nodes.old node).value (slice_set (shape_at nodes.old node).below nibble below) id) }
 {
+    if let Some(child) = below {
+        if nodes.child(node, nibble).is_some() {
+            let id = relink(nodes, node, nibble, child)?;
+            return Ok(Some(id));
+        }
+    }
     let alloc = nodes.allocator();
     let part = Vec::from_slice(alloc, nodes.part(node))?;
     let value = nodes.shared_value(node)?;

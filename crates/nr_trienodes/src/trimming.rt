@@ -46,9 +46,11 @@ fn mark_row(nodes: &Nodes, names: &mut Names, id: u32)
     ensures { RowMarked nodes.now (shape_at nodes.now id).below names.old.items names.new.items id }
 {
     let _sound = nodes.count();
-    let row = nodes.row(id);
-    for x in 0..16 {
-        mark(names, row[x]);
+    if !nodes.is_inner(id) {
+        return;
+    }
+    for x in 0..16u8 {
+        mark(names, nodes.child(id, x));
     }
 }
 
