@@ -322,8 +322,11 @@ impl Nodes {
         ensures { IfOk result (λ n. n ≡ own_usage (shape_at self.now id).part (shape_at self.now id).value false (sum_by (λ c. usage_below (option_map (summary_at self.now) c)) (slice_set (shape_at self.now id).below nibble (Some below)))) }
     {
         let _count = self.count();
-        let other = self.usage_in(self.child(id, nibble));
-        let usage = sum_of(self.usage_at(id) - other, self.usage_at(below))?;
+        let old = self.child(id, nibble);
+        let other = self.usage_in(old);
+        let held = self.usage_at(id);
+        let more = self.usage_at(below);
+        let usage = sum_of(held - other, more)?;
         Ok(usage)
     }
 

@@ -125,6 +125,29 @@ fn relink(nodes: &mut Nodes, node: u32, nibble: u8, below: u32) -> Result<u32, A
     Ok(id)
 }
 
+// The node with a child more or less.
+fn remake(
+    nodes: &mut Nodes,
+    node: u32,
+    nibble: u8,
+    below: Option<u32>,
+) -> Result<Option<u32>, AllocError>
+    requires node { node < length nodes.old }
+    requires nibble { nibble < 16 }
+    requires below { IsIn (length nodes.old) below }
+    ensures few { length nodes.new ≤ length nodes.old + 1 }
+    ensures grows { Extends nodes.old nodes.new }
+    ensures settled { IfOk result (λ id. Settles nodes.old nodes.new (shape_at nodes.old node).part (shape_at nodes.old node).value (slice_set (shape_at nodes.old node).below nibble below) id) }
+{
+    let alloc = nodes.allocator();
+    let part = Vec::from_slice(alloc, nodes.part(node))?;
+    let value = nodes.shared_value(node)?;
+    let mut row = nodes.row(node);
+    row[nibble as usize] = below;
+    let id = settle(nodes, part, value, row)?;
+    Ok(id)
+}
+
 /// The node with another child.
 pub(crate) fn replace_child(
     nodes: &mut Nodes,
@@ -139,19 +162,14 @@ pub(crate) fn replace_child(
     ensures grows { Extends nodes.old nodes.new }
     ensures settled { IfOk result (λ id. Settles nodes.old nodes.new (shape_at nodes.old node).part (shape_at nodes.old node).value (slice_set (shape_at nodes.old node).below nibble below) id) }
 {
-    if let Some(child) = below {
-        if nodes.child(node, nibble).is_some() {
-            let id = relink(nodes, node, nibble, child)?;
-            return Ok(Some(id));
-        }
+    let Some(child) = below else {
+        return remake(nodes, node, nibble, None);
+    };
+    if nodes.child(node, nibble).is_none() {
+        return remake(nodes, node, nibble, Some(child));
     }
-    let alloc = nodes.allocator();
-    let part = Vec::from_slice(alloc, nodes.part(node))?;
-    let value = nodes.shared_value(node)?;
-    let mut row = nodes.row(node);
-    row[nibble as usize] = below;
-    let id = settle(nodes, part, value, row)?;
-    Ok(id)
+    let id = relink(nodes, node, nibble, child)?;
+    Ok(Some(id))
 }
 
 /// The node with another value.

@@ -1,4 +1,4 @@
-use Rattle.std.proofs.Common.{◌∙◌, ◌<◌, ap, sym, subst, set, length, None, arith}
+use Rattle.std.proofs.Common.{◌∙◌, ◌≡◌, ◌<◌, ap, sym, subst, set, length, None, arith}
 use Rattle.std.specs.Prelude.{Option, ℕ}
 use Rattle.nr_trienodes.specs.Views.{IsIn}
 use Rattle.nr_trienodes.specs.Naming.{renamed}
