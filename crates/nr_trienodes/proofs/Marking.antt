@@ -1,5 +1,5 @@
 -- Nodes that are kept: what is marked, and that there are no more of them than at and below the roots.
-use Rattle.std.proofs.Common.{◌≡◌, ◌≢◌, ◌<◌, ◌≤◌, ◌+◌, ◌-◌, ℕ, zero, suc, Bool, true, false, cond, List, [], ◌∷◌, ◌++◌, length, take, drop, map, replicate, get_or, set, Option, Some, None, refl, ap, sym, ◌∙◌, subst, inl, inr, add-one, arith}
+use Rattle.std.proofs.Common.{◌≡◌, ◌<◌, ◌≤◌, ◌+◌, ◌-◌, ℕ, zero, suc, Bool, true, false, cond, List, [], ◌∷◌, ◌++◌, length, take, drop, map, replicate, get_or, set, Option, Some, None, refl, ap, sym, ◌∙◌, subst, inl, inr, add-one, arith}
 use mathlib.Core.Bool.{false≢true}
 use Rattle.std.specs.Prelude.{is_some, count_by, sum_by, ◌⊎◌}
 use Rattle.std.specs.Option.{option_map}
@@ -7,13 +7,13 @@ use Rattle.std.specs.List.{AllByRecursion}
 use Rattle.std.proofs.Math.Nat.{eq-or-lt_of_le}
 use Rattle.std.proofs.Math.ListN.{drop_of_length-le}
 use Rattle.std.proofs.lemmas.Bool.{cases_eq}
-use Rattle.std.proofs.lemmas.List.{length-set, get_or-set_same, get_or-set_other, get_or-replicate, take_all}
+use Rattle.std.proofs.lemmas.List.{length-set, get_or-set_same, get_or-set_other, take_all}
 use Rattle.std.proofs.lemmas.List.Sums.{sum_by-cons}
 use Rattle.nr_trienodes.specs.Shape.{Shape, shape_at, child, no_children}
 use Rattle.nr_trienodes.specs.Tries.{count_at, node_count, or_zero}
 use Rattle.nr_trienodes.specs.Views.{Sound, IsIn}
 use Rattle.nr_trienodes.specs.Roots.{root_count, IsRoot, name_in}
-use Rattle.nr_trienodes.specs.Naming.{Names, new_name, IsKept, HasName, weight_of, marked, Marks, RowMarked, IsClosed, BelowMarked, RootsMarked}
+use Rattle.nr_trienodes.specs.Naming.{Names, new_name, IsKept, HasName, weight_of, marked, Marks, RowMarked, BelowMarked, RootsMarked}
 use Rattle.nr_trienodes.specs.declared.nodes.NodeId.{NodeId}
 use Rattle.nr_trienodes.proofs.Folds.{fold_at}
 use Rattle.nr_trienodes.proofs.Sounds.{back_sound}

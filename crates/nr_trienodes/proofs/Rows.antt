@@ -1,12 +1,10 @@
 -- Rows of children, and the usage of a part.
-use Rattle.std.proofs.Common.{◌≡◌, ◌==◌, ◌<◌, ◌≤◌, ◌+◌, ◌-◌, ◌*◌, ◌/◌, ◌%◌, ℕ, zero, suc, Bool, true, false, cond, not, List, [], ◌∷◌, ◌++◌, length, map, take, replicate, get_or, Option, Some, None, refl, ap, sym, ◌∙◌, subst, eq-eqb, length-append, inl, inr, arith}
+use Rattle.std.proofs.Common.{◌≡◌, ◌==◌, ◌<◌, ◌≤◌, ◌+◌, ◌-◌, ◌*◌, ◌/◌, ◌%◌, ℕ, zero, suc, Bool, true, false, cond, List, [], ◌∷◌, ◌++◌, length, map, take, replicate, get_or, Option, Some, None, refl, ap, sym, ◌∙◌, subst, eq-eqb, length-append, inl, inr, arith}
 use Rattle.std.specs.Prelude.{is_some, count_by}
-use Rattle.std.specs.Option.{is_none}
 use mathlib.Core.Bool.{false≢true}
 use Rattle.std.proofs.lemmas.Bool.{ne_eqb, eqb-true, cases_lt}
 use Rattle.std.proofs.lemmas.List.Sums.{sum_by-cons}
 use Rattle.nr_triedef.specs.Node.{key_part, paired, part_flag}
-use Rattle.nr_triedef.specs.Root.{part_usage}
 use Rattle.nr_trienodes.specs.Shape.{child, no_children}
 use Rattle.nr_trienodes.specs.Packing.{child_of, none_number}
 use Rattle.nr_trienodes.specs.Tries.{front_usage}

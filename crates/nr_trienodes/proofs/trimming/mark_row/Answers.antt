@@ -1,6 +1,6 @@
-use Rattle.std.proofs.Common.{◌∙◌, ap, sym, subst, refl, take, None, arith}
-use Rattle.std.specs.Prelude.{ℕ, List, Option}
-use Rattle.nr_trienodes.specs.Naming.{marked, RowMarked}
+use Rattle.std.proofs.Common.{◌∙◌, ap, sym, subst, refl, arith}
+use Rattle.std.specs.Prelude.{ℕ, Option}
+use Rattle.nr_trienodes.specs.Naming.{marked}
 use Rattle.nr_trienodes.specs.Shape.{shape_at}
 use Rattle.nr_trienodes.specs.Views.{IsIn}
 use Rattle.nr_trienodes.proofs.Marking.{row_in, row_on, row_nothing, row_full}

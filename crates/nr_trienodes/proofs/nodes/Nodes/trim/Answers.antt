@@ -1,10 +1,9 @@
-use Rattle.std.proofs.Common.{◌∙◌, ◌≡◌, ◌≤◌, ◌*◌, ap, sym, subst, length, List, Option, arith, map, replicate, None}
+use Rattle.std.proofs.Common.{◌∙◌, ◌≤◌, ◌*◌, ap, sym, subst, length, List, Option, arith, map, replicate, None}
 use Rattle.std.proofs.lemmas.List.{length-replicate}
-use Rattle.std.specs.Prelude.{sum_by, ℕ}
-use Rattle.std.specs.List.{AllByRecursion}
+use Rattle.std.specs.Prelude.{sum_by}
 use Rattle.std.specs.FinMap.{entries}
 use Rattle.nr_trienodes.specs.Roots.{Renames, contents}
-use Rattle.nr_trienodes.specs.Naming.{Names, new_root, HasName}
+use Rattle.nr_trienodes.specs.Naming.{new_root}
 use Rattle.nr_trienodes.specs.declared.nodes.NodeId.{NodeId}
 use Rattle.nr_trienodes.proofs.Renaming.{roots_named, roots_few}
 use Rattle.nr_trienodes.proofs.Marking.{few_kept, roots_stay}

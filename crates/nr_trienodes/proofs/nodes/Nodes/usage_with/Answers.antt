@@ -1,4 +1,4 @@
-use Rattle.std.proofs.Common.{◌≤◌, ap, arith}
+use Rattle.std.proofs.Common.{ap, arith}
 use Rattle.std.specs.Prelude.{Option, ℕ}
 use Rattle.std.specs.Option.{option_map}
 use Rattle.nr_triedef.specs.Root.{usage_below}
