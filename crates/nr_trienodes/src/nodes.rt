@@ -1,6 +1,6 @@
 //! The arena.
 
-ghost use Rattle.std.specs.Prelude.{◌≡◌, ◌<◌, ◌≤◌, ◌-◌, ◌+◌, ◌^◌, ◌==◌, ◌*◌, ◌/◌, ℕ, true, false, [], length, map, drop, slice_set, is_some, count_by, sum_by, Some, None, IfOk, OnErr};
+ghost use Rattle.std.specs.Prelude.{◌≡◌, ◌<◌, ◌≤◌, ◌-◌, ◌+◌, ◌^◌, ◌==◌, ◌*◌, ◌/◌, ℕ, true, false, [], length, map, drop, replicate, slice_set, is_some, count_by, sum_by, Some, None, IfOk, OnErr};
 ghost use Rattle.std.specs.Option.{option_copied, option_map};
 ghost use Rattle.std.specs.Arc.{arc_value};
 ghost use Rattle.nr_triedef.specs.Node.{IsNibbles};
@@ -41,6 +41,8 @@ struct Node {
 pub struct Nodes {
     alloc: Global,
     nodes: Vec<Node>,
+    // The list of the last trim, of which the next one takes the memory over.
+    names: Names,
 }
 
 impl Model for Nodes {
@@ -136,6 +138,7 @@ impl Nodes {
         Nodes {
             alloc,
             nodes: Vec::new(alloc),
+            names: Vec::new(alloc),
         }
     }
 
@@ -370,6 +373,25 @@ impl Nodes {
         let node = self.node_with(id, nibble, below, usage)?;
         self.nodes.push(node)?;
         Ok(name)
+    }
+
+    /// A list without names, one place for each node.
+    pub(crate) fn take_names(&mut self) -> Result<Names, AllocError>
+        ensures names { IfOk result (λ names. names.items ≡ replicate (length self.old) None) }
+        ensures same { self.new ≡ self.old }
+    {
+        let count = self.len();
+        let mut names = std::mem::replace(&mut self.names, Vec::new(self.alloc));
+        names.clear();
+        names.resize(count, None)?;
+        Ok(names)
+    }
+
+    /// Keeps the list for the next trim.
+    pub(crate) fn keep_names(&mut self, names: Names)
+        ensures { self.new ≡ self.old }
+    {
+        self.names = names;
     }
 
     /// Drops the nodes that aren't kept, and gives the others their new names in order.
