@@ -1,22 +1,22 @@
 -- Which paths begin with a prefix.
-use Rattle.std.proofs.Common.{◌≡◌, ◌≢◌, ◌==◌, ◌<◌, ◌≤◌, ◌+◌, ◌*◌, ◌/◌, ◌%◌, ℕ, zero, suc, Bool, true, false, cond, ◌&&◌, List, [], ◌∷◌, ◌++◌, length, take, drop, map, get_or, Option, Some, None, refl, ap, sym, ◌∙◌, subst, eq-eqb, arith, append_assoc}
+use Rattle.std.proofs.Common.{◌≡◌, ◌≢◌, ◌==◌, ◌<◌, ◌≤◌, ◌+◌, ◌/◌, ◌%◌, ℕ, zero, suc, Bool, true, false, cond, ◌&&◌, List, [], ◌∷◌, ◌++◌, length, take, drop, map, get_or, Option, Some, None, refl, ap, sym, ◌∙◌, subst, eq-eqb, arith, append_assoc}
 use mathlib.Core.Bool.{false≢true}
 use Rattle.std.specs.Prelude.{is_some, IsSome}
 use Rattle.std.specs.Option.{option_map}
-use Rattle.std.specs.List.{AllByRecursion, filter, starts_with}
+use Rattle.std.specs.List.{filter, starts_with}
 use Rattle.std.specs.FinMap.{entries, len-entries, len-empty, empty}
 use Rattle.std.proofs.lemmas.Bool.{ne_eqb, eqb-true, eqb-false}
 use Rattle.std.proofs.lemmas.List.{append-nil, nil_from_length}
 use Rattle.std.proofs.lemmas.List.Elements.{filter-append}
-use Rattle.nr_triedef.specs.Node.{nibbles, paired, IsNibbles}
-use Rattle.nr_triedef.specs.Root.{Paths, Contents, paths}
+use Rattle.nr_triedef.specs.Node.{nibbles}
+use Rattle.nr_triedef.specs.Root.{Paths, paths}
 use Rattle.nr_triedef.specs.Stores.{keys_below}
 use Rattle.nr_trienodes.specs.Shape.{Shape, child, shape_at}
 use Rattle.nr_trienodes.specs.Tries.{stripped, in_front, own_path, paths_from, node_paths, paths_at}
 use Rattle.nr_trienodes.specs.Views.{Sound}
-use Rattle.nr_trienodes.specs.Roots.{IsWhole, IsRoot, contents}
+use Rattle.nr_trienodes.specs.Roots.{IsRoot, contents}
 use Rattle.nr_trienodes.specs.Turns.{left, IsNext}
-use Rattle.nr_trienodes.specs.Listing.{kept, BendsDown, AreWhole, keys_in}
+use Rattle.nr_trienodes.specs.Listing.{kept, AreWhole, keys_in}
 use Rattle.nr_trienodes.specs.declared.nodes.NodeId.{NodeId}
 use Rattle.nr_trienodes.proofs.Folds.{fold_at, child-map}
 use Rattle.nr_trienodes.proofs.Sounds.{back_sound}

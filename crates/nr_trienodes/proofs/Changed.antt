@@ -1,5 +1,5 @@
 -- The map of a changed root, and old roots where nothing but new nodes came.
-use Rattle.std.proofs.Common.{◌≡◌, ◌≢◌, ◌<◌, ◌≤◌, ◌+◌, ◌-◌, ◌*◌, ◌^◌, ◌++◌, ℕ, zero, suc, Bool, true, false, cond, List, [], ◌∷◌, length, drop, Option, Some, None, Result, Ok, Err, refl, ap, sym, ◌∙◌, subst, length-append, arith}
+use Rattle.std.proofs.Common.{◌≡◌, ◌≢◌, ◌<◌, ◌≤◌, ◌+◌, ◌-◌, ◌*◌, ◌^◌, ℕ, Bool, true, false, cond, List, [], length, drop, Option, Some, None, Result, Ok, Err, refl, ap, sym, ◌∙◌, subst, length-append, arith}
 use mathlib.Core.Bool.{false≢true}
 use Rattle.std.specs.Prelude.{is_some, IsSome}
 use Rattle.std.proofs.Math.Seq.{drop-append_seam}
@@ -13,8 +13,8 @@ use Rattle.nr_triedef.specs.Node.{nibbles}
 use Rattle.nr_triedef.specs.Root.{Paths, Contents}
 use Rattle.nr_trienodes.specs.Shape.{Shape}
 use Rattle.nr_trienodes.specs.Tries.{Answer, answer, nothing, node_paths, node_cost, found, found_in, cost_at, cost_in}
-use Rattle.nr_trienodes.specs.Views.{Sound, IsIn}
-use Rattle.nr_trienodes.specs.Turns.{Sets, Extends, Changes}
+use Rattle.nr_trienodes.specs.Views.{Sound}
+use Rattle.nr_trienodes.specs.Turns.{Extends, Changes}
 use Rattle.nr_trienodes.specs.Roots.{IsWhole, IsRoot, IsChanged, Keeps, IsFull, FullsSo, packed, contents, cost, name_in}
 use Rattle.nr_trienodes.specs.declared.fault.NodesFault.{NodesFault}
 use Rattle.nr_trienodes.specs.declared.fault.NodesFault.TheVariants.{Full, Memory}

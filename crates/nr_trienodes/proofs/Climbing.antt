@@ -1,19 +1,18 @@
 -- The way up: a changed node below a node, and what its hash costs.
-use Rattle.std.proofs.Common.{◌≡◌, ◌≢◌, ◌<◌, ◌≤◌, ◌+◌, ◌*◌, ◌++◌, ℕ, zero, suc, true, false, cond, List, [], ◌∷◌, length, set, map, Option, Some, None, refl, ap, sym, ◌∙◌, subst, arith}
+use Rattle.std.proofs.Common.{◌≡◌, ◌<◌, ◌≤◌, ◌+◌, ◌*◌, ℕ, zero, suc, true, cond, List, [], ◌∷◌, length, set, map, Option, Some, None, refl, ap, sym, ◌∙◌, subst, arith}
 use Rattle.std.specs.Prelude.{is_some, sum_by}
 use Rattle.std.specs.Option.{option_map}
-use Rattle.std.specs.List.{AllByRecursion}
 use Rattle.std.proofs.lemmas.List.Sums.{sum_by-cons}
 use Rattle.nr_ids.specs.declared.key.Hash32.{Hash32}
 use Rattle.nr_trienodes.specs.Shape.{Shape, child, shape_at}
-use Rattle.nr_trienodes.specs.Tries.{Answer, stripped, found, found_in, or_zero, node_cost, cost_at, cost_in, weight, answer, nothing}
-use Rattle.nr_trienodes.specs.Views.{Sound, IsIn}
+use Rattle.nr_trienodes.specs.Tries.{Answer, found, found_in, or_zero, node_cost, cost_at, cost_in, weight, answer, nothing}
+use Rattle.nr_trienodes.specs.Views.{Sound}
 use Rattle.nr_trienodes.specs.Turns.{Sets, Extends, Takes, Leads, AreSteps, Settles, Changes, Climbs, stands_for, costs_below}
 use Rattle.nr_trienodes.specs.declared.turn.Step.{Step}
 use Rattle.nr_trienodes.proofs.Folds.{fold_at, children_same}
 use Rattle.nr_trienodes.proofs.Sounds.{back_sound}
 use Rattle.nr_trienodes.proofs.Founds.{found_is, found_on}
-use Rattle.nr_trienodes.proofs.Sets.{extends_refl, extends_trans, extends_longer, extends_shape, extends_fold, is_in_more, sets_child, asked_found}
+use Rattle.nr_trienodes.proofs.Sets.{extends_trans, extends_longer, extends_shape, extends_fold, sets_child}
 
 -- ---- costs
 pub cost_kept : (nodes : List Shape) (id : ℕ) → Sound nodes → id < length nodes → is_some (shape_at nodes id).hash ≡ true → cost_at nodes id ≡ 0

@@ -1,11 +1,11 @@
 -- A value taken out at a key.
-use Rattle.std.proofs.Common.{◌≡◌, ◌<◌, ◌≤◌, ◌+◌, ◌*◌, ℕ, Bool, true, not, List, [], length, Option, Some, None, refl, ap, sym, ◌∙◌, subst, arith}
+use Rattle.std.proofs.Common.{◌≡◌, ◌<◌, ℕ, Bool, true, not, List, [], length, Option, Some, None, refl, sym, ◌∙◌, subst, arith}
 use Rattle.std.specs.Prelude.{is_some}
 use Rattle.std.specs.Option.{option_map}
 use Rattle.nr_trienodes.specs.Shape.{Shape, shape_at}
-use Rattle.nr_trienodes.specs.Tries.{Answer, stripped, found, found_in}
+use Rattle.nr_trienodes.specs.Tries.{stripped, found, found_in}
 use Rattle.nr_trienodes.specs.Views.{Sound}
-use Rattle.nr_trienodes.specs.Turns.{Leads, Sets, Settles, Changes, stands_for}
+use Rattle.nr_trienodes.specs.Turns.{Leads, Settles, Changes, stands_for}
 use Rattle.nr_trienodes.specs.Roots.{name_in}
 use Rattle.nr_trienodes.specs.declared.nodes.NodeId.{NodeId}
 use Rattle.nr_trienodes.specs.declared.turn.Step.{Step}

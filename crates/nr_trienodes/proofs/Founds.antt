@@ -1,7 +1,7 @@
 -- A look-up, a node at a time.
-use Rattle.std.proofs.Common.{◌≡◌, ◌==◌, ◌<◌, ◌+◌, ℕ, zero, suc, true, false, cond, List, [], ◌∷◌, ◌++◌, length, take, drop, map, Option, Some, None, refl, ap, sym, ◌∙◌, arith}
+use Rattle.std.proofs.Common.{◌≡◌, ◌==◌, ◌<◌, ◌+◌, ℕ, zero, suc, true, false, cond, List, [], ◌∷◌, length, take, drop, map, Option, Some, None, refl, ap, ◌∙◌}
 use Rattle.std.specs.Option.{option_map}
-use Rattle.nr_trienodes.specs.Shape.{Shape, child, shape_at, fold}
+use Rattle.nr_trienodes.specs.Shape.{Shape, child, shape_at}
 use Rattle.nr_trienodes.specs.Tries.{Answer, nothing, answer, stripped, asked, given, found}
 use Rattle.nr_trienodes.specs.Turns.{left, GoesBy, Parts}
 use Rattle.nr_trienodes.specs.Views.{Sound}

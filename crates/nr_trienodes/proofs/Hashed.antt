@@ -1,5 +1,5 @@
 -- Hashes that are kept: what a node's summary is made of, and what keeping more of them leaves as it is.
-use Rattle.std.proofs.Common.{◌≡◌, ◌≢◌, ◌==◌, ◌&&◌, ◌<◌, ◌≤◌, ◌+◌, ℕ, zero, suc, Bool, true, false, cond, List, [], ◌∷◌, length, get_or, map, Option, Some, None, refl, ap, sym, ◌∙◌, subst, eq-eqb, arith}
+use Rattle.std.proofs.Common.{◌≡◌, ◌==◌, ◌&&◌, ◌<◌, ◌≤◌, ◌+◌, ℕ, suc, Bool, true, false, cond, List, [], ◌∷◌, length, get_or, map, Option, Some, None, refl, ap, sym, ◌∙◌, subst, arith}
 use Rattle.std.specs.Prelude.{is_some, count_by, sum_by}
 use Rattle.std.specs.Option.{option_map}
 use Rattle.std.specs.FinMap.{from_sorted}
@@ -7,15 +7,15 @@ use Rattle.std.proofs.lemmas.Bool.{eqb-true}
 use Rattle.std.proofs.lemmas.List.Sums.{sum_by-cons}
 use Rattle.nr_ids.specs.declared.key.Hash32.{Hash32}
 use Rattle.nr_triedef.specs.declared.hash.Summary.{Summary}
-use Rattle.nr_triedef.specs.Node.{IsNibbles, key_part, summary, links}
+use Rattle.nr_triedef.specs.Node.{key_part, summary, links}
 use Rattle.nr_triedef.specs.Root.{Paths, leaf_with, branch, with_front, value_field, hash_below, summary_of, root_of, no_root}
-use Rattle.nr_trienodes.specs.Shape.{Shape, child, shape_at, fold, over}
-use Rattle.nr_trienodes.specs.Tries.{Answer, answer, nothing, found, node_paths, is_leaf, value_or_none, node_summary, summary_at, or_zero, weight, node_cost, cost_at}
+use Rattle.nr_trienodes.specs.Shape.{Shape, child, shape_at}
+use Rattle.nr_trienodes.specs.Tries.{Answer, answer, nothing, found, node_paths, is_leaf, value_or_none, node_summary, summary_at, or_zero, weight, cost_at}
 use Rattle.nr_trienodes.specs.Views.{Sound, KeepsHash}
 use Rattle.nr_trienodes.specs.Roots.{IsRoot, Keeps, packed, contents, cost}
 use Rattle.nr_trienodes.specs.Hashing.{is_hashed, HasHashes, IsWarm, weight_at, Warms}
 use Rattle.nr_trienodes.specs.declared.nodes.NodeId.{NodeId}
-use Rattle.nr_trienodes.proofs.Folds.{by_names, fold_at, fold_alike, not_same, children_same}
+use Rattle.nr_trienodes.proofs.Folds.{by_names, fold_at, fold_alike, not_same}
 use Rattle.nr_trienodes.proofs.Sounds.{back_sound, sum_by-map, sum_by-same, count-children}
 use Rattle.nr_trienodes.proofs.Rows.{child_get}
 use Rattle.nr_trienodes.proofs.Climbing.{cost_kept, cost_new}

@@ -1,11 +1,11 @@
 -- A key nibble by nibble, and a part that it goes along.
-use Rattle.std.proofs.Common.{◌≡◌, ◌≢◌, ◌==◌, ◌<◌, ◌≤◌, ◌+◌, ◌*◌, ◌/◌, ◌%◌, ◌^◌, ℕ, zero, suc, true, false, cond, List, [], ◌∷◌, ◌++◌, length, take, drop, get_or, Option, Some, None, refl, ap, sym, ◌∙◌, subst, eq-eqb, add-one, length-drop, length-append, arith}
+use Rattle.std.proofs.Common.{◌≡◌, ◌≢◌, ◌==◌, ◌<◌, ◌≤◌, ◌+◌, ◌*◌, ◌/◌, ◌%◌, ◌^◌, ℕ, zero, suc, true, false, cond, List, [], ◌∷◌, ◌++◌, length, take, drop, get_or, Some, None, refl, ap, sym, ◌∙◌, subst, eq-eqb, add-one, length-append, arith}
 use Rattle.std.proofs.lemmas.Bool.{ne_eqb, eqb-true}
 use Rattle.std.proofs.Math.ListN.{drop_of_length-le}
-use Rattle.nr_triedef.specs.Node.{nibbles, IsNibbles}
+use Rattle.nr_triedef.specs.Node.{nibbles}
 use Rattle.nr_trienodes.specs.Shape.{Shape, shape_at, child}
 use Rattle.nr_trienodes.specs.Tries.{stripped}
-use Rattle.nr_trienodes.specs.Turns.{left, IsNext, Matches, GoesBy, Takes, Leads}
+use Rattle.nr_trienodes.specs.Turns.{left, IsNext, Matches, GoesBy, Takes}
 
 pub length-nibbles : (key : List ℕ) → length (nibbles key) ≡ 2 * length key
 length-nibbles [] = refl

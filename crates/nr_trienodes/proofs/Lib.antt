@@ -22,3 +22,4 @@ pub mod Marking
 pub mod Pushing
 pub mod Renaming
 pub mod Sliding
+pub mod Relinks

@@ -1,17 +1,15 @@
 -- The finite map under a root: its entries, what it gives at a key, and its root by the definition.
-use Rattle.std.proofs.Common.{◌≡◌, ◌<◌, ◌≤◌, ◌+◌, ◌*◌, ℕ, zero, suc, Bool, true, false, cond, List, [], ◌∷◌, length, map, Option, Some, None, refl, ap, sym, subst, ◌∙◌, arith, T}
+use Rattle.std.proofs.Common.{◌≡◌, ◌≤◌, ◌+◌, ◌*◌, ℕ, suc, true, false, cond, List, [], ◌∷◌, length, Option, Some, None, refl, ap, sym, subst, ◌∙◌, arith, T}
 use Rattle.std.specs.Prelude.{IsSome}
-use Rattle.std.proofs.lemmas.List.{length-map, nil_from_length}
+use Rattle.std.proofs.lemmas.List.{nil_from_length}
 use Rattle.std.specs.List.{AllByRecursion}
-use Rattle.std.specs.FinMap.{FinMap, entries, get, empty, insert, remove, find, is_sorted, len-entries, len-empty, entries-from_sorted, get-from_sorted, get-empty, get-insert, get-remove, same_map, slice_cmp-IsAntisymmetric, nat_cmp-IsAntisymmetric}
-use Rattle.std.specs.Ordering.{nat_cmp, eq_by_cmp, is_eq}
+use Rattle.std.specs.FinMap.{entries, get, empty, find, is_sorted, len-entries, len-empty, entries-from_sorted, get-from_sorted, get-empty}
+use Rattle.std.specs.Ordering.{eq_by_cmp, is_eq}
 use Rattle.std.specs.Cmp.{tied_itself}
-use Rattle.std.specs.Cmp.Lexicographic.{slice_cmp, nat_list_cmp_total}
-use Rattle.std.proofs.lemmas.Map.Lookups.{exact_bytes}
-use Rattle.std.specs.declared.cmp.Ordering.TheVariants.{Less, Equal, Greater}
+use Rattle.std.specs.Cmp.Lexicographic.{nat_list_cmp_total}
 use Rattle.nr_triedef.specs.declared.hash.Summary.{Summary}
 use Rattle.nr_triedef.specs.Node.{nibbles}
-use Rattle.nr_triedef.specs.Root.{Paths, Contents, paths, depth, trie, root_of, root_of_entries, summary_of}
+use Rattle.nr_triedef.specs.Root.{Paths, paths, depth, trie, root_of, root_of_entries, summary_of}
 use Rattle.nr_trienodes.specs.Shape.{Shape}
 use Rattle.nr_trienodes.specs.Tries.{found, found_in, paths_at, summary_at, count_at}
 use Rattle.nr_trienodes.specs.Roots.{IsWhole, IsRoot, packed, contents, name_in}
@@ -19,7 +17,7 @@ use Rattle.nr_trienodes.specs.Views.{Sound}
 use Rattle.nr_trienodes.specs.declared.nodes.NodeId.{NodeId}
 use Rattle.nr_trienodes.proofs.Sounds.{back_sound}
 use Rattle.nr_trienodes.proofs.Orders.{R, sorted-paths, find-paths, whole_packed}
-use Rattle.nr_trienodes.proofs.Lookups.{Sorted, sorted_at, finds_at}
+use Rattle.nr_trienodes.proofs.Lookups.{sorted_at, finds_at}
 use Rattle.nr_trienodes.proofs.Tied.{trie_at, short_depth, few_at}
 
 abbrev Path : Type 0

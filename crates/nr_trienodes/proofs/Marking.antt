@@ -1,5 +1,5 @@
 -- Nodes that are kept: what is marked, and that there are no more of them than at and below the roots.
-use Rattle.std.proofs.Common.{◌≡◌, ◌≢◌, ◌<◌, ◌≤◌, ◌+◌, ◌-◌, ℕ, zero, suc, Bool, true, false, cond, List, [], ◌∷◌, ◌++◌, length, take, drop, map, replicate, get_or, set, Option, Some, None, refl, ap, sym, ◌∙◌, subst, inl, inr, add-one, arith}
+use Rattle.std.proofs.Common.{◌≡◌, ◌<◌, ◌≤◌, ◌+◌, ◌-◌, ℕ, zero, suc, Bool, true, false, cond, List, [], ◌∷◌, ◌++◌, length, take, drop, map, replicate, get_or, set, Option, Some, None, refl, ap, sym, ◌∙◌, subst, inl, inr, add-one, arith}
 use mathlib.Core.Bool.{false≢true}
 use Rattle.std.specs.Prelude.{is_some, count_by, sum_by, ◌⊎◌}
 use Rattle.std.specs.Option.{option_map}
@@ -7,17 +7,18 @@ use Rattle.std.specs.List.{AllByRecursion}
 use Rattle.std.proofs.Math.Nat.{eq-or-lt_of_le}
 use Rattle.std.proofs.Math.ListN.{drop_of_length-le}
 use Rattle.std.proofs.lemmas.Bool.{cases_eq}
-use Rattle.std.proofs.lemmas.List.{length-set, get_or-set_same, get_or-set_other, get_or-replicate}
+use Rattle.std.proofs.lemmas.List.{length-set, get_or-set_same, get_or-set_other, take_all}
 use Rattle.std.proofs.lemmas.List.Sums.{sum_by-cons}
-use Rattle.nr_trienodes.specs.Shape.{Shape, shape_at, child}
+use Rattle.nr_trienodes.specs.Shape.{Shape, shape_at, child, no_children}
 use Rattle.nr_trienodes.specs.Tries.{count_at, node_count, or_zero}
 use Rattle.nr_trienodes.specs.Views.{Sound, IsIn}
 use Rattle.nr_trienodes.specs.Roots.{root_count, IsRoot, name_in}
-use Rattle.nr_trienodes.specs.Naming.{Names, new_name, IsKept, HasName, weight_of, marked, Marks, RowMarked, IsClosed, BelowMarked, RootsMarked}
+use Rattle.nr_trienodes.specs.Naming.{Names, new_name, IsKept, HasName, weight_of, marked, Marks, RowMarked, BelowMarked, RootsMarked}
 use Rattle.nr_trienodes.specs.declared.nodes.NodeId.{NodeId}
 use Rattle.nr_trienodes.proofs.Folds.{fold_at}
 use Rattle.nr_trienodes.proofs.Sounds.{back_sound}
 use Rattle.nr_trienodes.proofs.Rows.{child_get}
+use Rattle.nr_trienodes.proofs.Sets.{child-none}
 
 -- ---- one mark
 kept_set : (names : Names) (id c : ℕ) → IsKept names c → IsKept (set names id (Some 0)) c
@@ -87,6 +88,19 @@ weight_none nodes count (suc n) =
 -- ---- a row
 pub row_none : (nodes : List Shape) (row : List (Option ℕ)) (names : Names) (n : ℕ) → RowMarked nodes (take 0 row) names names n
 row_none nodes row names n = record { marks = record { same = refl; kept = λ c h. h }; row = λ x c e. absurd cc; weight = omega arith; rest = refl }
+
+pub row_nothing : (nodes : List Shape) (row : List (Option ℕ)) (names : Names) (n : ℕ) → row ≡ no_children → RowMarked nodes row names names n
+row_nothing nodes row names n e = subst (λ (cs : List (Option ℕ)). RowMarked nodes cs names names n) (sym e) (record {
+  marks = record { same = refl; kept = λ c h. h };
+  row = λ x c h. absurd (let none : child no_children x ≡ None = child-none 16 x in cc);
+  weight = omega arith;
+  rest = refl;
+})
+
+pub row_full : (nodes : List Shape) (id n : ℕ) (old new : Names) → Sound nodes → id < length nodes → 16 ≤ n → RowMarked nodes (take n (shape_at nodes id).below) old new id → RowMarked nodes (shape_at nodes id).below old new id
+row_full nodes id n old new sound lt le h =
+    let few : length (shape_at nodes id).below ≤ n = omega (arith, (sound id lt).sixteen) in
+    subst (λ (cs : List (Option ℕ)). RowMarked nodes cs old new id) (take_all n (shape_at nodes id).below few) h
 
 child_take : (row : List (Option ℕ)) (x y c : ℕ) → child (take (suc x) row) y ≡ Some c → (child (take x row) y ≡ Some c) ⊎ ((y ≡ x) × (get_or row x None ≡ Some c))
 child_take [] x y c e = absurd cc
@@ -254,6 +268,20 @@ each_at {A} f xs now i d e lt = ap (λ (t : List A). get_or t i d) e ∙ each i 
     each i [] l = absurd (omega arith)
     each zero (x ∷ xs) l = refl
     each (suc i) (x ∷ xs) l = each i xs (omega arith)
+
+pub each_length : {A : Type 0} (f : A → A) (xs now : List A) (i : ℕ) → now ≡ map f (take i xs) ++ drop i xs → length now ≡ length xs
+each_length {A} f xs now i e = ap length e ∙ each i xs
+  where
+    each : (i : ℕ) (xs : List A) → length (map f (take i xs) ++ drop i xs) ≡ length xs
+    each zero xs = refl
+    each (suc i) [] = refl
+    each (suc i) (x ∷ xs) = ap suc (each i xs)
+
+pub each_all : {A : Type 0} (f : A → A) (xs : List A) (i : ℕ) → length xs ≤ i → map f (take i xs) ++ drop i xs ≡ map f xs
+each_all f [] zero le = refl
+each_all f [] (suc i) le = refl
+each_all f (x ∷ xs) zero le = absurd (omega arith)
+each_all {A} f (x ∷ xs) (suc i) le = ap (λ (t : List A). f x ∷ t) (each_all f xs i (omega arith))
 
 pub in_row : (row : List (Option ℕ)) (x n : ℕ) → ((y c : ℕ) → child row y ≡ Some c → c < n) → IsIn n (get_or row x None)
 in_row row x n h = at (get_or row x None) refl

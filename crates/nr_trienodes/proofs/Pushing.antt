@@ -1,13 +1,12 @@
 -- Places that wait to be listed: the children of a node behind its key.
-use Rattle.std.proofs.Common.{◌≡◌, ◌<◌, ◌≤◌, ◌+◌, ◌-◌, ◌*◌, ◌%◌, ℕ, zero, suc, List, [], ◌∷◌, ◌++◌, length, drop, map, get_or, Option, Some, None, refl, ap, sym, ◌∙◌, subst, arith, append_assoc, length-append}
+use Rattle.std.proofs.Common.{◌≡◌, ◌<◌, ◌≤◌, ◌+◌, ◌-◌, ◌*◌, ◌%◌, ℕ, zero, suc, List, [], ◌∷◌, ◌++◌, length, drop, map, get_or, Option, Some, None, refl, ap, sym, ◌∙◌, subst, arith, append_assoc}
 use Rattle.std.proofs.Math.ListN.{drop_of_length-le}
 use Rattle.std.proofs.lemmas.List.{length-map, append-nil, map-append}
 use Rattle.std.proofs.lemmas.List.Sums.{sum_by-cons}
 use mathlib.Core.Bool.{false≢true}
 use Rattle.std.specs.Borrow.{Bor}
-use Rattle.std.specs.Prelude.{sum_by, slice_index, is_some, true, false}
+use Rattle.std.specs.Prelude.{sum_by, is_some, true, false}
 use Rattle.std.specs.Option.{option_map, option_copied}
-use Rattle.std.specs.List.{AllByRecursion}
 use Rattle.nr_triedef.specs.Node.{nibbles, paired, IsNibbles}
 use Rattle.nr_triedef.specs.Root.{Paths}
 use Rattle.nr_trienodes.specs.Shape.{Shape, child, shape_at}
@@ -18,7 +17,7 @@ use Rattle.nr_trienodes.specs.Turns.{left}
 use Rattle.nr_trienodes.specs.Listing.{kept, BendsDown, place_paths, paths_of, count_of, IsPlace, ArePlaces, AreWhole, keys_in, own_keys, Pushed, PushesSo, RowPushed, PlaceListed}
 use Rattle.nr_trienodes.specs.declared.listing.Place.{Place}
 use Rattle.nr_trienodes.proofs.Folds.{fold_at}
-use Rattle.nr_trienodes.proofs.Sounds.{back_sound, back_at}
+use Rattle.nr_trienodes.proofs.Sounds.{back_sound}
 use Rattle.nr_trienodes.proofs.Rows.{child_get}
 use Rattle.nr_trienodes.proofs.Begins.{paths_here, below_paths}
 

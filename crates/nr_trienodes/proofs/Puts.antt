@@ -1,17 +1,15 @@
 -- A value put at a key: at the last node of a way, and from the root.
-use Rattle.std.proofs.Common.{◌≡◌, ◌≢◌, ◌==◌, ◌<◌, ◌≤◌, ◌+◌, ◌*◌, ◌++◌, ℕ, zero, suc, Bool, true, false, cond, List, [], ◌∷◌, length, take, drop, get_or, set, map, Option, Some, None, refl, ap, sym, ◌∙◌, subst, eq-eqb, add-one, length-append, length-drop, length-take, arith}
-use Rattle.std.specs.Prelude.{is_some, sum_by}
+use Rattle.std.proofs.Common.{◌≡◌, ◌≢◌, ◌==◌, ◌<◌, ◌≤◌, ◌+◌, ◌*◌, ◌++◌, ℕ, zero, suc, Bool, true, false, cond, List, [], ◌∷◌, length, take, drop, get_or, set, map, Option, Some, None, refl, ap, sym, ◌∙◌, subst, add-one, length-append, arith}
 use Rattle.std.specs.Option.{option_map}
 use Rattle.std.proofs.lemmas.Bool.{eqb-true}
 use Rattle.std.proofs.lemmas.List.{length-set}
-use Rattle.nr_triedef.specs.Node.{nibbles}
 use Rattle.nr_trienodes.specs.Shape.{Shape, no_children, child, shape_at}
 use Rattle.nr_trienodes.specs.Tries.{Answer, answer, nothing, stripped, asked, given, found, found_in, or_zero, cost_at, cost_in}
-use Rattle.nr_trienodes.specs.Views.{Sound, IsIn}
-use Rattle.nr_trienodes.specs.Turns.{left, GoesBy, Parts, IsNext, Sets, Extends, Takes, Leads, Settles, Sprouts, Changes, Climbs, stands_for, costs_below}
+use Rattle.nr_trienodes.specs.Views.{Sound}
+use Rattle.nr_trienodes.specs.Turns.{Sets, Extends, Leads, Settles, Sprouts, Changes, Climbs, stands_for, costs_below}
 use Rattle.nr_trienodes.proofs.Folds.{not_same}
-use Rattle.nr_trienodes.proofs.Keys.{stripped_is, left_less}
-use Rattle.nr_trienodes.proofs.Sets.{extends_trans, extends_longer, extends_shape, extends_fold, sets_value, sets_child, given_on, child-none, child-set, child-set_other}
+use Rattle.nr_trienodes.proofs.Keys.{stripped_is}
+use Rattle.nr_trienodes.proofs.Sets.{extends_shape, extends_fold, sets_value, sets_child, given_on, child-none, child-set, child-set_other}
 use Rattle.nr_trienodes.specs.Roots.{name_in}
 use Rattle.nr_trienodes.specs.declared.nodes.NodeId.{NodeId}
 use Rattle.nr_trienodes.specs.declared.turn.Step.{Step}

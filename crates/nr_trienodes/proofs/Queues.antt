@@ -1,5 +1,5 @@
 -- The queue of nodes whose hashes are to be made: how it is gathered, and how it is worked off from its end.
-use Rattle.std.proofs.Common.{◌≡◌, ◌≢◌, ◌==◌, ◌<◌, ◌≤◌, ◌+◌, ◌-◌, ◌++◌, ℕ, zero, suc, Bool, true, false, cond, not, List, [], ◌∷◌, length, take, drop, get_or, map, Option, Some, None, refl, ap, sym, ◌∙◌, subst, eq-eqb, add-one, length-append, append_assoc, inl, inr, arith}
+use Rattle.std.proofs.Common.{◌≡◌, ◌≢◌, ◌==◌, ◌<◌, ◌≤◌, ◌+◌, ◌-◌, ◌++◌, ℕ, zero, suc, Bool, true, false, cond, not, List, [], ◌∷◌, length, take, drop, get_or, map, Option, Some, None, refl, ap, sym, ◌∙◌, subst, add-one, length-append, append_assoc, inl, inr, arith}
 use Rattle.std.specs.Prelude.{is_some, sum_by}
 use Rattle.std.specs.Option.{option_map}
 use Rattle.std.proofs.lemmas.Bool.{eqb-true, cases_lt}
@@ -12,8 +12,7 @@ use Rattle.nr_trienodes.specs.Views.{Sound, IsIn, KeepsHash}
 use Rattle.nr_trienodes.specs.Hashing.{is_hashed, HasHashes, weight_at, cold, IsBehind, IsQueue, Gathering, Gathers, Warms}
 use Rattle.nr_trienodes.proofs.Folds.{not_same}
 use Rattle.nr_trienodes.proofs.Sounds.{count-children}
-use Rattle.nr_trienodes.proofs.Rows.{child_get}
-use Rattle.nr_trienodes.proofs.Climbing.{cost_new, cost_kept}
+use Rattle.nr_trienodes.proofs.Climbing.{cost_new}
 use Rattle.nr_trienodes.proofs.Hashed.{warm_trans, warm_one, warm_here, weight_same, weight_pos}
 
 -- ---- the children that are cold

@@ -8,17 +8,16 @@ use Rattle.std.specs.FinMap.{from_sorted, entries}
 use Rattle.std.proofs.lemmas.List.{length-map}
 use Rattle.std.proofs.lemmas.List.Sums.{sum_by-cons}
 use Rattle.std.specs.Option.{option_map}
-use Rattle.nr_ids.specs.declared.key.Hash32.{Hash32}
 use Rattle.nr_triedef.specs.declared.hash.Summary.{Summary}
 use Rattle.nr_triedef.specs.Root.{Paths, Contents, summary_of}
-use Rattle.nr_trienodes.specs.Shape.{Shape, shape_at, child, fold, over}
-use Rattle.nr_trienodes.specs.Tries.{Answer, answer, nothing, found, node_paths, paths_at, node_summary, summary_at, node_cost, cost_at, node_count, count_at, is_leaf, IsLinked}
+use Rattle.nr_trienodes.specs.Shape.{Shape, shape_at, child, fold}
+use Rattle.nr_trienodes.specs.Tries.{Answer, answer, nothing, found, node_paths, paths_at, node_summary, summary_at, node_cost, cost_at, is_leaf}
 use Rattle.nr_trienodes.specs.Views.{Stands, Sound}
-use Rattle.nr_trienodes.specs.Roots.{root_count, IsWhole, IsRoot, packed, contents, cost, Renames}
-use Rattle.nr_trienodes.specs.Naming.{Names, new_name, renamed, with_names, new_root, HasName, IsNamed, AreNamed}
+use Rattle.nr_trienodes.specs.Roots.{root_count, IsRoot, packed, contents, cost, Renames}
+use Rattle.nr_trienodes.specs.Naming.{Names, new_name, renamed, new_root, HasName, IsNamed, AreNamed}
 use Rattle.nr_trienodes.specs.declared.nodes.NodeId.{NodeId}
 use Rattle.nr_trienodes.proofs.Folds.{Back, by_names, fold_at}
-use Rattle.nr_trienodes.proofs.Sounds.{back_sound, sum_by-map, sum_by-same}
+use Rattle.nr_trienodes.proofs.Sounds.{back_sound, sum_by-map}
 use Rattle.nr_trienodes.proofs.Maps.{few_entries}
 
 child_renamed : (names : Names) (cs : List (Option ℕ)) (x : ℕ) → child (map (renamed names) cs) x ≡ renamed names (child cs x)

@@ -1,13 +1,12 @@
 -- Rows of children, and the usage of a part.
-use Rattle.std.proofs.Common.{◌≡◌, ◌==◌, ◌<◌, ◌≤◌, ◌+◌, ◌-◌, ◌*◌, ◌/◌, ◌%◌, ℕ, zero, suc, Bool, true, false, cond, not, List, [], ◌∷◌, ◌++◌, length, map, take, replicate, get_or, Option, Some, None, refl, ap, sym, ◌∙◌, subst, eq-eqb, length-append, inl, inr, arith}
+use Rattle.std.proofs.Common.{◌≡◌, ◌==◌, ◌<◌, ◌≤◌, ◌+◌, ◌-◌, ◌*◌, ◌/◌, ◌%◌, ℕ, zero, suc, Bool, true, false, cond, List, [], ◌∷◌, ◌++◌, length, map, take, replicate, get_or, Option, Some, None, refl, ap, sym, ◌∙◌, subst, eq-eqb, length-append, inl, inr, arith}
 use Rattle.std.specs.Prelude.{is_some, count_by}
-use Rattle.std.specs.Option.{is_none}
 use mathlib.Core.Bool.{false≢true}
 use Rattle.std.proofs.lemmas.Bool.{ne_eqb, eqb-true, cases_lt}
 use Rattle.std.proofs.lemmas.List.Sums.{sum_by-cons}
 use Rattle.nr_triedef.specs.Node.{key_part, paired, part_flag}
-use Rattle.nr_triedef.specs.Root.{part_usage}
 use Rattle.nr_trienodes.specs.Shape.{child, no_children}
+use Rattle.nr_trienodes.specs.Packing.{child_of, none_number}
 use Rattle.nr_trienodes.specs.Tries.{front_usage}
 use Rattle.nr_trienodes.specs.Views.{IsIn}
 
@@ -86,10 +85,18 @@ none_there cs len e = all_none cs len (λ k lt. at k (get_or cs k None) refl)
     at k (Some c) is = absurd (false≢true (sym (some_child cs k (ap is_some is)) ∙ e))
 
 -- ---- a row with a number for each child
+pub child_some : (n : ℕ) → n < none_number → child_of n ≡ Some n
+child_some n lt = ap (λ b. cond {A = Option ℕ} b None (Some n)) (ne_eqb n none_number (λ same. omega arith))
+
 pub child_map : (f : ℕ → Option ℕ) (xs : List ℕ) (x d : ℕ) → x < length xs → f (get_or xs x d) ≡ child (map f xs) x
 child_map f [] x d lt = absurd (omega arith)
 child_map f (n ∷ xs) zero d lt = refl
 child_map f (n ∷ xs) (suc x) d lt = child_map f xs x d (omega arith)
+
+pub child_map_at : {A : Type 0} (f : Option A → Option A) (cs : List (Option A)) (x : ℕ) → x < length cs → child (map f cs) x ≡ f (get_or cs x None)
+child_map_at f [] x lt = absurd (omega arith)
+child_map_at f (c ∷ cs) zero lt = refl
+child_map_at f (c ∷ cs) (suc x) lt = child_map_at f cs x (omega arith)
 
 pub each_same : (f : ℕ → Option ℕ) (xs : List ℕ) (ys : List (Option ℕ)) → length xs ≡ length ys
     → ((k : ℕ) → k < length xs → f (get_or xs k 0) ≡ get_or ys k None) → map f xs ≡ ys

@@ -1,18 +1,12 @@
 -- A change of one key: what a node stands for with another value, with another child, and split in two.
-use Rattle.std.proofs.Common.{◌≡◌, ◌≢◌, ◌==◌, ◌<◌, ◌≤◌, ◌+◌, ◌++◌, ℕ, zero, suc, true, false, cond, List, [], ◌∷◌, length, take, drop, get_or, set, map, replicate, Option, Some, None, refl, ap, sym, ◌∙◌, subst, eq-eqb, length-append, append_assoc, arith}
-use Rattle.std.specs.Prelude.{is_some, count_by, sum_by}
+use Rattle.std.proofs.Common.{◌≡◌, ◌≢◌, ◌==◌, ◌<◌, ◌≤◌, ◌++◌, ℕ, zero, suc, true, false, List, [], ◌∷◌, length, set, map, replicate, Option, Some, None, refl, ap, sym, ◌∙◌, subst, eq-eqb, length-append, append_assoc, arith}
 use Rattle.std.specs.Option.{option_map}
-use Rattle.std.proofs.lemmas.Bool.{ne_eqb, eqb-true}
-use Rattle.std.proofs.lemmas.List.{length-set}
-use Rattle.std.proofs.lemmas.List.Sums.{sum_by-cons}
-use Rattle.nr_trienodes.specs.Shape.{Shape, bare, no_children, child, shape_at, fold, over}
-use Rattle.nr_trienodes.specs.Tries.{Answer, nothing, answer, stripped, asked, given, found, found_in, or_zero, node_cost, cost_at, cost_in, weight, is_leaf}
-use Rattle.nr_trienodes.specs.Turns.{Sets, Extends, Takes, Leads, Changes, Settles, Sprouts, Climbs, stands_for, costs_below}
-use Rattle.nr_trienodes.specs.Views.{Sound, IsIn, Adds}
-use Rattle.nr_trienodes.specs.declared.turn.Step.{Step}
-use Rattle.nr_trienodes.proofs.Folds.{Back, not_same, shape_append, shape_newest, fold_append, fold_at, fold_newest, child-map, children_same}
-use Rattle.nr_trienodes.proofs.Sounds.{back_sound, sum_by-same}
-use Rattle.nr_trienodes.proofs.Founds.{answers, found_is}
+use Rattle.std.proofs.lemmas.Bool.{eqb-true}
+use Rattle.nr_trienodes.specs.Shape.{Shape, no_children, child, shape_at, fold}
+use Rattle.nr_trienodes.specs.Tries.{Answer, nothing, answer, stripped, asked, given, found, found_in}
+use Rattle.nr_trienodes.specs.Turns.{Sets, Extends, stands_for}
+use Rattle.nr_trienodes.specs.Views.{IsIn}
+use Rattle.nr_trienodes.proofs.Folds.{not_same, shape_append, fold_append, fold_newest, child-map}
 use Rattle.nr_trienodes.proofs.Keys.{stripped_is}
 
 pub stripped_one : (p k q r : List ℕ) → stripped p k ≡ Some r → stripped p q ≡ Some r → q ≡ k

@@ -1,21 +1,20 @@
 -- A node put in place of another: what it stands for, and what its hash costs.
-use Rattle.std.proofs.Common.{◌≡◌, ◌≢◌, ◌==◌, ◌&&◌, ◌<◌, ◌≤◌, ◌+◌, ◌++◌, ℕ, zero, suc, Bool, true, false, cond, List, [], ◌∷◌, length, take, drop, get_or, set, map, Option, Some, None, refl, ap, sym, ◌∙◌, subst, eq-eqb, length-append, append_assoc, inl, inr, arith}
+use Rattle.std.proofs.Common.{◌≡◌, ◌≢◌, ◌==◌, ◌&&◌, ◌<◌, ◌≤◌, ◌+◌, ◌++◌, ℕ, zero, suc, Bool, true, false, cond, List, [], ◌∷◌, length, take, drop, get_or, set, map, Option, Some, None, refl, ap, sym, ◌∙◌, subst, eq-eqb, inl, inr, arith}
 use Rattle.std.specs.Prelude.{is_some, count_by, sum_by}
 use Rattle.std.specs.Option.{option_map}
-use Rattle.std.proofs.lemmas.Bool.{ne_eqb, eqb-true, cases_lt}
+use Rattle.std.proofs.lemmas.Bool.{eqb-true, cases_lt}
 use Rattle.std.proofs.lemmas.List.Sums.{sum_by-cons}
 use Rattle.nr_triedef.specs.Node.{IsNibbles}
 use Rattle.nr_trienodes.specs.Shape.{Shape, no_children, child, shape_at}
-use Rattle.nr_trienodes.specs.Tries.{Answer, nothing, answer, stripped, asked, given, found, found_in, or_zero, node_cost, cost_at, cost_in, weight, is_leaf, IsLinked}
+use Rattle.nr_trienodes.specs.Tries.{Answer, nothing, answer, stripped, asked, given, found, found_in, or_zero, node_cost, cost_at, weight, is_leaf, IsLinked}
 use Rattle.nr_trienodes.specs.Views.{Sound, IsIn, Adds}
-use Rattle.nr_trienodes.specs.Turns.{Sets, Extends, Settles, Sprouts, stands_for, costs_below, LinksSo}
+use Rattle.nr_trienodes.specs.Turns.{Extends, Settles, Sprouts, stands_for, costs_below, LinksSo}
 use Rattle.nr_trienodes.specs.declared.settling.Links.{Links}
 use Rattle.nr_trienodes.specs.declared.settling.Links.TheVariants.{Bare, Single, Several}
-use Rattle.nr_trienodes.proofs.Folds.{not_same, fold_newest, child-map}
-use Rattle.nr_trienodes.proofs.Sounds.{count-children}
+use Rattle.nr_trienodes.proofs.Folds.{not_same, fold_newest}
 use Rattle.nr_trienodes.proofs.Founds.{found_is}
 use Rattle.nr_trienodes.proofs.Rows.{child_get}
-use Rattle.nr_trienodes.proofs.Sets.{extends_one, extends_refl, sets_leaf, given_on, child-none, child-set, child-set_other}
+use Rattle.nr_trienodes.proofs.Sets.{extends_one, sets_leaf, given_on, child-none}
 use Rattle.nr_trienodes.proofs.Climbing.{costs_less}
 
 -- ---- a new node

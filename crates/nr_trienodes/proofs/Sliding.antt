@@ -1,12 +1,12 @@
 -- Nodes that are slid to lower places under new names.
-use Rattle.std.proofs.Common.{◌≡◌, ◌≢◌, ◌<◌, ◌≤◌, ◌+◌, ℕ, zero, suc, Bool, true, false, cond, List, [], ◌∷◌, length, take, map, get_or, set, Option, Some, None, refl, ap, sym, ◌∙◌, subst, inl, inr, add-one, arith}
+use Rattle.std.proofs.Common.{◌≡◌, ◌≢◌, ◌<◌, ◌≤◌, ◌+◌, ℕ, zero, suc, true, false, cond, List, [], ◌∷◌, length, take, map, get_or, set, Option, Some, None, refl, ap, sym, ◌∙◌, subst, inl, inr, add-one, arith}
 use mathlib.Core.Bool.{false≢true}
 use Rattle.std.specs.Prelude.{is_some, count_by, ◌⊎◌}
 use Rattle.std.proofs.Math.Nat.{eq-or-lt_of_le}
 use Rattle.std.proofs.lemmas.List.{length-set, get_or-set_same, get_or-set_other}
 use Rattle.std.proofs.lemmas.List.Sums.{sum_by-cons}
 use Rattle.nr_trienodes.specs.Shape.{Shape, shape_at, child}
-use Rattle.nr_trienodes.specs.Naming.{Names, new_name, renamed, with_names, IsNamed, AreNamed, IsKept, IsClosed, IsSlid, Slides}
+use Rattle.nr_trienodes.specs.Naming.{Names, new_name, renamed, with_names, AreNamed, IsClosed, IsSlid, Slides}
 use Rattle.std.specs.List.{SwappedAt}
 use Rattle.std.proofs.lemmas.List.{length-take, get_or-take}
 use Rattle.nr_trienodes.specs.Views.{shape, shapes, Sound}

@@ -1,16 +1,16 @@
 -- Nodes that stand as they are to: one node more, fewer, and a hash that is kept.
-use Rattle.std.proofs.Common.{◌≡◌, ◌≢◌, ◌==◌, ◌&&◌, ◌<◌, ◌≤◌, ◌-◌, ◌+◌, ◌++◌, ℕ, zero, suc, Bool, true, false, cond, List, [], ◌∷◌, length, drop, map, Option, Some, None, refl, ap, sym, ◌∙◌, subst, eq-eqb, length-append, arith}
+use Rattle.std.proofs.Common.{◌≡◌, ◌≢◌, ◌==◌, ◌&&◌, ◌<◌, ◌+◌, ℕ, zero, suc, Bool, true, false, cond, List, [], ◌∷◌, length, drop, map, Option, Some, None, refl, ap, sym, ◌∙◌, subst, arith}
 use Rattle.std.specs.Prelude.{is_some, count_by, sum_by}
 use Rattle.std.specs.Option.{option_map}
-use Rattle.std.proofs.lemmas.Bool.{ne_eqb, eqb-true}
+use Rattle.std.proofs.lemmas.Bool.{eqb-true}
 use Rattle.std.proofs.lemmas.List.Sums.{sum_by-cons}
 use Rattle.nr_ids.specs.declared.key.Hash32.{Hash32}
 use Rattle.nr_triedef.specs.declared.hash.Summary.{Summary}
 use Rattle.nr_triedef.specs.Node.{IsNibbles, summary, key_part}
-use Rattle.nr_triedef.specs.Root.{usage_below, value_usage, branch, with_front, leaf_with, summary_of}
-use Rattle.nr_trienodes.specs.Shape.{Shape, shape_at, child, fold, over}
-use Rattle.nr_trienodes.specs.Tries.{is_leaf, node_summary, summary_at, front_usage, own_usage, value_or_none, IsLinked}
-use Rattle.nr_trienodes.specs.Views.{Stands, Sound, Adds, KeepsHash}
+use Rattle.nr_triedef.specs.Root.{usage_below, branch, with_front, leaf_with, summary_of}
+use Rattle.nr_trienodes.specs.Shape.{Shape, shape_at, child, over}
+use Rattle.nr_trienodes.specs.Tries.{node_summary, summary_at, front_usage, own_usage, value_or_none, IsLinked}
+use Rattle.nr_trienodes.specs.Views.{Stands, Sound}
 use Rattle.nr_trienodes.proofs.Folds.{Back, not_same, shape_older, fold_older, fold_newest, fold_alike}
 
 pub back_sound : (nodes : List Shape) → Sound nodes → Back nodes

@@ -1,9 +1,9 @@
 -- Two things that are made of a node by recursion, side by side.
-use Rattle.std.proofs.Common.{◌≡◌, ◌<◌, ℕ, zero, suc, List, [], ◌∷◌, length, map, Option, Some, None, refl, ap, sym, ◌∙◌, subst, arith}
+use Rattle.std.proofs.Common.{◌≡◌, ◌<◌, ℕ, suc, List, [], ◌∷◌, length, map, Option, Some, None, refl, sym, subst, arith}
 use Rattle.std.specs.Prelude.{is_some, count_by}
 use Rattle.std.proofs.lemmas.List.{length-map}
 use Rattle.std.specs.Option.{option_map}
-use Rattle.nr_trienodes.specs.Shape.{Shape, child, shape_at, fold, over}
+use Rattle.nr_trienodes.specs.Shape.{Shape, child, shape_at, fold}
 use Rattle.nr_trienodes.proofs.Folds.{Back, by_names, fold_at}
 use Rattle.nr_trienodes.proofs.Sounds.{count-children}
 

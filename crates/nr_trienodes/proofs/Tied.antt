@@ -1,5 +1,5 @@
 -- The trie of a node's paths is the node: its hash and usage by the definition of the root, and how many nodes there are.
-use Rattle.std.proofs.Common.{◌≡◌, ◌≢◌, ◌==◌, ◌&&◌, ◌<◌, ◌≤◌, ◌+◌, ◌*◌, ◌-◌, ℕ, zero, suc, Bool, true, false, cond, List, [], ◌∷◌, ◌++◌, length, drop, map, Option, Some, None, refl, ap, sym, subst, ◌∙◌, arith, eq-eqb, length-append}
+use Rattle.std.proofs.Common.{◌≡◌, ◌≢◌, ◌==◌, ◌&&◌, ◌<◌, ◌≤◌, ◌+◌, ◌*◌, ℕ, zero, suc, Bool, true, false, cond, List, [], ◌∷◌, ◌++◌, length, map, Option, Some, None, refl, ap, sym, subst, ◌∙◌, arith, eq-eqb, length-append}
 use Rattle.std.proofs.lemmas.Bool.{ne_eqb, eqb-true}
 use Rattle.std.proofs.lemmas.List.{append-nil, length-map}
 use Rattle.std.proofs.lemmas.List.Sums.{sum_by-cons}
@@ -10,9 +10,8 @@ use Rattle.nr_triedef.specs.declared.hash.Summary.{Summary}
 use Rattle.nr_triedef.specs.Node.{summary, key_part}
 use Rattle.nr_triedef.specs.Root.{Paths, common, front, behind, value_here, under, leaf, leaf_with, branch, with_front, sixteen, trie, depth, summary_of}
 use Rattle.nr_trienodes.specs.Shape.{Shape, child, shape_at}
-use Rattle.nr_trienodes.specs.Tries.{in_front, own_path, paths_from, node_paths, paths_at, is_leaf, value_or_none, node_summary, summary_at, or_zero, node_count, count_at, IsLinked}
+use Rattle.nr_trienodes.specs.Tries.{in_front, own_path, paths_from, node_paths, paths_at, is_leaf, value_or_none, node_summary, summary_at, or_zero, node_count, count_at}
 use Rattle.nr_trienodes.specs.Views.{Sound}
-use Rattle.nr_trienodes.proofs.Folds.{Back}
 use Rattle.nr_trienodes.proofs.Sounds.{back_sound}
 use Rattle.nr_trienodes.proofs.Steps.{Zipped, fold_two}
 

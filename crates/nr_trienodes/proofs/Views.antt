@@ -1,5 +1,5 @@
 -- The nodes of an arena, newest first: reads, one node more, fewer, and a hash that is kept.
-use Rattle.std.proofs.Common.{◌≡◌, ◌≢◌, ◌==◌, ◌<◌, ◌≤◌, ◌-◌, ◌+◌, ◌^◌, ℕ, zero, suc, Bool, true, false, cond, not, List, [], ◌∷◌, ◌++◌, length, reverse, take, drop, get_or, set, map, Option, Some, None, refl, ap, sym, ◌∙◌, subst, eq-eqb, length-append, length-drop, arith}
+use Rattle.std.proofs.Common.{◌≡◌, ◌≢◌, ◌==◌, ◌<◌, ◌≤◌, ◌-◌, ◌+◌, ◌^◌, ℕ, zero, suc, Bool, true, false, cond, List, [], ◌∷◌, ◌++◌, length, reverse, take, drop, get_or, set, map, Option, Some, None, refl, ap, sym, ◌∙◌, subst, eq-eqb, length-append, length-drop, arith}
 use Rattle.std.proofs.lemmas.Bool.{ne_eqb, eqb-true}
 use Rattle.std.proofs.lemmas.List.{reverse-append, map-append, length-map, length-reverse, length-set, get_or-set_same, get_or-set_other, take-append-drop, length-take}
 use Rattle.std.proofs.Math.Seq.{drop-append_seam}

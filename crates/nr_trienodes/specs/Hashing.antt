@@ -1,5 +1,5 @@
 -- Which nodes' hashes are still to be made, and what keeping hashes changes. This project's own.
-use Rattle.std.specs.Prelude.{◌≡◌, ◌<◌, ◌≤◌, ◌+◌, ℕ, suc, List, [], ◌∷◌, length, take, drop, cond, sum_by, slice_index, Bool, Option, Some, None, is_some, true, false}
+use Rattle.std.specs.Prelude.{◌≡◌, ◌<◌, ◌≤◌, ◌+◌, ℕ, List, [], ◌∷◌, length, take, drop, cond, sum_by, slice_index, Bool, Option, Some, None, is_some, true, false}
 use Rattle.nr_trienodes.specs.Shape.{Shape, child, shape_at}
 use Rattle.nr_trienodes.specs.Tries.{weight, cost_at}
 use Rattle.nr_trienodes.specs.Views.{Sound}

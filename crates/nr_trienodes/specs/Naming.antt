@@ -1,10 +1,10 @@
 -- Nodes under other names, and the nodes that are at and below some. This project's own.
-use Rattle.std.specs.Prelude.{◌≡◌, ◌≢◌, ℕ, ◌<◌, List, length, map, replicate, take, drop, cond, is_some, true, count_by, sum_by, zero, suc, ◌+◌, ◌≤◌, Option, Some, None, slice_index_or, slice_set}
+use Rattle.std.specs.Prelude.{◌≡◌, ◌≢◌, ℕ, ◌<◌, List, length, map, take, drop, cond, is_some, true, count_by, sum_by, zero, suc, ◌+◌, ◌≤◌, Option, Some, None, slice_index_or, slice_set}
 use Rattle.std.specs.Option.{option_map}
 use Rattle.std.specs.List.{AllByRecursion}
 use Rattle.nr_trienodes.specs.Roots.{root_count}
 use Rattle.nr_trienodes.specs.Tries.{count_at, or_zero}
-use Rattle.nr_trienodes.specs.Views.{Sound, IsIn}
+use Rattle.nr_trienodes.specs.Views.{Sound}
 use Rattle.nr_trienodes.specs.declared.nodes.NodeId.{NodeId}
 use Rattle.nr_trienodes.specs.Shape.{Shape, shape_at, child}
 

@@ -1,12 +1,12 @@
 -- Roots: the finite maps that nodes stand for, and what stays of them. This project's own.
-use Rattle.std.specs.Prelude.{◌≡◌, ◌<◌, ◌≤◌, ℕ, ◌+◌, ◌*◌, ◌^◌, List, [], ◌∷◌, length, map, Option, Some, None, IsSome, Result, Ok, Err}
+use Rattle.std.specs.Prelude.{◌≡◌, ◌<◌, ◌≤◌, ℕ, ◌+◌, ◌*◌, ◌^◌, List, [], ◌∷◌, length, map, Option, Some, None, IsSome, Result, Err}
 use Rattle.std.specs.FinMap.{empty, from_sorted}
 use Rattle.nr_triedef.specs.Node.{nibbles, paired}
 use Rattle.nr_triedef.specs.Root.{Paths, Contents}
 use Rattle.nr_trienodes.specs.Shape.{Shape}
 use Rattle.nr_trienodes.specs.Tries.{found, paths_at, cost_at, count_at}
 use Rattle.nr_trienodes.specs.declared.fault.NodesFault.{NodesFault}
-use Rattle.nr_trienodes.specs.declared.fault.NodesFault.TheVariants.{Full, Memory}
+use Rattle.nr_trienodes.specs.declared.fault.NodesFault.TheVariants.{Full}
 use Rattle.nr_trienodes.specs.declared.nodes.NodeId.{NodeId}
 
 -- nibbles of whole bytes

@@ -1,5 +1,5 @@
 -- What a node is, and what is said of it by recursion on the nodes below it. A list of an arena's nodes has the newest first, so that a node's name is how many are older. This project's own.
-use Rattle.std.specs.Prelude.{ℕ, zero, suc, ◌==◌, cond, List, [], ◌∷◌, length, map, replicate, Option, Some, None}
+use Rattle.std.specs.Prelude.{ℕ, zero, suc, ◌==◌, cond, List, [], ◌∷◌, length, map, replicate, Option, None}
 use Rattle.std.specs.Option.{option_map}
 use Rattle.nr_ids.specs.declared.key.Hash32.{Hash32}
 

@@ -3,7 +3,7 @@ use Rattle.std.specs.Prelude.{◌≡◌, ℕ, suc, ◌+◌, ◌==◌, ◌≤◌,
 use Rattle.nr_triedef.specs.declared.hash.Summary.{Summary}
 use Rattle.nr_triedef.specs.Node.{key_part, summary}
 use Rattle.nr_triedef.specs.Root.{Paths, leaf_with, branch, with_front, summary_of, part_usage, value_usage}
-use Rattle.nr_trienodes.specs.Shape.{Shape, child, fold, over}
+use Rattle.nr_trienodes.specs.Shape.{Shape, child, fold}
 
 -- ---- a look-up
 abbrev pub Answer : Type 0

@@ -1,10 +1,10 @@
 //! What a node holds: a value, children, or both.
 
-ghost use Rattle.std.specs.Prelude.{◌≡◌, ◌==◌, length, count_by, is_some, IfOk};
+ghost use Rattle.std.specs.Prelude.{◌≡◌, ◌==◌, length, count_by, is_some, slice_set, ◌<◌, Some, IfOk};
 ghost use Rattle.std.specs.Option.{option_copied, option_map};
 ghost use Rattle.std.specs.Arc.{arc_value};
 ghost use Rattle.nr_trienodes.specs.Shape.{no_children};
-ghost use Rattle.nr_trienodes.specs.Packing.{IsPackable};
+ghost use Rattle.nr_trienodes.specs.Packing.{IsPackable, none_number};
 ghost use Rattle.nr_trienodes.specs.Bodies.{value_of, row_of, row_in};
 
 use crate::packed::{Packed, Row};
@@ -81,6 +81,40 @@ impl Body {
             return Ok(alone(value));
         }
         let body = with_row(alloc, value, Packed::of(row))?;
+        Ok(body)
+    }
+
+    /// The value once more, for another node.
+    pub(crate) fn shared_value(&self) -> Result<Option<Arc<Blob>>, AllocError>
+        ensures { IfOk result (λ value. option_map arc_value value ≡ value_of self.now) }
+    {
+        match self.value() {
+            None => Ok(None),
+            Some(value) => {
+                let other = Arc::try_clone(value)?;
+                Ok(Some(other))
+            }
+        }
+    }
+
+    /// The same with another child.
+    pub(crate) fn with_child(
+        &self,
+        alloc: Global,
+        nibble: u8,
+        below: u32,
+    ) -> Result<Body, AllocError>
+        requires nibble { nibble < 16 }
+        requires below { below < none_number }
+        ensures value { IfOk result (λ body. value_of body ≡ value_of self.now) }
+        ensures row { IfOk result (λ body. row_of body ≡ slice_set (row_of self.now) nibble (Some below)) }
+    {
+        let value = self.shared_value()?;
+        let row = match self.children() {
+            None => Packed::none().with(nibble, below),
+            Some(row) => row.with(nibble, below),
+        };
+        let body = with_row(alloc, value, row)?;
         Ok(body)
     }
 

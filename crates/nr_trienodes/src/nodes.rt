@@ -1,12 +1,13 @@
 //! The arena.
 
-ghost use Rattle.std.specs.Prelude.{◌≡◌, ◌<◌, ◌≤◌, ◌-◌, ◌+◌, ◌^◌, ◌==◌, ◌*◌, ◌/◌, ℕ, true, [], length, map, drop, slice_set, is_some, count_by, sum_by, Some, IfOk, OnErr};
+ghost use Rattle.std.specs.Prelude.{◌≡◌, ◌<◌, ◌≤◌, ◌-◌, ◌+◌, ◌^◌, ◌==◌, ◌*◌, ◌/◌, ℕ, true, false, [], length, map, drop, replicate, slice_set, is_some, count_by, sum_by, Some, None, IfOk, OnErr};
 ghost use Rattle.std.specs.Option.{option_copied, option_map};
 ghost use Rattle.std.specs.Arc.{arc_value};
 ghost use Rattle.nr_triedef.specs.Node.{IsNibbles};
 ghost use Rattle.nr_triedef.specs.Root.{usage_below, value_usage};
-ghost use Rattle.nr_trienodes.specs.Packing.{IsPackable};
-ghost use Rattle.nr_trienodes.specs.Shape.{shape_at, child};
+ghost use Rattle.nr_trienodes.specs.Packing.{IsPackable, none_number};
+ghost use Rattle.nr_trienodes.specs.Shape.{shape_at, child, no_children};
+ghost use Rattle.nr_trienodes.specs.Bodies.{value_of, row_of};
 ghost use Rattle.nr_trienodes.specs.Tries.{summary_at, front_usage, own_usage, IsLinked};
 ghost use Rattle.nr_trienodes.specs.Naming.{new_name, renamed, with_names, IsKept, IsClosed, IsSlid, AreNamed, SlidesOn};
 ghost use Rattle.nr_trienodes.specs.Views.{shape, shapes, Sound, IsIn, Adds, KeepsHash};
@@ -40,6 +41,8 @@ struct Node {
 pub struct Nodes {
     alloc: Global,
     nodes: Vec<Node>,
+    // The list of the last trim, of which the next one takes the memory over.
+    names: Names,
 }
 
 impl Model for Nodes {
@@ -65,25 +68,16 @@ fn name_of(names: &[Option<u32>], child: Option<u32>) -> Option<u32>
     }
 }
 
-// Gives the children their new names.
-fn rename_row(row: &mut Row, names: &[Option<u32>])
-    requires { (x c : ℕ) → child row.old x ≡ Some c → c < length names.now }
-    ensures { row.new ≡ map (renamed names.now) row.old }
-{
-    for x in 0..16 {
-        row[x] = name_of(names, row[x]);
-    }
-}
-
 // Gives the children of a packed row their new names.
 fn rename_packed(row: &mut Packed, names: &[Option<u32>])
     requires children { (x c : ℕ) → child row.old x ≡ Some c → c < length names.now }
     requires packable { IsPackable (map (renamed names.now) row.old) }
     ensures { row.new ≡ map (renamed names.now) row.old }
 {
-    let mut children = row.row();
-    rename_row(&mut children, names);
-    *row = Packed::of(&children);
+    for x in 0..16u8 {
+        let child = row.at(x);
+        row.set(x, name_of(names, child));
+    }
 }
 
 fn rename_node(node: &mut Node, names: &[Option<u32>])
@@ -144,6 +138,7 @@ impl Nodes {
         Nodes {
             alloc,
             nodes: Vec::new(alloc),
+            names: Vec::new(alloc),
         }
     }
 
@@ -202,13 +197,16 @@ impl Nodes {
         requires { id < length self.now }
         ensures { IfOk result (λ value. option_map arc_value value ≡ (shape_at self.now id).value) }
     {
-        match self.node(id).body.value() {
-            None => Ok(None),
-            Some(value) => {
-                let other = Arc::try_clone(value)?;
-                Ok(Some(other))
-            }
-        }
+        let value = self.node(id).body.shared_value()?;
+        Ok(value)
+    }
+
+    /// Whether a node has children.
+    pub(crate) fn is_inner(&self, id: u32) -> bool
+        requires { id < length self.now }
+        ensures { result ≡ false → (shape_at self.now id).below ≡ no_children }
+    {
+        self.node(id).body.children().is_some()
     }
 
     pub(crate) fn row(&self, id: u32) -> Row
@@ -315,6 +313,85 @@ impl Nodes {
         };
         self.nodes.push(node)?;
         Ok(id)
+    }
+
+    // The usage of a node with another child in place of one.
+    #[tactic(auto, using(crate::proofs::Relinks::in_older, crate::proofs::Relinks::relink_less, crate::proofs::Relinks::relink_usage))]
+    fn usage_with(&self, id: u32, nibble: u8, below: u32) -> Result<u64, AllocError>
+        requires there { id < length self.now }
+        requires nibble { nibble < 16 }
+        requires below { below < length self.now }
+        requires some { is_some (child (shape_at self.now id).below nibble) ≡ true }
+        ensures { IfOk result (λ n. n ≡ own_usage (shape_at self.now id).part (shape_at self.now id).value false (sum_by (λ c. usage_below (option_map (summary_at self.now) c)) (slice_set (shape_at self.now id).below nibble (Some below)))) }
+    {
+        let _count = self.count();
+        let old = self.child(id, nibble);
+        let other = self.usage_in(old);
+        let held = self.usage_at(id);
+        let more = self.usage_at(below);
+        let usage = sum_of(held - other, more)?;
+        Ok(usage)
+    }
+
+    // A node like another one, with another child in place of one.
+    fn node_with(&self, id: u32, nibble: u8, below: u32, usage: u64) -> Result<Node, AllocError>
+        requires there { id < length self.now }
+        requires nibble { nibble < 16 }
+        requires below { below < none_number }
+        ensures part { IfOk result (λ n. n.part ≡ (shape_at self.now id).part) }
+        ensures value { IfOk result (λ n. value_of n.body ≡ (shape_at self.now id).value) }
+        ensures row { IfOk result (λ n. row_of n.body ≡ slice_set (shape_at self.now id).below nibble (Some below)) }
+        ensures usage { IfOk result (λ n. n.usage ≡ usage) }
+        ensures hash { IfOk result (λ n. n.hash ≡ None) }
+    {
+        let like = self.node(id);
+        let part = like.part.try_clone(self.alloc)?;
+        let body = like.body.with_child(self.alloc, nibble, below)?;
+        Ok(Node {
+            part,
+            body,
+            usage,
+            hash: None,
+        })
+    }
+
+    /// Adds a node like another one, with another child in place of one. Besides memory, the refusal
+    /// is for a usage that passes u64, and for 2^32 nodes.
+    pub(crate) fn relink(&mut self, id: u32, nibble: u8, below: u32) -> Result<u32, AllocError>
+        requires there { id < length self.old }
+        requires nibble { nibble < 16 }
+        requires below { below < length self.old }
+        requires some { is_some (child (shape_at self.old id).below nibble) ≡ true }
+        ensures ok { IfOk result (λ name. Adds self.old self.new name (shape_at self.old id).part (shape_at self.old id).value (slice_set (shape_at self.old id).below nibble (Some below))) }
+        ensures err { OnErr result (self.new ≡ self.old) }
+    {
+        let name = self.count();
+        if name == u32::MAX {
+            return Err(AllocError);
+        }
+        let usage = self.usage_with(id, nibble, below)?;
+        let node = self.node_with(id, nibble, below, usage)?;
+        self.nodes.push(node)?;
+        Ok(name)
+    }
+
+    /// A list without names, one place for each node.
+    pub(crate) fn take_names(&mut self) -> Result<Names, AllocError>
+        ensures names { IfOk result (λ names. names.items ≡ replicate (length self.old) None) }
+        ensures same { self.new ≡ self.old }
+    {
+        let count = self.len();
+        let mut names = std::mem::replace(&mut self.names, Vec::new(self.alloc));
+        names.clear();
+        names.resize(count, None)?;
+        Ok(names)
+    }
+
+    /// Keeps the list for the next trim.
+    pub(crate) fn keep_names(&mut self, names: Names)
+        ensures { self.new ≡ self.old }
+    {
+        self.names = names;
     }
 
     /// Drops the nodes that aren't kept, and gives the others their new names in order.

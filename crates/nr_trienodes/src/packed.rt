@@ -1,7 +1,7 @@
 //! The children of a node, four bytes each.
 
-ghost use Rattle.std.specs.Prelude.{◌≡◌, ◌<◌, ℕ, Some};
-ghost use Rattle.nr_trienodes.specs.Shape.{child};
+ghost use Rattle.std.specs.Prelude.{◌≡◌, ◌<◌, ℕ, Some, length, slice_set};
+ghost use Rattle.nr_trienodes.specs.Shape.{child, no_children};
 ghost use Rattle.nr_trienodes.specs.Packing.{child_of, none_number, IsPackable};
 
 use std::marker::Model;
@@ -48,6 +48,15 @@ fn child_of(number: u32) -> Option<u32>
 }
 
 impl Packed {
+    /// A row without children.
+    pub(crate) fn none() -> Packed
+        ensures { result ≡ no_children }
+    {
+        Packed {
+            numbers: [NONE; 16],
+        }
+    }
+
     /// A row, packed.
     pub(crate) fn of(row: &Row) -> Packed
         requires { IsPackable row.now }
@@ -71,10 +80,31 @@ impl Packed {
         row
     }
 
+    /// Puts a child at a nibble, or none.
+    pub(crate) fn set(&mut self, nibble: u8, child: Option<u32>)
+        requires nibble { nibble < 16 }
+        requires child { (c : ℕ) → child ≡ Some c → c < none_number }
+        ensures { self.new ≡ slice_set self.old nibble child }
+    {
+        self.numbers[nibble as usize] = number_of(child);
+    }
+
+    /// The row with another child.
+    pub(crate) fn with(&self, nibble: u8, child: u32) -> Packed
+        requires nibble { nibble < 16 }
+        requires child { child < none_number }
+        ensures { result ≡ slice_set self.now nibble (Some child) }
+    {
+        let mut numbers = self.numbers;
+        numbers[nibble as usize] = child;
+        Packed { numbers }
+    }
+
     /// The child of a nibble.
     pub(crate) fn at(&self, nibble: u8) -> Option<u32>
         requires { nibble < 16 }
-        ensures { result ≡ child self.now nibble }
+        ensures child { result ≡ child self.now nibble }
+        ensures sixteen { length self.now ≡ 16 }
     {
         child_of(self.numbers[nibble as usize])
     }

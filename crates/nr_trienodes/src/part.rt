@@ -1,7 +1,8 @@
 //! The nibbles in front of a node's keys.
 
-ghost use Rattle.std.specs.Prelude.{◌≡◌};
+ghost use Rattle.std.specs.Prelude.{◌≡◌, IfOk};
 
+use std::alloc::{AllocError, Global};
 use std::marker::Model;
 
 // Up to so many nibbles take no memory of their own.
@@ -51,6 +52,26 @@ impl Part {
                 count: count as u8,
                 nibbles: short,
             },
+        }
+    }
+
+    /// The same list.
+    pub(crate) fn try_clone(&self, alloc: Global) -> Result<Part, AllocError>
+        ensures { IfOk result (λ part. part ≡ self.now) }
+    {
+        match &self.form {
+            Form::Short { count, nibbles } => Ok(Part {
+                form: Form::Short {
+                    count: *count,
+                    nibbles: *nibbles,
+                },
+            }),
+            Form::Long(nibbles) => {
+                let nibbles = Vec::from_slice(alloc, nibbles.as_slice())?;
+                Ok(Part {
+                    form: Form::Long(nibbles),
+                })
+            }
         }
     }
 

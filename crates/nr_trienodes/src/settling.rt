@@ -1,6 +1,6 @@
 //! Nodes made in place of others, so that each is a leaf or has two links.
 
-ghost use Rattle.std.specs.Prelude.{◌≡◌, ◌<◌, ◌≤◌, ◌+◌, ◌++◌, ◌∷◌, ℕ, length, take, drop, slice_set, Some, IfOk};
+ghost use Rattle.std.specs.Prelude.{◌≡◌, ◌<◌, ◌≤◌, ◌+◌, ◌++◌, ◌∷◌, ℕ, length, take, drop, slice_set, is_some, true, Some, IfOk};
 ghost use Rattle.std.specs.Option.{option_map};
 ghost use Rattle.std.specs.Arc.{arc_value};
 ghost use Rattle.nr_triedef.specs.Node.{IsNibbles};
@@ -110,8 +110,23 @@ pub(crate) fn settle(
     }
 }
 
-/// The node with another child.
-pub(crate) fn replace_child(
+// The node with another child in place of one.
+#[tactic(auto, using(crate::proofs::Settled::adds_settles, crate::proofs::Settled::adds_extends, crate::proofs::Sets::extends_refl))]
+fn relink(nodes: &mut Nodes, node: u32, nibble: u8, below: u32) -> Result<u32, AllocError>
+    requires node { node < length nodes.old }
+    requires nibble { nibble < 16 }
+    requires below { below < length nodes.old }
+    requires some { is_some (child (shape_at nodes.old node).below nibble) ≡ true }
+    ensures few { length nodes.new ≤ length nodes.old + 1 }
+    ensures grows { Extends nodes.old nodes.new }
+    ensures settled { IfOk result (λ id. Settles nodes.old nodes.new (shape_at nodes.old node).part (shape_at nodes.old node).value (slice_set (shape_at nodes.old node).below nibble (Some below)) (Some id)) }
+{
+    let id = nodes.relink(node, nibble, below)?;
+    Ok(id)
+}
+
+// The node with a child more or less.
+fn remake(
     nodes: &mut Nodes,
     node: u32,
     nibble: u8,
@@ -131,6 +146,30 @@ pub(crate) fn replace_child(
     row[nibble as usize] = below;
     let id = settle(nodes, part, value, row)?;
     Ok(id)
+}
+
+/// The node with another child.
+pub(crate) fn replace_child(
+    nodes: &mut Nodes,
+    node: u32,
+    nibble: u8,
+    below: Option<u32>,
+) -> Result<Option<u32>, AllocError>
+    requires node { node < length nodes.old }
+    requires nibble { nibble < 16 }
+    requires below { IsIn (length nodes.old) below }
+    ensures few { length nodes.new ≤ length nodes.old + 1 }
+    ensures grows { Extends nodes.old nodes.new }
+    ensures settled { IfOk result (λ id. Settles nodes.old nodes.new (shape_at nodes.old node).part (shape_at nodes.old node).value (slice_set (shape_at nodes.old node).below nibble below) id) }
+{
+    let Some(child) = below else {
+        return remake(nodes, node, nibble, None);
+    };
+    if nodes.child(node, nibble).is_none() {
+        return remake(nodes, node, nibble, Some(child));
+    }
+    let id = relink(nodes, node, nibble, child)?;
+    Ok(Some(id))
 }
 
 /// The node with another value.

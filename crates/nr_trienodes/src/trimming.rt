@@ -9,18 +9,11 @@ ghost use Rattle.nr_trienodes.specs.Roots.{IsRoot, Renames, contents, name_in, r
 ghost use Rattle.nr_trienodes.specs.Naming.{new_name, marked, new_root, HasName, RowMarked, BelowMarked, RootsMarked};
 
 use crate::nodes::{NodeId, Nodes};
-use std::alloc::{AllocError, Global};
+use std::alloc::AllocError;
 
 /// The new name of each node that is kept, by its old one. While nodes are marked it is 0 for each
 /// that is kept.
 pub(crate) type Names = Vec<Option<u32>>;
-
-fn none_kept(alloc: Global, count: usize) -> Result<Names, AllocError>
-    ensures { IfOk result (λ names. names.items ≡ replicate count None) }
-{
-    let names = vec![in alloc; None; count]?;
-    Ok(names)
-}
 
 fn mark(names: &mut Names, id: Option<u32>)
     requires { IsIn (length names.old.items) id }
@@ -46,9 +39,11 @@ fn mark_row(nodes: &Nodes, names: &mut Names, id: u32)
     ensures { RowMarked nodes.now (shape_at nodes.now id).below names.old.items names.new.items id }
 {
     let _sound = nodes.count();
-    let row = nodes.row(id);
-    for x in 0..16 {
-        mark(names, row[x]);
+    if !nodes.is_inner(id) {
+        return;
+    }
+    for x in 0..16u8 {
+        mark(names, nodes.child(id, x));
     }
 }
 
@@ -108,6 +103,21 @@ fn rename_roots(names: &Names, roots: &mut [Option<NodeId>])
     }
 }
 
+// Drops the nodes that no root needs, and gives the roots their new names.
+fn trim_to(nodes: &mut Nodes, names: &mut Names, roots: &mut [Option<NodeId>])
+    requires none { names.old.items ≡ replicate (length nodes.old) None }
+    requires roots { AllByRecursion (IsRoot nodes.old) roots.old }
+    ensures ok { Renames nodes.old nodes.new roots.old roots.new }
+    ensures tries { length nodes.new ≤ sum_by (root_count nodes.old) roots.old }
+    ensures few { length nodes.new ≤ sum_by (λ r. 2 * length (map_of.entries (contents nodes.new r))) roots.new }
+{
+    let _count = nodes.count();
+    mark_roots(nodes, names, roots);
+    mark_below(nodes, names);
+    nodes.slide(names);
+    rename_roots(names, roots);
+}
+
 impl Nodes {
     /// Drops the nodes that no named root needs, and gives the roots their new names. All other names
     /// mean nothing afterwards.
@@ -123,11 +133,9 @@ impl Nodes {
         ensures err { OnErr result (self.new ≡ self.old) }
         ensures names { OnErr result (roots.new ≡ roots.old) }
     {
-        let mut names = none_kept(self.allocator(), self.len())?;
-        mark_roots(self, &mut names, roots);
-        mark_below(self, &mut names);
-        self.slide(&mut names);
-        rename_roots(&names, roots);
+        let mut names = self.take_names()?;
+        trim_to(self, &mut names, roots);
+        self.keep_names(names);
         Ok(())
     }
 }

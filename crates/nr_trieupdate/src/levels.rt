@@ -11,7 +11,7 @@ use nr_trienodes::{NodeId, Nodes, NodesFault};
 use std::alloc::AllocError;
 
 // Beyond a quarter of what stays at a trim, an arena may grow by this many nodes until the next one.
-const SLACK: usize = 4096;
+const SLACK: usize = 1 << 14;
 
 /// How many nodes the arena of an empty store may hold until it is first trimmed.
 pub(crate) const FIRST_BOUND: usize = SLACK;

@@ -1,4 +1,4 @@
-use Rattle.std.proofs.Common.{◌≡◌, ◌+◌, ◌*◌, length, Some, None, false, true, subst, ap, sym, ◌∙◌, arith}
+use Rattle.std.proofs.Common.{◌+◌, ◌*◌, length, None, subst, ◌∙◌, arith}
 use Rattle.nr_triedef.specs.Node.{nibbles}
 use Rattle.nr_trienodes.specs.Shape.{shape_at}
 use Rattle.nr_trienodes.specs.Turns.{StopsSo, left}

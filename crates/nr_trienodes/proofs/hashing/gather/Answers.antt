@@ -1,4 +1,4 @@
-use Rattle.std.proofs.Common.{◌≡◌, ◌+◌, ◌<◌, ◌++◌, ℕ, List, length, get_or, refl, ap, ◌∙◌, arith}
+use Rattle.std.proofs.Common.{◌≡◌, ◌+◌, ◌<◌, ◌++◌, length, get_or, refl, ap, ◌∙◌, arith}
 use Rattle.nr_trienodes.specs.Shape.{shape_at}
 use Rattle.nr_trienodes.specs.Hashing.{cold}
 use Rattle.nr_trienodes.proofs.Views.{get_or_any}

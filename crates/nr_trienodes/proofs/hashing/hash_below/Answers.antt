@@ -1,4 +1,4 @@
-use Rattle.std.proofs.Common.{◌<◌, length, sym, ap, ◌∙◌, subst}
+use Rattle.std.proofs.Common.{◌<◌, sym, ap, ◌∙◌, subst}
 use Rattle.nr_triedef.specs.declared.hash.Summary.{Summary}
 use Rattle.nr_trienodes.proofs.Hashed.{warm_refl, kept_is, summary_same}
 use Rattle.nr_trienodes.proofs.hashing.hash_below.Goals as goal

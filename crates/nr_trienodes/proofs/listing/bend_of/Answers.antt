@@ -1,6 +1,5 @@
-use Rattle.std.proofs.Common.{◌≡◌, ◌∷◌, ◌+◌, Some, ap, sym, refl, ◌∙◌}
+use Rattle.std.proofs.Common.{◌+◌, Some, ap, sym, refl, ◌∙◌}
 use Rattle.std.specs.Prelude.{List, ℕ}
-use Rattle.nr_trienodes.specs.Shape.{child, shape_at}
 use Rattle.nr_trienodes.specs.Turns.{left}
 use Rattle.nr_trienodes.proofs.Begins.{bend_whole, bend_nowhere, bend_end, bend_sprout, bend_down}
 use Rattle.nr_trienodes.proofs.listing.bend_of.Goals as goal

@@ -1,5 +1,4 @@
-use Rattle.std.proofs.Common.{◌≡◌, ◌++◌, ap, sym, ◌∙◌, arith}
-use Rattle.std.specs.Prelude.{List, ℕ}
+use Rattle.std.proofs.Common.{◌++◌, ap, sym, ◌∙◌, arith}
 use Rattle.nr_triedef.specs.Root.{Paths}
 use Rattle.nr_trienodes.specs.Listing.{keys_in}
 use Rattle.nr_trienodes.proofs.Pushing.{last_place, last_count, last_places, last_whole}

@@ -1,6 +1,6 @@
-use Rattle.std.proofs.Common.{◌≡◌, ap, sym, ◌∙◌}
+use Rattle.std.proofs.Common.{ap, sym, ◌∙◌}
 use Rattle.std.specs.Option.{is_some}
-use Rattle.nr_trienodes.proofs.Pushing.{own_none, own_some, copied_some}
+use Rattle.nr_trienodes.proofs.Pushing.{own_none, copied_some}
 use Rattle.nr_trienodes.proofs.listing.list_key.Goals as goal
 
 pub returns-then-is_none : goal.returns-then-is_none

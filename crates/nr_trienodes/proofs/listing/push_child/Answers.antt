@@ -1,4 +1,4 @@
-use Rattle.std.proofs.Common.{◌≡◌, ◌∷◌, ◌++◌, [], Some, ap, sym, subst, refl, ◌∙◌}
+use Rattle.std.proofs.Common.{◌∷◌, ◌++◌, [], ap, sym, subst, refl, ◌∙◌}
 use Rattle.std.specs.Prelude.{List, ℕ, Option}
 use Rattle.nr_trienodes.specs.Listing.{PushesSo}
 use Rattle.nr_trienodes.proofs.listing.push_child.Goals as goal

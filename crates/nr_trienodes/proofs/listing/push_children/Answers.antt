@@ -1,7 +1,4 @@
-use Rattle.std.proofs.Common.{◌≡◌, ◌<◌, ◌-◌, suc, arith, ap, subst, sym, length}
-use Rattle.std.specs.Prelude.{List, ℕ, Option}
-use Rattle.nr_trienodes.specs.Shape.{shape_at}
-use Rattle.nr_trienodes.specs.Listing.{RowPushed}
+use Rattle.std.proofs.Common.{arith}
 use Rattle.nr_trienodes.proofs.Pushing.{row_down}
 use Rattle.nr_trienodes.proofs.listing.push_children.Goals as goal
 

@@ -1,10 +1,8 @@
-use Rattle.std.proofs.Common.{◌≡◌, ◌∷◌, ◌++◌, [], ap, sym, subst, ◌∙◌, arith}
+use Rattle.std.proofs.Common.{◌≡◌, ◌∷◌, ◌++◌, [], ap, sym, ◌∙◌, arith}
 use Rattle.std.specs.Prelude.{List, ℕ}
-use Rattle.nr_triedef.specs.Node.{nibbles, IsNibbles}
-use Rattle.nr_triedef.specs.Root.{Paths}
+use Rattle.nr_triedef.specs.Node.{nibbles}
 use Rattle.nr_trienodes.specs.Shape.{shape_at}
 use Rattle.nr_trienodes.specs.Tries.{in_front, paths_at}
-use Rattle.nr_trienodes.specs.Turns.{left}
 use Rattle.nr_trienodes.specs.Listing.{kept}
 use Rattle.nr_trienodes.proofs.Pushing.{front_none, front_deeper, small_none, small_deeper}
 use Rattle.nr_trienodes.proofs.listing.top_of.Goals as goal

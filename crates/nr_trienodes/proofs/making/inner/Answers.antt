@@ -1,5 +1,4 @@
 use Rattle.std.proofs.Common.{sym, ap, ◌∙◌, List, Option, ℕ, map}
-use Rattle.nr_triedef.specs.declared.hash.Summary.{Summary}
 use Rattle.nr_triedef.specs.Node.{summary}
 use Rattle.nr_triedef.specs.Root.{branch, with_front}
 use Rattle.std.specs.Option.{option_map}

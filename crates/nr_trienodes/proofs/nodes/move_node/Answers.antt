@@ -1,4 +1,4 @@
-use Rattle.std.proofs.Common.{◌∙◌, ap, sym, map}
+use Rattle.std.proofs.Common.{◌∙◌, ap, map}
 use Rattle.nr_trienodes.specs.Naming.{renamed}
 use Rattle.nr_trienodes.specs.Shape.{Shape, child}
 use Rattle.nr_trienodes.proofs.Views.{shapes_at}

@@ -1,4 +1,4 @@
-use Rattle.std.proofs.Common.{◌∙◌, ◌+◌, ◌<◌, ap, sym, subst, set, Some, arith}
+use Rattle.std.proofs.Common.{◌∙◌, ◌+◌, ◌<◌, ap, sym, subst, arith}
 use Rattle.std.specs.Prelude.{is_some}
 use Rattle.nr_trienodes.specs.Naming.{Names, new_name, IsSlid, Slides}
 use Rattle.nr_trienodes.specs.Shape.{shape_at}

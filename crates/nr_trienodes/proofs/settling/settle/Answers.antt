@@ -1,6 +1,5 @@
 use Rattle.std.proofs.Common.{◌≡◌, false}
 use Rattle.std.specs.Prelude.{is_some}
-use Rattle.std.specs.Option.{option_map}
 use Rattle.std.specs.Arc.{arc_value}
 use Rattle.nr_trienodes.proofs.Settled.{settles_none, settles_single, none_mapped}
 use Rattle.nr_trienodes.proofs.settling.settle.Goals as goal

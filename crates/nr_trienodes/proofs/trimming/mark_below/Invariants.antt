@@ -1,4 +1,4 @@
-use Rattle.std.proofs.Common.{◌≡◌, ◌≤◌, length}
+use Rattle.std.proofs.Common.{◌≤◌, length}
 use Rattle.nr_trienodes.specs.Naming.{BelowMarked}
 use Rattle.nr_trienodes.proofs.trimming.mark_below.Given as goal
 

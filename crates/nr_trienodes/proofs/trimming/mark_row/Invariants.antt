@@ -1,6 +1,7 @@
-use Rattle.std.proofs.Common.{◌≡◌, length, take}
+use Rattle.std.proofs.Common.{take}
 use Rattle.nr_trienodes.specs.Naming.{RowMarked}
+use Rattle.nr_trienodes.specs.Shape.{shape_at}
 use Rattle.nr_trienodes.proofs.trimming.mark_row.Given as goal
 
 abbrev pub invariant-loop-x : goal.invariant-loop-x
-invariant-loop-x l = RowMarked l.nodes (take l.x l.row) l.initial.names.items l.names.items l.id
+invariant-loop-x l = RowMarked l.nodes (take l.x (shape_at l.nodes l.id).below) l.initial.names.items l.names.items l.id

@@ -1,9 +1,8 @@
-use Rattle.std.proofs.Common.{◌≡◌, List, ℕ, Option, Some, None, ap, sym, subst, ◌∙◌}
+use Rattle.std.proofs.Common.{Option, ap, sym, subst, ◌∙◌}
 use Rattle.nr_triedef.specs.Node.{nibbles}
 use Rattle.nr_triedef.specs.Stores.{keys_below}
 use Rattle.nr_trienodes.specs.Roots.{IsRoot, contents}
 use Rattle.nr_trienodes.specs.Listing.{TopsSo, AreWhole, keys_in}
-use Rattle.nr_trienodes.specs.declared.listing.Place.{Place}
 use Rattle.nr_trienodes.specs.declared.nodes.NodeId.{NodeId}
 use Rattle.nr_trienodes.proofs.Begins.{keys_none, keys_are, whole_keys}
 use Rattle.nr_trienodes.proofs.nodes.Nodes.below.Goals as goal

@@ -1,7 +1,7 @@
-use Rattle.std.proofs.Common.{◌∙◌, ◌≡◌, ◌<◌, ◌≤◌, ap, sym, subst, length, List, arith}
+use Rattle.std.proofs.Common.{◌∙◌, ◌<◌, ap, sym, subst, length, List, arith}
 use Rattle.std.proofs.lemmas.List.{length-take}
-use Rattle.nr_trienodes.specs.Shape.{Shape, shape_at, child}
-use Rattle.nr_trienodes.specs.Views.{shapes, Sound}
+use Rattle.nr_trienodes.specs.Shape.{Shape}
+use Rattle.nr_trienodes.specs.Views.{shapes}
 use Rattle.nr_trienodes.specs.Naming.{IsClosed, AreNamed}
 use Rattle.nr_trienodes.proofs.Views.{shapes-length}
 use Rattle.nr_trienodes.proofs.Renaming.{sound_named}

@@ -1,4 +1,4 @@
-use Rattle.nr_trienodes.proofs.Views.{Cut, cut_view}
+use Rattle.nr_trienodes.proofs.Views.{cut_view}
 use Rattle.nr_trienodes.proofs.nodes.Nodes.truncate.Goals as goal
 
 pub invariant_of-self : goal.invariant_of-self

@@ -1,0 +1,9 @@
+use Rattle.std.proofs.Common.{◌∙◌, set}
+use Rattle.std.proofs.lemmas.List.{map-set}
+use Rattle.nr_trienodes.specs.Packing.{child_of}
+use Rattle.nr_trienodes.proofs.packed.Packed.set.Goals as goal
+
+pub returns : goal.returns
+returns c =
+    map-set child_of c.self.inside.numbers c.args.nibble c.number_of.result
+    ∙ (λ i. set (c.self.view_is i) c.args.nibble (c.number_of.ensures i))
