@@ -1,49 +1,79 @@
 //! The top call.
 
-ghost use Rattle.std.specs.Prelude.{◌≡◌, ◌≢◌, ◌∷◌, [], Err};
+ghost use Rattle.std.specs.Prelude.{◌≡◌, ◌≢◌, ◌++◌, ◌∷◌, ◌≤◌, [], Err};
 ghost use Rattle.nr_bytes.specs.Outside.{Rose};
 ghost use Rattle.nr_files.specs.Answers.{AsksFront, Prepares, Serves};
-ghost use Rattle.nr_files.specs.Command.{command, files_of, texts};
+ghost use Rattle.nr_files.specs.Command.{command, config_files, files_of, texts};
+ghost use Rattle.nr_files.specs.Input.{By, configured};
 ghost use Rattle.nr_files.specs.declared.status.Status.TheVariants.{Done, ReadFault, WriteFault};
 
 use crate::answer::of_bytes;
-use crate::command::{Request, command_of};
+use crate::command::{Request, Work, command_of};
+use crate::configuration::configuration;
 use crate::status::Status;
 use crate::telling::too_long;
 use crate::writing::write_all;
 use nr_bytes::{Blob, LoadFault, Shelf, Sink};
+use nr_config::Config;
 use std::alloc::Global;
 
 /// The most bytes of a file, 256 MiB.
 const FILE_LIMIT: usize = 268_435_456;
 
-/// Loads a file, and makes what is written for it.
+/// What the bytes of a file ask for.
 #[tactic(auto, using(crate::proofs::Steps::file_read, crate::proofs::Steps::file_too_long))]
-fn prepare<S: Shelf>(alloc: Global, request: &Request<'_>, shelf: &mut S) -> Result<Blob, Status>
-    ensures prepares { Prepares result request.now.work (S.held shelf.old request.now.file.now) }
-    ensures asked { AsksFront (S.asked shelf.old) (S.asked shelf.new) (request.now.file.now ∷ []) }
+fn of_file<S: Shelf>(
+    alloc: Global,
+    work: Work,
+    config: &Config,
+    name: &str,
+    shelf: &mut S,
+) -> Result<Blob, Status>
+    ensures prepares { Prepares result work (By config.now) (S.held shelf.old name.now) }
+    ensures asked { AsksFront (S.asked shelf.old) (S.asked shelf.new) (name.now ∷ []) }
     ensures failed { result ≡ Err ReadFault → Rose (S.faults shelf.old) (S.faults shelf.new) }
+    ensures rises { S.faults shelf.old ≤ S.faults shelf.new }
 {
     let mut bytes = Vec::new(alloc);
-    match shelf.load(alloc, request.file, FILE_LIMIT, &mut bytes) {
-        Ok(()) => of_bytes(alloc, request.work, &bytes),
+    match shelf.load(alloc, name, FILE_LIMIT, &mut bytes) {
+        Ok(()) => of_bytes(alloc, work, config, &bytes),
         Err(LoadFault::Failed) => Err(Status::ReadFault),
         Err(LoadFault::TooLong) => Err(too_long(alloc)),
         Err(LoadFault::Memory) => Err(Status::NoMemory),
     }
 }
 
-/// Does what the words ask for: `blocks JSON` writes the blocks file that a JSON text describes, and
-/// `show blocks FILE` a JSON text of a blocks file, which `blocks` reads back to the same bytes.
+/// Loads the files, and makes what is written.
+#[tactic(auto, using(crate::proofs::Steps::configured_prepares))]
+fn prepare<S: Shelf>(alloc: Global, request: &Request<'_>, shelf: &mut S) -> Result<Blob, Status>
+    ensures prepares { Prepares result request.now.work (configured request.now.config.now (S.held shelf.old request.now.config.now))
+        (S.held shelf.old request.now.file.now) }
+    ensures asked { AsksFront (S.asked shelf.old) (S.asked shelf.new)
+        (config_files request.now.config.now ++ request.now.file.now ∷ []) }
+    ensures failed { result ≡ Err ReadFault → Rose (S.faults shelf.old) (S.faults shelf.new) }
+{
+    let config = configuration(alloc, request.config, shelf)?;
+    let bytes = of_file(alloc, request.work, &config, request.file, shelf)?;
+    Ok(bytes)
+}
+
+/// Does what the words ask for: `blocks JSON` and `genesis CONFIG JSON` write the file that a JSON text
+/// describes; `show blocks FILE` and `show genesis CONFIG FILE` write a JSON text of a file, which the
+/// first two read back to the same bytes. CONFIG is `free`, the built-in configuration, or the name of a
+/// file; the storage of a genesis is counted by it. An account of a JSON text may leave out
+/// `storage_usage` and `code_hash`: they are then what is counted.
 ///
 /// # Answers
 ///
 /// - `Done`: it was written.
 /// - `Usage`: the words are no command, or one of them is empty or begins with `-`. Nothing was loaded
 ///   or written.
+/// - `Config`: the configuration's file is longer than 1 MiB (kind 0), or its first fault, by the kind
+///   and the entry that `nr_config::Config::read` gives. Nothing was written.
 /// - `Faulty`: the file is longer than 256 MiB; a JSON text is none, or a member of it is faulty, and
-///   the line has the path of the first one, as `jq` writes it; or a file to be shown can't be read,
-///   and the line has the place of the first field that can't. Nothing was written.
+///   the line has the path of the first one, as `jq` writes it; the entries of a genesis don't hold
+///   together, as `nr_blocks::GenesisFault` says; or a file to be shown can't be read, and the line has
+///   the place of the first field that can't. Nothing was written.
 /// - `ReadFault`: a file could not be read. Nothing was written.
 /// - `WriteFault`: the sink failed. A front was written.
 /// - `NoMemory`: memory ran out. Nothing was written.
