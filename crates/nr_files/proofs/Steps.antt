@@ -10,6 +10,9 @@ use Rattle.nr_blocks.specs.Judging.{with_fault, genesis_read}
 use Rattle.nr_blocks.specs.Spellings.{file_of}
 use Rattle.nr_blocks.specs.declared.blocks_file.BlocksFile.{BlocksFile}
 use Rattle.nr_blocks.specs.declared.genesis.Genesis.{Genesis}
+use Rattle.nr_explain.specs.Report.{report_json}
+use Rattle.nr_explain.specs.declared.report.ReportFault.{ReportFault}
+use Rattle.nr_explain.specs.declared.report.ReportFault.TheVariants as report
 use Rattle.nr_json.specs.Blocks.{blocks_json, blocks_of}
 use Rattle.nr_json.specs.Genesis.{genesis_json, genesis_of}
 use Rattle.nr_json.specs.declared.genesis.StatedGenesis.{StatedGenesis}
@@ -23,10 +26,10 @@ use Rattle.nr_config.specs.declared.fault.ConfigFault.{ConfigFault}
 use Rattle.nr_config.specs.declared.fault.ConfigFault.TheVariants as config_faults
 use Rattle.nr_bytes.specs.declared.shelf.LoadFault.TheVariants.{TooLong}
 use Rattle.nr_files.specs.Answers.{AsksFront, Tells, TellsText, Refuses, Writes, Answers, Stops, Stopped, Prepares, Configures}
-use Rattle.nr_files.specs.Due.{Bytes, Json, IsTextOf, value_in, made_blocks, shown_blocks, made_genesis, shown_genesis, due, of_bytes, file_limit}
+use Rattle.nr_files.specs.Due.{Bytes, Json, IsTextOf, value_in, made_blocks, shown_blocks, made_genesis, shown_genesis, shown_report, due, of_bytes, file_limit}
 use Rattle.nr_files.specs.Filling.{filled, stated}
 use Rattle.nr_files.specs.Input.{Configured, By, Bars, Unknown, config_status, by_reading, by_config_bytes, config_limit}
-use Rattle.nr_files.specs.Lines.{fault_line, genesis_line, no_json, unread_line, too_long}
+use Rattle.nr_files.specs.Lines.{fault_line, genesis_line, no_json, report_line, unread_line, too_long}
 use Rattle.nr_files.specs.declared.command.Work.{Work}
 use Rattle.nr_files.specs.declared.status.Status.{Status}
 use Rattle.nr_files.specs.declared.status.Status.TheVariants as status
@@ -210,3 +213,13 @@ pub genesis_shown : (c : Config) (bytes : List ℕ) (g : Genesis) (text : List �
     → Writes text (shown_genesis c bytes)
 unfolding shown_genesis
 genesis_shown c bytes g text one is = (Json (genesis_json (stated (file_of g))), rw one refl, is)
+
+-- ---- a report
+pub report_shown : (bytes text : List ℕ) → report_json bytes ≡ Ok text → Writes text (shown_report bytes)
+unfolding shown_report
+report_shown bytes text is = (Bytes text, rw is refl, refl)
+
+pub report_refused : (bytes : List ℕ) (s : Status) (fault : ReportFault) → Tells s (report_line fault) → (fault ≡ report.Memory → s ≡ status.NoMemory) → (fault ≢ report.Memory → report_json bytes ≡ Err fault) → Refuses s (shown_report bytes)
+unfolding shown_report
+report_refused bytes s fault tells no_memory is =
+    refuses_on s (with_fault report_line (report_json bytes)) (λ text. Ok (Bytes text)) (told_fault s report_line fault report.Memory (report_json bytes) tells no_memory is)

@@ -4,7 +4,7 @@ use Rattle.std.specs.Global.{Global}
 use Rattle.std.specs.declared.string.String.{String}
 use Rattle.nr_bytes.specs.Outside.{Grew}
 use Rattle.nr_config.specs.Config.{Config}
-use Rattle.nr_files.specs.Command.{Request, config_files}
+use Rattle.nr_files.specs.Command.{Asked, Nothing, File, Sentence, Request}
 use Rattle.nr_files.specs.Due.{Due, Output, IsWritten, due}
 use Rattle.nr_files.specs.Input.{Configured, By, Bars, Unknown, configured}
 use Rattle.nr_files.specs.declared.command.Work.{Work}
@@ -109,14 +109,24 @@ abbrev pub Prepares : Result (List ℕ) Status → Work → Configured → Optio
 Prepares (Ok bytes) work given held = DuesBytes work given held bytes
 Prepares (Err status) work given held = Stopped status work given held
 
--- The answer is right for the request that the words are and for the files, and the sink took what belongs to it.
-abbrev pub Serves : Status → Option Request → (List ℕ → Option (List ℕ)) → Option (List ℕ) → Option (List ℕ) → Type 0
-Serves Done (Some r) held old new = (bytes : List ℕ) × DuesBytes r.work (configured r.config (held r.config)) (held r.file) bytes × Grew old new bytes
-Serves WriteFault (Some r) held old new = (bytes : List ℕ) × DuesBytes r.work (configured r.config (held r.config)) (held r.file) bytes × GrewInPart old new bytes
-Serves (Faulty line) (Some r) held old new = Stopped (Faulty line) r.work (configured r.config (held r.config)) (held r.file) × (new ≡ old)
-Serves (faulty_config kind entry) (Some r) held old new = Stops (faulty_config kind entry) (configured r.config (held r.config)) × (new ≡ old)
-Serves ReadFault (Some r) held old new = new ≡ old
-Serves NoMemory (Some r) held old new = new ≡ old
-Serves Usage (Some r) held old new = ⊥
-Serves Usage None held old new = new ≡ old
-Serves status None held old new = ⊥
+-- The answer is right for what the words ask for and for the files, and the sink took what belongs to it.
+abbrev pub Serves : Status → Asked → (List ℕ → Option (List ℕ)) → Option (List ℕ) → Option (List ℕ) → Type 0
+Serves Done (File r) held old new = (bytes : List ℕ) × DuesBytes r.work (configured r.config (held r.config)) (held r.file) bytes × Grew old new bytes
+Serves Done (Sentence line) held old new = Grew old new line
+Serves Done Nothing held old new = ⊥
+Serves WriteFault (File r) held old new = (bytes : List ℕ) × DuesBytes r.work (configured r.config (held r.config)) (held r.file) bytes × GrewInPart old new bytes
+Serves WriteFault (Sentence line) held old new = GrewInPart old new line
+Serves WriteFault Nothing held old new = ⊥
+Serves (Faulty line) (File r) held old new = Stopped (Faulty line) r.work (configured r.config (held r.config)) (held r.file) × (new ≡ old)
+Serves (Faulty line) (Sentence told) held old new = ⊥
+Serves (Faulty line) Nothing held old new = ⊥
+Serves (faulty_config kind entry) (File r) held old new = Stops (faulty_config kind entry) (configured r.config (held r.config)) × (new ≡ old)
+Serves (faulty_config kind entry) (Sentence line) held old new = ⊥
+Serves (faulty_config kind entry) Nothing held old new = ⊥
+Serves ReadFault (File r) held old new = new ≡ old
+Serves ReadFault (Sentence line) held old new = ⊥
+Serves ReadFault Nothing held old new = ⊥
+Serves NoMemory asked held old new = new ≡ old
+Serves Usage Nothing held old new = new ≡ old
+Serves Usage (File r) held old new = ⊥
+Serves Usage (Sentence line) held old new = ⊥

@@ -5,7 +5,8 @@ use Rattle.std.specs.Str.{bytes_eq}
 use Rattle.std.specs.declared.string.String.{String}
 use Rattle.nr_files.specs.declared.command.Request.{Request as LentRequest}
 use Rattle.nr_files.specs.declared.command.Work.{Work}
-use Rattle.nr_files.specs.declared.command.Work.TheVariants.{MakeBlocks, MakeGenesis, ShowBlocks, ShowGenesis}
+use Rattle.nr_files.specs.declared.command.Work.TheVariants.{MakeBlocks, MakeGenesis, ShowBlocks, ShowGenesis, ShowReport}
+use Rattle.nr_explain.specs.Sentences.{explained}
 
 abbrev pub texts : List (String Global) → List (List ℕ)
 texts words = map (λ word. string_bytes word) words
@@ -38,7 +39,8 @@ abbrev pub three_words : List ℕ → List ℕ → List ℕ → Option Request
 three_words verb second file =
     cond (is_plain file)
     (cond (bytes_eq verb (codes "genesis") && is_plain second) (request_of MakeGenesis second file)
-    (cond (bytes_eq verb (codes "show") && bytes_eq second (codes "blocks")) (request_of ShowBlocks free_word file) None))
+    (cond (bytes_eq verb (codes "show") && bytes_eq second (codes "blocks")) (request_of ShowBlocks free_word file)
+    (cond (bytes_eq verb (codes "show") && bytes_eq second (codes "report")) (request_of ShowReport free_word file) None)))
     None
 
 abbrev pub four_words : List ℕ → List ℕ → List ℕ → List ℕ → Option Request
@@ -53,6 +55,33 @@ command (a ∷ b ∷ c ∷ []) = three_words a b c
 command (a ∷ b ∷ c ∷ d ∷ []) = four_words a b c d
 command (a ∷ b ∷ c ∷ d ∷ e ∷ words) = None
 
+-- ---- what the words ask for: nothing that there is, a file's, or a sentence
+pub data Asked : Type 0 where
+  Nothing : Asked
+  File : Request → Asked
+  Sentence : List ℕ → Asked
+
+abbrev pub of_request : Option Request → Asked
+of_request None = Nothing
+of_request (Some r) = File r
+
+abbrev pub of_sentence : Option (List ℕ) → Asked
+of_sentence None = Nothing
+of_sentence (Some line) = Sentence line
+
+-- the words behind `explain`
+abbrev pub numbers_of : List (List ℕ) → Option (List (List ℕ))
+numbers_of [] = None
+numbers_of (verb ∷ words) = cond (bytes_eq verb (codes "explain")) (Some words) None
+
+abbrev pub by_numbers : Option (List (List ℕ)) → List (List ℕ) → Asked
+by_numbers None words = of_request (command words)
+by_numbers (Some numbers) words = of_sentence (explained numbers)
+
+abbrev pub asked : List (List ℕ) → Asked
+asked words = by_numbers (numbers_of words) words
+
+-- ---- a file's request
 -- the request that lent words are
 abbrev pub request_in : LentRequest → Request
 request_in r = record { work = r.work; config = r.config.now; file = r.file.now }
@@ -61,6 +90,7 @@ request_in r = record { work = r.work; config = r.config.now; file = r.file.now 
 abbrev pub config_files : List ℕ → List (List ℕ)
 config_files word = cond (is_free word) [] (word ∷ [])
 
-abbrev pub files_of : Option Request → List (List ℕ)
-files_of None = []
-files_of (Some r) = config_files r.config ++ r.file ∷ []
+abbrev pub files_of : Asked → List (List ℕ)
+files_of Nothing = []
+files_of (Sentence line) = []
+files_of (File r) = config_files r.config ++ r.file ∷ []

@@ -15,9 +15,10 @@ use Rattle.nr_blocks.specs.Spellings.{file_of}
 use Rattle.nr_json.specs.Blocks.{blocks_json, blocks_of}
 use Rattle.nr_json.specs.Genesis.{genesis_json, genesis_of}
 use Rattle.nr_files.specs.declared.command.Work.{Work}
-use Rattle.nr_files.specs.declared.command.Work.TheVariants.{MakeBlocks, MakeGenesis, ShowBlocks, ShowGenesis}
+use Rattle.nr_explain.specs.Report.{report_json}
+use Rattle.nr_files.specs.declared.command.Work.TheVariants.{MakeBlocks, MakeGenesis, ShowBlocks, ShowGenesis, ShowReport}
 use Rattle.nr_files.specs.Filling.{filled, stated}
-use Rattle.nr_files.specs.Lines.{fault_line, genesis_line, no_json, unread_line, too_long}
+use Rattle.nr_files.specs.Lines.{fault_line, genesis_line, no_json, report_line, unread_line, too_long}
 
 -- what is written: bytes, or the text of a value
 pub data Output : Type 0 where
@@ -72,6 +73,12 @@ shown_genesis c bytes = do
   g ← with_fault (genesis_line false) (genesis_read c bytes)
   Ok (Json (genesis_json (stated (file_of g))))
 
+-- ---- a report
+unfoldable pub shown_report : List ℕ → Due
+shown_report bytes = do
+  text ← with_fault report_line (report_json bytes)
+  Ok (Bytes text)
+
 -- ---- at most 256 MiB
 abbrev pub file_limit : ℕ
 file_limit = 268435456
@@ -81,6 +88,7 @@ of_bytes MakeBlocks c bytes = made_blocks bytes
 of_bytes MakeGenesis c bytes = made_genesis c bytes
 of_bytes ShowBlocks c bytes = shown_blocks bytes
 of_bytes ShowGenesis c bytes = shown_genesis c bytes
+of_bytes ShowReport c bytes = shown_report bytes
 
 abbrev pub due : Work → Config → List ℕ → Due
 due work c bytes = cond (nat_lt file_limit (length bytes)) (Err too_long) (of_bytes work c bytes)

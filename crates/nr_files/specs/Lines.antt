@@ -1,5 +1,7 @@
 -- Why a file is refused, in words: the path of the member as `jq` writes it, or the place of a byte, and what is wrong. This project's own.
 use Rattle.std.specs.Prelude.{ℕ, List, [], ◌∷◌, ◌++◌, Bool, cond, codes, decimal}
+use Rattle.nr_explain.specs.declared.report.ReportFault.{ReportFault}
+use Rattle.nr_explain.specs.declared.report.ReportFault.TheVariants as report
 use Rattle.nr_json.specs.Words.{words}
 use Rattle.nr_json.specs.declared.fault.JsonFault.{JsonFault}
 use Rattle.nr_json.specs.declared.fault.JsonFault.TheVariants as json
@@ -37,6 +39,11 @@ unread_line (record_faults.Stake at) = at_line at
 unread_line (record_faults.TooManyBoundaries at) = at_line at
 unread_line (record_faults.BoundaryOrder at) = at_line at
 unread_line record_faults.Memory = []
+
+-- ---- a report
+abbrev pub report_line : ReportFault → List ℕ
+report_line (report.NoLine line) = codes "line " ++ decimal line ++ codes " is no line of a report"
+report_line report.Memory = []
 
 -- ---- entries that don't hold together
 abbrev pub entry_line : ℕ → List ℕ → List ℕ

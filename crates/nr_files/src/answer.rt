@@ -6,17 +6,18 @@ ghost use Rattle.nr_bytes.specs.Answers.{Gives};
 ghost use Rattle.nr_records.specs.Reading.{all_of};
 ghost use Rattle.nr_blocks.specs.Judging.{with_fault, genesis_read};
 ghost use Rattle.nr_files.specs.Answers.{AnswersAs, Answers};
-ghost use Rattle.nr_files.specs.Due.{IsTextOf, value_in, made_blocks, shown_blocks, made_genesis, shown_genesis, of_bytes};
+ghost use Rattle.nr_files.specs.Due.{IsTextOf, value_in, made_blocks, shown_blocks, made_genesis, shown_genesis, shown_report, of_bytes};
 ghost use Rattle.nr_files.specs.Lines.{fault_line, genesis_line, unread_line};
 ghost use Rattle.nr_files.specs.declared.status.Status.TheVariants.{NoMemory};
 
 use crate::command::Work;
 use crate::filling::{genesis_bytes, stated};
 use crate::status::Status;
-use crate::telling::{faulty, genesis_status, json_status, unread_status};
+use crate::telling::{faulty, genesis_status, json_status, report_status, unread_status};
 use nr_blocks::{BlocksFile, Genesis, read_genesis};
 use nr_bytes::Blob;
 use nr_config::Config;
+use nr_explain::show_report;
 use nr_json::{Form, StatedGenesis};
 use nr_records::{Spelled, decode, encode};
 use serde_json::Value;
@@ -132,6 +133,16 @@ fn shown_genesis(alloc: Global, config: &Config, bytes: &[u8]) -> Result<Blob, S
     Ok(text)
 }
 
+#[tactic(auto, unfolding(crate::specs::Due::shown_report))]
+fn shown_report(alloc: Global, bytes: &[u8]) -> Result<Blob, Status>
+    ensures { Answers result (shown_report bytes.now) }
+{
+    match show_report(alloc, bytes) {
+        Ok(text) => Ok(text),
+        Err(fault) => Err(report_status(alloc, fault)),
+    }
+}
+
 /// What some bytes ask for.
 pub(crate) fn of_bytes(
     alloc: Global,
@@ -146,5 +157,6 @@ pub(crate) fn of_bytes(
         Work::MakeGenesis => made_genesis(alloc, config, bytes),
         Work::ShowBlocks => shown_blocks(alloc, bytes),
         Work::ShowGenesis => shown_genesis(alloc, config, bytes),
+        Work::ShowReport => shown_report(alloc, bytes),
     }
 }

@@ -1,7 +1,7 @@
 //! The words of the command line.
 
 ghost use Rattle.std.specs.Prelude.{◌≡◌, option_map};
-ghost use Rattle.nr_files.specs.Command.{texts, is_plain, two_words, three_words, four_words, command, request_in, is_free};
+ghost use Rattle.nr_files.specs.Command.{texts, is_plain, two_words, three_words, four_words, command, request_in, is_free, numbers_of};
 
 /// What is done with a file.
 #[derive(Clone, Copy, Debug)]
@@ -14,6 +14,8 @@ pub(crate) enum Work {
     ShowBlocks,
     /// The genesis of a file is written as JSON.
     ShowGenesis,
+    /// The report of a file is written as JSON.
+    ShowReport,
 }
 
 /// What is done, under which configuration (`free`, or the name of a file), and with which file.
@@ -68,6 +70,13 @@ fn three_words<'a>(verb: &str, second: &'a str, file: &'a str) -> Option<Request
             file,
         });
     }
+    if verb == "show" && second == "report" {
+        return Some(Request {
+            work: Work::ShowReport,
+            config: "free",
+            file,
+        });
+    }
     None
 }
 
@@ -101,6 +110,22 @@ pub(crate) fn command_of(words: &[String]) -> Option<Request<'_>>
         ),
         [_, _, _, _, _, ..] => None,
         _ => None,
+    }
+}
+
+/// The words behind `explain`, where it is the first one.
+pub(crate) fn numbers_of(words: &[String]) -> Option<&[String]>
+    ensures { option_map (λ numbers. texts numbers.now) result ≡ numbers_of (texts words.now) }
+{
+    match words {
+        [verb, numbers @ ..] => {
+            if verb.as_str() == "explain" {
+                Some(numbers)
+            } else {
+                None
+            }
+        }
+        [] => None,
     }
 }
 

@@ -2,15 +2,17 @@
 
 ghost use Rattle.std.specs.Prelude.{◌≡◌, IfOk, string_bytes};
 ghost use Rattle.nr_files.specs.Answers.{Tells, TellsText};
-ghost use Rattle.nr_files.specs.Lines.{subject, fault_line, at_line, too_long, unread_line, entry_line, genesis_line, usage_words};
+ghost use Rattle.nr_files.specs.Lines.{subject, fault_line, at_line, too_long, unread_line, entry_line, genesis_line, report_line, usage_words};
 ghost use Rattle.nr_files.specs.declared.status.Status.TheVariants.{NoMemory};
 ghost use Rattle.nr_json.specs.declared.fault.JsonFault.TheVariants as json;
 ghost use Rattle.nr_records.specs.declared.fault.RecordFault.TheVariants as record_faults;
 ghost use Rattle.nr_blocks.specs.declared.fault.GenesisFault.TheVariants as genesis;
+ghost use Rattle.nr_explain.specs.declared.report.ReportFault.TheVariants as report;
 
 use crate::status::Status;
 use nr_blocks::GenesisFault;
 use nr_bytes::Text;
+use nr_explain::ReportFault;
 use nr_json::{JsonFault, Wrong};
 use nr_records::RecordFault;
 use std::alloc::{AllocError, Global};
@@ -94,6 +96,26 @@ pub(crate) fn unread_status(alloc: Global, fault: RecordFault) -> Status
         RecordFault::TooManyBoundaries { at } => told(at_text(alloc, at as u64)),
         RecordFault::BoundaryOrder { at } => told(at_text(alloc, at as u64)),
         RecordFault::Memory => Status::NoMemory,
+    }
+}
+
+fn report_text(alloc: Global, line: u64) -> Result<String, AllocError>
+    ensures { IfOk result (λ text. string_bytes text ≡ report_line (report.NoLine line)) }
+{
+    let mut text = String::new(alloc);
+    write!(text, "line {line} is no line of a report")?;
+    Ok(text)
+}
+
+/// The line of a text that is no report.
+#[tactic(auto, using(crate::proofs::Steps::tells_text))]
+pub(crate) fn report_status(alloc: Global, fault: ReportFault) -> Status
+    ensures tells { Tells result (report_line fault) }
+    ensures memory { fault ≡ report.Memory → result ≡ NoMemory }
+{
+    match fault {
+        ReportFault::NoLine { line } => told(report_text(alloc, line)),
+        ReportFault::Memory => Status::NoMemory,
     }
 }
 
