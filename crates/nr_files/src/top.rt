@@ -68,7 +68,7 @@ fn serve_sentence<K: Sink>(alloc: Global, numbers: &[String], sink: &mut K) -> S
     ensures write_fault { result ≡ WriteFault → Rose (K.faults sink.old) (K.faults sink.new) }
 {
     match explain(alloc, numbers) {
-        Ok(Some(line)) => match write_all(sink, line.inner().as_bytes()) {
+        Ok(Some(line)) => match write_all(sink, line.inner()) {
             Ok(()) => Status::Done,
             Err(_) => Status::WriteFault,
         },
