@@ -88,6 +88,28 @@ fn a_genesis_is_made_and_shown(rt: HostRuntime) -> Result<(), Fail> {
 }
 
 #[test]
+fn a_report_and_a_line_are_told(rt: HostRuntime) -> Result<(), Fail> {
+    let alloc = rt.alloc();
+    let (shown, text) = ended(alloc, &["show", "report", "F"], b"ok\n")?;
+    assert_eq!(rt; shown.exit_status(), 0);
+    assert_eq!(rt; text.as_slice(), b"{\"line\":\"ok\"}\n".as_slice());
+    assert!(rt;
+        refuses(
+            alloc,
+            &["show", "report", "F"],
+            "ok",
+            "line 1 is no line of a report"
+        )?
+    );
+    let (told, line) = ended(alloc, &["explain", "5"], b"")?;
+    assert_eq!(rt; told.exit_status(), 0);
+    assert_eq!(rt; line.as_slice(), b"A file could not be read.".as_slice());
+    let (unknown, _) = ended(alloc, &["explain", "99"], b"")?;
+    assert_eq!(rt; unknown.exit_status(), 1);
+    Ok(())
+}
+
+#[test]
 fn faults_have_the_path_of_the_member(rt: HostRuntime) -> Result<(), Fail> {
     let alloc = rt.alloc();
     let rows: [(&str, &str); 7] = [
