@@ -41,7 +41,7 @@ put_depth name d (member other e ms) n one rest =
     (omega (arith, one, rest)) (omega (arith, one, rest)) (omega (arith, rest, put_depth name d ms n one (omega (arith, rest))))
 
 -- ---- lists and options
-AreShallow : {X : Type 0} → (X → Data) → ℕ → Type 0
+abbrev AreShallow : {X : Type 0} → (X → Data) → ℕ → Type 0
 AreShallow {X} json n = (x : X) → depth (json x) ≤ n
 
 items_depth_of : {X : Type 0} (json : X → Data) (n : ℕ) → AreShallow json n → (xs : List X) → items_depth (items_of (map json xs)) ≤ n

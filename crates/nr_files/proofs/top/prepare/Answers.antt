@@ -6,7 +6,7 @@ use Rattle.nr_files.proofs.top.prepare.Goals as goal
 pub returns-in_err-config-clause-asked : goal.returns-in_err-config-clause-asked
 returns-in_err-config-clause-asked g c = asks_more _ _ (config_files c.args.request.now.config.now) (c.args.request.now.file.now ∷ []) c.configuration.ensures.asked
 
-pub returns-in_err-bytes-clause-asked : goal.returns-in_err-verdict-clause-asked
+pub returns-in_err-bytes-clause-asked : goal.returns-in_err-bytes-clause-asked
 returns-in_err-bytes-clause-asked g c = asks_then _ _ _ (config_files c.args.request.now.config.now) _ (c.in_ok-config.ensures.all refl) c.of_file.ensures.asked
 
 pub returns-clause-asked : goal.returns-clause-asked
