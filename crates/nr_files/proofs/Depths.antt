@@ -99,12 +99,15 @@ optional_depth : {X : Type 0} (name : List ℕ) (json : X → Data) (o : Option 
 optional_depth name json None ms n shallow rest = rest
 optional_depth name json (Some x) ms n shallow rest = put_depth name (json x) ms n (shallow x) rest
 
+abbrev tokens : StatedAccount → Members
+tokens a = put (codes "locked") (amount_json a.locked) (put (codes "amount") (amount_json a.amount) no_members)
+
 account_depth : (a : StatedAccount) → members_depth (account_members a) ≤ 0
 account_depth a =
     let amount = put_depth (codes "amount") (amount_json a.amount) no_members 0 (omega arith) (omega arith) in
-    let locked = put_depth (codes "locked") (amount_json a.locked) (put (codes "amount") (amount_json a.amount) no_members) 0 (omega arith) amount in
-    let hash = optional_depth (codes "code_hash") hash_json a.code_hash _ 0 (λ x. omega arith) locked in
-    optional_depth (codes "storage_usage") number_json a.storage_usage _ 0 (λ x. omega arith) hash
+    let locked : members_depth (tokens a) ≤ 0 = put_depth (codes "locked") (amount_json a.locked) (put (codes "amount") (amount_json a.amount) no_members) 0 (omega arith) amount in
+    let hash = optional_depth (codes "code_hash") hash_json a.code_hash (tokens a) 0 (λ x. omega arith) locked in
+    optional_depth (codes "storage_usage") number_json a.storage_usage (with_optional (codes "code_hash") hash_json a.code_hash (tokens a)) 0 (λ x. omega arith) hash
 
 of_account_depth : (kind id : List ℕ) (ms : Members) (n : ℕ) → members_depth ms ≤ n → members_depth (of_account kind id ms) ≤ n
 of_account_depth kind id ms n rest =
@@ -115,11 +118,11 @@ entry_depth (Account id a) = omega (arith, of_account_depth (codes "account") id
 entry_depth (Code id code) =
     omega (arith, of_account_depth (codes "code") id (put (codes "code") (bytes_json code) no_members) 4 (put_depth (codes "code") (bytes_json code) no_members 4 (omega arith) (omega arith)))
 entry_depth (Key id public_key access_key) =
-    omega (arith, of_account_depth (codes "key") id _ 4 (key_members_depth (key_json public_key) access_key (omega arith)))
+    omega (arith, of_account_depth (codes "key") id (put (codes "access_key") (access_key_json access_key) (put (codes "public_key") (key_json public_key) no_members)) 4 (key_members_depth (key_json public_key) access_key (omega arith)))
 entry_depth (Datum id key value) =
     let one = put_depth (codes "key") (bytes_json key) no_members 4 (omega arith) (omega arith) in
     let both = put_depth (codes "value") (bytes_json value) (put (codes "key") (bytes_json key) no_members) 4 (omega arith) one in
-    omega (arith, of_account_depth (codes "datum") id _ 4 both)
+    omega (arith, of_account_depth (codes "datum") id (put (codes "value") (bytes_json value) (put (codes "key") (bytes_json key) no_members)) 4 both)
 
 pub genesis_depth : AreShallow genesis_json max_depth
 genesis_depth g =
