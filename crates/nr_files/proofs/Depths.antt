@@ -18,7 +18,7 @@ use Rattle.nr_blocks.specs.declared.blocks_file.BlocksFile.{BlocksFile}
 use Rattle.nr_json.specs.AccessKeys.{call_permission_json, permission_json, access_key_json}
 use Rattle.nr_json.specs.Actions.{action_json}
 use Rattle.nr_json.specs.Blocks.{chunk_json, block_json, blocks_json}
-use Rattle.nr_json.specs.Genesis.{with_optional, account_members, of_account, entry_json, genesis_json}
+use Rattle.nr_json.specs.Genesis.{with_optional, account_members, entry_json, genesis_json}
 use Rattle.nr_json.specs.Keys.{hash_json, key_json}
 use Rattle.nr_json.specs.Lists.{list_json, option_json}
 use Rattle.nr_json.specs.Plain.{number_json, amount_json, bytes_json}
@@ -57,39 +57,33 @@ option_depth json n shallow (Some x) = shallow x
 
 -- ---- records
 call_depth : AreShallow call_permission_json 2
-call_depth c = omega (arith, (put_depth (codes "method_names") (list_json string c.methods) (put (codes "receiver_id") (string c.receiver) (put (codes "allowance") (option_json amount_json c.allowance) no_members)) 1 (list_depth string 0 (λ x. omega arith) c.methods) (put_depth (codes "receiver_id") (string c.receiver) (put (codes "allowance") (option_json amount_json c.allowance) no_members) 1 (omega arith) (put_depth (codes "allowance") (option_json amount_json c.allowance) no_members 1 (omega (arith, option_depth amount_json 0 (λ x. omega arith) c.allowance)) (omega arith)))))
+call_depth c = omega (arith, list_depth string 0 (λ x. omega arith) c.methods, option_depth amount_json 0 (λ x. omega arith) c.allowance)
 
 permission_depth : AreShallow permission_json 3
 permission_depth (Call c) = omega (arith, call_depth c)
 permission_depth Full = omega arith
 
 access_key_depth : AreShallow access_key_json 4
-access_key_depth k = omega (arith, (put_depth (codes "permission") (permission_json k.permission) (put (codes "nonce") (number_json k.nonce) no_members) 3 (permission_depth k.permission) (put_depth (codes "nonce") (number_json k.nonce) no_members 3 (omega arith) (omega arith))))
-
-key_members_depth : (public_key : Data) (access_key : AccessKey) → depth public_key ≤ 4
-    → members_depth (put (codes "access_key") (access_key_json access_key) (put (codes "public_key") public_key no_members)) ≤ 4
-key_members_depth public_key access_key shallow =
-    put_depth (codes "access_key") (access_key_json access_key) (put (codes "public_key") public_key no_members) 4 (access_key_depth access_key)
-    (put_depth (codes "public_key") public_key no_members 4 shallow (omega arith))
+access_key_depth k = omega (arith, permission_depth k.permission)
 
 action_depth : AreShallow action_json 6
 action_depth CreateAccount = omega arith
 action_depth (DeployContract code) = omega arith
-action_depth (FunctionCall method args gas deposit) = omega (arith, (put_depth (codes "deposit") (amount_json deposit) (put (codes "gas") (number_json gas) (put (codes "args") (bytes_json args) (put (codes "method_name") (string method) no_members))) 0 (omega arith) (put_depth (codes "gas") (number_json gas) (put (codes "args") (bytes_json args) (put (codes "method_name") (string method) no_members)) 0 (omega arith) (put_depth (codes "args") (bytes_json args) (put (codes "method_name") (string method) no_members) 0 (omega arith) (put_depth (codes "method_name") (string method) no_members 0 (omega arith) (omega arith))))))
+action_depth (FunctionCall method args gas deposit) = omega arith
 action_depth (Transfer deposit) = omega arith
-action_depth (AddKey public_key access_key) = omega (arith, key_members_depth (key_json public_key) access_key (omega arith))
+action_depth (AddKey public_key access_key) = omega (arith, access_key_depth access_key)
 action_depth (DeleteKey public_key) = omega arith
 action_depth (DeleteAccount beneficiary) = omega arith
 
 transaction_depth : AreShallow transaction_json 8
-transaction_depth t = omega (arith, (put_depth (codes "actions") (list_json action_json t.actions) (put (codes "block_hash") (hash_json t.block_hash) (put (codes "receiver_id") (string t.receiver) (put (codes "nonce") (number_json t.nonce) (put (codes "public_key") (key_json t.public_key) (put (codes "signer_id") (string t.signer) no_members))))) 7 (list_depth action_json 6 action_depth t.actions) (put_depth (codes "block_hash") (hash_json t.block_hash) (put (codes "receiver_id") (string t.receiver) (put (codes "nonce") (number_json t.nonce) (put (codes "public_key") (key_json t.public_key) (put (codes "signer_id") (string t.signer) no_members)))) 7 (omega arith) (put_depth (codes "receiver_id") (string t.receiver) (put (codes "nonce") (number_json t.nonce) (put (codes "public_key") (key_json t.public_key) (put (codes "signer_id") (string t.signer) no_members))) 7 (omega arith) (put_depth (codes "nonce") (number_json t.nonce) (put (codes "public_key") (key_json t.public_key) (put (codes "signer_id") (string t.signer) no_members)) 7 (omega arith) (put_depth (codes "public_key") (key_json t.public_key) (put (codes "signer_id") (string t.signer) no_members) 7 (omega arith) (put_depth (codes "signer_id") (string t.signer) no_members 7 (omega arith) (omega arith))))))))
+transaction_depth t = omega (arith, list_depth action_json 6 action_depth t.actions)
 
 -- ---- blocks
 chunk_depth : AreShallow chunk_json 9
 chunk_depth = option_depth (list_json transaction_json) 9 (list_depth transaction_json 8 transaction_depth)
 
 block_depth : AreShallow block_json 11
-block_depth b = omega (arith, (put_depth (codes "chunks") (list_json chunk_json b.chunks) (put (codes "timestamp") (number_json b.timestamp) (put (codes "height") (number_json b.height.0) no_members)) 10 (list_depth chunk_json 9 chunk_depth b.chunks) (put_depth (codes "timestamp") (number_json b.timestamp) (put (codes "height") (number_json b.height.0) no_members) 10 (omega arith) (put_depth (codes "height") (number_json b.height.0) no_members 10 (omega arith) (omega arith)))))
+block_depth b = omega (arith, list_depth chunk_json 9 chunk_depth b.chunks)
 
 pub blocks_depth : AreShallow blocks_json max_depth
 blocks_depth file = omega (arith, list_depth block_json 11 block_depth file.blocks)
@@ -104,27 +98,16 @@ tokens a = put (codes "locked") (amount_json a.locked) (put (codes "amount") (am
 
 account_depth : (a : StatedAccount) → members_depth (account_members a) ≤ 0
 account_depth a =
-    let amount = put_depth (codes "amount") (amount_json a.amount) no_members 0 (omega arith) (omega arith) in
-    let locked : members_depth (tokens a) ≤ 0 = put_depth (codes "locked") (amount_json a.locked) (put (codes "amount") (amount_json a.amount) no_members) 0 (omega arith) amount in
-    let hash = optional_depth (codes "code_hash") hash_json a.code_hash (tokens a) 0 (λ x. omega arith) locked in
+    let hash = optional_depth (codes "code_hash") hash_json a.code_hash (tokens a) 0 (λ x. omega arith) (omega arith) in
     optional_depth (codes "storage_usage") number_json a.storage_usage (with_optional (codes "code_hash") hash_json a.code_hash (tokens a)) 0 (λ x. omega arith) hash
 
-of_account_depth : (kind id : List ℕ) (ms : Members) (n : ℕ) → members_depth ms ≤ n → members_depth (of_account kind id ms) ≤ n
-of_account_depth kind id ms n rest =
-    put_depth (codes "kind") (string kind) (put (codes "account_id") (string id) ms) n (omega arith) (put_depth (codes "account_id") (string id) ms n (omega arith) rest)
-
 entry_depth : AreShallow entry_json 5
-entry_depth (Account id a) = omega (arith, of_account_depth (codes "account") id (account_members a) 4 (omega (arith, account_depth a)))
-entry_depth (Code id code) =
-    omega (arith, of_account_depth (codes "code") id (put (codes "code") (bytes_json code) no_members) 4 (put_depth (codes "code") (bytes_json code) no_members 4 (omega arith) (omega arith)))
-entry_depth (Key id public_key access_key) =
-    omega (arith, of_account_depth (codes "key") id (put (codes "access_key") (access_key_json access_key) (put (codes "public_key") (key_json public_key) no_members)) 4 (key_members_depth (key_json public_key) access_key (omega arith)))
-entry_depth (Datum id key value) =
-    let one = put_depth (codes "key") (bytes_json key) no_members 4 (omega arith) (omega arith) in
-    let both = put_depth (codes "value") (bytes_json value) (put (codes "key") (bytes_json key) no_members) 4 (omega arith) one in
-    omega (arith, of_account_depth (codes "datum") id (put (codes "value") (bytes_json value) (put (codes "key") (bytes_json key) no_members)) 4 both)
+entry_depth (Account id a) =
+    let named = put_depth (codes "account_id") (string id) (account_members a) 0 (omega arith) (account_depth a) in
+    omega (arith, put_depth (codes "kind") (string (codes "account")) (put (codes "account_id") (string id) (account_members a)) 0 (omega arith) named)
+entry_depth (Code id code) = omega arith
+entry_depth (Key id public_key access_key) = omega (arith, access_key_depth access_key)
+entry_depth (Datum id key value) = omega arith
 
 pub genesis_depth : AreShallow genesis_json max_depth
-genesis_depth g =
-    let boundaries = put_depth (codes "boundaries") (list_json string g.boundaries) no_members 6 (omega (arith, list_depth string 0 (λ x. omega arith) g.boundaries)) (omega arith) in
-    omega (arith, put_depth (codes "entries") (list_json entry_json g.entries) (put (codes "boundaries") (list_json string g.boundaries) no_members) 6 (list_depth entry_json 5 entry_depth g.entries) boundaries)
+genesis_depth g = omega (arith, list_depth string 0 (λ x. omega arith) g.boundaries, list_depth entry_json 5 entry_depth g.entries)

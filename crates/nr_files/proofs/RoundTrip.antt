@@ -1,7 +1,6 @@
 -- What is shown of a file is made into its bytes.
-use Rattle.std.proofs.Common.{◌≡◌, ◌≤◌, ℕ, Bool, true, false, ltb, cond, List, [], ◌∷◌, length, map, Result, Ok, Err, IfOk, refl, sym, ap, subst, ◌∙◌}
+use Rattle.std.proofs.Common.{◌≡◌, ◌≤◌, ℕ, Bool, true, false, ltb, cond, List, [], ◌∷◌, length, map, Result, Ok, Err, refl, sym, ap, subst, ◌∙◌}
 use Rattle.std.proofs.lemmas.Bool.{le-ltb}
-use Rattle.nr_bytes.specs.Answers.{Gives}
 use Rattle.nr_bytes.specs.Numbers.{IsBytes}
 use Rattle.nr_bytes.specs.Reading.{◌>>=◌}
 use Rattle.nr_bytes.proofs.Whole.{whole_taken}
@@ -9,18 +8,16 @@ use Rattle.nr_config.specs.Config.{Config}
 use Rattle.nr_records.specs.Fault.{record_fault}
 use Rattle.nr_records.specs.Reading.{all_of}
 use Rattle.nr_records.specs.declared.fault.RecordFault.{RecordFault}
-use Rattle.nr_blocks.specs.FileLaws.{blocks_law}
-use Rattle.nr_blocks.specs.Files.{blocks_at, blocks_bytes, IsBlocksFile, genesis_bytes}
-use Rattle.nr_blocks.specs.Judging.{with_fault, genesis_read}
-use Rattle.nr_blocks.specs.Spellings.{file_of, genesis_spelling, IsGenesis}
+use Rattle.nr_blocks.specs.FileLaws.{blocks_law, genesis_law}
+use Rattle.nr_blocks.specs.Files.{blocks_at, blocks_bytes, IsBlocksFile, genesis_at, genesis_bytes, IsGenesisFile}
+use Rattle.nr_blocks.specs.Judging.{with_fault, founded, genesis_fault, genesis_read}
+use Rattle.nr_blocks.specs.Spellings.{file_of}
 use Rattle.nr_blocks.specs.declared.blocks_file.BlocksFile.{BlocksFile}
 use Rattle.nr_blocks.specs.declared.fault.GenesisFault.{GenesisFault}
-use Rattle.nr_blocks.specs.declared.fault.GenesisFault.TheVariants as genesis_faults
 use Rattle.nr_blocks.specs.declared.genesis.Genesis.{Genesis}
 use Rattle.nr_blocks.specs.declared.genesis_entry.GenesisEntry.{GenesisEntry}
 use Rattle.nr_blocks.specs.declared.genesis_entry.GenesisEntry.TheVariants as kind
 use Rattle.nr_blocks.specs.declared.genesis_file.GenesisFile.{GenesisFile}
-use Rattle.nr_blocks.proofs.Spellings.{is_genesis}
 use Rattle.nr_json.specs.Blocks.{blocks_json, blocks_of}
 use Rattle.nr_json.specs.Genesis.{genesis_json, genesis_of}
 use Rattle.nr_json.specs.declared.genesis.StatedEntry.{StatedEntry}
@@ -67,8 +64,29 @@ entries_again c all (e ∷ es) = rw (entry_again c all e, entries_again c all es
 filled_again : (c : Config) (f : GenesisFile) → filled c (stated f) ≡ f
 filled_again c f = ap (λ (es : List GenesisEntry). record { layout = f.layout; entries = es }) (entries_again c (map stated_entry f.entries) f.entries)
 
-genesis_taken : (c : Config) (bytes : List ℕ) (g : Genesis) → IsBytes bytes → genesis_read c bytes ≡ Ok g → IsGenesis c g × (bytes ≡ genesis_spelling g)
-genesis_taken c bytes g fits is = is_genesis c bytes (Ok g) fits is
+abbrev whole : GenesisFile → ℕ → Genesis
+whole f tokens = record { layout = f.layout; entries = f.entries; supply = tokens }
+
+abbrev founded_as : GenesisFile → ℕ → Result Genesis GenesisFault
+founded_as f tokens = Ok (whole f tokens)
+
+same_file : (f : GenesisFile) (g : Genesis) (r : Result ℕ GenesisFault) → (r >>= λ tokens. founded_as f tokens) ≡ Ok g → f ≡ file_of g
+same_file f g (Ok tokens) e =
+    let same : whole f tokens ≡ g = cc in
+    ap file_of same
+same_file f g (Err fault) e = absurd cc
+
+genesis_taken : (c : Config) (bytes : List ℕ) (g : Genesis) → IsBytes bytes → genesis_read c bytes ≡ Ok g → IsGenesisFile (file_of g) × (bytes ≡ genesis_bytes (file_of g))
+unfolding genesis_read
+genesis_taken c bytes g fits e = go (all_of genesis_at bytes) refl e
+  where
+    go : (r : Result GenesisFile RecordFault) → all_of genesis_at bytes ≡ r → (with_fault genesis_fault r >>= λ file. founded c file.entries >>= λ tokens. founded_as file tokens) ≡ Ok g
+        → IsGenesisFile (file_of g) × (bytes ≡ genesis_bytes (file_of g))
+    go (Err f) is e = absurd cc
+    go (Ok f) is e =
+        let taken : IsGenesisFile f × (bytes ≡ genesis_bytes f) = whole_taken record_fault genesis_at genesis_bytes IsGenesisFile genesis_law bytes f fits is in
+        let same : f ≡ file_of g = same_file f g (founded c f.entries) e in
+        (subst IsGenesisFile same taken.0, taken.1 ∙ ap genesis_bytes same)
 
 genesis_again : (c : Config) (bytes text : List ℕ) (g : Genesis) → IsBytes bytes → genesis_read c bytes ≡ Ok g → IsTextOf (genesis_json (stated (file_of g))) text → made_genesis c text ≡ Ok (Bytes bytes)
 unfolding made_genesis
@@ -76,7 +94,7 @@ genesis_again c bytes text g fits is shown =
     let taken = genesis_taken c bytes g fits is in
     let value : value_in text ≡ Ok (genesis_json (stated (file_of g))) = value_found text (genesis_json (stated (file_of g))) shown.utf8 (shown.back (genesis_depth (stated (file_of g)))) in
     let read : genesis_of (genesis_json (stated (file_of g))) ≡ Ok (stated (file_of g)) =
-    forms.genesis_law (stated (file_of g)) (genesis_held (file_of g) taken.0.fits (subst IsBytes taken.1 fits)) in
+    forms.genesis_law (stated (file_of g)) (genesis_held (file_of g) taken.0 (subst IsBytes taken.1 fits)) in
     let bytes_again : genesis_bytes (filled c (stated (file_of g))) ≡ bytes = ap genesis_bytes (filled_again c (file_of g)) ∙ sym taken.1 in
     rw (value, read, bytes_again, is) refl
 
