@@ -18,6 +18,8 @@ use Rattle.nr_json.specs.Genesis.{genesis_json, genesis_of}
 use Rattle.nr_json.specs.declared.genesis.StatedGenesis.{StatedGenesis}
 use Rattle.std.specs.Prelude.{◌≢◌}
 use Rattle.std.proofs.lemmas.Bool.{le-ltb, lt-ltb}
+use Rattle.std.proofs.lemmas.List.{append-nil}
+use Rattle.nr_files.specs.Command.{files_of, of_sentence}
 use Rattle.nr_bytes.specs.Outside.{Loads}
 use Rattle.nr_bytes.specs.Reading.{◌>>=◌}
 use Rattle.nr_config.specs.Config.{Config}
@@ -223,3 +225,8 @@ pub report_refused : (bytes : List ℕ) (s : Status) (fault : ReportFault) → T
 unfolding shown_report
 report_refused bytes s fault tells no_memory is =
     refuses_on s (with_fault report_line (report_json bytes)) (λ text. Ok (Bytes text)) (told_fault s report_line fault report.Memory (report_json bytes) tells no_memory is)
+
+-- ---- a sentence asks for no file
+pub asks_no_file : (old : List (List ℕ)) (o : Option (List ℕ)) → AsksFront old old (files_of (of_sentence o))
+asks_no_file old None = ([], [], refl, sym (append-nil old))
+asks_no_file old (Some line) = ([], [], refl, sym (append-nil old))

@@ -126,6 +126,7 @@ fn serve_request<S: Shelf, K: Sink>(
 /// - `ReadFault`: a file could not be read. Nothing was written.
 /// - `WriteFault`: the sink failed. A front was written.
 /// - `NoMemory`: memory ran out. Nothing was written.
+#[tactic(auto, using(crate::proofs::Steps::asks_no_file))]
 pub fn serve_files<S: Shelf, K: Sink>(
     alloc: Global,
     words: &[String],
