@@ -78,8 +78,8 @@ abbrev pub by_numbers : Option (List (List ℕ)) → List (List ℕ) → Asked
 by_numbers None words = of_request (command words)
 by_numbers (Some numbers) words = of_sentence (explained numbers)
 
-abbrev pub asked : List (List ℕ) → Asked
-asked words = by_numbers (numbers_of words) words
+abbrev pub meant : List (List ℕ) → Asked
+meant words = by_numbers (numbers_of words) words
 
 -- ---- a file's request
 -- the request that lent words are

@@ -4,7 +4,7 @@ ghost use Rattle.std.specs.Prelude.{◌≡◌, ◌≢◌, ◌++◌, ◌∷◌, �
 ghost use Rattle.nr_bytes.specs.Outside.{Rose};
 ghost use Rattle.nr_files.specs.Answers.{AsksFront, Prepares, Serves};
 ghost use Rattle.nr_explain.specs.Sentences.{explained};
-ghost use Rattle.nr_files.specs.Command.{asked, command, config_files, files_of, of_request, of_sentence, texts};
+ghost use Rattle.nr_files.specs.Command.{command, config_files, files_of, meant, of_request, of_sentence, texts};
 ghost use Rattle.nr_files.specs.Input.{By, configured};
 ghost use Rattle.nr_files.specs.declared.status.Status.TheVariants.{Done, ReadFault, WriteFault};
 
@@ -134,7 +134,7 @@ pub fn serve_files<S: Shelf, K: Sink>(
     sink: &mut K,
 ) -> Status
     // The answer is right for the words and files, and the sink took what belongs to it.
-    ensures serves { Serves result (asked (texts words.now)) (S.held shelf.old)
+    ensures serves { Serves result (meant (texts words.now)) (S.held shelf.old)
         (K.taken sink.old) (K.taken sink.new) }
     // Before the writing the sink stays as it is, whatever it tells.
     ensures untouched { result ≢ Done → result ≢ WriteFault → sink.new ≡ sink.old }
@@ -142,7 +142,7 @@ pub fn serve_files<S: Shelf, K: Sink>(
     ensures read_fault { result ≡ ReadFault → Rose (S.faults shelf.old) (S.faults shelf.new) }
     ensures write_fault { result ≡ WriteFault → Rose (K.faults sink.old) (K.faults sink.new) }
     // Only the files of the command were asked for, in their order.
-    ensures asked { AsksFront (S.asked shelf.old) (S.asked shelf.new) (files_of (asked (texts words.now))) }
+    ensures asked { AsksFront (S.asked shelf.old) (S.asked shelf.new) (files_of (meant (texts words.now))) }
 {
     match numbers_of(words) {
         Some(numbers) => serve_sentence(alloc, numbers, sink),
