@@ -28,7 +28,7 @@ use Rattle.nr_config.specs.declared.fault.ConfigFault.{ConfigFault}
 use Rattle.nr_config.specs.declared.fault.ConfigFault.TheVariants as config_faults
 use Rattle.nr_bytes.specs.declared.shelf.LoadFault.TheVariants.{TooLong}
 use Rattle.nr_files.specs.Answers.{AsksFront, Tells, TellsText, Refuses, Writes, Answers, Stops, Stopped, Prepares, Configures}
-use Rattle.nr_files.specs.Due.{Bytes, Json, IsTextOf, value_in, made_blocks, shown_blocks, made_genesis, shown_genesis, shown_report, due, of_bytes, file_limit}
+use Rattle.nr_files.specs.Due.{Due, Bytes, Json, IsTextOf, value_in, made_blocks, shown_blocks, judged, made_genesis, shown_genesis, shown_report, due, of_bytes, file_limit}
 use Rattle.nr_files.specs.Filling.{filled, stated}
 use Rattle.nr_files.specs.Input.{Configured, By, Bars, Unknown, config_status, by_reading, by_config_bytes, config_limit}
 use Rattle.nr_files.specs.Lines.{fault_line, genesis_line, no_json, report_line, unread_line, too_long}
@@ -169,6 +169,12 @@ asks_then old mid new files more e a =
     (files ++ a.0, a.1, ap (λ (l : List (List ℕ)). files ++ l) a.2 ∙ sym (append_assoc files a.0 a.1), a.3 ∙ ap (λ (l : List (List ℕ)). l ++ a.0) e ∙ append_assoc old files a.0)
 
 -- ---- what is made and shown
+abbrev written : List ℕ → Due
+written bytes = Ok (Bytes bytes)
+
+bind_is : (r : Result (List ℕ) (List ℕ)) (bytes : List ℕ) → r ≡ Ok bytes → (r >>= λ b. written b) ≡ written bytes
+bind_is r bytes is = rw is refl
+
 pub value_found : (text : List ℕ) (d : Data) → IsUtf8 text → read text ≡ Some d → value_in text ≡ Ok d
 value_found text d u e = rw (is_utf8-from_IsUtf8 text u, e) refl
 
@@ -197,19 +203,18 @@ unfolding shown_blocks
 shown bytes file text one is = (Json (blocks_json file), rw one refl, is)
 
 -- what stands before the judging of a genesis
-pub made_up_to : (c : Config) (text : List ℕ) (d : Data) (g : StatedGenesis) (s : Status) → value_in text ≡ Ok d → with_fault fault_line (genesis_of d) ≡ Ok g
-    → Refuses s (with_fault (genesis_line true) (genesis_read c (genesis_bytes (filled c g)))) → Refuses s (made_genesis c text)
+pub made_up_to : (c : Config) (text : List ℕ) (d : Data) (g : StatedGenesis) (bytes : List ℕ) (s : Status) → value_in text ≡ Ok d → with_fault fault_line (genesis_of d) ≡ Ok g
+    → bytes ≡ genesis_bytes (filled c g) → Refuses s (judged c bytes) → Refuses s (made_genesis c text)
 unfolding made_genesis
-made_up_to c text d g s one two h =
-    rw (one, two) (refuses_on s (with_fault (genesis_line true) (genesis_read c (genesis_bytes (filled c g)))) (λ sound. Ok (Bytes (genesis_bytes (filled c g)))) h)
+made_up_to c text d g bytes s one two is h =
+    rw (one, two) (refuses_on s (judged c (genesis_bytes (filled c g))) (λ b. Ok (Bytes b)) (subst (λ (b : List ℕ). Refuses s (judged c b)) is h))
 
-pub genesis_made : (c : Config) (text : List ℕ) (d : Data) (g : StatedGenesis) (bytes : List ℕ) (sound : Genesis) → value_in text ≡ Ok d → with_fault fault_line (genesis_of d) ≡ Ok g
-    → bytes ≡ genesis_bytes (filled c g) → with_fault (genesis_line true) (genesis_read c bytes) ≡ Ok sound → Writes bytes (made_genesis c text)
+pub genesis_made : (c : Config) (text : List ℕ) (d : Data) (g : StatedGenesis) (bytes sound : List ℕ) → value_in text ≡ Ok d → with_fault fault_line (genesis_of d) ≡ Ok g
+    → bytes ≡ genesis_bytes (filled c g) → judged c bytes ≡ Ok sound → Writes sound (made_genesis c text)
 unfolding made_genesis
-genesis_made c text d g bytes sound one two is judged =
-    let same : with_fault (genesis_line true) (genesis_read c (genesis_bytes (filled c g))) ≡ Ok sound =
-    subst (λ (b : List ℕ). with_fault (genesis_line true) (genesis_read c b) ≡ Ok sound) is judged in
-    (Bytes (genesis_bytes (filled c g)), rw (one, two, same) refl, is)
+genesis_made c text d g bytes sound one two is found =
+    let same : judged c (genesis_bytes (filled c g)) ≡ Ok sound = subst (λ (b : List ℕ). judged c b ≡ Ok sound) is found in
+    (Bytes sound, rw (one, two) (bind_is (judged c (genesis_bytes (filled c g))) sound same), refl)
 
 pub genesis_shown : (c : Config) (bytes : List ℕ) (g : Genesis) (text : List ℕ) → with_fault (genesis_line false) (genesis_read c bytes) ≡ Ok g → IsTextOf (genesis_json (stated (file_of g))) text
     → Writes text (shown_genesis c bytes)

@@ -61,12 +61,18 @@ shown_blocks bytes = do
   Ok (Json (blocks_json file))
 
 -- ---- the first state
+-- bytes that were made, where they are a genesis
+abbrev pub judged : Config → List ℕ → Result (List ℕ) (List ℕ)
+judged c bytes = do
+  sound ← with_fault (genesis_line true) (genesis_read c bytes)
+  Ok bytes
+
 unfoldable pub made_genesis : Config → List ℕ → Due
 made_genesis c text = do
   d ← value_in text
   g ← with_fault fault_line (genesis_of d)
-  sound ← with_fault (genesis_line true) (genesis_read c (genesis_bytes (filled c g)))
-  Ok (Bytes (genesis_bytes (filled c g)))
+  bytes ← judged c (genesis_bytes (filled c g))
+  Ok (Bytes bytes)
 
 unfoldable pub shown_genesis : Config → List ℕ → Due
 shown_genesis c bytes = do

@@ -6,7 +6,7 @@ ghost use Rattle.nr_bytes.specs.Answers.{Gives};
 ghost use Rattle.nr_records.specs.Reading.{all_of};
 ghost use Rattle.nr_blocks.specs.Judging.{with_fault, genesis_read};
 ghost use Rattle.nr_files.specs.Answers.{AnswersAs, Answers};
-ghost use Rattle.nr_files.specs.Due.{IsTextOf, value_in, made_blocks, shown_blocks, made_genesis, shown_genesis, shown_report, of_bytes};
+ghost use Rattle.nr_files.specs.Due.{IsTextOf, value_in, made_blocks, shown_blocks, judged, made_genesis, shown_genesis, shown_report, of_bytes};
 ghost use Rattle.nr_files.specs.Lines.{fault_line, genesis_line, unread_line};
 ghost use Rattle.nr_files.specs.declared.status.Status.TheVariants.{NoMemory};
 
@@ -108,6 +108,17 @@ fn genesis_in(alloc: Global, config: &Config, made: bool, bytes: &[u8]) -> Resul
     }
 }
 
+/// Bytes that were made, where they are a genesis under a configuration.
+#[tactic(auto, using(crate::proofs::Steps::refuses_on))]
+fn if_sound(alloc: Global, config: &Config, bytes: Blob) -> Result<Blob, Status>
+    ensures { AnswersAs (λ b. b) result (judged config.now bytes) }
+{
+    match genesis_in(alloc, config, true, bytes.inner()) {
+        Ok(_) => Ok(bytes),
+        Err(status) => Err(status),
+    }
+}
+
 #[tactic(auto, using(crate::proofs::Steps::refuses_on), unfolding(crate::specs::Due::made_genesis))]
 fn made_genesis(alloc: Global, config: &Config, text: &[u8]) -> Result<Blob, Status>
     ensures { Answers result (made_genesis config.now text.now) }
@@ -117,8 +128,8 @@ fn made_genesis(alloc: Global, config: &Config, text: &[u8]) -> Result<Blob, Sta
     let Ok(bytes) = genesis_bytes(alloc, config, &stated) else {
         return Err(Status::NoMemory);
     };
-    let _sound = genesis_in(alloc, config, true, bytes.inner())?;
-    Ok(bytes)
+    let sound = if_sound(alloc, config, bytes)?;
+    Ok(sound)
 }
 
 #[tactic(auto, using(crate::proofs::Steps::refuses_on), unfolding(crate::specs::Due::shown_genesis))]
