@@ -1,62 +1,71 @@
 //! The entries of a configuration.
 
-ghost use Rattle.std.specs.Prelude.{◌≡◌, ◌++◌, map, option_map, OnOk};
-ghost use Rattle.nr_explain.specs.Entries.{entries, entry_of, entry_told};
+ghost use Rattle.std.specs.Prelude.{◌≡◌, ◌++◌, Some, map, option_map, is_some, IfOk, OnOk, string_bytes};
+ghost use Rattle.nr_explain.specs.Entries.{entries, nth_entry, entry_of, entry_told};
+ghost use Rattle.nr_explain.specs.Coded.{bounds_in};
 
 use crate::numbers::number_of;
-use std::alloc::AllocError;
+use std::alloc::{AllocError, Global};
+use std::fmt::Write;
+
+/// An entry's name, and its least and greatest number.
+pub(crate) struct Bounds {
+    pub(crate) name: &'static str,
+    pub(crate) least: u64,
+    pub(crate) greatest: u64,
+}
 
 /// The entries as `name: least, greatest;`, and then the fees, each of which has three.
 macro_rules! entries {
-    ($($name:literal: $least:literal, $greatest:literal;)* fees $($fee:literal;)*) => {
+    ($($name:literal: $least:literal, $greatest:expr;)* fees $($fee:literal;)*) => {
         [
-            $(concat!($name, " (", $least, " to ", $greatest, ")"),)*
+            $(Bounds { name: $name, least: $least, greatest: $greatest },)*
             $(
-                entries!(fee $fee, "_send_local"),
-                entries!(fee $fee, "_send_remote"),
-                entries!(fee $fee, "_exec"),
+                entries!(fee concat!($fee, "_send_local")),
+                entries!(fee concat!($fee, "_send_remote")),
+                entries!(fee concat!($fee, "_exec")),
             )*
         ]
     };
-    (fee $fee:literal, $payment:literal) => {
-        concat!($fee, $payment, " (0 to 1000000000000000)")
+    (fee $name:expr) => {
+        Bounds { name: $name, least: 0, greatest: 1_000_000_000_000_000 }
     };
 }
 
-static ENTRIES: [&str; 75] = entries! {
-    "gas_price": 0, 18446744073709551615;
-    "storage_price": 0, 18446744073709551615;
-    "chunk_gas_limit": 1, 1000000000000000000;
-    "regular_op_cost": 1, 1000000000;
+static ENTRIES: [Bounds; 75] = entries! {
+    "gas_price": 0, u64::MAX;
+    "storage_price": 0, u64::MAX;
+    "chunk_gas_limit": 1, 1_000_000_000_000_000_000;
+    "regular_op_cost": 1, 1_000_000_000;
     "max_actions": 1, 1000;
-    "max_prepaid_gas": 1, 1000000000000000000;
-    "account_bytes": 0, 1000000;
-    "extra_record_bytes": 0, 1000000;
+    "max_prepaid_gas": 1, 1_000_000_000_000_000_000;
+    "account_bytes": 0, 1_000_000;
+    "extra_record_bytes": 0, 1_000_000;
     "top_level_min_len": 0, 65;
-    "delete_state_limit": 0, 1000000000;
-    "reward_numerator": 0, 1000000;
-    "reward_denominator": 1, 1000000;
-    "max_code": 1, 100000000;
+    "delete_state_limit": 0, 1_000_000_000;
+    "reward_numerator": 0, 1_000_000;
+    "reward_denominator": 1, 1_000_000;
+    "max_code": 1, 100_000_000;
     "max_pages": 1, 2048;
-    "max_call_depth": 1, 10000;
-    "max_stack_values": 1, 1000000;
-    "max_registers": 1, 10000;
-    "max_register_bytes": 1, 100000000;
-    "max_all_register_bytes": 1, 100000000;
-    "max_logs": 0, 10000;
-    "max_log_bytes": 0, 1000000;
-    "max_key_bytes": 1, 65536;
-    "max_value_bytes": 1, 100000000;
-    "max_return_bytes": 1, 100000000;
-    "max_promises": 0, 10000;
-    "load_base": 0, 1000000000000;
-    "load_byte": 0, 1000000000000;
-    "host_base": 0, 1000000000000;
-    "host_byte": 0, 1000000000000;
-    "storage_base": 0, 1000000000000;
-    "storage_byte": 0, 1000000000000;
-    "sha_base": 0, 1000000000000;
-    "sha_byte": 0, 1000000000000;
+    "max_call_depth": 1, 10_000;
+    "max_stack_values": 1, 1_000_000;
+    "max_registers": 1, 10_000;
+    "max_register_bytes": 1, 100_000_000;
+    "max_all_register_bytes": 1, 100_000_000;
+    "max_logs": 0, 10_000;
+    "max_log_bytes": 0, 1_000_000;
+    "max_key_bytes": 1, 65_536;
+    "max_value_bytes": 1, 100_000_000;
+    "max_return_bytes": 1, 100_000_000;
+    "max_promises": 0, 10_000;
+    "load_base": 0, 1_000_000_000_000;
+    "load_byte": 0, 1_000_000_000_000;
+    "host_base": 0, 1_000_000_000_000;
+    "host_byte": 0, 1_000_000_000_000;
+    "storage_base": 0, 1_000_000_000_000;
+    "storage_byte": 0, 1_000_000_000_000;
+    "sha_base": 0, 1_000_000_000_000;
+    "sha_byte": 0, 1_000_000_000_000;
     fees
     "action_receipt";
     "data_base";
@@ -74,35 +83,66 @@ static ENTRIES: [&str; 75] = entries! {
     "delete_account";
 };
 
-/// The name and the bounds of each entry.
+/// The bounds of all entries, in their order.
 #[tactic(auto, unfolding(crate::specs::Entries::entries, nr_config::specs::Table::table))]
-fn entry_texts() -> &'static [&'static str; 75]
-    ensures { map (λ t. t.now) result.now ≡ entries }
+fn entries() -> &'static [Bounds; 75]
+    ensures { map bounds_in result.now ≡ entries }
 {
     &ENTRIES
 }
 
-/// The name and the bounds of the entry whose number a word spells, which counts from 1.
-pub(crate) fn entry_of(word: &[u8]) -> Option<&'static str>
-    ensures { option_map (λ t. t.now) result ≡ entry_of word.now }
+/// The entry of a number, which counts from 1.
+fn nth_entry(number: u64) -> Option<&'static Bounds>
+    ensures { option_map (λ b. bounds_in b.now) result ≡ nth_entry number }
 {
-    let number = number_of(word)?;
-    if number == 0 || 75 < number {
+    if number == 0 {
         return None;
     }
-    Some(entry_texts()[number as usize - 1])
+    if number <= 75 {
+        Some(&entries()[number as usize - 1])
+    } else {
+        None
+    }
 }
 
-/// What is said of an entry, behind its number.
-pub(crate) fn put_entry(word: &[u8], out: &mut Vec<u8>) -> Result<(), AllocError>
+/// The entry whose number a word spells.
+pub(crate) fn entry_of(word: &[u8]) -> Option<&'static Bounds>
+    ensures { option_map (λ b. bounds_in b.now) result ≡ entry_of word.now }
+{
+    let number = number_of(word)?;
+    nth_entry(number)
+}
+
+/// Whether a word is the number of an entry.
+pub(crate) fn is_entry(word: &[u8]) -> bool
+    ensures { result ≡ is_some (entry_of word.now) }
+{
+    match entry_of(word) {
+        Some(_) => true,
+        None => false,
+    }
+}
+
+fn bounds_text(alloc: Global, bounds: &Bounds) -> Result<String, AllocError>
+    ensures { IfOk result (λ text. string_bytes text ≡ entry_told (Some (bounds_in bounds.now))) }
+{
+    let name = bounds.name;
+    let least = bounds.least;
+    let greatest = bounds.greatest;
+    let mut text = String::new(alloc);
+    write!(text, ", {name} ({least} to {greatest}),")?;
+    Ok(text)
+}
+
+/// What is said of an entry behind its number.
+pub(crate) fn put_entry(alloc: Global, word: &[u8], out: &mut Vec<u8>) -> Result<(), AllocError>
     ensures { OnOk result (out.new.items ≡ out.old.items ++ entry_told (entry_of word.now)) }
 {
     match entry_of(word) {
         None => Ok(()),
-        Some(text) => {
-            out.extend_from_slice(b", ")?;
-            out.extend_from_slice(text.as_bytes())?;
-            out.extend_from_slice(b",")
+        Some(bounds) => {
+            let text = bounds_text(alloc, bounds)?;
+            out.extend_from_slice(text.as_bytes())
         }
     }
 }

@@ -6,7 +6,7 @@ ghost use Rattle.nr_explain.specs.Forms.{is_of, fits, form_of};
 ghost use Rattle.nr_explain.specs.Coded.{kind_of, form_in};
 
 use crate::cut::cut;
-use crate::entries::entry_of;
+use crate::entries::is_entry;
 use crate::numbers::{amount_of, are_bytes, is_hash, number_of};
 
 /// What a word of a line may be.
@@ -54,7 +54,7 @@ fn is_of(kind: &Kind, word: &[u8]) -> bool
         Kind::Amount => amount_of(word).is_some(),
         Kind::Hash => is_hash(word),
         Kind::Bytes => are_bytes(word),
-        Kind::Entry => entry_of(word).is_some(),
+        Kind::Entry => is_entry(word),
     }
 }
 

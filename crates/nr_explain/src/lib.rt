@@ -3,7 +3,7 @@
 
 mod cut;
 mod entries;
-mod explain;
+mod explaining;
 mod form;
 mod lines;
 mod numbers;
@@ -12,5 +12,5 @@ mod sentences;
 #[cfg(test)]
 mod tests;
 
-pub use explain::explain;
+pub use explaining::explain;
 pub use report::{ReportFault, show_report};

@@ -12,13 +12,31 @@ use std::alloc::AllocError;
 
 /// The forms, with a member's name for each word.
 static LINES: [&[Field]; 29] = [
-    fields![Word("chunk"): "line", Number: "height", Number: "shard", Hash: "state_root", Number: "gas", Amount: "burnt"],
+    fields![
+        Word("chunk"): "line", Number: "height", Number: "shard", Hash: "state_root", Number: "gas",
+        Amount: "burnt"
+    ],
     fields![Word("tx"): "line", Hash: "transaction_hash", Word("ok"): "status", Hash: "receipt_id"],
-    fields![Word("tx"): "line", Hash: "transaction_hash", Word("refused"): "status", Number: "number", Amount: "first", Amount: "second"],
-    fields![Word("run"): "line", Hash: "receipt_id", Word("value"): "status", Bytes: "value", Number: "gas", Amount: "burnt"],
-    fields![Word("run"): "line", Hash: "receipt_id", Word("promise"): "status", Hash: "promised_receipt_id", Number: "gas", Amount: "burnt"],
-    fields![Word("run"): "line", Hash: "receipt_id", Word("failure"): "status", Number: "action_index", Number: "kind", Number: "part", Number: "gas", Amount: "burnt"],
-    fields![Word("run"): "line", Hash: "receipt_id", Word("clash"): "status", Figure("0"): "gas", Amount: "burnt"],
+    fields![
+        Word("tx"): "line", Hash: "transaction_hash", Word("refused"): "status", Number: "number",
+        Amount: "first", Amount: "second"
+    ],
+    fields![
+        Word("run"): "line", Hash: "receipt_id", Word("value"): "status", Bytes: "value",
+        Number: "gas", Amount: "burnt"
+    ],
+    fields![
+        Word("run"): "line", Hash: "receipt_id", Word("promise"): "status",
+        Hash: "promised_receipt_id", Number: "gas", Amount: "burnt"
+    ],
+    fields![
+        Word("run"): "line", Hash: "receipt_id", Word("failure"): "status", Number: "action_index",
+        Number: "kind", Number: "part", Number: "gas", Amount: "burnt"
+    ],
+    fields![
+        Word("run"): "line", Hash: "receipt_id", Word("clash"): "status", Figure("0"): "gas",
+        Amount: "burnt"
+    ],
     fields![Word("log"): "line", Bytes: "bytes"],
     fields![Word("post"): "line", Hash: "receipt_id"],
     fields![Word("data"): "line", Hash: "receipt_id"],
@@ -29,7 +47,10 @@ static LINES: [&[Field]; 29] = [
     fields![Word("total"): "line", Word("accounts"): "total", Amount: "tokens"],
     fields![Word("total"): "line", Word("receipts"): "total", Amount: "tokens"],
     fields![Word("total"): "line", Word("burnt"): "total", Amount: "tokens"],
-    fields![Word("total"): "line", Word("places"): "total", Number: "routed", Number: "executed", Number: "postponed", Number: "delayed", Number: "in_flight"],
+    fields![
+        Word("total"): "line", Word("places"): "total", Number: "routed", Number: "executed",
+        Number: "postponed", Number: "delayed", Number: "in_flight"
+    ],
     fields![Word("gen"): "line", Number: "number", Number: "shards", Number: "blocks"],
     fields![Word("chunks"): "line", Number: "count"],
     fields![Word("digest"): "line", Hash: "report_hash"],

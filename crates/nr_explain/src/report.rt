@@ -41,11 +41,13 @@ pub fn show_report(alloc: Global, text: &[u8]) -> Result<Blob, ReportFault>
     let mut rest = text;
     let mut number = 1;
     while let Some((line, more)) = cut(rest, b'\n') {
-        if !put_line(line, &mut out)? {
+        let shown = put_line(line, &mut out)?;
+        if shown {
+            rest = more;
+            number += 1;
+        } else {
             return Err(ReportFault::NoLine { line: number });
         }
-        rest = more;
-        number += 1;
     }
     if rest.is_empty() {
         Ok(Blob::of(out))

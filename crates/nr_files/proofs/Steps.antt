@@ -27,7 +27,7 @@ use Rattle.nr_config.specs.Reading.{configuration}
 use Rattle.nr_config.specs.declared.fault.ConfigFault.{ConfigFault}
 use Rattle.nr_config.specs.declared.fault.ConfigFault.TheVariants as config_faults
 use Rattle.nr_bytes.specs.declared.shelf.LoadFault.TheVariants.{TooLong}
-use Rattle.nr_files.specs.Answers.{AsksFront, Tells, TellsText, Refuses, Writes, Answers, Stops, Stopped, Prepares, Configures}
+use Rattle.nr_files.specs.Answers.{AsksFront, Tells, TellsText, Refuses, AnswersAs, Writes, Answers, Stops, Stopped, Prepares, Configures}
 use Rattle.nr_files.specs.Due.{Due, Bytes, Json, IsTextOf, value_in, made_blocks, shown_blocks, judged, made_genesis, shown_genesis, shown_report, due, of_bytes, file_limit}
 use Rattle.nr_files.specs.Filling.{filled, stated}
 use Rattle.nr_files.specs.Input.{Configured, By, Bars, Unknown, config_status, by_reading, by_config_bytes, config_limit}
@@ -172,6 +172,9 @@ asks_then old mid new files more e a =
 abbrev written : List ℕ → Due
 written bytes = Ok (Bytes bytes)
 
+abbrev written_as : List ℕ → Result (List ℕ) (List ℕ)
+written_as bytes = Ok bytes
+
 bind_is : (r : Result (List ℕ) (List ℕ)) (bytes : List ℕ) → r ≡ Ok bytes → (r >>= λ b. written b) ≡ written bytes
 bind_is r bytes is = rw is refl
 
@@ -216,10 +219,26 @@ genesis_made c text d g bytes sound one two is found =
     let same : judged c (genesis_bytes (filled c g)) ≡ Ok sound = subst (λ (b : List ℕ). judged c b ≡ Ok sound) is found in
     (Bytes sound, rw (one, two) (bind_is (judged c (genesis_bytes (filled c g))) sound same), refl)
 
-pub genesis_shown : (c : Config) (bytes : List ℕ) (g : Genesis) (text : List ℕ) → with_fault (genesis_line false) (genesis_read c bytes) ≡ Ok g → IsTextOf (genesis_json (stated (file_of g))) text
-    → Writes text (shown_genesis c bytes)
+-- the last step of it, whatever it answers
+pub genesis_answered : (c : Config) (text : List ℕ) (d : Data) (g : StatedGenesis) (bytes : List ℕ) (r : Result (List ℕ) Status) → value_in text ≡ Ok d → with_fault fault_line (genesis_of d) ≡ Ok g
+    → bytes ≡ genesis_bytes (filled c g) → AnswersAs (λ (b : List ℕ). b) r (judged c bytes) → Answers r (made_genesis c text)
+genesis_answered c text d g bytes (Ok sound) one two is h = genesis_made c text d g bytes sound one two is h
+genesis_answered c text d g bytes (Err s) one two is h = made_up_to c text d g bytes s one two is h
+
+pub judged_ok : (c : Config) (bytes held : List ℕ) (g : Genesis) → held ≡ bytes → with_fault (genesis_line true) (genesis_read c held) ≡ Ok g → judged c bytes ≡ Ok bytes
+judged_ok c bytes held g same is =
+    let sound : with_fault (genesis_line true) (genesis_read c bytes) ≡ Ok g = subst (λ (b : List ℕ). with_fault (genesis_line true) (genesis_read c b) ≡ Ok g) same is in
+    rw sound refl
+
+pub judged_err : (c : Config) (bytes held : List ℕ) (s : Status) → held ≡ bytes → Refuses s (with_fault (genesis_line true) (genesis_read c held)) → Refuses s (judged c bytes)
+judged_err c bytes held s same h =
+    refuses_on s (with_fault (genesis_line true) (genesis_read c bytes)) (λ sound. written_as bytes) (subst (λ (b : List ℕ). Refuses s (with_fault (genesis_line true) (genesis_read c b))) same h)
+
+pub genesis_shown : (c : Config) (bytes : List ℕ) (g : Genesis) (s : StatedGenesis) (text : List ℕ) → with_fault (genesis_line false) (genesis_read c bytes) ≡ Ok g → s ≡ stated (file_of g)
+    → IsTextOf (genesis_json s) text → Writes text (shown_genesis c bytes)
 unfolding shown_genesis
-genesis_shown c bytes g text one is = (Json (genesis_json (stated (file_of g))), rw one refl, is)
+genesis_shown c bytes g s text one is shown =
+    (Json (genesis_json (stated (file_of g))), rw one refl, subst (λ (x : StatedGenesis). IsTextOf (genesis_json x) text) is shown)
 
 -- ---- a report
 pub report_shown : (bytes text : List ℕ) → report_json bytes ≡ Ok text → Writes text (shown_report bytes)
@@ -229,7 +248,7 @@ report_shown bytes text is = (Bytes text, rw is refl, refl)
 pub report_refused : (bytes : List ℕ) (s : Status) (fault : ReportFault) → Tells s (report_line fault) → (fault ≡ report.Memory → s ≡ status.NoMemory) → (fault ≢ report.Memory → report_json bytes ≡ Err fault) → Refuses s (shown_report bytes)
 unfolding shown_report
 report_refused bytes s fault tells no_memory is =
-    refuses_on s (with_fault report_line (report_json bytes)) (λ text. Ok (Bytes text)) (told_fault s report_line fault report.Memory (report_json bytes) tells no_memory is)
+    refuses_on s (with_fault report_line (report_json bytes)) (λ text. written text) (told_fault s report_line fault report.Memory (report_json bytes) tells no_memory is)
 
 -- ---- a sentence asks for no file
 pub asks_no_file : (old : List (List ℕ)) (o : Option (List ℕ)) → AsksFront old old (files_of (of_sentence o))

@@ -109,7 +109,7 @@ fn genesis_in(alloc: Global, config: &Config, made: bool, bytes: &[u8]) -> Resul
 }
 
 /// Bytes that were made, where they are a genesis under a configuration.
-#[tactic(auto, using(crate::proofs::Steps::refuses_on))]
+#[tactic(auto, using(crate::proofs::Steps::judged_ok, crate::proofs::Steps::judged_err))]
 fn if_sound(alloc: Global, config: &Config, bytes: Blob) -> Result<Blob, Status>
     ensures { AnswersAs (λ b. b) result (judged config.now bytes) }
 {
@@ -128,8 +128,7 @@ fn made_genesis(alloc: Global, config: &Config, text: &[u8]) -> Result<Blob, Sta
     let Ok(bytes) = genesis_bytes(alloc, config, &stated) else {
         return Err(Status::NoMemory);
     };
-    let sound = if_sound(alloc, config, bytes)?;
-    Ok(sound)
+    if_sound(alloc, config, bytes)
 }
 
 #[tactic(auto, using(crate::proofs::Steps::refuses_on), unfolding(crate::specs::Due::shown_genesis))]

@@ -130,12 +130,12 @@ fn entry_text(alloc: Global, index: u64, words: &str) -> Result<String, AllocErr
 fn usage_text(alloc: Global, index: u64, stated: u64, counted: u64) -> Result<String, AllocError>
     ensures { IfOk result (λ text. string_bytes text ≡ entry_line index (usage_words stated counted)) }
 {
-    let mut words = String::new(alloc);
+    let mut text = String::new(alloc);
     write!(
-        words,
-        ".storage_usage is {stated}, but {counted} is counted"
+        text,
+        ".entries[{index}].storage_usage is {stated}, but {counted} is counted"
     )?;
-    entry_text(alloc, index, words.as_str())
+    Ok(text)
 }
 
 /// The line of a genesis that is refused: one that was made of a JSON value, or one that was read.

@@ -46,7 +46,7 @@ fn of_file<S: Shelf>(
 }
 
 /// Loads the files, and makes what is written.
-#[tactic(auto, using(crate::proofs::Steps::configured_prepares))]
+#[tactic(auto, using(crate::proofs::Steps::configured_prepares, crate::proofs::Steps::stopped_by_config))]
 fn prepare<S: Shelf>(alloc: Global, request: &Request<'_>, shelf: &mut S) -> Result<Blob, Status>
     ensures prepares { Prepares result request.now.work (configured request.now.config.now (S.held shelf.old request.now.config.now))
         (S.held shelf.old request.now.file.now) }
