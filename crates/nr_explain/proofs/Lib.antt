@@ -1,0 +1,8 @@
+-- Lemmas behind the answers.
+pub mod Pieces
+pub mod Numerals
+pub mod Objects
+pub mod FirstForm
+pub mod NthEntry
+pub mod Rows
+pub mod Spacing

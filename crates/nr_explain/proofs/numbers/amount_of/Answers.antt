@@ -1,0 +1,6 @@
+use Rattle.std.proofs.Common.{◌^◌}
+use Rattle.nr_explain.proofs.Numerals.{no_text}
+use Rattle.nr_explain.proofs.numbers.amount_of.Goals as goal
+
+pub returns-in-Err : goal.returns-in-Err
+returns-in-Err c = no_text (2 ^ 128) c.args.word.now c.in-Err.ensures.cases.0

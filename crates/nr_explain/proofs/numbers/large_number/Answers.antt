@@ -1,0 +1,9 @@
+use Rattle.std.proofs.Common.{◌≡◌, ◌^◌, true}
+use Rattle.nr_explain.specs.Words.{is_numeral}
+use Rattle.nr_explain.proofs.Numerals.{too_large}
+use Rattle.nr_explain.proofs.numbers.large_number.Goals as goal
+
+pub returns-in-Err : goal.returns-in-Err
+returns-in-Err c =
+    let numeral : is_numeral c.args.word.now ≡ true = cc in
+    too_large (2 ^ 128) c.args.word.now numeral c.in-Err.ensures.value.0

@@ -1,0 +1,7 @@
+pub mod Words
+pub mod Entries
+pub mod Forms
+pub mod Lines
+pub mod Sentences
+pub mod Report
+pub mod Coded
