@@ -1,4 +1,4 @@
-use Rattle.std.proofs.Common.{◌+◌, sym, ap, ◌∙◌, arith, Result, Ok, List, ℕ}
+use Rattle.std.proofs.Common.{sym, ap, ◌∙◌, arith, Ok}
 use Rattle.nr_explain.specs.Words.{pieces}
 use Rattle.nr_explain.specs.Report.{objects_from, report_json}
 use Rattle.nr_explain.proofs.Objects.{behind, from_first, line_shown, line_refused, shown_in_part, shown_whole}
