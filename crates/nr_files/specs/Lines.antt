@@ -50,7 +50,7 @@ abbrev pub entry_line : ℕ → List ℕ → List ℕ
 entry_line index words = codes ".entries[" ++ decimal index ++ 93 ∷ words
 
 abbrev pub usage_words : ℕ → ℕ → List ℕ
-usage_words stated counted = codes ".storage_usage is " ++ decimal stated ++ codes ", but " ++ decimal counted ++ codes " is counted"
+usage_words stated counted = codes ".storage_usage is " ++ (decimal stated ++ (codes ", but " ++ (decimal counted ++ codes " is counted")))
 
 -- a genesis that was made of a JSON value can only be faulty in its boundaries
 abbrev pub boundaries_line : List ℕ
