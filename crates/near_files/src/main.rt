@@ -1,9 +1,12 @@
-//! Writes the blocks file of a chain from a JSON text, and a JSON text of a blocks file.
+//! Writes the genesis or the blocks of a chain from a JSON text, a JSON text of these files or of a
+//! report, and what a line of numbers says that a program wrote.
 //!
-//! The words are `blocks JSON` or `show blocks FILE`. The exit status is 0 where it was written; 1 where
-//! the words are no command, 5 where a file could not be read, 6 where the output could not be written,
-//! 7 where memory ran out and 20 where a file is refused. A line on standard error then has the status,
-//! or for 20 the words that say what is wrong.
+//! The words are `genesis CONFIG JSON`, `blocks JSON`, `show genesis CONFIG FILE`, `show blocks FILE`,
+//! `show report FILE` or `explain NUMBERS..`, where CONFIG is `free` or the name of a file. The exit
+//! status is 0 where it was written; 1 where the words are no command, 2 where CONFIG is no
+//! configuration, 5 where a file could not be read, 6 where the output could not be written, 7 where
+//! memory ran out and 20 where a file is refused. A line on standard error then has the status with its
+//! numbers, or for 20 the words that say what is wrong.
 #![tactic(auto)]
 
 use nr_bytes::{FileShelf, StdoutSink};

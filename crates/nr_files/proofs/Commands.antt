@@ -10,10 +10,11 @@ few_words [] lt = refl
 few_words (a ∷ []) lt = refl
 few_words (a ∷ b ∷ words) lt = absurd (omega arith)
 
-pub many_words : (words : List (String Global)) → 4 ≤ length words → command (texts words) ≡ None
+pub many_words : (words : List (String Global)) → 5 ≤ length words → command (texts words) ≡ None
 unfolding command
 many_words [] le = absurd (omega arith)
 many_words (a ∷ []) le = absurd (omega arith)
 many_words (a ∷ b ∷ []) le = absurd (omega arith)
 many_words (a ∷ b ∷ c ∷ []) le = absurd (omega arith)
-many_words (a ∷ b ∷ c ∷ d ∷ words) le = refl
+many_words (a ∷ b ∷ c ∷ d ∷ []) le = absurd (omega arith)
+many_words (a ∷ b ∷ c ∷ d ∷ e ∷ words) le = refl

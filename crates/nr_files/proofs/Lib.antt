@@ -1,3 +1,7 @@
 pub mod Growth
 pub mod Commands
 pub mod Steps
+pub mod Sums
+pub mod Held
+pub mod Depths
+pub mod RoundTrip

@@ -3,11 +3,13 @@ use Rattle.std.specs.Prelude.{◌≡◌, ℕ, List, [], ◌∷◌, ◌++◌, Opt
 use Rattle.std.specs.Global.{Global}
 use Rattle.std.specs.declared.string.String.{String}
 use Rattle.nr_bytes.specs.Outside.{Grew}
-use Rattle.nr_files.specs.Command.{Request}
+use Rattle.nr_config.specs.Config.{Config}
+use Rattle.nr_files.specs.Command.{Asked, Nothing, File, Sentence, Request}
 use Rattle.nr_files.specs.Due.{Due, Output, IsWritten, due}
+use Rattle.nr_files.specs.Input.{Configured, By, Bars, Unknown, configured}
 use Rattle.nr_files.specs.declared.command.Work.{Work}
 use Rattle.nr_files.specs.declared.status.Status.{Status}
-use Rattle.nr_files.specs.declared.status.Status.TheVariants.{Done, Usage, Faulty, ReadFault, WriteFault, NoMemory}
+use Rattle.nr_files.specs.declared.status.Status.TheVariants.{Done, Usage, Config as faulty_config, Faulty, ReadFault, WriteFault, NoMemory}
 
 -- ---- what is taken and asked for
 -- What the sink holds grew by a front of these bytes, where it tells.
@@ -29,6 +31,7 @@ Tells (Faulty told) line = told ≡ line
 Tells NoMemory line = Unit {0}
 Tells Done line = ⊥
 Tells Usage line = ⊥
+Tells (faulty_config kind entry) line = ⊥
 Tells ReadFault line = ⊥
 Tells WriteFault line = ⊥
 
@@ -43,6 +46,7 @@ Refuses (Faulty line) answer = answer ≡ Err line
 Refuses NoMemory answer = Unit {0}
 Refuses Done answer = ⊥
 Refuses Usage answer = ⊥
+Refuses (faulty_config kind entry) answer = ⊥
 Refuses ReadFault answer = ⊥
 Refuses WriteFault answer = ⊥
 
@@ -59,36 +63,70 @@ Answers (Ok bytes) answer = Writes bytes answer
 Answers (Err status) answer = Refuses status answer
 
 -- ---- answers to words and files
--- these bytes are due, where the file is told
-abbrev pub DuesBytes : Work → Option (List ℕ) → List ℕ → Type 0
-DuesBytes work (Some file) bytes = Writes bytes (due work file)
-DuesBytes work None bytes = Unit {0}
+-- the status is the refusal of the configuration, or of nothing that was given
+abbrev pub Stops : Status → Configured → Type 0
+Stops ReadFault given = Unit {0}
+Stops NoMemory given = Unit {0}
+Stops (faulty_config kind entry) (By c) = ⊥
+Stops (faulty_config kind entry) (Bars status) = status ≡ faulty_config kind entry
+Stops (faulty_config kind entry) Unknown = Unit {0}
+Stops Done given = ⊥
+Stops Usage given = ⊥
+Stops (Faulty line) given = ⊥
+Stops WriteFault given = ⊥
+
+abbrev pub Configures : Result Config Status → Configured → Type 0
+Configures (Ok c) (By d) = c ≡ d
+Configures (Ok c) (Bars status) = ⊥
+Configures (Ok c) Unknown = Unit {0}
+Configures (Err status) given = Stops status given
+
+-- these bytes are due, where the configuration and the file are told
+abbrev pub DuesBytes : Work → Configured → Option (List ℕ) → List ℕ → Type 0
+DuesBytes work (By c) (Some file) bytes = Writes bytes (due work c file)
+DuesBytes work (By c) None bytes = Unit {0}
+DuesBytes work (Bars status) held bytes = ⊥
+DuesBytes work Unknown held bytes = Unit {0}
 
 -- this line is due
-abbrev pub DuesLine : Work → Option (List ℕ) → List ℕ → Type 0
-DuesLine work (Some file) line = due work file ≡ Err line
-DuesLine work None line = Unit {0}
+abbrev pub DuesLine : Work → Configured → Option (List ℕ) → List ℕ → Type 0
+DuesLine work (By c) (Some file) line = due work c file ≡ Err line
+DuesLine work (By c) None line = Unit {0}
+DuesLine work (Bars status) held line = ⊥
+DuesLine work Unknown held line = Unit {0}
 
 -- what is answered before the writing
-abbrev pub Stopped : Status → Work → Option (List ℕ) → Type 0
-Stopped (Faulty line) work held = DuesLine work held line
-Stopped ReadFault work held = Unit {0}
-Stopped NoMemory work held = Unit {0}
-Stopped Done work held = ⊥
-Stopped Usage work held = ⊥
-Stopped WriteFault work held = ⊥
+abbrev pub Stopped : Status → Work → Configured → Option (List ℕ) → Type 0
+Stopped (Faulty line) work given held = DuesLine work given held line
+Stopped ReadFault work given held = Unit {0}
+Stopped NoMemory work given held = Unit {0}
+Stopped (faulty_config kind entry) work given held = Stops (faulty_config kind entry) given
+Stopped Done work given held = ⊥
+Stopped Usage work given held = ⊥
+Stopped WriteFault work given held = ⊥
 
-abbrev pub Prepares : Result (List ℕ) Status → Work → Option (List ℕ) → Type 0
-Prepares (Ok bytes) work held = DuesBytes work held bytes
-Prepares (Err status) work held = Stopped status work held
+abbrev pub Prepares : Result (List ℕ) Status → Work → Configured → Option (List ℕ) → Type 0
+Prepares (Ok bytes) work given held = DuesBytes work given held bytes
+Prepares (Err status) work given held = Stopped status work given held
 
--- The answer is right for the request that the words are and for the file, and the sink took what belongs to it.
-abbrev pub Serves : Status → Option Request → (List ℕ → Option (List ℕ)) → Option (List ℕ) → Option (List ℕ) → Type 0
-Serves Done (Some r) held old new = (bytes : List ℕ) × DuesBytes r.work (held r.file) bytes × Grew old new bytes
-Serves WriteFault (Some r) held old new = (bytes : List ℕ) × DuesBytes r.work (held r.file) bytes × GrewInPart old new bytes
-Serves (Faulty line) (Some r) held old new = DuesLine r.work (held r.file) line × (new ≡ old)
-Serves ReadFault (Some r) held old new = new ≡ old
-Serves NoMemory (Some r) held old new = new ≡ old
-Serves Usage (Some r) held old new = ⊥
-Serves Usage None held old new = new ≡ old
-Serves status None held old new = ⊥
+-- The answer is right for what the words ask for and for the files, and the sink took what belongs to it.
+abbrev pub Serves : Status → Asked → (List ℕ → Option (List ℕ)) → Option (List ℕ) → Option (List ℕ) → Type 0
+Serves Done (File r) held old new = (bytes : List ℕ) × DuesBytes r.work (configured r.config (held r.config)) (held r.file) bytes × Grew old new bytes
+Serves Done (Sentence line) held old new = Grew old new line
+Serves Done Nothing held old new = ⊥
+Serves WriteFault (File r) held old new = (bytes : List ℕ) × DuesBytes r.work (configured r.config (held r.config)) (held r.file) bytes × GrewInPart old new bytes
+Serves WriteFault (Sentence line) held old new = GrewInPart old new line
+Serves WriteFault Nothing held old new = ⊥
+Serves (Faulty line) (File r) held old new = Stopped (Faulty line) r.work (configured r.config (held r.config)) (held r.file) × (new ≡ old)
+Serves (Faulty line) (Sentence told) held old new = ⊥
+Serves (Faulty line) Nothing held old new = ⊥
+Serves (faulty_config kind entry) (File r) held old new = Stops (faulty_config kind entry) (configured r.config (held r.config)) × (new ≡ old)
+Serves (faulty_config kind entry) (Sentence line) held old new = ⊥
+Serves (faulty_config kind entry) Nothing held old new = ⊥
+Serves ReadFault (File r) held old new = new ≡ old
+Serves ReadFault (Sentence line) held old new = ⊥
+Serves ReadFault Nothing held old new = ⊥
+Serves NoMemory asked held old new = new ≡ old
+Serves Usage Nothing held old new = new ≡ old
+Serves Usage (File r) held old new = ⊥
+Serves Usage (Sentence line) held old new = ⊥

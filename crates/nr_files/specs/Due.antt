@@ -1,5 +1,5 @@
 -- What a file asks for: the bytes or the JSON value that are written for it, or the line that says why not. Borsh 1.0 and RFC 8259; the lines are this project's own.
-use Rattle.std.specs.Prelude.{◌≡◌, ℕ, ◌≤◌, List, length, cond, Option, Some, None, Result, Ok, Err, nat_lt, IsUtf8}
+use Rattle.std.specs.Prelude.{◌≡◌, ℕ, ◌≤◌, List, [], ◌∷◌, ◌++◌, length, true, false, cond, Option, Some, None, Result, Ok, Err, nat_lt, codes, IsUtf8}
 use Rattle.std.specs.Str.{is_utf8}
 use Rattle.json.specs.Layout.{pretty}
 use Rattle.json.specs.Lex.{tokens}
@@ -8,12 +8,17 @@ use Rattle.serde_json.specs.Read.{read, max_depth}
 use Rattle.serde_json.specs.Written.{IsInOrder}
 use Rattle.nr_bytes.specs.Reading.{◌>>=◌}
 use Rattle.nr_records.specs.Reading.{all_of}
-use Rattle.nr_blocks.specs.Files.{blocks_at, blocks_bytes}
-use Rattle.nr_blocks.specs.Judging.{with_fault}
+use Rattle.nr_config.specs.Config.{Config}
+use Rattle.nr_blocks.specs.Files.{blocks_at, blocks_bytes, genesis_bytes}
+use Rattle.nr_blocks.specs.Judging.{with_fault, genesis_read}
+use Rattle.nr_blocks.specs.Spellings.{file_of}
 use Rattle.nr_json.specs.Blocks.{blocks_json, blocks_of}
+use Rattle.nr_json.specs.Genesis.{genesis_json, genesis_of}
 use Rattle.nr_files.specs.declared.command.Work.{Work}
-use Rattle.nr_files.specs.declared.command.Work.TheVariants.{MakeBlocks, ShowBlocks}
-use Rattle.nr_files.specs.Lines.{fault_line, no_json, unread_line, too_long}
+use Rattle.nr_explain.specs.Report.{report_json}
+use Rattle.nr_files.specs.declared.command.Work.TheVariants.{MakeBlocks, MakeGenesis, ShowBlocks, ShowGenesis, ShowReport}
+use Rattle.nr_files.specs.Filling.{filled, stated}
+use Rattle.nr_files.specs.Lines.{fault_line, genesis_line, no_json, report_line, unread_line, too_long}
 
 -- what is written: bytes, or the text of a value
 pub data Output : Type 0 where
@@ -55,13 +60,41 @@ shown_blocks bytes = do
   file ← with_fault unread_line (all_of blocks_at bytes)
   Ok (Json (blocks_json file))
 
+-- ---- the first state
+-- bytes that were made, where they are a genesis
+abbrev pub judged : Config → List ℕ → Result (List ℕ) (List ℕ)
+judged c bytes = do
+  sound ← with_fault (genesis_line true) (genesis_read c bytes)
+  Ok bytes
+
+unfoldable pub made_genesis : Config → List ℕ → Due
+made_genesis c text = do
+  d ← value_in text
+  g ← with_fault fault_line (genesis_of d)
+  bytes ← judged c (genesis_bytes (filled c g))
+  Ok (Bytes bytes)
+
+unfoldable pub shown_genesis : Config → List ℕ → Due
+shown_genesis c bytes = do
+  g ← with_fault (genesis_line false) (genesis_read c bytes)
+  Ok (Json (genesis_json (stated (file_of g))))
+
+-- ---- a report
+unfoldable pub shown_report : List ℕ → Due
+shown_report bytes = do
+  text ← with_fault report_line (report_json bytes)
+  Ok (Bytes text)
+
 -- ---- at most 256 MiB
 abbrev pub file_limit : ℕ
 file_limit = 268435456
 
-abbrev pub of_bytes : Work → List ℕ → Due
-of_bytes MakeBlocks bytes = made_blocks bytes
-of_bytes ShowBlocks bytes = shown_blocks bytes
+abbrev pub of_bytes : Work → Config → List ℕ → Due
+of_bytes MakeBlocks c bytes = made_blocks bytes
+of_bytes MakeGenesis c bytes = made_genesis c bytes
+of_bytes ShowBlocks c bytes = shown_blocks bytes
+of_bytes ShowGenesis c bytes = shown_genesis c bytes
+of_bytes ShowReport c bytes = shown_report bytes
 
-abbrev pub due : Work → List ℕ → Due
-due work bytes = cond (nat_lt file_limit (length bytes)) (Err too_long) (of_bytes work bytes)
+abbrev pub due : Work → Config → List ℕ → Due
+due work c bytes = cond (nat_lt file_limit (length bytes)) (Err too_long) (of_bytes work c bytes)

@@ -1,10 +1,14 @@
 -- Why a file is refused, in words: the path of the member as `jq` writes it, or the place of a byte, and what is wrong. This project's own.
-use Rattle.std.specs.Prelude.{ℕ, List, [], ◌∷◌, ◌++◌, codes, decimal}
+use Rattle.std.specs.Prelude.{ℕ, List, [], ◌∷◌, ◌++◌, Bool, cond, codes, decimal}
+use Rattle.nr_explain.specs.declared.report.ReportFault.{ReportFault}
+use Rattle.nr_explain.specs.declared.report.ReportFault.TheVariants as report
 use Rattle.nr_json.specs.Words.{words}
 use Rattle.nr_json.specs.declared.fault.JsonFault.{JsonFault}
 use Rattle.nr_json.specs.declared.fault.JsonFault.TheVariants as json
 use Rattle.nr_records.specs.declared.fault.RecordFault.{RecordFault}
 use Rattle.nr_records.specs.declared.fault.RecordFault.TheVariants as record_faults
+use Rattle.nr_blocks.specs.declared.fault.GenesisFault.{GenesisFault}
+use Rattle.nr_blocks.specs.declared.fault.GenesisFault.TheVariants as genesis
 
 abbrev pub no_json : List ℕ
 no_json = codes "the text is no JSON"
@@ -35,3 +39,29 @@ unread_line (record_faults.Stake at) = at_line at
 unread_line (record_faults.TooManyBoundaries at) = at_line at
 unread_line (record_faults.BoundaryOrder at) = at_line at
 unread_line record_faults.Memory = []
+
+-- ---- a report
+abbrev pub report_line : ReportFault → List ℕ
+report_line (report.NoLine line) = codes "line " ++ decimal line ++ codes " is no line of a report"
+report_line report.Memory = []
+
+-- ---- entries that don't hold together
+abbrev pub entry_line : ℕ → List ℕ → List ℕ
+entry_line index words = codes ".entries[" ++ decimal index ++ 93 ∷ words
+
+abbrev pub usage_words : ℕ → ℕ → List ℕ
+usage_words stated counted = codes ".storage_usage is " ++ (decimal stated ++ (codes ", but " ++ (decimal counted ++ codes " is counted")))
+
+-- a genesis that was made of a JSON value can only be faulty in its boundaries
+abbrev pub boundaries_line : List ℕ
+boundaries_line = codes ".boundaries are more than 15, or one isn't above the one before it"
+
+abbrev pub genesis_line : Bool → GenesisFault → List ℕ
+genesis_line made (genesis.Spelling at) = cond made boundaries_line (at_line at)
+genesis_line made (genesis.Duplicate index) = entry_line index (codes " stands twice")
+genesis_line made (genesis.NoOwner index) = entry_line index (codes ".account_id has no account, or is `system`")
+genesis_line made (genesis.Usage index stated counted) =
+    entry_line index (usage_words stated counted)
+genesis_line made genesis.Supply = codes ".entries have more than 2^127 tokens"
+genesis_line made (genesis.CodeHash index) = entry_line index (codes ".code_hash isn't the SHA-256 of the code")
+genesis_line made genesis.Memory = []

@@ -1,20 +1,24 @@
 //! What a file asks for.
 
-ghost use Rattle.std.specs.Prelude.{◌≡◌, IfOk, OnErr, Err};
+ghost use Rattle.std.specs.Prelude.{◌≡◌, IfOk, OnErr, Err, length};
 ghost use Rattle.serde_json.specs.View.{view};
+ghost use Rattle.nr_bytes.specs.Answers.{Gives};
 ghost use Rattle.nr_records.specs.Reading.{all_of};
-ghost use Rattle.nr_blocks.specs.Judging.{with_fault};
+ghost use Rattle.nr_blocks.specs.Judging.{with_fault, genesis_read};
 ghost use Rattle.nr_files.specs.Answers.{AnswersAs, Answers};
-ghost use Rattle.nr_files.specs.Due.{IsTextOf, value_in, made_blocks, shown_blocks, of_bytes};
-ghost use Rattle.nr_files.specs.Lines.{fault_line, unread_line};
+ghost use Rattle.nr_files.specs.Due.{IsTextOf, value_in, made_blocks, shown_blocks, judged, made_genesis, shown_genesis, shown_report, of_bytes};
+ghost use Rattle.nr_files.specs.Lines.{fault_line, genesis_line, unread_line};
 ghost use Rattle.nr_files.specs.declared.status.Status.TheVariants.{NoMemory};
 
 use crate::command::Work;
+use crate::filling::{genesis_bytes, stated};
 use crate::status::Status;
-use crate::telling::{faulty, json_status, unread_status};
-use nr_blocks::BlocksFile;
+use crate::telling::{faulty, genesis_status, json_status, report_status, unread_status};
+use nr_blocks::{BlocksFile, Genesis, read_genesis};
 use nr_bytes::Blob;
-use nr_json::Form;
+use nr_config::Config;
+use nr_explain::show_report;
+use nr_json::{Form, StatedGenesis};
 use nr_records::{Spelled, decode, encode};
 use serde_json::Value;
 use std::alloc::Global;
@@ -94,12 +98,75 @@ fn shown_blocks(alloc: Global, bytes: &[u8]) -> Result<Blob, Status>
     Ok(text)
 }
 
+/// The genesis that bytes spell, under a configuration.
+fn genesis_in(alloc: Global, config: &Config, made: bool, bytes: &[u8]) -> Result<Genesis, Status>
+    ensures { AnswersAs (λ x. x) result (with_fault (genesis_line made) (genesis_read config.now bytes.now)) }
+{
+    match read_genesis(alloc, bytes, config) {
+        Ok(genesis) => Ok(genesis),
+        Err(fault) => Err(genesis_status(alloc, made, fault)),
+    }
+}
+
+/// Bytes that were made, where they are a genesis under a configuration.
+#[tactic(auto, using(crate::proofs::Steps::judged_ok, crate::proofs::Steps::judged_err))]
+fn if_sound(alloc: Global, config: &Config, bytes: Blob) -> Result<Blob, Status>
+    ensures { AnswersAs (λ b. b) result (judged config.now bytes) }
+{
+    match genesis_in(alloc, config, true, bytes.inner()) {
+        Ok(_) => Ok(bytes),
+        Err(status) => Err(status),
+    }
+}
+
+#[tactic(auto, using(crate::proofs::Steps::refuses_on), unfolding(crate::specs::Due::made_genesis))]
+fn made_genesis(alloc: Global, config: &Config, text: &[u8]) -> Result<Blob, Status>
+    ensures { Answers result (made_genesis config.now text.now) }
+{
+    let value = value_in(alloc, text)?;
+    let stated = record_in::<StatedGenesis>(alloc, &value)?;
+    let Ok(bytes) = genesis_bytes(alloc, config, &stated) else {
+        return Err(Status::NoMemory);
+    };
+    if_sound(alloc, config, bytes)
+}
+
+#[tactic(auto, using(crate::proofs::Steps::refuses_on), unfolding(crate::specs::Due::shown_genesis))]
+fn shown_genesis(alloc: Global, config: &Config, bytes: &[u8]) -> Result<Blob, Status>
+    ensures { Answers result (shown_genesis config.now bytes.now) }
+{
+    let genesis = genesis_in(alloc, config, false, bytes)?;
+    let Ok(stated) = stated(alloc, genesis) else {
+        return Err(Status::NoMemory);
+    };
+    let text = text_of(alloc, &stated)?;
+    Ok(text)
+}
+
+#[tactic(auto, unfolding(crate::specs::Due::shown_report))]
+fn shown_report(alloc: Global, bytes: &[u8]) -> Result<Blob, Status>
+    ensures { Answers result (shown_report bytes.now) }
+{
+    match show_report(alloc, bytes) {
+        Ok(text) => Ok(text),
+        Err(fault) => Err(report_status(alloc, fault)),
+    }
+}
+
 /// What some bytes ask for.
-pub(crate) fn of_bytes(alloc: Global, work: Work, bytes: &[u8]) -> Result<Blob, Status>
-    ensures { Answers result (of_bytes work bytes.now) }
+pub(crate) fn of_bytes(
+    alloc: Global,
+    work: Work,
+    config: &Config,
+    bytes: &[u8],
+) -> Result<Blob, Status>
+    ensures { Answers result (of_bytes work config.now bytes.now) }
 {
     match work {
         Work::MakeBlocks => made_blocks(alloc, bytes),
+        Work::MakeGenesis => made_genesis(alloc, config, bytes),
         Work::ShowBlocks => shown_blocks(alloc, bytes),
+        Work::ShowGenesis => shown_genesis(alloc, config, bytes),
+        Work::ShowReport => shown_report(alloc, bytes),
     }
 }

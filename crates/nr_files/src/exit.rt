@@ -7,14 +7,15 @@ use crate::status::Status;
 use std::fmt;
 
 impl Status {
-    /// The exit status of a program that ends with this answer: 0 `Done`, 1 `Usage`, 5 `ReadFault`,
-    /// 6 `WriteFault`, 7 `NoMemory` and 20 `Faulty`.
+    /// The exit status of a program that ends with this answer: 0 `Done`, 1 `Usage`, 2 `Config`,
+    /// 5 `ReadFault`, 6 `WriteFault`, 7 `NoMemory` and 20 `Faulty`.
     pub fn exit_status(&self) -> u8
         ensures { result ≡ exit_status self.now }
     {
         match self {
             Status::Done => 0,
             Status::Usage => 1,
+            Status::Config { .. } => 2,
             Status::ReadFault => 5,
             Status::WriteFault => 6,
             Status::NoMemory => 7,
@@ -23,13 +24,15 @@ impl Status {
     }
 }
 
-/// The line that tells the answer: why a file is refused, in words; otherwise the exit status in decimal.
+/// The line that tells the answer: why a file is refused in words; otherwise the exit status, and the
+/// kind and the entry of a configuration's fault, in decimal, parted by single spaces.
 impl fmt::Display for Status {
     ghost output = { λ status. Some (status_line status) };
 
     fn fmt<W: fmt::Write>(&self, f: &mut fmt::Formatter<W>) -> fmt::Result {
         let number = self.exit_status();
         match self {
+            Status::Config { kind, entry } => write!(f, "{number} {kind} {entry}"),
             Status::Faulty { line } => f.write_str(line.inner()),
             Status::Done => write!(f, "{number}"),
             Status::Usage => write!(f, "{number}"),

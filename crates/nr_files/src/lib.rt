@@ -1,14 +1,20 @@
-//! The blocks file of a chain from readable text, and readable text from the file: from the words of
-//! the command line to the bytes that are written.
+//! The files of a chain from readable text, and readable text from the files: from the words of the
+//! command line to the bytes that are written.
 #![tactic(auto)]
 
 mod answer;
 mod command;
+mod configuration;
 mod exit;
+mod filling;
+mod laws;
 mod status;
 mod telling;
+#[cfg(test)]
+mod tests;
 mod top;
 mod writing;
 
+pub use laws::round_trips;
 pub use status::Status;
 pub use top::serve_files;

@@ -7,6 +7,10 @@ pub enum Status {
     Done,
     /// The words are no command.
     Usage,
+    /// The file is no configuration. The kind is 0 where it is longer than 1 MiB, 1 where it is no JSON
+    /// object, 2 where an entry is missing, 3 where it is no whole number, and 4 where it is outside
+    /// its bounds. The entry counts from 1, and is 0 for the kinds 0 and 1.
+    Config { kind: u32, entry: u32 },
     /// The file is refused, and this says why: the path of a member and what is wrong with it.
     Faulty { line: Text },
     /// A file could not be read.

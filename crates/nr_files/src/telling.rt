@@ -2,13 +2,17 @@
 
 ghost use Rattle.std.specs.Prelude.{◌≡◌, IfOk, string_bytes};
 ghost use Rattle.nr_files.specs.Answers.{Tells, TellsText};
-ghost use Rattle.nr_files.specs.Lines.{subject, fault_line, at_line, too_long, unread_line};
+ghost use Rattle.nr_files.specs.Lines.{subject, fault_line, at_line, too_long, unread_line, entry_line, genesis_line, report_line, usage_words};
 ghost use Rattle.nr_files.specs.declared.status.Status.TheVariants.{NoMemory};
 ghost use Rattle.nr_json.specs.declared.fault.JsonFault.TheVariants as json;
 ghost use Rattle.nr_records.specs.declared.fault.RecordFault.TheVariants as record_faults;
+ghost use Rattle.nr_blocks.specs.declared.fault.GenesisFault.TheVariants as genesis;
+ghost use Rattle.nr_explain.specs.declared.report.ReportFault.TheVariants as report;
 
 use crate::status::Status;
+use nr_blocks::GenesisFault;
 use nr_bytes::Text;
+use nr_explain::ReportFault;
 use nr_json::{JsonFault, Wrong};
 use nr_records::RecordFault;
 use std::alloc::{AllocError, Global};
@@ -92,5 +96,80 @@ pub(crate) fn unread_status(alloc: Global, fault: RecordFault) -> Status
         RecordFault::TooManyBoundaries { at } => told(at_text(alloc, at as u64)),
         RecordFault::BoundaryOrder { at } => told(at_text(alloc, at as u64)),
         RecordFault::Memory => Status::NoMemory,
+    }
+}
+
+fn report_text(alloc: Global, line: u64) -> Result<String, AllocError>
+    ensures { IfOk result (λ text. string_bytes text ≡ report_line (report.NoLine line)) }
+{
+    let mut text = String::new(alloc);
+    write!(text, "line {line} is no line of a report")?;
+    Ok(text)
+}
+
+/// The line of a text that is no report.
+#[tactic(auto, using(crate::proofs::Steps::tells_text))]
+pub(crate) fn report_status(alloc: Global, fault: ReportFault) -> Status
+    ensures tells { Tells result (report_line fault) }
+    ensures memory { fault ≡ report.Memory → result ≡ NoMemory }
+{
+    match fault {
+        ReportFault::NoLine { line } => told(report_text(alloc, line)),
+        ReportFault::Memory => Status::NoMemory,
+    }
+}
+
+fn entry_text(alloc: Global, index: u64, words: &str) -> Result<String, AllocError>
+    ensures { IfOk result (λ text. string_bytes text ≡ entry_line index words.now) }
+{
+    let mut text = String::new(alloc);
+    write!(text, ".entries[{index}]{words}")?;
+    Ok(text)
+}
+
+fn usage_text(alloc: Global, index: u64, stated: u64, counted: u64) -> Result<String, AllocError>
+    ensures { IfOk result (λ text. string_bytes text ≡ entry_line index (usage_words stated counted)) }
+{
+    let mut text = String::new(alloc);
+    write!(
+        text,
+        ".entries[{index}].storage_usage is {stated}, but {counted} is counted"
+    )?;
+    Ok(text)
+}
+
+/// The line of a genesis that is refused: one that was made of a JSON value, or one that was read.
+#[tactic(auto, using(crate::proofs::Steps::tells_text))]
+pub(crate) fn genesis_status(alloc: Global, made: bool, fault: GenesisFault) -> Status
+    ensures tells { Tells result (genesis_line made fault) }
+    ensures memory { fault ≡ genesis.Memory → result ≡ NoMemory }
+{
+    match fault {
+        GenesisFault::Spelling { at } => if made {
+            faulty(
+                alloc,
+                ".boundaries are more than 15, or one isn't above the one before it",
+            )
+        } else {
+            told(at_text(alloc, at))
+        },
+        GenesisFault::Duplicate { index } => told(entry_text(alloc, index, " stands twice")),
+        GenesisFault::NoOwner { index } => told(entry_text(
+            alloc,
+            index,
+            ".account_id has no account, or is `system`",
+        )),
+        GenesisFault::Usage {
+            index,
+            stated,
+            counted,
+        } => told(usage_text(alloc, index, stated, counted)),
+        GenesisFault::Supply => faulty(alloc, ".entries have more than 2^127 tokens"),
+        GenesisFault::CodeHash { index } => told(entry_text(
+            alloc,
+            index,
+            ".code_hash isn't the SHA-256 of the code",
+        )),
+        GenesisFault::Memory => Status::NoMemory,
     }
 }

@@ -14,6 +14,8 @@ mod keys;
 mod laws;
 mod lists;
 mod plain;
+#[cfg(test)]
+mod tests;
 mod transaction;
 mod variants;
 

@@ -1,0 +1,128 @@
+-- What is shown of a file is made into its bytes.
+use Rattle.std.proofs.Common.{◌≡◌, ◌≤◌, ℕ, Bool, true, false, ltb, cond, List, [], ◌∷◌, length, map, Result, Ok, Err, refl, sym, ap, subst, ◌∙◌}
+use Rattle.std.proofs.lemmas.Bool.{le-ltb}
+use Rattle.nr_bytes.specs.Numbers.{IsBytes}
+use Rattle.nr_bytes.specs.Reading.{◌>>=◌}
+use Rattle.nr_bytes.proofs.Whole.{whole_taken}
+use Rattle.nr_config.specs.Config.{Config}
+use Rattle.nr_records.specs.Fault.{record_fault}
+use Rattle.nr_records.specs.Reading.{all_of}
+use Rattle.nr_records.specs.declared.fault.RecordFault.{RecordFault}
+use Rattle.nr_blocks.specs.FileLaws.{blocks_law, genesis_law}
+use Rattle.nr_blocks.specs.Files.{blocks_at, blocks_bytes, IsBlocksFile, genesis_at, genesis_bytes, IsGenesisFile}
+use Rattle.nr_blocks.specs.Judging.{with_fault, founded, genesis_fault, genesis_read}
+use Rattle.nr_blocks.specs.Spellings.{file_of}
+use Rattle.nr_blocks.specs.declared.blocks_file.BlocksFile.{BlocksFile}
+use Rattle.nr_blocks.specs.declared.fault.GenesisFault.{GenesisFault}
+use Rattle.nr_blocks.specs.declared.genesis.Genesis.{Genesis}
+use Rattle.nr_blocks.specs.declared.genesis_entry.GenesisEntry.{GenesisEntry}
+use Rattle.nr_blocks.specs.declared.genesis_entry.GenesisEntry.TheVariants as kind
+use Rattle.nr_blocks.specs.declared.genesis_file.GenesisFile.{GenesisFile}
+use Rattle.nr_json.specs.Blocks.{blocks_json, blocks_of}
+use Rattle.nr_json.specs.Genesis.{genesis_json, genesis_of}
+use Rattle.nr_json.specs.declared.genesis.StatedEntry.{StatedEntry}
+use Rattle.nr_json.proofs.FileLaws as forms
+use Rattle.nr_files.specs.Due.{Due, Output, Bytes, Json, IsTextOf, IsWritten, value_in, made_blocks, shown_blocks, made_genesis, shown_genesis, due, of_bytes, file_limit}
+use Rattle.nr_files.specs.Filling.{filled, filled_entry, stated, stated_entry}
+use Rattle.nr_files.specs.Lines.{fault_line, genesis_line, unread_line, too_long}
+use Rattle.nr_files.specs.declared.command.Work.{Work}
+use Rattle.nr_files.specs.declared.command.Work.TheVariants.{MakeBlocks, MakeGenesis, ShowBlocks, ShowGenesis}
+use Rattle.nr_files.proofs.Depths.{blocks_depth, genesis_depth}
+use Rattle.nr_files.proofs.Held.{blocks_held, genesis_held}
+use Rattle.nr_files.proofs.Steps.{value_found}
+
+-- ---- blocks
+blocks_again : (bytes text : List ℕ) (file : BlocksFile) → IsBytes bytes → all_of blocks_at bytes ≡ Ok file → IsTextOf (blocks_json file) text → made_blocks text ≡ Ok (Bytes bytes)
+unfolding made_blocks
+blocks_again bytes text file fits is shown =
+    let taken : IsBlocksFile file × (bytes ≡ blocks_bytes file) = whole_taken record_fault blocks_at blocks_bytes IsBlocksFile blocks_law bytes file fits is in
+    let value : value_in text ≡ Ok (blocks_json file) = value_found text (blocks_json file) shown.utf8 (shown.back (blocks_depth file)) in
+    let read : blocks_of (blocks_json file) ≡ Ok file = forms.blocks_law file (blocks_held file taken.0 (subst IsBytes taken.1 fits)) in
+    rw (value, read) (ap (λ (b : List ℕ). Ok (Bytes b)) (sym taken.1))
+
+blocks_back : (bytes text : List ℕ) (o : Output) → IsBytes bytes → shown_blocks bytes ≡ Ok o → IsWritten o text → made_blocks text ≡ Ok (Bytes bytes)
+unfolding shown_blocks
+blocks_back bytes text o fits e written = go (all_of blocks_at bytes) refl e
+  where
+    go : (r : Result BlocksFile RecordFault) → all_of blocks_at bytes ≡ r → (with_fault unread_line r >>= λ file. Ok (Json (blocks_json file))) ≡ Ok o → made_blocks text ≡ Ok (Bytes bytes)
+    go (Err f) is e = absurd cc
+    go (Ok file) is e =
+        let same : Json (blocks_json file) ≡ o = cc in
+        blocks_again bytes text file fits is (subst (λ x. IsWritten x text) (sym same) written)
+
+-- ---- the first state
+entry_again : (c : Config) (all : List StatedEntry) (e : GenesisEntry) → filled_entry c all (stated_entry e) ≡ e
+entry_again c all (kind.Account id a) = refl
+entry_again c all (kind.Code id code) = refl
+entry_again c all (kind.Key id key access) = refl
+entry_again c all (kind.Datum id key value) = refl
+
+entries_again : (c : Config) (all : List StatedEntry) (es : List GenesisEntry) → map (filled_entry c all) (map stated_entry es) ≡ es
+entries_again c all [] = refl
+entries_again c all (e ∷ es) = rw (entry_again c all e, entries_again c all es) refl
+
+filled_again : (c : Config) (f : GenesisFile) → filled c (stated f) ≡ f
+filled_again c f = ap (λ (es : List GenesisEntry). record { layout = f.layout; entries = es }) (entries_again c (map stated_entry f.entries) f.entries)
+
+abbrev whole : GenesisFile → ℕ → Genesis
+whole f tokens = record { layout = f.layout; entries = f.entries; supply = tokens }
+
+abbrev founded_as : GenesisFile → ℕ → Result Genesis GenesisFault
+founded_as f tokens = Ok (whole f tokens)
+
+same_file : (f : GenesisFile) (g : Genesis) (r : Result ℕ GenesisFault) → (r >>= λ tokens. founded_as f tokens) ≡ Ok g → f ≡ file_of g
+same_file f g (Ok tokens) e =
+    let same : whole f tokens ≡ g = cc in
+    ap file_of same
+same_file f g (Err fault) e = absurd cc
+
+genesis_taken : (c : Config) (bytes : List ℕ) (g : Genesis) → IsBytes bytes → genesis_read c bytes ≡ Ok g → IsGenesisFile (file_of g) × (bytes ≡ genesis_bytes (file_of g))
+unfolding genesis_read
+genesis_taken c bytes g fits e = go (all_of genesis_at bytes) refl e
+  where
+    go : (r : Result GenesisFile RecordFault) → all_of genesis_at bytes ≡ r → (with_fault genesis_fault r >>= λ file. founded c file.entries >>= λ tokens. founded_as file tokens) ≡ Ok g
+        → IsGenesisFile (file_of g) × (bytes ≡ genesis_bytes (file_of g))
+    go (Err f) is e = absurd cc
+    go (Ok f) is e =
+        let taken : IsGenesisFile f × (bytes ≡ genesis_bytes f) = whole_taken record_fault genesis_at genesis_bytes IsGenesisFile genesis_law bytes f fits is in
+        let same : f ≡ file_of g = same_file f g (founded c f.entries) e in
+        (subst IsGenesisFile same taken.0, taken.1 ∙ ap genesis_bytes same)
+
+genesis_again : (c : Config) (bytes text : List ℕ) (g : Genesis) → IsBytes bytes → genesis_read c bytes ≡ Ok g → IsTextOf (genesis_json (stated (file_of g))) text → made_genesis c text ≡ Ok (Bytes bytes)
+unfolding made_genesis
+genesis_again c bytes text g fits is shown =
+    let taken = genesis_taken c bytes g fits is in
+    let value : value_in text ≡ Ok (genesis_json (stated (file_of g))) = value_found text (genesis_json (stated (file_of g))) shown.utf8 (shown.back (genesis_depth (stated (file_of g)))) in
+    let read : genesis_of (genesis_json (stated (file_of g))) ≡ Ok (stated (file_of g)) =
+    forms.genesis_law (stated (file_of g)) (genesis_held (file_of g) taken.0 (subst IsBytes taken.1 fits)) in
+    let bytes_again : genesis_bytes (filled c (stated (file_of g))) ≡ bytes = ap genesis_bytes (filled_again c (file_of g)) ∙ sym taken.1 in
+    rw (value, read, bytes_again, is) refl
+
+genesis_back : (c : Config) (bytes text : List ℕ) (o : Output) → IsBytes bytes → shown_genesis c bytes ≡ Ok o → IsWritten o text → made_genesis c text ≡ Ok (Bytes bytes)
+unfolding shown_genesis
+genesis_back c bytes text o fits e written = go (genesis_read c bytes) refl e
+  where
+    go : (r : Result Genesis GenesisFault) → genesis_read c bytes ≡ r → (with_fault (genesis_line false) r >>= λ g. Ok (Json (genesis_json (stated (file_of g))))) ≡ Ok o → made_genesis c text ≡ Ok (Bytes bytes)
+    go (Err f) is e = absurd cc
+    go (Ok g) is e =
+        let same : Json (genesis_json (stated (file_of g))) ≡ o = cc in
+        genesis_again c bytes text g fits is (subst (λ x. IsWritten x text) (sym same) written)
+
+-- ---- within the limit
+given_is : (work : Work) (c : Config) (bytes : List ℕ) (o : Output) → due work c bytes ≡ Ok o → of_bytes work c bytes ≡ Ok o
+given_is work c bytes o e = go (ltb file_limit (length bytes)) e
+  where
+    go : (t : Bool) → cond t (Err too_long) (of_bytes work c bytes) ≡ Ok o → of_bytes work c bytes ≡ Ok o
+    go true e = absurd cc
+    go false e = e
+
+within : (work : Work) (c : Config) (text : List ℕ) → length text ≤ file_limit → due work c text ≡ of_bytes work c text
+within work c text short =
+    let fits : ltb file_limit (length text) ≡ false = le-ltb file_limit (length text) short in
+    rw fits refl
+
+pub blocks_trip : (c : Config) (bytes text : List ℕ) (o : Output) → IsBytes bytes → due ShowBlocks c bytes ≡ Ok o → IsWritten o text → length text ≤ file_limit → due MakeBlocks c text ≡ Ok (Bytes bytes)
+blocks_trip c bytes text o fits e written short = within MakeBlocks c text short ∙ blocks_back bytes text o fits (given_is ShowBlocks c bytes o e) written
+
+pub genesis_trip : (c : Config) (bytes text : List ℕ) (o : Output) → IsBytes bytes → due ShowGenesis c bytes ≡ Ok o → IsWritten o text → length text ≤ file_limit → due MakeGenesis c text ≡ Ok (Bytes bytes)
+genesis_trip c bytes text o fits e written short = within MakeGenesis c text short ∙ genesis_back c bytes text o fits (given_is ShowGenesis c bytes o e) written

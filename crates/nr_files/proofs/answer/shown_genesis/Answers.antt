@@ -1,0 +1,5 @@
+use Rattle.nr_files.proofs.Steps.{genesis_shown}
+use Rattle.nr_files.proofs.answer.shown_genesis.Goals as goal
+
+pub returns : goal.returns
+returns c = genesis_shown c.args.config.now c.args.bytes.now c.in_ok-genesis.genesis c.in-Ok.stated c.in_ok-text.text c.in_ok-genesis.ensures c.in-Ok.ensures c.in_ok-text.ensures.ok

@@ -1,0 +1,11 @@
+use Rattle.nr_explain.specs.Report.{report_json}
+use Rattle.nr_explain.specs.declared.report.ReportFault.TheVariants.{Memory}
+use Rattle.nr_files.specs.Lines.{report_line}
+use Rattle.nr_files.proofs.Steps.{report_refused, report_shown}
+use Rattle.nr_files.proofs.answer.shown_report.Goals as goal
+
+pub returns-in-Ok : goal.returns-in-Ok
+returns-in-Ok c = report_shown c.args.bytes.now c.in-Ok.text c.in-Ok.ensures
+
+pub returns-in-Err : goal.returns-in-Err
+returns-in-Err c = report_refused c.args.bytes.now c.report_status.result c.in-Err.fault c.report_status.ensures.tells c.report_status.ensures.memory c.in-Err.ensures
