@@ -8,7 +8,7 @@ ghost use Rattle.nr_top.specs.Words.{CanRun, command_in};
 
 /// The words of a command.
 #[derive(Clone, Copy, Debug)]
-pub(crate) enum Words<'a> {
+pub enum Words<'a> {
     /// `run CONFIG GENESIS BLOCKS` or `check CONFIG GENESIS BLOCKS SCHEDULE`
     ReplayFiles(FileNames<'a>),
     /// `gen NUMBER SHARDS BLOCKS`
@@ -21,12 +21,12 @@ pub(crate) enum Words<'a> {
 
 /// The names of a replay's files; `free` names the built-in configuration.
 #[derive(Clone, Copy, Debug)]
-pub(crate) struct FileNames<'a> {
-    pub(crate) config: &'a str,
-    pub(crate) genesis: &'a str,
-    pub(crate) blocks: &'a str,
+pub struct FileNames<'a> {
+    pub config: &'a str,
+    pub genesis: &'a str,
+    pub blocks: &'a str,
     /// The schedule that drives it, where it doesn't just go to its end.
-    pub(crate) schedule: Option<&'a str>,
+    pub schedule: Option<&'a str>,
 }
 
 /// A word that isn't empty and doesn't begin with a dash.
@@ -99,7 +99,8 @@ pub(crate) fn number_in(least: u64, most: u64, word: &[u8]) -> Option<u64>
     }
 }
 
-fn run_of<'a>(config: &'a str, genesis: &'a str, blocks: &'a str) -> Option<Words<'a>>
+/// The replay of blocks to their end, by the words behind the command.
+pub fn run_of<'a>(config: &'a str, genesis: &'a str, blocks: &'a str) -> Option<Words<'a>>
     ensures command { option_map command_in result ≡ run_of config.now genesis.now blocks.now }
     ensures can_run { IfSome result CanRun }
 {
@@ -136,7 +137,8 @@ fn check_of<'a>(
     }
 }
 
-fn generate_of<'a>(start: &str, shards: &str, blocks: &str) -> Option<Words<'a>>
+/// The run of a generated chain, by the words behind the command.
+pub fn generate_of<'a>(start: &str, shards: &str, blocks: &str) -> Option<Words<'a>>
     ensures command { option_map command_in result ≡ generate_of start.now shards.now blocks.now }
     ensures can_run { IfSome result CanRun }
 {

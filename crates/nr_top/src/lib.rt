@@ -11,12 +11,17 @@ mod loading;
 mod refused;
 mod replay;
 mod run;
+mod runs;
 mod schedule;
 mod status;
 mod tally;
 mod top;
 mod writing;
 
+pub use command::{FileNames, Words, generate_of, run_of};
+pub use generated::first_lines;
 pub use laws::totals_law;
+pub use runs::Runs;
 pub use status::Status;
-pub use top::serial;
+pub use tally::{add_tallies, no_tally};
+pub use top::{serial, serve};

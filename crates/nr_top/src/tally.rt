@@ -14,7 +14,7 @@ use nr_records::ChunkResult;
 use std::alloc::{AllocError, Global};
 
 /// The tally of nothing.
-fn nothing() -> Tally
+pub fn no_tally() -> Tally
     ensures { result ≡ nothing }
 {
     Tally {
@@ -53,8 +53,12 @@ fn sum_of(a: Tally, b: Tally) -> Option<Tally>
     })
 }
 
-/// The sum of two tallies. One that doesn't fit its numbers counts as want of memory.
-fn add(a: Tally, b: Tally) -> Result<Tally, AllocError>
+/// The sum of two tallies.
+///
+/// # Errors
+///
+/// Where it doesn't fit its numbers, which counts as want of memory.
+pub fn add_tallies(a: Tally, b: Tally) -> Result<Tally, AllocError>
     ensures { IfOk result (λ sum. sum ≡ plus a b) }
 {
     sum_of(a, b).ok_or(AllocError)
@@ -95,7 +99,7 @@ fn reported_by(core: &Run, shard: ShardId, height: Height) -> Result<Tally, Allo
                 Err(AllocError)
             }
         }
-        None => Ok(nothing()),
+        None => Ok(no_tally()),
     }
 }
 
@@ -108,7 +112,7 @@ fn flying(core: &Run, source: ShardId, height: Height, dest: ShardId) -> Tally
 {
     match core.flight(source, height, dest) {
         Some(list) => core.phases().tally_list(list),
-        None => nothing(),
+        None => no_tally(),
     }
 }
 
@@ -119,9 +123,9 @@ fn flying_from(core: &Run, shard: ShardId, height: Height) -> Result<Tally, Allo
     requires inside { shard.0 < (rules_of (chain_of core.now)).shards }
     ensures { IfOk result (λ tally. tally ≡ flying_from (chain_of core.now) core.now.positions shard.0 height.0) }
 {
-    let mut sum = nothing();
+    let mut sum = no_tally();
     for dest in 0..core.phases().shards() {
-        sum = add(sum, flying(core, shard, height, ShardId(dest)))?;
+        sum = add_tallies(sum, flying(core, shard, height, ShardId(dest)))?;
     }
     Ok(sum)
 }
@@ -134,7 +138,7 @@ fn sealed_by(core: &Run, shard: ShardId, height: Height) -> Result<Tally, AllocE
 {
     let report = reported_by(core, shard, height)?;
     let lists = flying_from(core, shard, height)?;
-    add(report, lists)
+    add_tallies(report, lists)
 }
 
 /// What all sealed chunks of a shard hold.
@@ -144,9 +148,9 @@ fn all_sealed_by(core: &Run, shard: ShardId) -> Result<Tally, AllocError>
     requires inside { shard.0 < (rules_of (chain_of core.now)).shards }
     ensures { IfOk result (λ tally. tally ≡ tally_below (rules_of (chain_of core.now)).heights (λ h. sealed_by (chain_of core.now) core.now.positions shard.0 (h + 1))) }
 {
-    let mut sum = nothing();
+    let mut sum = no_tally();
     for below in 0..core.phases().heights() {
-        sum = add(sum, sealed_by(core, shard, Height(below + 1))?)?;
+        sum = add_tallies(sum, sealed_by(core, shard, Height(below + 1))?)?;
     }
     Ok(sum)
 }
@@ -158,7 +162,7 @@ fn tally_of(alloc: Global, core: &Run, shard: ShardId) -> Result<Tally, AllocErr
 {
     let held = held_by(alloc, core, shard)?;
     let sealed = all_sealed_by(core, shard)?;
-    add(held, sealed)
+    add_tallies(held, sealed)
 }
 
 /// What all shards hold.
@@ -171,9 +175,9 @@ pub(crate) fn tally_all(alloc: Global, core: &Run) -> Result<Tally, AllocError>
     requires moment { IsMoment core.now }
     ensures { IfOk result (λ tally. tally ≡ tally_at (chain_of core.now) core.now.positions) }
 {
-    let mut sum = nothing();
+    let mut sum = no_tally();
     for shard in 0..core.phases().shards() {
-        sum = add(sum, tally_of(alloc, core, ShardId(shard))?)?;
+        sum = add_tallies(sum, tally_of(alloc, core, ShardId(shard))?)?;
     }
     Ok(sum)
 }
