@@ -1,0 +1,4 @@
+-- Lemmas behind the answers.
+pub mod Commands
+pub mod Shown
+pub mod Whole

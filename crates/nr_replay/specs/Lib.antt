@@ -1,0 +1,3 @@
+pub mod Command
+pub mod Chains
+pub mod Written
