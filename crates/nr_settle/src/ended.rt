@@ -49,7 +49,8 @@ fn settle<C: Caller<ChunkStore>>(
     let held = sum_worlds(alloc, chain, worlds.inner())?;
     let told = sum_reports(chain, reports.inner())?;
     let flying = sum_lists(chain, left.inner())?;
-    let tally = add_tallies(add_tallies(held, told)?, flying)?;
+    let both = add_tallies(held, told)?;
+    let tally = add_tallies(both, flying)?;
     let rows = rows_of(alloc, chain, reports)?;
     Ok(Ended { rows, tally })
 }

@@ -1,10 +1,10 @@
 //! What the parts of an ended run hold together.
 
-ghost use Rattle.std.specs.Prelude.{◌≡◌, ◌+◌, ◌^◌, ◌<◌, ◌≤◌, true, length, IfOk, IfSome};
+ghost use Rattle.std.specs.Prelude.{◌≡◌, ◌+◌, ◌^◌, ◌<◌, ◌≤◌, true, length, IfOk};
 ghost use Rattle.std.specs.List.{AllByRecursion};
 ghost use Rattle.nr_chunk.specs.Chain.{AreBounded};
 ghost use Rattle.nr_chunk.specs.Tallies.{tally_list, tally_report, tally_world};
-ghost use Rattle.nr_places.specs.Totals.{plus, plus_counts, nothing};
+ghost use Rattle.nr_places.specs.Totals.{plus, nothing};
 ghost use Rattle.nr_state.specs.Tokens.{list_tokens};
 ghost use Rattle.nr_state.specs.Valid.{IsValidWorld};
 ghost use Rattle.nr_settle.specs.Sums.{sum_of, sum_on, sum_rows};
@@ -14,7 +14,6 @@ use nr_chunk::{ChainRun, ChunkStore, ChunkWorld, Tally};
 use nr_ids::{Height, ShardId};
 use nr_records::{ChunkResult, Receipt};
 use nr_state::Caller;
-
 use nr_tallies::{add_tallies, no_tally};
 use std::alloc::{AllocError, Global};
 

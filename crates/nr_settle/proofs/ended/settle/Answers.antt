@@ -2,6 +2,7 @@ use Rattle.std.proofs.Common.{◌^◌, ◌≤◌, sym, ap, subst, ◌∙◌}
 use Rattle.std.specs.List.{AllByRecursion}
 use Rattle.nr_chunk.specs.Chain.{AreBounded, Chain, chain_with}
 use Rattle.nr_chunk.specs.Tallies.{tally_list, tally_world}
+use Rattle.nr_places.specs.Totals.{plus}
 use Rattle.nr_state.specs.Tokens.{list_tokens}
 use Rattle.nr_state.specs.Valid.{IsValidWorld}
 use Rattle.nr_settle.specs.Sums.{sum_of, sum_rows}
@@ -34,4 +35,4 @@ returns-clause-tally g c =
     (c.in_ok-held.ensures ∙ ap (sum_of (λ w. tally_world v.config w.world)) (c.inner.ensures ∙ c.requires.worlds))
     (c.in_ok-told.ensures ∙ ap sum_rows (c.inner-2.ensures ∙ c.requires.reports))
     (c.in_ok-flying.ensures ∙ ap (sum_of (λ l. tally_list v.config l.3)) (c.inner-3.ensures ∙ c.requires.left))
-    c.in_ok-tally.ensures
+    (c.in_ok-tally.ensures ∙ ap (λ t. plus t c.in_ok-flying.flying) c.in_ok-both.ensures)
