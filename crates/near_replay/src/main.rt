@@ -35,7 +35,10 @@ fn refused(error: &io::Error) -> Status {
 }
 
 /// Runs the command of the words over the process's files and output.
-fn run<R: Env + Files + Print + AllocGlobal + Threads + Wait + Sync>(rt: &R, alloc: Global) -> Status {
+fn run<R: Env + Files + Print + AllocGlobal + Threads + Wait + Sync>(
+    rt: &R,
+    alloc: Global,
+) -> Status {
     match words_of(rt, alloc) {
         Ok(words) => {
             let mut shelf = FileShelf::new(rt);

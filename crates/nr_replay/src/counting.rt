@@ -5,8 +5,8 @@ ghost use Rattle.nr_overlap.specs.Balance.{sum_below};
 ghost use Rattle.nr_top.specs.Generated.{one_if_there};
 ghost use Rattle.nr_settle.specs.Shown.{cell};
 
-use nr_settle::cell;
 use nr_records::ChunkResult;
+use nr_settle::cell;
 use std::alloc::AllocError;
 
 /// 1 where a shard has a chunk at a height, else 0.

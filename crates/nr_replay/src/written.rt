@@ -45,7 +45,7 @@ fn begin(config: Config, genesis: Genesis, blocks: List<Block>) -> Serial<ChainR
 }
 
 /// Runs a chain to its end, and writes its chunks and its totals.
-fn written<R: Threads + Wait + Sync, G: Gate + Sync>(
+fn parts_of<R: Threads + Wait + Sync, G: Gate + Sync>(
     alloc: Global,
     runs: &Beside<'_, R, G>,
     config: Config,
@@ -77,7 +77,7 @@ pub(crate) fn report_of<R: Threads + Wait + Sync, G: Gate + Sync>(
     requires { IsSoundGenesis config genesis }
     ensures { IfOk result (λ text. text ≡ run_text (chain config genesis blocks)) }
 {
-    let parts = written(alloc, runs, config, genesis, blocks)?;
+    let parts = parts_of(alloc, runs, config, genesis, blocks)?;
     let text = joined(parts.text, &parts.end)?;
     Ok(text)
 }
@@ -95,7 +95,7 @@ pub(crate) fn summary_of<R: Threads + Wait + Sync, G: Gate + Sync>(
     ensures { IfOk result (λ text. text ≡ generated_text start shards blocks) }
 {
     let (genesis, made) = generate(alloc, start, shards, blocks)?;
-    let parts = written(alloc, runs, Config::generated(), genesis, made)?;
+    let parts = parts_of(alloc, runs, Config::generated(), genesis, made)?;
     let hash = hash_of(&parts.text, &parts.end);
     let first = first_lines(alloc, start, shards, blocks, parts.chunks, &hash)?;
     let text = joined(first, &parts.end)?;

@@ -1,5 +1,5 @@
 -- What the last worlds, the reports and the lists that no chunk takes hold is the totals' tally at the end of the run.
-use Rattle.std.proofs.Common.{◌≡◌, ℕ, zero, suc, ◌+◌, ◌-◌, ◌^◌, ◌<◌, ◌≤◌, List, Option, Some, None, refl, sym, ap, ◌∙◌, subst, arith}
+use Rattle.std.proofs.Common.{◌≡◌, ℕ, ◌+◌, ◌-◌, ◌^◌, ◌<◌, ◌≤◌, List, Option, Some, None, refl, sym, ap, ◌∙◌, arith}
 use Rattle.std.specs.Prelude.{sum_by}
 use Rattle.std.specs.List.{AllByRecursion}
 use Rattle.std.specs.Option.{option_map, option_to_list}
@@ -13,7 +13,7 @@ use Rattle.nr_config.specs.Config.{Config}
 use Rattle.nr_ids.specs.declared.number.Height.{Height}
 use Rattle.nr_ids.specs.declared.number.ShardId.{ShardId}
 use Rattle.nr_overlap.specs.Balance.{if_some, sum_below}
-use Rattle.nr_overlap.specs.Moment.{flight_at, report_at, working_at}
+use Rattle.nr_overlap.specs.Moment.{flight_at, working_at}
 use Rattle.nr_overlap.specs.Positions.{at}
 use Rattle.nr_overlap.specs.Rules.{Rules}
 use Rattle.nr_overlap.specs.Run.{ending}
@@ -24,7 +24,7 @@ use Rattle.nr_overlap.proofs.Ended.{whole_run}
 use Rattle.nr_overlap.proofs.Sums.{sum_same}
 use Rattle.nr_places.proofs.Adding.{IsAdditive, additive_at}
 use Rattle.nr_places.proofs.Counting.{sum_add}
-use Rattle.nr_places.specs.Totals.{held_by, list_tally, plus, report_tally, shard_tally, tally_at, tally_of}
+use Rattle.nr_places.specs.Totals.{list_tally, plus, report_tally, shard_tally, tally_at, tally_of}
 use Rattle.nr_records.specs.declared.chunk_result.ChunkResult.{ChunkResult}
 use Rattle.nr_records.specs.declared.receipt.Receipt.{Receipt}
 use Rattle.nr_state.specs.Tokens.{list_tokens}
@@ -34,7 +34,7 @@ use Rattle.nr_workers.specs.Outcome as outcome
 use Rattle.nr_settle.specs.Shown.{report_of}
 use Rattle.nr_settle.specs.Sums.{sum_of, sum_rows}
 use Rattle.nr_settle.proofs.Adding.{alike, sum_of_is, sum_rows_is}
-use Rattle.nr_settle.proofs.Lists.{all_flat, all_option, all_range, sum_flat, sum_option, sum_range}
+use Rattle.nr_settle.proofs.Lists.{all_flat, all_range, sum_flat, sum_option, sum_range}
 
 module _ (x : Chain) where
   abbrev r : Rules Kept Working (List Receipt) ChunkResult

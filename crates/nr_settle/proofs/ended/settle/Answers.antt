@@ -1,6 +1,6 @@
 use Rattle.std.proofs.Common.{◌^◌, ◌≤◌, sym, ap, subst, ◌∙◌}
 use Rattle.std.specs.List.{AllByRecursion}
-use Rattle.nr_chunk.specs.Chain.{AreBounded, Chain, chain_with}
+use Rattle.nr_chunk.specs.Chain.{AreBounded, chain_with}
 use Rattle.nr_chunk.specs.Tallies.{tally_list, tally_world}
 use Rattle.nr_places.specs.Totals.{plus}
 use Rattle.nr_state.specs.Tokens.{list_tokens}

@@ -2,7 +2,7 @@ use Rattle.std.proofs.Common.{sym}
 use Rattle.nr_top.specs.Run.{chain}
 use Rattle.nr_replay.specs.Chains.{chain_in}
 use Rattle.nr_replay.proofs.Whole.{is_written}
-use Rattle.nr_replay.proofs.written.written.Goals as goal
+use Rattle.nr_replay.proofs.written.parts_of.Goals as goal
 
 pub returns : goal.returns
 returns g c =
