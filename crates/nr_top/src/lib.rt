@@ -2,7 +2,6 @@
 #![tactic(auto)]
 
 mod checking;
-mod command;
 mod configuration;
 mod exit;
 mod generated;
@@ -18,7 +17,6 @@ mod tally;
 mod top;
 mod writing;
 
-pub use command::{FileNames, Words, generate_of, run_of};
 pub use generated::first_lines;
 pub use laws::totals_law;
 pub use runs::Runs;
