@@ -21,5 +21,4 @@ pub use generated::first_lines;
 pub use laws::totals_law;
 pub use runs::Runs;
 pub use status::Status;
-pub use tally::{add_tallies, no_tally};
 pub use top::{serial, serve};
