@@ -12,7 +12,7 @@ ghost use Rattle.nr_top.specs.Generated.{first_lines, generated_chain, generated
 ghost use Rattle.nr_top.specs.Hashing.{HasHashed, Hashes};
 ghost use Rattle.nr_top.specs.Moments.{IsMoment, chain_of};
 ghost use Rattle.nr_top.specs.Run.{chunks_text, height_text};
-ghost use Rattle.nr_top.specs.Words.{CanGenerate};
+ghost use Rattle.nr_words.specs.Words.{CanGenerate};
 ghost use Rattle.nr_top.specs.Totals.{totals_at};
 
 use crate::run::{Run, run, totals};
@@ -110,9 +110,14 @@ fn hash_with(hashed: Hashed, end: &Blob) -> Hash32
     Hash32(hasher.finalize())
 }
 
-/// The lines before the totals.
+/// The lines before the totals: the numbers that generate a chain, how many chunks were sealed, and the digest of the
+/// report.
+///
+/// # Errors
+///
+/// Where memory runs out.
 #[tactic(auto, unfolding(nr_report::specs::Lines::hash_word))]
-fn first_lines(
+pub fn first_lines(
     alloc: Global,
     start: u64,
     shards: u32,

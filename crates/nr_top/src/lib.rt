@@ -2,7 +2,6 @@
 #![tactic(auto)]
 
 mod checking;
-mod command;
 mod configuration;
 mod exit;
 mod generated;
@@ -11,12 +10,15 @@ mod loading;
 mod refused;
 mod replay;
 mod run;
+mod runs;
 mod schedule;
 mod status;
 mod tally;
 mod top;
 mod writing;
 
+pub use generated::first_lines;
 pub use laws::totals_law;
+pub use runs::Runs;
 pub use status::Status;
-pub use top::serial;
+pub use top::{serial, serve};

@@ -1,30 +1,29 @@
 //! The top call.
 
-ghost use Rattle.std.specs.Prelude.{◌≡◌, ◌≢◌, ◌+◌, ◌++◌, ◌∷◌, [], Err, length};
+ghost use Rattle.std.specs.Prelude.{◌≡◌, ◌≢◌, ◌+◌, ◌++◌, ◌∷◌, [], Err, IfSome, length, option_map};
 ghost use Rattle.std.specs.Option.{option_copied};
 ghost use Rattle.nr_blocks.specs.Genesis.{IsSoundGenesis};
 ghost use Rattle.nr_bytes.specs.Outside.{Rose};
 ghost use Rattle.nr_top.specs.Answers.{Serves, Prepares, AsksFront};
-ghost use Rattle.nr_top.specs.Input.{Report, texts, input, configured, by_command, by_configured, by_files, by_blocks_file, by_purpose, by_schedule_read, purpose_of, ToTheEnd, Scheduled, files_of, loads_of, schedule_files};
+ghost use Rattle.nr_top.specs.Input.{Report, input, configured, by_command, by_configured, by_files, by_blocks_file, by_purpose, by_schedule_read, by_words, purpose_of, ToTheEnd, Scheduled, files_of, loads_of, schedule_files};
 ghost use Rattle.nr_top.specs.Generated.{generated_text};
 ghost use Rattle.nr_top.specs.Run.{chain};
 ghost use Rattle.nr_top.specs.Schedule.{schedule_read};
-ghost use Rattle.nr_top.specs.Words.{CanGenerate, CanRun, command_in, names_in};
-ghost use Rattle.nr_top.specs.Command.{Replay, command};
+ghost use Rattle.nr_words.specs.Words.{CanGenerate, CanRun, command_in, names_in, texts};
+ghost use Rattle.nr_words.specs.Command.{Replay, command};
 ghost use Rattle.nr_top.specs.declared.status.Status.TheVariants.{Done, ReadFault, WriteFault};
 
 use crate::checking::check;
-use crate::command::{FileNames, Words, command_of};
 use crate::configuration::configuration;
-use crate::generated::generated;
 use crate::loading::load;
 use crate::replay::{blocks_of, genesis_of, schedule_of};
-use crate::run::report;
+use crate::runs::{Runs, Serially};
 use crate::status::Status;
 use crate::writing::write_all;
 use nr_blocks::{Block, Genesis};
 use nr_bytes::{Blob, List, Shelf, Sink};
 use nr_config::Config;
+use nr_words::{FileNames, Words, serial_command};
 use std::alloc::Global;
 
 /// The most bytes of a genesis, 64 MiB.
@@ -48,8 +47,9 @@ const SCHEDULE_LIMIT: usize = 1_048_576;
 const LONG_SCHEDULE: Status = Status::Schedule { kind: 0, line: 0 };
 
 /// Runs a chain to its end, and makes the report.
-fn reported(
+fn reported<U: Runs>(
     alloc: Global,
+    runs: &U,
     config: &Config,
     genesis: Genesis,
     blocks: List<Block>,
@@ -58,7 +58,7 @@ fn reported(
     ensures prepares { Prepares result (by_purpose ToTheEnd (chain config.now genesis blocks)) }
     ensures no_fault { result ≢ Err ReadFault }
 {
-    match report(alloc, *config, genesis, blocks) {
+    match runs.report(alloc, *config, genesis, blocks) {
         Ok(text) => Ok(text),
         Err(_) => Err(Status::NoMemory),
     }
@@ -104,8 +104,9 @@ fn prepare_schedule<S: Shelf>(
 }
 
 /// Makes the text of a chain, for what it is.
-fn prepare_text<S: Shelf>(
+fn prepare_text<U: Runs, S: Shelf>(
     alloc: Global,
+    runs: &U,
     config: &Config,
     genesis: Genesis,
     blocks: List<Block>,
@@ -118,15 +119,16 @@ fn prepare_text<S: Shelf>(
     ensures failed { result ≡ Err ReadFault → Rose (S.faults shelf.old) (S.faults shelf.new) }
 {
     match schedule {
-        None => reported(alloc, config, genesis, blocks),
+        None => reported(alloc, runs, config, genesis, blocks),
         Some(schedule) => prepare_schedule(alloc, config, genesis, blocks, schedule, shelf),
     }
 }
 
 /// Loads the blocks, and makes the text.
 #[tactic(auto, using(crate::proofs::Stopping::file_prepares, crate::proofs::Stopping::blocks_prepare))]
-fn prepare_blocks<S: Shelf>(
+fn prepare_blocks<U: Runs, S: Shelf>(
     alloc: Global,
+    runs: &U,
     config: &Config,
     genesis: Genesis,
     names: &FileNames<'_>,
@@ -139,14 +141,15 @@ fn prepare_blocks<S: Shelf>(
 {
     let bytes = load(alloc, names.blocks, LONG_BLOCKS, BLOCKS_LIMIT, shelf)?;
     let blocks = blocks_of(alloc, genesis.layout.shards(), &bytes)?;
-    let text = prepare_text(alloc, config, genesis, blocks, names.schedule, shelf)?;
+    let text = prepare_text(alloc, runs, config, genesis, blocks, names.schedule, shelf)?;
     Ok(text)
 }
 
 /// Loads the genesis and the files behind it, and makes the text.
 #[tactic(auto, using(crate::proofs::Stopping::file_prepares))]
-fn prepare_files<S: Shelf>(
+fn prepare_files<U: Runs, S: Shelf>(
     alloc: Global,
+    runs: &U,
     config: &Config,
     names: &FileNames<'_>,
     shelf: &mut S,
@@ -157,48 +160,100 @@ fn prepare_files<S: Shelf>(
 {
     let bytes = load(alloc, names.genesis, LONG_GENESIS, GENESIS_LIMIT, shelf)?;
     let genesis = genesis_of(alloc, config, &bytes)?;
-    let text = prepare_blocks(alloc, config, genesis, names, shelf)?;
+    let text = prepare_blocks(alloc, runs, config, genesis, names, shelf)?;
     Ok(text)
 }
 
 /// Loads all files, and makes the text.
 #[tactic(auto, using(crate::proofs::Stopping::configured_prepares))]
-fn prepare<S: Shelf>(alloc: Global, names: &FileNames<'_>, shelf: &mut S) -> Result<Blob, Status>
+fn prepare<U: Runs, S: Shelf>(
+    alloc: Global,
+    runs: &U,
+    names: &FileNames<'_>,
+    shelf: &mut S,
+) -> Result<Blob, Status>
     ensures prepares { let n = names_in names.now in Prepares result (by_configured (purpose_of n.schedule (S.held shelf.old)) (configured n.config (S.held shelf.old n.config)) (S.held shelf.old n.genesis) (S.held shelf.old n.blocks)) }
     ensures asked { AsksFront (S.asked shelf.old) (S.asked shelf.new) (loads_of (Replay (names_in names.now))) }
     ensures failed { result ≡ Err ReadFault → Rose (S.faults shelf.old) (S.faults shelf.new) }
 {
     let config = configuration(alloc, names.config, shelf)?;
-    let text = prepare_files(alloc, &config, names, shelf)?;
+    let text = prepare_files(alloc, runs, &config, names, shelf)?;
     Ok(text)
 }
 
 /// Generates a chain, runs it to its end, and makes the text.
-fn summarized(alloc: Global, start: u64, shards: u32, blocks: u64) -> Result<Blob, Status>
+fn summarized<U: Runs>(
+    alloc: Global,
+    runs: &U,
+    start: u64,
+    shards: u32,
+    blocks: u64,
+) -> Result<Blob, Status>
     requires { CanGenerate shards blocks }
     ensures prepares { Prepares result (Report (generated_text start shards blocks)) }
     ensures no_fault { result ≢ Err ReadFault }
 {
-    match generated(alloc, start, shards, blocks) {
+    match runs.summary(alloc, start, shards, blocks) {
         Ok(text) => Ok(text),
         Err(_) => Err(Status::NoMemory),
     }
 }
 
 /// Makes the text that a command asks for.
-fn text_of<S: Shelf>(alloc: Global, command: &Words<'_>, shelf: &mut S) -> Result<Blob, Status>
+fn text_of<U: Runs, S: Shelf>(
+    alloc: Global,
+    runs: &U,
+    command: &Words<'_>,
+    shelf: &mut S,
+) -> Result<Blob, Status>
     requires { CanRun command.now }
     ensures prepares { Prepares result (by_command (command_in command.now) (S.held shelf.old)) }
     ensures asked { AsksFront (S.asked shelf.old) (S.asked shelf.new) (loads_of (command_in command.now)) }
     ensures failed { result ≡ Err ReadFault → Rose (S.faults shelf.old) (S.faults shelf.new) }
 {
     match command {
-        Words::ReplayFiles(names) => prepare(alloc, names, shelf),
+        Words::ReplayFiles(names) => prepare(alloc, runs, names, shelf),
         Words::GenerateInput {
             start,
             shards,
             blocks,
-        } => summarized(alloc, *start, *shards, *blocks),
+        } => summarized(alloc, runs, *start, *shards, *blocks),
+    }
+}
+
+/// Does what a command asks for, with runs of this kind.
+///
+/// # Answers
+///
+/// `Usage` where there is no command, and else as of `serial`.
+pub fn serve<U: Runs, S: Shelf, K: Sink>(
+    alloc: Global,
+    runs: &U,
+    command: Option<Words<'_>>,
+    shelf: &mut S,
+    sink: &mut K,
+) -> Status
+    requires { IfSome command CanRun }
+    // The answer is right for the command and the files, and the sink took what belongs to it.
+    ensures serves { Serves result (by_words (option_map command_in command) (S.held shelf.old)) (K.taken sink.old) (K.taken sink.new) }
+    // Before the writing the sink stays as it is, whatever it tells.
+    ensures untouched { result ≢ Done → result ≢ WriteFault → sink.new ≡ sink.old }
+    // A fault comes only where a count rose.
+    ensures read_fault { result ≡ ReadFault → Rose (S.faults shelf.old) (S.faults shelf.new) }
+    ensures write_fault { result ≡ WriteFault → Rose (K.faults sink.old) (K.faults sink.new) }
+    // Only the files of the command were asked for, in their order.
+    ensures asked { AsksFront (S.asked shelf.old) (S.asked shelf.new) (files_of (option_map command_in command)) }
+{
+    let Some(command) = command else {
+        return Status::Usage;
+    };
+    let text = match text_of(alloc, runs, &command, shelf) {
+        Ok(text) => text,
+        Err(status) => return status,
+    };
+    match write_all(sink, text.inner()) {
+        Ok(()) => Status::Done,
+        Err(_) => Status::WriteFault,
     }
 }
 
@@ -247,15 +302,8 @@ pub fn serial<S: Shelf, K: Sink>(
     // Only the files of the command were asked for, in their order.
     ensures asked { AsksFront (S.asked shelf.old) (S.asked shelf.new) (files_of (command (texts words.now))) }
 {
-    let Some(command) = command_of(words) else {
-        return Status::Usage;
-    };
-    let text = match text_of(alloc, &command, shelf) {
-        Ok(text) => text,
-        Err(status) => return status,
-    };
-    match write_all(sink, text.inner()) {
-        Ok(()) => Status::Done,
-        Err(_) => Status::WriteFault,
+    match serial_command(alloc, words) {
+        Ok(command) => serve(alloc, &Serially, command, shelf, sink),
+        Err(_) => Status::NoMemory,
     }
 }

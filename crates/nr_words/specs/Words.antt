@@ -1,10 +1,15 @@
 -- Words as lent texts. This project's own.
-use Rattle.std.specs.Prelude.{ℕ, ◌≤◌}
+use Rattle.std.specs.Prelude.{ℕ, ◌≤◌, List, map, string_bytes}
+use Rattle.std.specs.Global.{Global}
+use Rattle.std.specs.declared.string.String.{String}
 use Rattle.std.specs.Option.{option_copied}
-use Rattle.nr_top.specs.Command.{Command, Replay, Generate, Names}
-use Rattle.nr_top.specs.declared.command.FileNames.{FileNames}
-use Rattle.nr_top.specs.declared.command.Words.{Words}
-use Rattle.nr_top.specs.declared.command.Words.TheVariants.{ReplayFiles, GenerateInput}
+use Rattle.nr_words.specs.Command.{Command, Replay, Generate, Names}
+use Rattle.nr_words.specs.declared.words.FileNames.{FileNames}
+use Rattle.nr_words.specs.declared.words.Words.{Words}
+use Rattle.nr_words.specs.declared.words.Words.TheVariants.{ReplayFiles, GenerateInput}
+
+abbrev pub texts : List (String Global) → List (List ℕ)
+texts words = map (λ word. string_bytes word) words
 
 abbrev pub names_in : FileNames → Names
 names_in n = record { config = n.config.now; genesis = n.genesis.now; blocks = n.blocks.now; schedule = option_copied n.schedule }

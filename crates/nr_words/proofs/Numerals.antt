@@ -1,4 +1,4 @@
--- Lists of words that are no command, and words that are numbers.
+-- Words that are numbers.
 use Rattle.std.proofs.Common.{◌≡◌, ◌<◌, ◌≤◌, ◌+◌, ◌&&◌, ◌==◌, ℕ, zero, suc, lit<, Bool, true, false, cond, ltb, leb, List, [], ◌∷◌, length, drop, Some, None, refl, arith}
 use Rattle.std.specs.List.{list_all}
 use Rattle.std.specs.Str.Parse.{AllDigits, IsNumeral, digits_value, without_leading_plus}
@@ -8,29 +8,9 @@ use Rattle.std.specs.Str.{IsAscii, IsUtf8}
 use Rattle.std.proofs.lemmas.Str.{IsUtf8-from_ascii, digit_value_digit}
 use Rattle.std.specs.Global.{Global}
 use Rattle.std.specs.declared.string.String.{String}
-use Rattle.nr_top.specs.Command.{command, is_digit, has_no_leading_zero, is_numeral, number_in}
-use Rattle.nr_top.specs.Input.{texts}
-use Rattle.nr_top.proofs.Both.{both_left, both_right}
+use Rattle.nr_words.specs.Command.{is_digit, has_no_leading_zero, is_numeral, number_in}
+use Rattle.nr_words.proofs.Both.{both_left, both_right}
 
-pub few_words : (words : List (String Global)) → length words < 4 → command (texts words) ≡ None
-unfolding command
-few_words [] lt = refl
-few_words (a ∷ []) lt = refl
-few_words (a ∷ b ∷ []) lt = refl
-few_words (a ∷ b ∷ c ∷ []) lt = refl
-few_words (a ∷ b ∷ c ∷ d ∷ words) lt = absurd (omega arith)
-
-pub many_words : (words : List (String Global)) → 6 ≤ length words → command (texts words) ≡ None
-unfolding command
-many_words [] le = absurd (omega arith)
-many_words (a ∷ []) le = absurd (omega arith)
-many_words (a ∷ b ∷ []) le = absurd (omega arith)
-many_words (a ∷ b ∷ c ∷ []) le = absurd (omega arith)
-many_words (a ∷ b ∷ c ∷ d ∷ []) le = absurd (omega arith)
-many_words (a ∷ b ∷ c ∷ d ∷ e ∷ []) le = absurd (omega arith)
-many_words (a ∷ b ∷ c ∷ d ∷ e ∷ f ∷ words) le = refl
-
--- ---- numbers
 digit_low : (b : ℕ) → is_digit b ≡ true → 48 ≤ b
 digit_low b e = leb-true 48 b (both_left (leb 48 b) (leb b 57) e)
 

@@ -77,3 +77,16 @@ command (a ∷ b ∷ c ∷ d ∷ e ∷ f ∷ words) = None
 -- the built-in configuration loads no file
 abbrev pub is_free : List ℕ → Bool
 is_free word = bytes_eq word (codes "free")
+
+-- ---- the commands of a replay by threads
+abbrev pub replay_words : List ℕ → List ℕ → List ℕ → List ℕ → Option Command
+replay_words verb a b c = cond (bytes_eq verb (codes "replay")) (run_of a b c) (cond (bytes_eq verb (codes "gen")) (generate_of a b c) None)
+
+-- `replay CONFIG GENESIS BLOCKS` or `gen NUMBER SHARDS BLOCKS`
+unfoldable pub replay_command : List (List ℕ) → Option Command
+replay_command [] = None
+replay_command (a ∷ []) = None
+replay_command (a ∷ b ∷ []) = None
+replay_command (a ∷ b ∷ c ∷ []) = None
+replay_command (a ∷ b ∷ c ∷ d ∷ []) = replay_words a b c d
+replay_command (a ∷ b ∷ c ∷ d ∷ e ∷ words) = None

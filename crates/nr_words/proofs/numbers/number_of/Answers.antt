@@ -1,7 +1,7 @@
 use Rattle.std.proofs.Common.{◌≡◌, true, arith}
-use Rattle.nr_top.specs.Command.{is_numeral}
-use Rattle.nr_top.proofs.Commands.{too_large}
-use Rattle.nr_top.proofs.command.number_of.Goals as goal
+use Rattle.nr_words.specs.Command.{is_numeral}
+use Rattle.nr_words.proofs.Numerals.{too_large}
+use Rattle.nr_words.proofs.numbers.number_of.Goals as goal
 
 pub returns-in-Err-clause-number : goal.returns-in-Err-clause-number
 returns-in-Err-clause-number c =
