@@ -11,8 +11,9 @@ ghost use Rattle.nr_hostctx.specs.Host.{meaning, with_guest, Holds};
 ghost use Rattle.nr_hostctx.specs.State.{state_of};
 ghost use Rattle.nr_contract.specs.Calls.{Runs, DrivesTo, StaysWhole, ended_as};
 
+use crate::keeping::KeptModules;
 use crate::parts::{FAILED_BINDING, OUT_OF_GAS, TRAPPED};
-use crate::preparing::prepare;
+use crate::preparing::prepare_kept;
 use crate::refused::Refused;
 use nr_config::Config;
 use nr_config::entries::{LOAD_BASE, LOAD_BYTE};
@@ -30,9 +31,13 @@ use std::marker::Model;
 /// fails with kind 13 where the code can't be decoded (parts 1 to 7), isn't valid (11 to 15) or has an element or a
 /// segment that doesn't fit (21), with 14 where there is no such method, with 15 at a trap and 16 at a fault of a
 /// binding, whose numbers are the parts, and with 17 where the gas doesn't suffice. A failed call changes nothing.
+///
+/// Some modules of late calls are kept with their code: a call of the same bytes neither decodes nor validates them. It
+/// comes to the same.
 #[derive(Debug, Drop)]
 pub struct ContractCaller {
     config: Config,
+    modules: KeptModules,
 }
 
 impl Model for ContractCaller {
@@ -48,7 +53,10 @@ impl ContractCaller {
     pub fn new(config: &Config) -> ContractCaller
         ensures { result ≡ config.now }
     {
-        ContractCaller { config: *config }
+        ContractCaller {
+            config: *config,
+            modules: KeptModules::new(),
+        }
     }
 }
 
@@ -81,6 +89,7 @@ fn drive<S: Store>(
     ensures whole { StaysWhole result host.new }
     ensures keeps { Holds host.old host.new }
     ensures same_reference { host.new.callee.state.ghost_name ≡ host.old.callee.state.ghost_name }
+    ensures program { machine.new.program ≡ machine.old.program }
 {
     if host.burn(u128::from(load)).is_err() {
         return Err(CallStop::Memory);
@@ -107,8 +116,9 @@ fn run_method<S: Store>(
     requires config { state.old.config ≡ config.now }
     requires runs { IsTrue (is_method (func_at machine.old.program func)) }
     requires cost { 1 ≤ machine.old.limits.cost }
-    ensures { Runs result state.old state.new
+    ensures ends { Runs result state.old state.new
         (run (first_state config.now state.old.world context.now load) machine.old func) }
+    ensures program { machine.new.program ≡ machine.old.program }
 {
     let Ok(mut host) = HostContext::new(alloc, state, context, config) else {
         return Err(CallStop::Memory);
@@ -120,12 +130,13 @@ fn run_method<S: Store>(
 }
 
 /// Runs a method of the current account's code.
-#[tactic(auto, unfolding(crate::specs::Contract::call))]
+#[tactic(auto, using(crate::proofs::Making::still_loaded), unfolding(crate::specs::Contract::call))]
 fn run_code<S: Store>(
     alloc: Global,
     state: &mut ShardState<S>,
     context: &CallContext,
     config: &Config,
+    modules: &KeptModules,
 ) -> Result<CallEnd, CallStop>
     requires whole { state.old.whole ≡ true }
     requires stands { IsSome (get state.old.world.accounts context.now.current) }
@@ -145,9 +156,15 @@ fn run_code<S: Store>(
         });
     }
     let load = load as u64;
-    match prepare(alloc, code, context.method.inner().as_bytes(), config) {
+    let method = context.method.inner().as_bytes();
+    let (prepared, copy) = prepare_kept(alloc, modules, code, method, config);
+    match prepared {
         Ok((mut machine, func)) => {
-            run_method(alloc, state, context, config, &mut machine, func, load)
+            let result = run_method(alloc, state, context, config, &mut machine, func, load);
+            if let Some(code) = copy {
+                modules.put(code, machine.into_code(), config);
+            }
+            result
         }
         Err(Refused::Failed { kind, part }) => Err(CallStop::Failed {
             kind,
@@ -186,7 +203,7 @@ impl<S: Store> Caller<S> for ContractCaller {
             return Err(CallStop::Memory);
         }
         state.mark();
-        let result = run_code(alloc, state, context, &self.config);
+        let result = run_code(alloc, state, context, &self.config, &self.modules);
         match &result {
             Ok(_) => state.keep(),
             Err(CallStop::Failed { .. }) => state.back(),

@@ -2,6 +2,7 @@
 #![tactic(auto)]
 
 mod caller;
+mod keeping;
 mod methods;
 mod parts;
 mod preparing;

@@ -17,11 +17,21 @@ const TWO: [u8; 33] = [
     0, 1, 1, 11,
 ];
 
+/// As long, but its second instruction is `unreachable`.
+const TRAP: [u8; 33] = [
+    0, 97, 115, 109, 1, 0, 0, 0, 1, 4, 1, 96, 0, 0, 3, 2, 1, 0, 7, 5, 1, 1, 102, 0, 0, 10, 6, 1, 4,
+    0, 1, 0, 11,
+];
+
 fn con(alloc: Global) -> Result<AccountId, AllocError> {
     AccountId::parse(alloc, b"con").map_err(|_| AllocError)
 }
 
-fn state_of(alloc: Global, config: &Config) -> Result<ShardState<PlainStore>, AllocError>
+fn state_of(
+    alloc: Global,
+    config: &Config,
+    code: &[u8],
+) -> Result<ShardState<PlainStore>, AllocError>
     ensures whole { IfOk result (λ state. state.whole ≡ true) }
     ensures config { IfOk result (λ state. state.config ≡ config.now) }
     ensures marks { IfOk result (λ state. state.marks ≡ []) }
@@ -38,7 +48,7 @@ fn state_of(alloc: Global, config: &Config) -> Result<ShardState<PlainStore>, Al
     if state.account(&id)?.is_none() {
         return Err(AllocError);
     }
-    state.set_code(&id, &TWO)?;
+    state.set_code(&id, code)?;
     Ok(state)
 }
 
@@ -71,29 +81,58 @@ fn told(answer: Result<CallEnd, CallStop>) -> [u64; 3] {
     }
 }
 
-fn called(alloc: Global, config: &Config, method: &str, gas: u64) -> Result<[u64; 3], AllocError> {
-    let mut state = state_of(alloc, config)?;
+fn called(
+    alloc: Global,
+    caller: &ContractCaller,
+    config: &Config,
+    code: &[u8],
+    method: &str,
+    gas: u64,
+) -> Result<[u64; 3], AllocError>
+    requires { caller.now ≡ config.now }
+{
+    let mut state = state_of(alloc, config, code)?;
     let context = context_of(alloc, method, gas)?;
     if state.account(&context.current)?.is_none() || state.code(&context.current)?.is_none() {
         return Err(AllocError);
     }
-    let caller = ContractCaller::new(config);
     Ok(told(caller.call(alloc, &mut state, &context)))
 }
 
-fn tried(alloc: Global, config: &Config, method: &str, gas: u64) -> [u64; 3] {
-    called(alloc, config, method, gas).unwrap_or([1, 1, 1])
+fn tried(
+    alloc: Global,
+    caller: &ContractCaller,
+    config: &Config,
+    code: &[u8],
+    method: &str,
+    gas: u64,
+) -> [u64; 3]
+    requires { caller.now ≡ config.now }
+{
+    called(alloc, caller, config, code, method, gas).unwrap_or([1, 1, 1])
 }
 
 #[test]
 fn a_call_ends_or_fails(rt: HostRuntime) {
     let alloc = rt.alloc();
     let free = Config::free();
-    assert_eq!(rt; tried(alloc, &free, "f", 9), [0, 0, 2]);
-    assert_eq!(rt; tried(alloc, &free, "g", 9), [14, 0, 0]);
-    assert_eq!(rt; tried(alloc, &free, "f", 1), [17, 0, 1]);
+    let caller = ContractCaller::new(&free);
+    assert_eq!(rt; tried(alloc, &caller, &free, &TWO, "f", 9), [0, 0, 2]);
+    assert_eq!(rt; tried(alloc, &caller, &free, &TRAP, "f", 9), [15, 1, 2]);
+    assert_eq!(rt; tried(alloc, &caller, &free, &TWO, "g", 9), [14, 0, 0]);
+    assert_eq!(rt; tried(alloc, &caller, &free, &TWO, "f", 1), [17, 0, 1]);
     let generated = Config::generated();
-    assert_eq!(rt; tried(alloc, &generated, "f", 1000), [0, 0, 135]);
-    assert_eq!(rt; tried(alloc, &generated, "g", 1000), [14, 0, 133]);
-    assert_eq!(rt; tried(alloc, &generated, "f", 132), [17, 0, 132]);
+    let caller = ContractCaller::new(&generated);
+    assert_eq!(rt;
+        tried(alloc, &caller, &generated, &TWO, "f", 1000),
+        [0, 0, 135]
+    );
+    assert_eq!(rt;
+        tried(alloc, &caller, &generated, &TWO, "g", 1000),
+        [14, 0, 133]
+    );
+    assert_eq!(rt;
+        tried(alloc, &caller, &generated, &TWO, "f", 132),
+        [17, 0, 132]
+    );
 }

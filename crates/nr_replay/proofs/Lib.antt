@@ -1,4 +1,3 @@
 -- Lemmas behind the answers.
-pub mod Commands
 pub mod Shown
 pub mod Whole

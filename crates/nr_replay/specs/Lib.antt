@@ -1,3 +1,3 @@
-pub mod Command
 pub mod Chains
+pub mod Input
 pub mod Written

@@ -2,7 +2,6 @@
 #![tactic(auto)]
 
 mod beside;
-mod command;
 mod counting;
 mod replay;
 mod text;

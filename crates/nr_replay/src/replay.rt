@@ -3,14 +3,16 @@
 ghost use Rattle.std.specs.Prelude.{◌≡◌, ◌≢◌};
 ghost use Rattle.nr_bytes.specs.Outside.{Rose};
 ghost use Rattle.nr_top.specs.Answers.{AsksFront, Serves};
-ghost use Rattle.nr_top.specs.Input.{files_of, texts};
+ghost use Rattle.nr_top.specs.Input.{files_of};
 ghost use Rattle.nr_top.specs.declared.status.Status.TheVariants.{Done, ReadFault, WriteFault};
-ghost use Rattle.nr_replay.specs.Command.{replay_command, replay_input};
+ghost use Rattle.nr_words.specs.Command.{replay_command};
+ghost use Rattle.nr_words.specs.Words.{texts};
+ghost use Rattle.nr_replay.specs.Input.{replay_input};
 
 use crate::beside::Beside;
-use crate::command::command_of;
 use nr_bytes::{Shelf, Sink};
 use nr_top::{Status, serve};
+use nr_words::replay_command;
 use nr_workers::Gate;
 use std::alloc::Global;
 use std::sync::Wait;
@@ -47,6 +49,8 @@ pub fn replay<R: Threads + Wait + Sync, S: Shelf, K: Sink, G: Gate + Sync>(
     // Only the files of the command were asked for, in their order.
     ensures asked { AsksFront (S.asked shelf.old) (S.asked shelf.new) (files_of (replay_command (texts words.now))) }
 {
-    let runs = Beside { rt, gate };
-    serve(alloc, &runs, command_of(words), shelf, sink)
+    match replay_command(alloc, words) {
+        Ok(command) => serve(alloc, &Beside { rt, gate }, command, shelf, sink),
+        Err(_) => Status::NoMemory,
+    }
 }

@@ -1,6 +1,4 @@
 -- Lemmas behind the answers.
-pub mod Both
-pub mod Commands
 pub mod Growth
 pub mod Stopping
 pub mod Preparing

@@ -8,7 +8,7 @@ use Rattle.std.proofs.lemmas.Bool.{eqb-true}
 use Rattle.std.proofs.lemmas.List.Splits.{slice_split_none, slice_split_first}
 use Rattle.std.proofs.lemmas.List.Sums.{fails_before_first}
 use Rattle.nr_overlap.proofs.Basics.{ge_of, le_of, lt_of}
-use Rattle.nr_top.specs.Command.{is_numeral, number_in}
+use Rattle.nr_words.specs.Command.{is_numeral, number_in}
 use Rattle.nr_top.specs.Schedule.{AreThere, IsThere, height_in, last_piece, line_of, lines_from, one_shard, pieces, schedule_read, shard_in, step_of, taken, with_line}
 use Rattle.nr_overlap.specs.declared.event.Event.TheVariants.{OpenChunk, SealChunk, PublishLists}
 use Rattle.nr_top.specs.declared.schedule.Line.{Line}

@@ -1,4 +1,3 @@
-pub mod Command
 pub mod Totals
 pub mod Schedule
 pub mod Checking
@@ -10,5 +9,4 @@ pub mod Driving
 pub mod Hashing
 pub mod Input
 pub mod Answers
-pub mod Words
 pub mod Exit

@@ -5,7 +5,7 @@ use Rattle.std.specs.Str.{bytes_eq}
 use Rattle.nr_overlap.specs.Inside.{IsInside}
 use Rattle.nr_overlap.specs.declared.event.Event.{Event}
 use Rattle.nr_overlap.specs.declared.event.Event.TheVariants.{OpenChunk, TakeList, SealChunk, PublishLists}
-use Rattle.nr_top.specs.Command.{number_in}
+use Rattle.nr_words.specs.Command.{number_in}
 use Rattle.nr_top.specs.declared.schedule.Line.{Line}
 use Rattle.nr_top.specs.declared.schedule.Line.TheVariants.{Step, Rest}
 use Rattle.nr_top.specs.declared.schedule.ScheduleFault.{ScheduleFault}

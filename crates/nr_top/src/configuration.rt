@@ -7,12 +7,12 @@ ghost use Rattle.nr_top.specs.Answers.{AsksFront, Configures};
 ghost use Rattle.nr_top.specs.Input.{config_files, configured, by_reading};
 ghost use Rattle.nr_top.specs.declared.status.Status.TheVariants.{ReadFault};
 
-use crate::command::is_free;
 use crate::loading::load;
 use crate::refused::config_status;
 use crate::status::Status;
 use nr_bytes::Shelf;
 use nr_config::Config;
+use nr_words::is_free;
 use std::alloc::Global;
 
 /// The most bytes of a configuration, 1 MiB.

@@ -12,7 +12,7 @@ ghost use Rattle.nr_top.specs.Generated.{first_lines, generated_chain, generated
 ghost use Rattle.nr_top.specs.Hashing.{HasHashed, Hashes};
 ghost use Rattle.nr_top.specs.Moments.{IsMoment, chain_of};
 ghost use Rattle.nr_top.specs.Run.{chunks_text, height_text};
-ghost use Rattle.nr_top.specs.Words.{CanGenerate};
+ghost use Rattle.nr_words.specs.Words.{CanGenerate};
 ghost use Rattle.nr_top.specs.Totals.{totals_at};
 
 use crate::run::{Run, run, totals};

@@ -2,7 +2,6 @@
 #![tactic(auto)]
 
 mod checking;
-mod command;
 mod configuration;
 mod exit;
 mod generated;
@@ -18,10 +17,8 @@ mod tally;
 mod top;
 mod writing;
 
-pub use command::{FileNames, Words, generate_of, run_of};
 pub use generated::first_lines;
 pub use laws::totals_law;
 pub use runs::Runs;
 pub use status::Status;
-pub use tally::{add_tallies, no_tally};
 pub use top::{serial, serve};

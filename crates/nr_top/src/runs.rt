@@ -4,7 +4,7 @@ ghost use Rattle.std.specs.Prelude.{◌≡◌, IfOk};
 ghost use Rattle.nr_blocks.specs.Genesis.{IsSoundGenesis};
 ghost use Rattle.nr_top.specs.Generated.{generated_text};
 ghost use Rattle.nr_top.specs.Run.{chain, run_text};
-ghost use Rattle.nr_top.specs.Words.{CanGenerate};
+ghost use Rattle.nr_words.specs.Words.{CanGenerate};
 
 use crate::generated::generated;
 use crate::run::report;

@@ -5,9 +5,9 @@ ghost use Rattle.nr_bytes.specs.Answers.{GivesAs};
 ghost use Rattle.nr_top.specs.Schedule.{pieces, step_of, one_shard, taken, shard_in, height_in, line_of, schedule_read};
 ghost use Rattle.nr_top.specs.declared.schedule.ScheduleFault.TheVariants as fault;
 
-use crate::command::number_in;
 use nr_ids::{Height, ShardId};
 use nr_overlap::Event;
+use nr_words::number_in;
 use std::alloc::{AllocFailed, Global};
 
 /// A line of a schedule.

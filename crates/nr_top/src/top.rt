@@ -5,16 +5,15 @@ ghost use Rattle.std.specs.Option.{option_copied};
 ghost use Rattle.nr_blocks.specs.Genesis.{IsSoundGenesis};
 ghost use Rattle.nr_bytes.specs.Outside.{Rose};
 ghost use Rattle.nr_top.specs.Answers.{Serves, Prepares, AsksFront};
-ghost use Rattle.nr_top.specs.Input.{Report, texts, input, configured, by_command, by_configured, by_files, by_blocks_file, by_purpose, by_schedule_read, by_words, purpose_of, ToTheEnd, Scheduled, files_of, loads_of, schedule_files};
+ghost use Rattle.nr_top.specs.Input.{Report, input, configured, by_command, by_configured, by_files, by_blocks_file, by_purpose, by_schedule_read, by_words, purpose_of, ToTheEnd, Scheduled, files_of, loads_of, schedule_files};
 ghost use Rattle.nr_top.specs.Generated.{generated_text};
 ghost use Rattle.nr_top.specs.Run.{chain};
 ghost use Rattle.nr_top.specs.Schedule.{schedule_read};
-ghost use Rattle.nr_top.specs.Words.{CanGenerate, CanRun, command_in, names_in};
-ghost use Rattle.nr_top.specs.Command.{Replay, command};
+ghost use Rattle.nr_words.specs.Words.{CanGenerate, CanRun, command_in, names_in, texts};
+ghost use Rattle.nr_words.specs.Command.{Replay, command};
 ghost use Rattle.nr_top.specs.declared.status.Status.TheVariants.{Done, ReadFault, WriteFault};
 
 use crate::checking::check;
-use crate::command::{FileNames, Words, command_of};
 use crate::configuration::configuration;
 use crate::loading::load;
 use crate::replay::{blocks_of, genesis_of, schedule_of};
@@ -24,6 +23,7 @@ use crate::writing::write_all;
 use nr_blocks::{Block, Genesis};
 use nr_bytes::{Blob, List, Shelf, Sink};
 use nr_config::Config;
+use nr_words::{FileNames, Words, serial_command};
 use std::alloc::Global;
 
 /// The most bytes of a genesis, 64 MiB.
@@ -302,5 +302,8 @@ pub fn serial<S: Shelf, K: Sink>(
     // Only the files of the command were asked for, in their order.
     ensures asked { AsksFront (S.asked shelf.old) (S.asked shelf.new) (files_of (command (texts words.now))) }
 {
-    serve(alloc, &Serially, command_of(words), shelf, sink)
+    match serial_command(alloc, words) {
+        Ok(command) => serve(alloc, &Serially, command, shelf, sink),
+        Err(_) => Status::NoMemory,
+    }
 }

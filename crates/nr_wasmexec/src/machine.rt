@@ -83,6 +83,13 @@ impl Machine {
         }
     }
 
+    /// Gives the module back.
+    pub fn into_code(self) -> Valid
+        ensures { result ≡ self.program.code }
+    {
+        self.program.code
+    }
+
     /// Runs a method to its end over a host. What it did to memory and globals stays.
     ///
     /// # Errors

@@ -13,8 +13,8 @@ pub enum Moment {
     AfterPublish,
 }
 
-/// What each worker passes at three moments of each of its chunks, in its own thread. A gate may take its time, and so
-/// hold a shard back. It changes nothing of what the run gives.
+/// What each worker passes at three moments of each of its chunks, in its own thread, or in the caller's where none
+/// could be started. A gate may take its time, and so hold a shard back. It changes nothing of what the run gives.
 pub trait Gate {
     /// Lets a shard pass. The height is that of the chunk.
     fn pass(&self, shard: ShardId, height: Height, moment: Moment);

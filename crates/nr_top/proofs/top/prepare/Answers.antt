@@ -1,6 +1,6 @@
 use Rattle.std.proofs.Common.{◌∷◌, refl}
 use Rattle.nr_top.specs.Input.{config_files, schedule_files}
-use Rattle.nr_top.specs.Words.{names_in}
+use Rattle.nr_words.specs.Words.{names_in}
 use Rattle.nr_top.proofs.Preparing.{asks_more, asks_then}
 use Rattle.nr_top.proofs.top.prepare.Goals as goal
 

@@ -1,5 +1,0 @@
-use Rattle.nr_top.proofs.Commands.{no_text}
-use Rattle.nr_top.proofs.command.number_in.Goals as goal
-
-pub returns-in-Err : goal.returns-in-Err
-returns-in-Err c = no_text c.args.least c.args.most c.args.word.now c.in-Err.ensures.cases.0

@@ -1,0 +1,12 @@
+//! The words of the command line: which are a command, and what it says.
+#![tactic(auto)]
+
+mod forms;
+mod numbers;
+mod parsers;
+mod reading;
+mod words;
+
+pub use numbers::number_in;
+pub use reading::{replay_command, serial_command};
+pub use words::{FileNames, Words, is_free};
