@@ -3,9 +3,9 @@
 
 mod beside;
 mod counting;
-mod replay;
 mod text;
+mod top;
 mod totals;
 mod written;
 
-pub use replay::replay;
+pub use top::replay;

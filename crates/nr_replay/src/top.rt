@@ -49,8 +49,9 @@ pub fn replay<R: Threads + Wait + Sync, S: Shelf, K: Sink, G: Gate + Sync>(
     // Only the files of the command were asked for, in their order.
     ensures asked { AsksFront (S.asked shelf.old) (S.asked shelf.new) (files_of (replay_command (texts words.now))) }
 {
+    let runs = Beside { rt, gate };
     match replay_command(alloc, words) {
-        Ok(command) => serve(alloc, &Beside { rt, gate }, command, shelf, sink),
+        Ok(command) => serve(alloc, &runs, command, shelf, sink),
         Err(_) => Status::NoMemory,
     }
 }
