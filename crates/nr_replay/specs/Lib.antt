@@ -1,3 +1,4 @@
 pub mod Chains
 pub mod Input
+pub mod Works
 pub mod Written

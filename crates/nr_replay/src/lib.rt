@@ -1,11 +1,11 @@
 //! The replay of a chain by threads, one for each shard. What is written is the serial run's, whatever the threads do.
 #![tactic(auto)]
 
-mod beside;
 mod counting;
 mod text;
 mod top;
 mod totals;
+mod work;
 mod written;
 
 pub use top::replay;

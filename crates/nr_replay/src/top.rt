@@ -1,6 +1,6 @@
 //! The top call.
 
-ghost use Rattle.std.specs.Prelude.{◌≡◌, ◌≢◌};
+ghost use Rattle.std.specs.Prelude.{◌≡◌, ◌≢◌, IfOk};
 ghost use Rattle.nr_bytes.specs.Outside.{Rose};
 ghost use Rattle.nr_top.specs.Answers.{AsksFront, Serves};
 ghost use Rattle.nr_top.specs.Input.{files_of};
@@ -8,13 +8,15 @@ ghost use Rattle.nr_top.specs.declared.status.Status.TheVariants.{Done, ReadFaul
 ghost use Rattle.nr_words.specs.Command.{replay_command};
 ghost use Rattle.nr_words.specs.Words.{texts};
 ghost use Rattle.nr_replay.specs.Input.{replay_input};
+ghost use Rattle.nr_replay.specs.Works.{CanDo, text_of};
 
-use crate::beside::Beside;
-use nr_bytes::{Shelf, Sink};
+use crate::work::{By, Work};
+use crate::written::text_of;
+use nr_bytes::{Blob, Shelf, Sink};
 use nr_top::{Status, serve};
 use nr_words::replay_command;
 use nr_workers::Gate;
-use std::alloc::Global;
+use std::alloc::{AllocError, Global};
 use std::sync::Wait;
 use std::thread::Threads;
 
@@ -49,7 +51,12 @@ pub fn replay<R: Threads + Wait + Sync, S: Shelf, K: Sink, G: Gate + Sync>(
     // Only the files of the command were asked for, in their order.
     ensures asked { AsksFront (S.asked shelf.old) (S.asked shelf.new) (files_of (replay_command (texts words.now))) }
 {
-    let runs = Beside { rt, gate };
+    let runs = By {
+        run: |work: Work| -> Result<Blob, AllocError>
+            requires { CanDo work }
+            ensures { IfOk result (λ text. text ≡ text_of work) }
+        { text_of(rt, alloc, gate, work) },
+    };
     match replay_command(alloc, words) {
         Ok(command) => serve(alloc, &runs, command, shelf, sink),
         Err(_) => Status::NoMemory,

@@ -6,12 +6,13 @@ ghost use Rattle.nr_top.specs.Generated.{generated_text};
 ghost use Rattle.nr_top.specs.Run.{chain, run_text};
 ghost use Rattle.nr_words.specs.Words.{CanGenerate};
 ghost use Rattle.nr_replay.specs.Chains.{chain_in};
+ghost use Rattle.nr_replay.specs.Works.{CanDo, text_of};
 ghost use Rattle.nr_replay.specs.Written.{IsWritten};
 
-use crate::beside::Beside;
 use crate::counting::count_chunks;
 use crate::text::chunks_text;
 use crate::totals::{hash_of, joined, totals_text};
+use crate::work::Work;
 use nr_blocks::{Block, Genesis};
 use nr_bytes::{Blob, List};
 use nr_chunk::ChainRun;
@@ -46,8 +47,9 @@ fn begin(config: Config, genesis: Genesis, blocks: List<Block>) -> Serial<ChainR
 
 /// Runs a chain to its end, and writes its chunks and its totals.
 fn parts_of<R: Threads + Wait + Sync, G: Gate + Sync>(
+    rt: &R,
     alloc: Global,
-    runs: &Beside<'_, R, G>,
+    gate: &G,
     config: Config,
     genesis: Genesis,
     blocks: List<Block>,
@@ -59,7 +61,7 @@ fn parts_of<R: Threads + Wait + Sync, G: Gate + Sync>(
     let run = begin(config, genesis, blocks);
     let shards = run.0.shards();
     let heights = run.0.heights();
-    let ended = run_to_end(runs.rt, alloc, runs.gate, &run)?;
+    let ended = run_to_end(rt, alloc, gate, &run)?;
     let text = chunks_text(alloc, &ended.rows, shards, heights)?;
     let chunks = count_chunks(&ended.rows, shards, heights)?;
     let end = totals_text(alloc, supply, ended.tally)?;
@@ -67,9 +69,10 @@ fn parts_of<R: Threads + Wait + Sync, G: Gate + Sync>(
 }
 
 /// The report of a chain: its chunks by height and then shard, and the totals.
-pub(crate) fn report_of<R: Threads + Wait + Sync, G: Gate + Sync>(
+fn report_of<R: Threads + Wait + Sync, G: Gate + Sync>(
+    rt: &R,
     alloc: Global,
-    runs: &Beside<'_, R, G>,
+    gate: &G,
     config: Config,
     genesis: Genesis,
     blocks: List<Block>,
@@ -77,16 +80,17 @@ pub(crate) fn report_of<R: Threads + Wait + Sync, G: Gate + Sync>(
     requires { IsSoundGenesis config genesis }
     ensures { IfOk result (λ text. text ≡ run_text (chain config genesis blocks)) }
 {
-    let parts = parts_of(alloc, runs, config, genesis, blocks)?;
+    let parts = parts_of(rt, alloc, gate, config, genesis, blocks)?;
     let text = joined(parts.text, &parts.end)?;
     Ok(text)
 }
 
 /// What is written of a generated chain: the numbers that generate it, how many chunks were sealed, the digest of its
 /// report, and the totals.
-pub(crate) fn summary_of<R: Threads + Wait + Sync, G: Gate + Sync>(
+fn summary_of<R: Threads + Wait + Sync, G: Gate + Sync>(
+    rt: &R,
     alloc: Global,
-    runs: &Beside<'_, R, G>,
+    gate: &G,
     start: u64,
     shards: u32,
     blocks: u64,
@@ -95,9 +99,29 @@ pub(crate) fn summary_of<R: Threads + Wait + Sync, G: Gate + Sync>(
     ensures { IfOk result (λ text. text ≡ generated_text start shards blocks) }
 {
     let (genesis, made) = generate(alloc, start, shards, blocks)?;
-    let parts = parts_of(alloc, runs, Config::generated(), genesis, made)?;
+    let parts = parts_of(rt, alloc, gate, Config::generated(), genesis, made)?;
     let hash = hash_of(&parts.text, &parts.end);
     let first = first_lines(alloc, start, shards, blocks, parts.chunks, &hash)?;
     let text = joined(first, &parts.end)?;
     Ok(text)
+}
+
+/// Runs a chain to its end by threads, and makes the text that is written of it.
+pub(crate) fn text_of<R: Threads + Wait + Sync, G: Gate + Sync>(
+    rt: &R,
+    alloc: Global,
+    gate: &G,
+    work: Work,
+) -> Result<Blob, AllocError>
+    requires { CanDo work }
+    ensures { IfOk result (λ text. text ≡ text_of work) }
+{
+    match work {
+        Work::Chain(config, genesis, blocks) => report_of(rt, alloc, gate, config, genesis, blocks),
+        Work::Generated {
+            start,
+            shards,
+            blocks,
+        } => summary_of(rt, alloc, gate, start, shards, blocks),
+    }
 }
