@@ -20,6 +20,26 @@ use std::alloc::{AllocError, Global};
 use std::sync::Wait;
 use std::thread::Threads;
 
+/// Does what the words ask for, by these runs.
+fn serve_by<S: Shelf, K: Sink>(
+    alloc: Global,
+    words: &[String],
+    runs: &By<'_>,
+    shelf: &mut S,
+    sink: &mut K,
+) -> Status
+    ensures serves { Serves result (replay_input (texts words.now) (S.held shelf.old)) (K.taken sink.old) (K.taken sink.new) }
+    ensures untouched { result ≢ Done → result ≢ WriteFault → sink.new ≡ sink.old }
+    ensures read_fault { result ≡ ReadFault → Rose (S.faults shelf.old) (S.faults shelf.new) }
+    ensures write_fault { result ≡ WriteFault → Rose (K.faults sink.old) (K.faults sink.new) }
+    ensures asked { AsksFront (S.asked shelf.old) (S.asked shelf.new) (files_of (replay_command (texts words.now))) }
+{
+    match replay_command(alloc, words) {
+        Ok(command) => serve(alloc, runs, command, shelf, sink),
+        Err(_) => Status::NoMemory,
+    }
+}
+
 /// Does what the words ask for, with a thread for each shard: `replay CONFIG GENESIS BLOCKS` replays the blocks of a
 /// file over the genesis of another one, and writes the report. CONFIG is `free`, the built-in configuration, or the
 /// name of a file. `gen NUMBER SHARDS BLOCKS` runs the chain that these numbers generate, under the built-in
@@ -51,14 +71,15 @@ pub fn replay<R: Threads + Wait + Sync, S: Shelf, K: Sink, G: Gate + Sync>(
     // Only the files of the command were asked for, in their order.
     ensures asked { AsksFront (S.asked shelf.old) (S.asked shelf.new) (files_of (replay_command (texts words.now))) }
 {
-    let runs = By {
-        run: |work: Work| -> Result<Blob, AllocError>
+    let run = Box::new(
+        alloc,
+        |work: Work| -> Result<Blob, AllocError>
             requires { CanDo work }
             ensures { IfOk result (λ text. text ≡ text_of work) }
         { text_of(rt, alloc, gate, work) },
-    };
-    match replay_command(alloc, words) {
-        Ok(command) => serve(alloc, &runs, command, shelf, sink),
+    );
+    match run {
+        Ok(run) => serve_by(alloc, words, &By { run }, shelf, sink),
         Err(_) => Status::NoMemory,
     }
 }

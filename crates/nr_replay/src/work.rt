@@ -24,13 +24,13 @@ pub(crate) enum Work {
 
 /// What runs chains by a function. A method of a trait starts no threads by its own bounds, but it can call what does.
 #[derive(Drop)]
-pub(crate) struct By<F: Fn(Work) -> Result<Blob, AllocError>> {
-    pub(crate) run: F,
-    ghost can: { (w : _) → CanDo w → F.pre run w },
-    ghost right: { (w : _) (r : _) → CanDo w → F.post run w r → IfOk r (λ text. text ≡ text_of w) },
+pub(crate) struct By<'r> {
+    pub(crate) run: Box<dyn Fn(Work) -> Result<Blob, AllocError> + 'r>,
+    ghost can: { (w : _) → CanDo w → pre run w },
+    ghost right: { (w : _) (r : _) → CanDo w → post run w r → IfOk r (λ text. text ≡ text_of w) },
 }
 
-impl<F: Fn(Work) -> Result<Blob, AllocError>> Runs for By<F> {
+impl<'r> Runs for By<'r> {
     fn report(
         &self,
         _alloc: Global,
