@@ -1,6 +1,6 @@
 -- The verdict on a module is what validation answers.
 use Rattle.std.proofs.Common.{◌≡◌, ◌≢◌, ℕ, zero, suc, ◌+◌, ◌<◌, List, [], ◌∷◌, length, get_or, Option, Some, None}
-use Rattle.std.proofs.Common.{slice_get, Result, Ok, Err, refl, ap, ◌∙◌, inl, inr, arith}
+use Rattle.std.proofs.Common.{slice_get, Result, Ok, Err, refl, ap, ◌∙◌, subst, inl, inr, arith}
 use Rattle.nr_bytes.specs.Answers.{Gives}
 use Rattle.nr_bytes.specs.Reading.{◌>>=◌}
 use Rattle.nr_wasmtypes.specs.Body.{Body}
@@ -90,6 +90,9 @@ verdict_tells pages m = by_parts (parts_outcome pages m) refl
         module_of pages m (funcs_verdict m (length (imported_types m.imports)) m.funcs m.bodies) is
         (funcs_tell m (length (imported_types m.imports)) m.funcs m.bodies
         (λ k d lt. has_type pages m m.types m.funcs k d refl refl is lt))
+
+pub is_valid : (pages : ℕ) (m : Module) → module_verdict pages m ≡ Ok tt → IsValid pages m
+is_valid pages m e = subst (ModuleTells pages m) e (verdict_tells pages m)
 
 -- what passes has no breach
 pub passed : (pages : ℕ) (m v : Module)

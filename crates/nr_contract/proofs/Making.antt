@@ -81,17 +81,17 @@ stops_at c m method (fault.Import func place) valid breach =
 stops_at c m method fault.Memory valid breach = tt
 
 -- ---- a module that is loaded, and is kept
-pub runs_over : (pages : ℕ) (m v : Module) (r : Result (MachineView × ℕ) Refused) → v ≡ m → IsValid pages m
+pub runs_over : (pages : ℕ) (m v : Module) (r : Result (MachineView × ℕ) Refused) → v ≡ m
     → ((e : ValidFault) → IsFirstBreach pages m e → Gives {X = Module} fault.Memory (Ok v) (Err e))
     → IfOk r (λ found. found.0.program.code ≡ v) → IfOk r (RunsOver pages m)
-runs_over pages m v (Err e) same valid breach h = tt
-runs_over pages m v (Ok found) same valid breach h = (h ∙ same, passed pages m v breach, valid)
+runs_over pages m v (Err e) same breach h = tt
+runs_over pages m v (Ok found) same breach h = (h ∙ same, passed pages m v breach)
 
 pub loaded_over : (most pages : ℕ) (code : List ℕ) (m : Module) (r : Result (MachineView × ℕ) Refused)
     → decoded most code ≡ Ok m → IfOk r (RunsOver pages m)
     → IfOk r (λ found. IsLoaded most pages code found.0.program.code)
 loaded_over most pages code m (Err e) is h = tt
-loaded_over most pages code m (Ok found) is h = subst (IsLoaded most pages code) (sym h.0) (is, h.1, h.2)
+loaded_over most pages code m (Ok found) is h = subst (IsLoaded most pages code) (sym h.0) (is, h.1)
 
 pub loaded_in : (most pages : ℕ) (code : List ℕ) (m : Module) (r : Result (MachineView × ℕ) Refused)
     → IsLoaded most pages code m → IfOk r (λ found. found.0.program.code ≡ m)

@@ -3,7 +3,6 @@ use Rattle.std.specs.Prelude.{◌≡◌, ℕ, List, Option, Some, None, IsTrue, 
 use Rattle.nr_bytes.specs.Reading.{◌>>=◌}
 use Rattle.nr_config.specs.Config.{Config}
 use Rattle.nr_wasmbin.specs.Modules.{decoded}
-use Rattle.nr_wasmvalid.specs.Modules.{IsValid}
 use Rattle.nr_wasmexec.specs.Functions.{func_at}
 use Rattle.nr_wasmexec.specs.Making.{MachineView, machine_of, is_method}
 use Rattle.nr_wasmtypes.specs.declared.module.Module.{Module}
@@ -25,11 +24,11 @@ CanRun found = IsTrue (is_method (func_at found.0.program found.1))
 
 -- under these limits the code is decoded to this module, which is valid
 abbrev pub IsLoaded : ℕ → ℕ → List ℕ → Module → Type 0
-IsLoaded most pages code m = (decoded most code ≡ Ok m) × (module_verdict pages m ≡ Ok tt) × IsValid pages m
+IsLoaded most pages code m = (decoded most code ≡ Ok m) × (module_verdict pages m ≡ Ok tt)
 
 -- the machine's code is this module, which is valid
 abbrev pub RunsOver : ℕ → Module → MachineView × ℕ → Type 0
-RunsOver pages m found = (found.0.program.code ≡ m) × (module_verdict pages m ≡ Ok tt) × IsValid pages m
+RunsOver pages m found = (found.0.program.code ≡ m) × (module_verdict pages m ≡ Ok tt)
 
 abbrev pub with_machine : Config → Result (Module × ℕ) (ℕ × ℕ) → Result (MachineView × ℕ) (ℕ × ℕ)
 with_machine c found = found >>= λ it. made it.1 (machine_of c it.0)

@@ -63,7 +63,7 @@ fn prepare_valid(
     }
 }
 
-#[tactic(auto, using(crate::proofs::Making::passes_on, crate::proofs::Making::stops_at, crate::proofs::Making::runs_over))]
+#[tactic(auto, using(crate::proofs::Making::passes_on, crate::proofs::Making::stops_at))]
 fn prepare_module(
     alloc: Global,
     module: Module,
@@ -105,7 +105,7 @@ fn prepare(
 
 /// Prepares a call, by the module that is kept of the code where there is one. The code comes with it, where there was
 /// memory for it.
-#[tactic(auto, using(crate::proofs::Making::prepares_loaded, crate::proofs::Making::loaded_in))]
+#[tactic(auto, using(crate::proofs::Judging::is_valid, crate::proofs::Making::prepares_loaded, crate::proofs::Making::loaded_in))]
 pub(crate) fn prepare_kept(
     alloc: Global,
     modules: &KeptModules,
