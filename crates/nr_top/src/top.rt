@@ -235,14 +235,14 @@ pub fn serve<U: Runs, S: Shelf, K: Sink>(
 ) -> Status
     requires { IfSome command CanRun }
     // The answer is right for the command and the files, and the sink took what belongs to it.
-    ensures serves { Serves result (by_words (option_map command_in command) (S.held shelf.old)) (K.taken sink.old) (K.taken sink.new) }
+    ensures serves { Serves result (by_words (option_map command_in command.entry) (S.held shelf.old)) (K.taken sink.old) (K.taken sink.new) }
     // Before the writing the sink stays as it is, whatever it tells.
     ensures untouched { result ≢ Done → result ≢ WriteFault → sink.new ≡ sink.old }
     // A fault comes only where a count rose.
     ensures read_fault { result ≡ ReadFault → Rose (S.faults shelf.old) (S.faults shelf.new) }
     ensures write_fault { result ≡ WriteFault → Rose (K.faults sink.old) (K.faults sink.new) }
     // Only the files of the command were asked for, in their order.
-    ensures asked { AsksFront (S.asked shelf.old) (S.asked shelf.new) (files_of (option_map command_in command)) }
+    ensures asked { AsksFront (S.asked shelf.old) (S.asked shelf.new) (files_of (option_map command_in command.entry)) }
 {
     let Some(command) = command else {
         return Status::Usage;

@@ -1,19 +1,16 @@
 -- What clap makes of the words of a command.
-use Rattle.std.proofs.Common.{◌≡◌, ◌≢◌, ◌⊎◌, ◌&&◌, ◌==◌, ℕ, Bool, true, false, not, cond, List, [], ◌∷◌, length, Option, Some, None, codes, refl, sym, ap, ap₂, subst, ◌∙◌, inl, inr, true≢false, is_some, arith, option_and_then}
+use Rattle.std.proofs.Common.{◌≡◌, ◌≢◌, ◌⊎◌, ℕ, Bool, true, false, List, [], ◌∷◌, length, Option, None, refl, sym, ap, subst, ◌∙◌, inl, inr, true≢false, arith}
 use Rattle.std.specs.List.{list_all}
 use Rattle.std.specs.Str.{bytes_eq}
 use Rattle.std.proofs.lemmas.Slice.Eq.{bytes_eq-Decides}
-use Rattle.clap.specs.Faults.{fault_of}
 use Rattle.clap.specs.Kinds.{IsAmong, Kinds, or_else}
-use Rattle.clap.specs.Simple.{App, Shape, built_leaf, inherited, names_of, built}
-use Rattle.clap.specs.Walk.{Row, Text, idle, nothing_held, rows_after, subcommand_met}
-use Rattle.clap.specs.Words.{subcommand_of}
+use Rattle.clap.specs.Simple.{App, Shape, built_leaf, inherited}
+use Rattle.clap.specs.Walk.{Text, rows_after}
 use Rattle.clap.specs.declared.error.kind.ErrorKind.{ErrorKind}
 use Rattle.clap.proofs.OnLiterals.{clap_on_literals}
-use Rattle.nr_words.specs.Command.{Command, check_of, command, generate_of, is_plain, replay_command, run_of}
-use Rattle.nr_words.specs.Parsing.{files_app, files_by, forms_app, generated_app, generated_by, replay_app, replay_by, scheduled_app, scheduled_by, serial_app, serial_by}
-use Rattle.nr_words.proofs.Both.{both_left, both_right}
-use Rattle.nr_words.proofs.Plain.{entered_fails, entered_matches, form_fails, form_fault, form_rows, placed, placed_fault, stray_fails}
+use Rattle.nr_words.specs.Command.{Command, check_of, generate_of, is_plain, run_of}
+use Rattle.nr_words.specs.Parsing.{files_app, files_by, forms_app, generated_app, generated_by, scheduled_app, scheduled_by}
+use Rattle.nr_words.proofs.Plain.{form_fails, form_fault, form_rows, placed, placed_fault}
 
 -- ---- the words are a command, and what is found gives it; or they are none, and there is a fault
 abbrev pub Reads : Kinds → Option Command → Option Command → Type 0

@@ -1,12 +1,12 @@
 -- Words that aren't plain are no command.
-use Rattle.std.proofs.Common.{◌≡◌, ◌&&◌, ◌==◌, ℕ, Bool, true, false, not, List, [], ◌∷◌, map, Option, Some, None, codes, refl, sym, ap, subst, ◌∙◌, true≢false, string_bytes}
+use Rattle.std.proofs.Common.{◌≡◌, ◌&&◌, ◌==◌, ℕ, Bool, true, false, not, List, [], ◌∷◌, Option, Some, None, codes, refl, sym, ap, ◌∙◌, true≢false, string_bytes}
 use Rattle.std.specs.List.{list_all}
 use Rattle.std.specs.Str.{bytes_eq}
 use Rattle.std.specs.Global.{Global}
 use Rattle.std.specs.declared.string.String.{String}
 use Rattle.std.proofs.lemmas.Bool.{eqb-true}
 use Rattle.std.proofs.lemmas.Slice.Eq.{bytes_eq-Decides}
-use Rattle.nr_words.specs.Command.{Command, check_of, command, five_words, four_words, generate_of, generated, is_plain, number_in, replay_command, replay_words, run_of}
+use Rattle.nr_words.specs.Command.{check_of, command, five_words, four_words, generate_of, generated, is_plain, number_in, replay_command, replay_words, run_of}
 use Rattle.nr_words.specs.Words.{texts}
 
 pub all-texts : (words : List (String Global)) → list_all (λ word. is_plain (string_bytes word)) words ≡ list_all is_plain (texts words)

@@ -1,5 +1,5 @@
 -- The subcommand that was found, by its name and its rows.
-use Rattle.std.proofs.Common.{◌≡◌, ℕ, true, false, Option, Some, None, option_map, option_and_then, is_some, ap, ap₂, refl, sym, ◌∙◌, true≢false}
+use Rattle.std.proofs.Common.{◌≡◌, Option, Some, None, option_map, option_and_then, is_some, ap, refl, sym, true≢false}
 
 pub map-map : {A B C : Type 0} (f : B → C) (g : A → B) (o : Option A) → option_map (λ x. f (g x)) o ≡ option_map f (option_map g o)
 map-map f g None = refl

@@ -1,12 +1,11 @@
 -- How clap reads words that are plain.
-use Rattle.std.proofs.Common.{◌≡◌, ◌≢◌, ◌+◌, ◌&&◌, ◌==◌, ℕ, Bool, true, false, not, cond, List, [], ◌∷◌, ◌++◌, Option, Some, None, codes, fold, refl, sym, ap, ap₂, ◌∙◌, append_assoc, append-nil, true≢false, is_some}
+use Rattle.std.proofs.Common.{◌≡◌, ◌==◌, ℕ, Bool, true, false, not, cond, List, [], ◌∷◌, ◌++◌, Option, Some, None, codes, fold, refl, sym, ap, ap₂, ◌∙◌, append_assoc, append-nil, true≢false, is_some}
 use Rattle.std.specs.List.{list_all}
-use Rattle.std.specs.Option.{option_map_or}
 use Rattle.std.specs.Str.{bytes_eq}
 use Rattle.clap.specs.Kinds.{Kinds, or_else}
-use Rattle.clap.specs.Faults.{built_fault, check_fault, defaults_fault, entered_fault, level_fault, settle_fault, step_fault, stray_fault, turn_fault, walk_fault, word_fault, other_fault}
+use Rattle.clap.specs.Faults.{built_fault, check_fault, defaults_fault, entered_fault, level_fault, settle_fault, step_fault, stray_fault, turn_fault, walk_fault, word_fault}
 use Rattle.clap.specs.Simple.{App, Shape, entered, names_of}
-use Rattle.clap.specs.Walk.{Held, Names, Row, Rule, Step, Text, Waiting, Walk, after_step, arg_by_index, finished, idle, is_multiple, nothing_held, option, positional, rows_after, settled, subcommand_met, to_positional, value, walk, walk_from, walked, walked_from, word_met}
+use Rattle.clap.specs.Walk.{Held, Names, Rule, Step, Text, Waiting, Walk, after_step, arg_by_index, finished, idle, is_multiple, nothing_held, option, positional, rows_after, settled, subcommand_met, to_positional, value, walk, walk_from, walked, walked_from, word_met}
 use Rattle.clap.specs.declared.error.kind.ErrorKind.TheVariants.{InvalidSubcommand, UnknownArgument}
 use Rattle.nr_words.specs.Command.{is_plain}
 use Rattle.nr_words.proofs.Both.{both_left, both_right}

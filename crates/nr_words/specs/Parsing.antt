@@ -1,5 +1,5 @@
--- The parsers of the command line, and what their matches give. This project's own.
-use Rattle.std.specs.Prelude.{◌≡◌, ℕ, List, [], ◌∷◌, true, cond, Option, Some, None, codes, option_and_then}
+-- The parsers of the command line, as `clap` reads them, and what their matches give. This project's own.
+use Rattle.std.specs.Prelude.{◌≡◌, ℕ, List, true, cond, Option, Some, None, codes}
 use Rattle.std.specs.Str.{bytes_eq}
 use Rattle.clap.specs.Words.{AddsSubcommand, App, Row, Rule, app_of, first_of, new_app, new_rule, with_rule, with_subcommand}
 use Rattle.clap.specs.declared.builder.command.Command.{Command as Parser}

@@ -34,7 +34,7 @@ fn is_numeral(word: &[u8]) -> bool
     has_no_leading_zero(word) && all_digits(word)
 }
 
-/// The number that a word spells, where it is one of these.
+/// The same of a word that is text.
 pub(crate) fn number_of(least: u64, most: u64, word: &str) -> Option<u64>
     ensures number { result ≡ number_in least most word.now }
     ensures within { IfSome result (λ number. (least ≤ number) × (number ≤ most)) }
@@ -54,7 +54,8 @@ pub(crate) fn number_of(least: u64, most: u64, word: &str) -> Option<u64>
     }
 }
 
-/// The same of a word in bytes, which may be no text.
+/// The number that the bytes of a word spell in decimal digits without leading zeros, where it is one from `least` to
+/// `most`. Other words give nothing.
 pub fn number_in(least: u64, most: u64, word: &[u8]) -> Option<u64>
     ensures { result ≡ number_in least most word.now }
 {

@@ -9,7 +9,7 @@ use crate::numbers::number_of;
 /// The words of a command.
 #[derive(Clone, Copy, Debug)]
 pub enum Words<'a> {
-    /// `run CONFIG GENESIS BLOCKS` or `check CONFIG GENESIS BLOCKS SCHEDULE`
+    /// `run CONFIG GENESIS BLOCKS`, `replay CONFIG GENESIS BLOCKS` or `check CONFIG GENESIS BLOCKS SCHEDULE`
     ReplayFiles(FileNames<'a>),
     /// `gen NUMBER SHARDS BLOCKS`
     GenerateInput {

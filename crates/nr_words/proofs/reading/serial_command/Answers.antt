@@ -1,10 +1,10 @@
-use Rattle.std.proofs.Common.{◌≡◌, ◌∙◌, ap, ap₂, refl, sym, true, false, option_map, option_and_then, subst, rules, [], None}
+use Rattle.std.proofs.Common.{◌≡◌, ◌∙◌, ap, sym, true, false, option_map, option_and_then, subst, rules, []}
 use Rattle.std.specs.List.{list_all}
 use Rattle.std.proofs.lemmas.Result.{IfOk-weaker}
 use Rattle.clap.specs.Faults.{fault_of, is_simple_and_free}
 use Rattle.clap.specs.Kinds.{HasKind}
 use Rattle.clap.specs.Words.{App, app_of, is_simple, subcommand_of, subcommand_rows_of}
-use Rattle.nr_words.specs.Command.{command, is_plain}
+use Rattle.nr_words.specs.Command.{is_plain}
 use Rattle.nr_words.specs.Parsing.{serial_app, serial_by}
 use Rattle.nr_words.specs.Words.{command_in, texts}
 use Rattle.nr_words.proofs.Commands.{when_read, when_refused}
