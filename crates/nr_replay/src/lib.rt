@@ -5,7 +5,6 @@ mod counting;
 mod text;
 mod top;
 mod totals;
-mod work;
 mod written;
 
 pub use top::replay;

@@ -4,41 +4,20 @@ ghost use Rattle.std.specs.Prelude.{◌≡◌, ◌≢◌, IfOk};
 ghost use Rattle.nr_bytes.specs.Outside.{Rose};
 ghost use Rattle.nr_top.specs.Answers.{AsksFront, Serves};
 ghost use Rattle.nr_top.specs.Input.{files_of};
+ghost use Rattle.nr_top.specs.Works.{CanWork, work_text};
 ghost use Rattle.nr_top.specs.declared.status.Status.TheVariants.{Done, ReadFault, WriteFault};
 ghost use Rattle.nr_words.specs.Command.{replay_command};
 ghost use Rattle.nr_words.specs.Words.{texts};
 ghost use Rattle.nr_replay.specs.Input.{replay_input};
-ghost use Rattle.nr_replay.specs.Works.{CanDo, text_of};
 
-use crate::work::{By, Work};
 use crate::written::text_of;
 use nr_bytes::{Blob, Shelf, Sink};
-use nr_top::{Status, serve};
+use nr_top::{Status, Work, serve};
 use nr_words::replay_command;
 use nr_workers::Gate;
 use std::alloc::{AllocError, Global};
 use std::sync::Wait;
 use std::thread::Threads;
-
-/// Does what the words ask for, by these runs.
-fn serve_by<S: Shelf, K: Sink>(
-    alloc: Global,
-    words: &[String],
-    runs: &By<'_>,
-    shelf: &mut S,
-    sink: &mut K,
-) -> Status
-    ensures serves { Serves result (replay_input (texts words.now) (S.held shelf.old)) (K.taken sink.old) (K.taken sink.new) }
-    ensures untouched { result ≢ Done → result ≢ WriteFault → sink.new ≡ sink.old }
-    ensures read_fault { result ≡ ReadFault → Rose (S.faults shelf.old) (S.faults shelf.new) }
-    ensures write_fault { result ≡ WriteFault → Rose (K.faults sink.old) (K.faults sink.new) }
-    ensures asked { AsksFront (S.asked shelf.old) (S.asked shelf.new) (files_of (replay_command (texts words.now))) }
-{
-    match replay_command(alloc, words) {
-        Ok(command) => serve(alloc, runs, command, shelf, sink),
-        Err(_) => Status::NoMemory,
-    }
-}
 
 /// Does what the words ask for, with a thread for each shard: `replay CONFIG GENESIS BLOCKS` replays the blocks of a
 /// file over the genesis of another one, and writes the report. CONFIG is `free`, the built-in configuration, or the
@@ -71,15 +50,12 @@ pub fn replay<R: Threads + Wait + Sync, S: Shelf, K: Sink, G: Gate + Sync>(
     // Only the files of the command were asked for, in their order.
     ensures asked { AsksFront (S.asked shelf.old) (S.asked shelf.new) (files_of (replay_command (texts words.now))) }
 {
-    let run = Box::new(
-        alloc,
-        |work: Work| -> Result<Blob, AllocError>
-            requires { CanDo work }
-            ensures { IfOk result (λ text. text ≡ text_of work) }
-        { text_of(rt, alloc, gate, work) },
-    );
-    match run {
-        Ok(run) => serve_by(alloc, words, &By { run }, shelf, sink),
+    let run = |work: Work| -> Result<Blob, AllocError>
+        requires { CanWork work }
+        ensures { IfOk result (λ text. text ≡ work_text work) }
+    { text_of(rt, alloc, gate, work) };
+    match replay_command(alloc, words) {
+        Ok(command) => serve(alloc, &run, command, shelf, sink),
         Err(_) => Status::NoMemory,
     }
 }

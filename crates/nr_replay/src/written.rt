@@ -4,15 +4,14 @@ ghost use Rattle.std.specs.Prelude.{◌≡◌, IfOk};
 ghost use Rattle.nr_blocks.specs.Genesis.{IsSoundGenesis};
 ghost use Rattle.nr_top.specs.Generated.{generated_text};
 ghost use Rattle.nr_top.specs.Run.{chain, run_text};
+ghost use Rattle.nr_top.specs.Works.{CanWork, work_text};
 ghost use Rattle.nr_words.specs.Words.{CanGenerate};
 ghost use Rattle.nr_replay.specs.Chains.{chain_in};
-ghost use Rattle.nr_replay.specs.Works.{CanDo, text_of};
 ghost use Rattle.nr_replay.specs.Written.{IsWritten};
 
 use crate::counting::count_chunks;
 use crate::text::chunks_text;
 use crate::totals::{hash_of, joined, totals_text};
-use crate::work::Work;
 use nr_blocks::{Block, Genesis};
 use nr_bytes::{Blob, List};
 use nr_chunk::ChainRun;
@@ -22,7 +21,7 @@ use nr_exchange::Serial;
 use nr_gen::generate;
 use nr_overlap::Phases;
 use nr_settle::run_to_end;
-use nr_top::first_lines;
+use nr_top::{Work, first_lines};
 use nr_workers::Gate;
 use std::alloc::{AllocError, Global};
 use std::sync::Wait;
@@ -113,8 +112,8 @@ pub(crate) fn text_of<R: Threads + Wait + Sync, G: Gate + Sync>(
     gate: &G,
     work: Work,
 ) -> Result<Blob, AllocError>
-    requires { CanDo work }
-    ensures { IfOk result (λ text. text ≡ text_of work) }
+    requires { CanWork work }
+    ensures { IfOk result (λ text. text ≡ work_text work) }
 {
     match work {
         Work::Chain(config, genesis, blocks) => report_of(rt, alloc, gate, config, genesis, blocks),

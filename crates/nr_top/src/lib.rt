@@ -10,15 +10,15 @@ mod loading;
 mod refused;
 mod replay;
 mod run;
-mod runs;
 mod schedule;
 mod status;
 mod tally;
 mod top;
+mod work;
 mod writing;
 
 pub use generated::first_lines;
 pub use laws::totals_law;
-pub use runs::Runs;
 pub use status::Status;
 pub use top::{serial, serve};
+pub use work::Work;
