@@ -2,12 +2,18 @@
 """Measures whole runs of the program on inputs of rising size, and prints them as a table.
 
 usage: bench/runs.py [--program PATH] [--only accounts|blocks|transactions|shards|delayed]
+       bench/runs.py --beside [PATH] [--program PATH] [--blocks N]
 
 Build the program first: cd crates/near_serial && rt run. Each input has accounts with a key each, spread evenly over the
 shards, and blocks of transfers from each account to the next one in turn. Under `delayed` a receipt costs gas, and a chunk's
 limit lets a hundred of them run, so that the others wait. The time is that of one run; the memory is the most that it held.
+
+With `--beside` the serial program and the one with a thread for each shard (crates/near_replay) run one after the other on
+the same files, and on the same generated chains of N blocks (256), on one, two and four cores as far as there are so many.
+The ratio is the time by threads over the serial one. Both must write the same.
 """
 import argparse
+import hashlib
 import json
 import os
 import struct
@@ -100,31 +106,75 @@ def write_files(files, row, config):
     os.waitpid(child, 0)
 
 
+def timed(program, words, folder):
+    """The seconds that a run takes, the most memory that it holds, and what it writes."""
+    path = os.path.join(folder, "report")
+    report = os.open(path, os.O_WRONLY | os.O_CREAT | os.O_TRUNC)
+    begin = time.perf_counter()
+    child = os.posix_spawn(program, [program] + words, os.environ, file_actions=[(os.POSIX_SPAWN_DUP2, report, 1)])
+    _, status, used = os.wait4(child, 0)
+    taken = time.perf_counter() - begin
+    os.close(report)
+    if status != 0:
+        sys.exit(f"the program ended with {os.waitstatus_to_exitcode(status)}")
+    with open(path, "rb") as file:
+        return taken, used.ru_maxrss / 1024, hashlib.sha256(file.read()).digest()
+
+
 def run(program, row, config):
     with tempfile.TemporaryDirectory() as folder:
         files = [os.path.join(folder, part) for part in ("genesis", "blocks", "config")]
         write_files(files, row, config)
         words = ["run", "free" if config is None else files[2], files[0], files[1]]
-        report = os.open(os.path.join(folder, "report"), os.O_WRONLY | os.O_CREAT)
-        begin = time.perf_counter()
-        child = os.posix_spawn(program, [program] + words, os.environ, file_actions=[(os.POSIX_SPAWN_DUP2, report, 1)])
-        _, status, used = os.wait4(child, 0)
-        taken = time.perf_counter() - begin
-        os.close(report)
-        if status != 0:
-            sys.exit(f"the program ended with {os.waitstatus_to_exitcode(status)}")
-        return taken, used.ru_maxrss / 1024
+        return timed(program, words, folder)[:2]
+
+
+def compare(what, programs, words, folder, cores):
+    """Runs both programs on some cores, and prints a row."""
+    os.sched_setaffinity(0, cores)
+    (serial, _, first), (threads, _, second) = [timed(*pair, folder) for pair in zip(programs, words)]
+    if first != second:
+        sys.exit(f"the programs write different reports: {what}")
+    print(f"| {what} | {len(cores)} | {serial:.2f} | {threads:.2f} | {threads / serial:.2f} |", flush=True)
+
+
+def side_by_side(programs, blocks):
+    there = sorted(os.sched_getaffinity(0))
+    counts = [count for count in (1, 2, 4) if count <= len(there)]
+    print("| Input | Shards | Cores | Seconds, serial | Seconds, threads | Ratio |")
+    print("|---|---|---|---|---|---|")
+    with tempfile.TemporaryDirectory() as folder:
+        files = [os.path.join(folder, part) for part in ("genesis", "blocks", "config")]
+        for row in ROWS["shards"]:
+            write_files(files, row, None)
+            words = [[verb, "free"] + files[:2] for verb in ("run", "replay")]
+            for count in counts:
+                compare(f"{row[2] * row[1]:,} transfers | {row[3]}", programs, words, folder, there[:count])
+        for shards in (1, 4, 16):
+            words = ["gen", "7", str(shards), str(blocks)]
+            for count in counts:
+                compare(f"`{' '.join(words)}` | {shards}", programs, [words, words], folder, there[:count])
+
+
+def built(path, name):
+    here = os.path.dirname(os.path.abspath(__file__))
+    program = os.path.abspath(path or os.path.join(here, "..", "crates", name, "out", name))
+    if not os.path.exists(program):
+        sys.exit(f"no program: build it first (cd crates/{name} && rt run)")
+    return program
 
 
 def main():
-    here = os.path.dirname(os.path.abspath(__file__))
     parser = argparse.ArgumentParser()
-    parser.add_argument("--program", default=os.path.join(here, "..", "crates", "near_serial", "out", "near_serial"))
+    parser.add_argument("--program")
     parser.add_argument("--only", choices=ROWS)
+    parser.add_argument("--beside", nargs="?", const="")
+    parser.add_argument("--blocks", type=int, default=256)
     arguments = parser.parse_args()
-    program = os.path.abspath(arguments.program)
-    if not os.path.exists(program):
-        sys.exit("no program: build it first (cd crates/near_serial && rt run)")
+    program = built(arguments.program, "near_serial")
+    if arguments.beside is not None:
+        side_by_side([program, built(arguments.beside, "near_replay")], arguments.blocks)
+        return
     print("| Accounts | Blocks | Transactions a block | Shards | Seconds | MiB |")
     print("|---|---|---|---|---|---|")
     for what, rows in ROWS.items():

@@ -7,6 +7,7 @@ pub mod Generated
 pub mod Moments
 pub mod Driving
 pub mod Hashing
+pub mod Works
 pub mod Input
 pub mod Answers
 pub mod Exit

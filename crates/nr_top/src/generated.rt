@@ -110,9 +110,14 @@ fn hash_with(hashed: Hashed, end: &Blob) -> Hash32
     Hash32(hasher.finalize())
 }
 
-/// The lines before the totals.
+/// The lines before the totals: the numbers that generate a chain, how many chunks were sealed, and the digest of the
+/// report.
+///
+/// # Errors
+///
+/// Where memory runs out.
 #[tactic(auto, unfolding(nr_report::specs::Lines::hash_word))]
-fn first_lines(
+pub fn first_lines(
     alloc: Global,
     start: u64,
     shards: u32,

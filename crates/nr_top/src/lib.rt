@@ -14,8 +14,11 @@ mod schedule;
 mod status;
 mod tally;
 mod top;
+mod work;
 mod writing;
 
+pub use generated::first_lines;
 pub use laws::totals_law;
 pub use status::Status;
-pub use top::serial;
+pub use top::{serial, serve};
+pub use work::Work;

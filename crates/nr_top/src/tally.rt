@@ -1,64 +1,18 @@
 //! What a run holds at a moment.
 
-ghost use Rattle.std.specs.Prelude.{◌≡◌, ◌+◌, ◌^◌, ◌<◌, ◌≤◌, true, length, IfOk, IfSome};
+ghost use Rattle.std.specs.Prelude.{◌≡◌, ◌+◌, ◌^◌, ◌<◌, ◌≤◌, true, length, IfOk};
 ghost use Rattle.nr_chunk.specs.Chain.{rules_of};
 ghost use Rattle.nr_overlap.specs.Moment.{report_at, flight_at};
 ghost use Rattle.nr_top.specs.Moments.{IsMoment, chain_of};
-ghost use Rattle.nr_places.specs.Totals.{nothing, plus, plus_counts, list_tally, report_tally, flying_from, held_by, sealed_by, tally_of, tally_at, tally_below};
+ghost use Rattle.nr_places.specs.Totals.{list_tally, report_tally, flying_from, held_by, sealed_by, tally_of, tally_at, tally_below};
 
 use crate::run::Run;
 use nr_chunk::Tally;
 use nr_ids::{Height, ShardId};
 use nr_overlap::Phases;
 use nr_records::ChunkResult;
+use nr_tallies::{add_tallies, no_tally};
 use std::alloc::{AllocError, Global};
-
-/// The tally of nothing.
-fn nothing() -> Tally
-    ensures { result ≡ nothing }
-{
-    Tally {
-        accounts: 0,
-        receipts: 0,
-        burnt: 0,
-        places: [0, 0, 0, 0, 0],
-    }
-}
-
-fn sum_of_counts(a: [u64; 5], b: [u64; 5]) -> Option<[u64; 5]>
-    ensures { IfSome result (λ sum. sum ≡ plus_counts a b) }
-{
-    let [a0, a1, a2, a3, a4] = a;
-    let [b0, b1, b2, b3, b4] = b;
-    Some([
-        a0.checked_add(b0)?,
-        a1.checked_add(b1)?,
-        a2.checked_add(b2)?,
-        a3.checked_add(b3)?,
-        a4.checked_add(b4)?,
-    ])
-}
-
-fn sum_of(a: Tally, b: Tally) -> Option<Tally>
-    ensures { IfSome result (λ sum. sum ≡ plus a b) }
-{
-    let counts = a.places;
-    let more = b.places;
-    let places = sum_of_counts(counts, more)?;
-    Some(Tally {
-        accounts: a.accounts.checked_add(b.accounts)?,
-        receipts: a.receipts.checked_add(b.receipts)?,
-        burnt: a.burnt.checked_add(b.burnt)?,
-        places,
-    })
-}
-
-/// The sum of two tallies. One that doesn't fit its numbers counts as want of memory.
-fn add(a: Tally, b: Tally) -> Result<Tally, AllocError>
-    ensures { IfOk result (λ sum. sum ≡ plus a b) }
-{
-    sum_of(a, b).ok_or(AllocError)
-}
 
 /// What a shard holds in its world, or in its chunk at work.
 fn held_by(alloc: Global, core: &Run, shard: ShardId) -> Result<Tally, AllocError>
@@ -95,7 +49,7 @@ fn reported_by(core: &Run, shard: ShardId, height: Height) -> Result<Tally, Allo
                 Err(AllocError)
             }
         }
-        None => Ok(nothing()),
+        None => Ok(no_tally()),
     }
 }
 
@@ -108,7 +62,7 @@ fn flying(core: &Run, source: ShardId, height: Height, dest: ShardId) -> Tally
 {
     match core.flight(source, height, dest) {
         Some(list) => core.phases().tally_list(list),
-        None => nothing(),
+        None => no_tally(),
     }
 }
 
@@ -119,9 +73,9 @@ fn flying_from(core: &Run, shard: ShardId, height: Height) -> Result<Tally, Allo
     requires inside { shard.0 < (rules_of (chain_of core.now)).shards }
     ensures { IfOk result (λ tally. tally ≡ flying_from (chain_of core.now) core.now.positions shard.0 height.0) }
 {
-    let mut sum = nothing();
+    let mut sum = no_tally();
     for dest in 0..core.phases().shards() {
-        sum = add(sum, flying(core, shard, height, ShardId(dest)))?;
+        sum = add_tallies(sum, flying(core, shard, height, ShardId(dest)))?;
     }
     Ok(sum)
 }
@@ -134,7 +88,7 @@ fn sealed_by(core: &Run, shard: ShardId, height: Height) -> Result<Tally, AllocE
 {
     let report = reported_by(core, shard, height)?;
     let lists = flying_from(core, shard, height)?;
-    add(report, lists)
+    add_tallies(report, lists)
 }
 
 /// What all sealed chunks of a shard hold.
@@ -144,9 +98,9 @@ fn all_sealed_by(core: &Run, shard: ShardId) -> Result<Tally, AllocError>
     requires inside { shard.0 < (rules_of (chain_of core.now)).shards }
     ensures { IfOk result (λ tally. tally ≡ tally_below (rules_of (chain_of core.now)).heights (λ h. sealed_by (chain_of core.now) core.now.positions shard.0 (h + 1))) }
 {
-    let mut sum = nothing();
+    let mut sum = no_tally();
     for below in 0..core.phases().heights() {
-        sum = add(sum, sealed_by(core, shard, Height(below + 1))?)?;
+        sum = add_tallies(sum, sealed_by(core, shard, Height(below + 1))?)?;
     }
     Ok(sum)
 }
@@ -158,7 +112,7 @@ fn tally_of(alloc: Global, core: &Run, shard: ShardId) -> Result<Tally, AllocErr
 {
     let held = held_by(alloc, core, shard)?;
     let sealed = all_sealed_by(core, shard)?;
-    add(held, sealed)
+    add_tallies(held, sealed)
 }
 
 /// What all shards hold.
@@ -171,9 +125,9 @@ pub(crate) fn tally_all(alloc: Global, core: &Run) -> Result<Tally, AllocError>
     requires moment { IsMoment core.now }
     ensures { IfOk result (λ tally. tally ≡ tally_at (chain_of core.now) core.now.positions) }
 {
-    let mut sum = nothing();
+    let mut sum = no_tally();
     for shard in 0..core.phases().shards() {
-        sum = add(sum, tally_of(alloc, core, ShardId(shard))?)?;
+        sum = add_tallies(sum, tally_of(alloc, core, ShardId(shard))?)?;
     }
     Ok(sum)
 }

@@ -1,0 +1,27 @@
+use Rattle.std.proofs.Common.{List, Option, ap, ◌∙◌}
+use Rattle.std.specs.Global.{Vec}
+use Rattle.nr_overlap.specs.Balance.{sum_below}
+use Rattle.nr_records.specs.declared.chunk_result.ChunkResult.{ChunkResult}
+use Rattle.nr_settle.specs.Shown.{cell}
+use Rattle.nr_top.specs.Checking.{report_text}
+use Rattle.nr_top.specs.Generated.{one_if_there}
+use Rattle.nr_top.specs.Run.{chain, text_below}
+use Rattle.nr_replay.specs.Chains.{chain_in}
+use Rattle.nr_replay.proofs.Whole.{is_written}
+use Rattle.nr_replay.proofs.written.parts_of.Goals as goal
+
+pub returns : goal.returns
+returns g c =
+    let x = chain_in c.begin-run.result.0 in
+    let shards = c.shards-shards in
+    let heights = c.heights-heights in
+    let ended = c.in_ok-ended in
+    let text =
+    c.in_ok-text.ensures
+    ∙ ap (λ (rows : List (Vec (Option ChunkResult))). text_below heights.result (λ h. text_below shards.result (λ s. report_text (cell rows s h)))) c.deref.ensures.value in
+    let chunks =
+    c.in_ok-chunks.ensures
+    ∙ ap (λ (rows : List (Vec (Option ChunkResult))). sum_below heights.result (λ h. sum_below shards.result (λ s. one_if_there (cell rows s h)))) c.deref-2.ensures.value in
+    is_written x (chain c.args.config c.args.genesis c.args.blocks) ended.ended.rows.items shards.result heights.result c.args.genesis.supply
+    ended.ended.tally c.begin-run.ensures shards.ensures.count heights.ensures c.requires.tokens
+    c.in_ok-text.text c.in_ok-end.end c.in_ok-chunks.chunks ended.ensures.rows ended.ensures.tally text c.in_ok-end.ensures chunks

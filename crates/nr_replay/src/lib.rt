@@ -1,0 +1,10 @@
+//! The replay of a chain by threads, one for each shard. What is written is the serial run's, whatever the threads do.
+#![tactic(auto)]
+
+mod counting;
+mod text;
+mod top;
+mod totals;
+mod written;
+
+pub use top::replay;

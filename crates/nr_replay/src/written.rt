@@ -1,0 +1,126 @@
+//! What is written of a chain that threads ran.
+
+ghost use Rattle.std.specs.Prelude.{◌≡◌, IfOk};
+ghost use Rattle.nr_blocks.specs.Genesis.{IsSoundGenesis};
+ghost use Rattle.nr_top.specs.Generated.{generated_text};
+ghost use Rattle.nr_top.specs.Run.{chain, run_text};
+ghost use Rattle.nr_top.specs.Works.{CanWork, work_text};
+ghost use Rattle.nr_words.specs.Words.{CanGenerate};
+ghost use Rattle.nr_replay.specs.Chains.{chain_in};
+ghost use Rattle.nr_replay.specs.Written.{IsWritten};
+
+use crate::counting::count_chunks;
+use crate::text::chunks_text;
+use crate::totals::{hash_of, joined, totals_text};
+use nr_blocks::{Block, Genesis};
+use nr_bytes::{Blob, List};
+use nr_chunk::ChainRun;
+use nr_config::Config;
+use nr_contract::ContractCaller;
+use nr_exchange::Serial;
+use nr_gen::generate;
+use nr_overlap::Phases;
+use nr_settle::run_to_end;
+use nr_top::{Work, first_lines};
+use nr_workers::Gate;
+use std::alloc::{AllocError, Global};
+use std::sync::Wait;
+use std::thread::Threads;
+
+/// The text of a chain's chunks and of its totals, and how many chunks there are.
+#[derive(Drop)]
+struct Written {
+    text: Blob,
+    end: Blob,
+    chunks: u64,
+}
+
+/// A chain before its first chunk.
+fn begin(config: Config, genesis: Genesis, blocks: List<Block>) -> Serial<ChainRun<ContractCaller>>
+    requires { IsSoundGenesis config genesis }
+    ensures { chain_in result.0 ≡ chain config genesis blocks }
+{
+    let caller = ContractCaller::new(&config);
+    Serial(ChainRun::new(config, genesis, blocks, caller))
+}
+
+/// Runs a chain to its end, and writes its chunks and its totals.
+fn parts_of<R: Threads + Wait + Sync, G: Gate + Sync>(
+    rt: &R,
+    alloc: Global,
+    gate: &G,
+    config: Config,
+    genesis: Genesis,
+    blocks: List<Block>,
+) -> Result<Written, AllocError>
+    requires { IsSoundGenesis config genesis }
+    ensures { IfOk result (IsWritten (chain config genesis blocks)) }
+{
+    let supply = genesis.supply;
+    let run = begin(config, genesis, blocks);
+    let shards = run.0.shards();
+    let heights = run.0.heights();
+    let ended = run_to_end(rt, alloc, gate, &run)?;
+    let text = chunks_text(alloc, &ended.rows, shards, heights)?;
+    let chunks = count_chunks(&ended.rows, shards, heights)?;
+    let end = totals_text(alloc, supply, ended.tally)?;
+    Ok(Written { text, end, chunks })
+}
+
+/// The report of a chain: its chunks by height and then shard, and the totals.
+fn report_of<R: Threads + Wait + Sync, G: Gate + Sync>(
+    rt: &R,
+    alloc: Global,
+    gate: &G,
+    config: Config,
+    genesis: Genesis,
+    blocks: List<Block>,
+) -> Result<Blob, AllocError>
+    requires { IsSoundGenesis config genesis }
+    ensures { IfOk result (λ text. text ≡ run_text (chain config genesis blocks)) }
+{
+    let parts = parts_of(rt, alloc, gate, config, genesis, blocks)?;
+    let text = joined(parts.text, &parts.end)?;
+    Ok(text)
+}
+
+/// What is written of a generated chain: the numbers that generate it, how many chunks were sealed, the digest of its
+/// report, and the totals.
+fn summary_of<R: Threads + Wait + Sync, G: Gate + Sync>(
+    rt: &R,
+    alloc: Global,
+    gate: &G,
+    start: u64,
+    shards: u32,
+    blocks: u64,
+) -> Result<Blob, AllocError>
+    requires { CanGenerate shards blocks }
+    ensures { IfOk result (λ text. text ≡ generated_text start shards blocks) }
+{
+    let (genesis, made) = generate(alloc, start, shards, blocks)?;
+    let parts = parts_of(rt, alloc, gate, Config::generated(), genesis, made)?;
+    let hash = hash_of(&parts.text, &parts.end);
+    let first = first_lines(alloc, start, shards, blocks, parts.chunks, &hash)?;
+    let text = joined(first, &parts.end)?;
+    Ok(text)
+}
+
+/// Runs a chain to its end by threads, and makes the text that is written of it.
+pub(crate) fn text_of<R: Threads + Wait + Sync, G: Gate + Sync>(
+    rt: &R,
+    alloc: Global,
+    gate: &G,
+    work: Work,
+) -> Result<Blob, AllocError>
+    requires { CanWork work }
+    ensures { IfOk result (λ text. text ≡ work_text work) }
+{
+    match work {
+        Work::Chain(config, genesis, blocks) => report_of(rt, alloc, gate, config, genesis, blocks),
+        Work::Generated {
+            start,
+            shards,
+            blocks,
+        } => summary_of(rt, alloc, gate, start, shards, blocks),
+    }
+}

@@ -1,0 +1,7 @@
+//! Whole runs by threads, as tests of the top call.
+#![tactic(auto)]
+
+#[cfg(test)]
+mod gates;
+#[cfg(test)]
+mod rows;

@@ -1,0 +1,13 @@
+use Rattle.std.proofs.Common.{◌≡◌, drop}
+use Rattle.std.specs.List.{AllByRecursion}
+use Rattle.nr_chunk.specs.Tallies.{tally_world}
+use Rattle.nr_state.specs.Valid.{IsValidWorld}
+use Rattle.nr_settle.specs.Sums.{sum_of, sum_on}
+use Rattle.nr_settle.proofs.sums.sum_worlds.Given as goal
+
+-- the sum so far, and what is left behind it
+abbrev pub invariant-loop-world : goal.invariant-loop-world
+invariant-loop-world g l = record {
+  sum : sum_on (λ w. tally_world l.chain.config w.world) l.sum (drop l.world-index l.worlds) ≡ sum_of (λ w. tally_world l.chain.config w.world) l.worlds;
+  left : AllByRecursion (λ w. IsValidWorld l.chain.config w.world) (drop l.world-index l.worlds);
+}

@@ -1,0 +1,39 @@
+//! What a command runs.
+
+ghost use Rattle.std.specs.Prelude.{◌≡◌, IfOk};
+ghost use Rattle.nr_top.specs.Works.{CanWork, work_text};
+
+use crate::generated::generated;
+use crate::run::report;
+use nr_blocks::{Block, Genesis};
+use nr_bytes::{Blob, List};
+use nr_config::Config;
+use std::alloc::{AllocError, Global};
+
+/// What is run to its end.
+#[derive(Drop)]
+pub enum Work {
+    /// The blocks of a chain over its genesis, under a configuration.
+    Chain(Config, Genesis, List<Block>),
+    /// The chain that these numbers generate, from 1 to 16 shards and from 1 to 256 blocks.
+    Generated {
+        start: u64,
+        shards: u32,
+        blocks: u64,
+    },
+}
+
+/// Runs a chain block after block, and makes the text that is written of it.
+pub(crate) fn run_work(alloc: Global, work: Work) -> Result<Blob, AllocError>
+    requires { CanWork work }
+    ensures { IfOk result (λ text. text ≡ work_text work) }
+{
+    match work {
+        Work::Chain(config, genesis, blocks) => report(alloc, config, genesis, blocks),
+        Work::Generated {
+            start,
+            shards,
+            blocks,
+        } => generated(alloc, start, shards, blocks),
+    }
+}
