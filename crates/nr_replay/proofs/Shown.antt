@@ -1,5 +1,5 @@
 -- The reports in rows of a run that is over: their text is the report's, and there are as many as chunks were sealed.
-use Rattle.std.proofs.Common.{◌≡◌, ℕ, zero, suc, ◌+◌, ◌<◌, ◌≤◌, List, ◌++◌, Option, Some, refl, sym, ap, ◌∙◌, arith}
+use Rattle.std.proofs.Common.{◌≡◌, ℕ, zero, suc, ◌+◌, ◌<◌, List, ◌++◌, Option, refl, sym, ap, ◌∙◌, arith}
 use Rattle.std.specs.Global.{Vec}
 use Rattle.nr_chunk.specs.Chain.{Chain, rules_of}
 use Rattle.nr_chunk.specs.Views.{Kept, Working}
