@@ -5,11 +5,13 @@ use Rattle.nr_bytes.specs.Numbers.{IsBytes}
 use Rattle.nr_bytes.specs.Reading.{◌>>=◌}
 use Rattle.nr_bytes.proofs.Whole.{whole_taken}
 use Rattle.nr_config.specs.Config.{Config}
+use Rattle.nr_ids.specs.declared.key.Hash32.{Hash32}
 use Rattle.nr_records.specs.Fault.{record_fault}
 use Rattle.nr_records.specs.Reading.{all_of}
 use Rattle.nr_records.specs.declared.fault.RecordFault.{RecordFault}
 use Rattle.nr_blocks.specs.FileLaws.{blocks_law, genesis_law}
 use Rattle.nr_blocks.specs.Files.{blocks_at, blocks_bytes, IsBlocksFile, genesis_at, genesis_bytes, IsGenesisFile}
+use Rattle.nr_blocks.specs.Genesis.{code_hash_in, usage_in}
 use Rattle.nr_blocks.specs.Judging.{with_fault, founded, genesis_fault, genesis_read}
 use Rattle.nr_blocks.specs.Spellings.{file_of}
 use Rattle.nr_blocks.specs.declared.blocks_file.BlocksFile.{BlocksFile}
@@ -20,10 +22,9 @@ use Rattle.nr_blocks.specs.declared.genesis_entry.GenesisEntry.TheVariants as ki
 use Rattle.nr_blocks.specs.declared.genesis_file.GenesisFile.{GenesisFile}
 use Rattle.nr_json.specs.Blocks.{blocks_json, blocks_of}
 use Rattle.nr_json.specs.Genesis.{genesis_json, genesis_of}
-use Rattle.nr_json.specs.declared.genesis.StatedEntry.{StatedEntry}
 use Rattle.nr_json.proofs.FileLaws as forms
 use Rattle.nr_files.specs.Due.{Due, Output, Bytes, Json, IsTextOf, IsWritten, value_in, made_blocks, shown_blocks, made_genesis, shown_genesis, due, of_bytes, file_limit}
-use Rattle.nr_files.specs.Filling.{filled, filled_entry, stated, stated_entry}
+use Rattle.nr_files.specs.Filling.{filled, filled_entry, plain, stated, stated_entry}
 use Rattle.nr_files.specs.Lines.{fault_line, genesis_line, unread_line, too_long}
 use Rattle.nr_files.specs.declared.command.Work.{Work}
 use Rattle.nr_files.specs.declared.command.Work.TheVariants.{MakeBlocks, MakeGenesis, ShowBlocks, ShowGenesis}
@@ -51,18 +52,20 @@ blocks_back bytes text o fits e written = go (all_of blocks_at bytes) refl e
         blocks_again bytes text file fits is (subst (λ x. IsWritten x text) (sym same) written)
 
 -- ---- the first state
-entry_again : (c : Config) (all : List StatedEntry) (e : GenesisEntry) → filled_entry c all (stated_entry e) ≡ e
-entry_again c all (kind.Account id a) = refl
-entry_again c all (kind.Code id code) = refl
-entry_again c all (kind.Key id key access) = refl
-entry_again c all (kind.Datum id key value) = refl
+entry_again : (usage : List ℕ → ℕ) (hash : List ℕ → Hash32) (e : GenesisEntry) → filled_entry usage hash (stated_entry e) ≡ e
+entry_again usage hash (kind.Account id a) = refl
+entry_again usage hash (kind.Code id code) = refl
+entry_again usage hash (kind.Key id key access) = refl
+entry_again usage hash (kind.Datum id key value) = refl
 
-entries_again : (c : Config) (all : List StatedEntry) (es : List GenesisEntry) → map (filled_entry c all) (map stated_entry es) ≡ es
-entries_again c all [] = refl
-entries_again c all (e ∷ es) = rw (entry_again c all e, entries_again c all es) refl
+entries_again : (usage : List ℕ → ℕ) (hash : List ℕ → Hash32) (es : List GenesisEntry) → map (filled_entry usage hash) (map stated_entry es) ≡ es
+entries_again usage hash [] = refl
+entries_again usage hash (e ∷ es) = rw (entry_again usage hash e, entries_again usage hash es) refl
 
 filled_again : (c : Config) (f : GenesisFile) → filled c (stated f) ≡ f
-filled_again c f = ap (λ (es : List GenesisEntry). record { layout = f.layout; entries = es }) (entries_again c (map stated_entry f.entries) f.entries)
+filled_again c f =
+    let all = map plain (map stated_entry f.entries) in
+    ap (λ (es : List GenesisEntry). record { layout = f.layout; entries = es }) (entries_again (usage_in c all) (code_hash_in all) f.entries)
 
 abbrev whole : GenesisFile → ℕ → Genesis
 whole f tokens = record { layout = f.layout; entries = f.entries; supply = tokens }

@@ -1,143 +1,51 @@
 //! A stated genesis with what was left out, and a genesis as it is stated.
 
-ghost use Rattle.std.specs.Prelude.{◌≡◌, ◌+◌, ◌++◌, map, IfOk, OnOk};
+ghost use Rattle.std.specs.Prelude.{◌≡◌, ◌++◌, map, unwrap_or, IfOk, OnOk};
+ghost use Rattle.std.specs.BTreeMap as tree;
 ghost use Rattle.std.specs.List.{flat_map};
-ghost use Rattle.std.specs.Str.{bytes_eq};
+ghost use Rattle.std.specs.Map.{count_at};
 ghost use Rattle.nr_blocks.specs.Files.{genesis_bytes};
-ghost use Rattle.nr_blocks.specs.Genesis.{code_hash_in, entry_usage, owner, usage_if_owned, usage_in};
 ghost use Rattle.nr_blocks.specs.GenesisFiles.{entry_bytes};
-ghost use Rattle.nr_blocks.specs.Parts.{hash_with};
 ghost use Rattle.nr_blocks.specs.Spellings.{file_of};
-ghost use Rattle.nr_files.specs.Filling.{account_among, filled, filled_entry, plain, stated, stated_entry};
+ghost use Rattle.nr_files.specs.Filling.{account_by, filled, filled_entries, filled_entry, stated, stated_entry};
+ghost use Rattle.nr_state.specs.Usage.{zero_hash};
+ghost use Rattle.nr_state.specs.World.{bytes_cmp};
 
+use crate::counting::{hashes_of, usages_of};
 use nr_blocks::{Genesis, GenesisEntry};
 use nr_bytes::{Blob, List, Writer};
 use nr_config::Config;
-use nr_config::entries::ACCOUNT_BYTES;
 use nr_ids::{AccountId, Hash32};
 use nr_json::{StatedAccount, StatedEntry, StatedGenesis};
 use nr_records::{Account, Spelled};
-use nr_state::usage::{code_usage, datum_usage, key_usage};
-use nr_triedef::value_hash;
 use std::alloc::{AllocError, Global};
+use std::collections::BTreeMap;
 
-fn is_same(one: &AccountId, other: &AccountId) -> bool
-    ensures { result ≡ bytes_eq one.now other.now }
+/// The bytes that an account uses; they fit, where they are held.
+fn usage_at(usages: &BTreeMap<AccountId, u128>, id: &AccountId) -> Result<u64, AllocError>
+    ensures { IfOk result (λ count. count ≡ count_at (tree.get bytes_cmp usages.now) id.now) }
 {
-    one.bytes() == other.bytes()
+    let count = usages.get(id).copied().unwrap_or(0);
+    u64::try_from(count).map_err(|_| AllocError)
 }
 
-fn owner_of(entry: &StatedEntry) -> &AccountId
-    ensures { result.now ≡ owner (plain entry.now) }
-{
-    match entry {
-        StatedEntry::Account(id, _) => id,
-        StatedEntry::Code(id, _) => id,
-        StatedEntry::Key(id, _, _) => id,
-        StatedEntry::Datum(id, _, _) => id,
-    }
-}
-
-/// The bytes of storage that an entry costs its account.
-fn usage_of(alloc: Global, config: &Config, entry: &StatedEntry) -> Result<u128, AllocError>
-    ensures { IfOk result (λ count. count ≡ entry_usage config.now (plain entry.now)) }
-{
-    match entry {
-        StatedEntry::Account(_, _) => Ok(u128::from(config.entry(ACCOUNT_BYTES))),
-        StatedEntry::Code(_, code) => Ok(u128::from(code_usage(code.inner()))),
-        StatedEntry::Key(_, key, access) => {
-            let bytes = key_usage(alloc, config, key, access)?;
-            Ok(u128::from(bytes))
-        }
-        StatedEntry::Datum(_, key, value) => {
-            let bytes = datum_usage(config, key.inner(), value.inner())?;
-            Ok(u128::from(bytes))
-        }
-    }
-}
-
-/// The sum, with what an entry costs the account; it fits, of bytes that are held.
-fn added(
-    alloc: Global,
-    config: &Config,
-    entry: &StatedEntry,
-    id: &AccountId,
-    sum: u128,
-) -> Result<u128, AllocError>
-    ensures { IfOk result (λ after. after ≡ usage_if_owned config.now id.now (plain entry.now) + sum) }
-{
-    if !is_same(owner_of(entry), id) {
-        return Ok(sum);
-    }
-    let bytes = usage_of(alloc, config, entry)?;
-    bytes.checked_add(sum).ok_or(AllocError)
-}
-
-/// The bytes of storage that an account uses; they fit, where they are held.
-#[tactic(auto, using(crate::proofs::Sums::front_of, crate::proofs::Sums::usage_more))]
-fn usage_in(
-    alloc: Global,
-    config: &Config,
-    entries: &[StatedEntry],
-    id: &AccountId,
-) -> Result<u64, AllocError>
-    ensures { IfOk result (λ count. count ≡ usage_in config.now (map plain entries.now) id.now) }
-{
-    let mut sum: u128 = 0;
-    let mut left = entries.len();
-    while left > 0 {
-        left -= 1;
-        sum = added(alloc, config, &entries[left], id, sum)?;
-    }
-    u64::try_from(sum).map_err(|_| AllocError)
-}
-
-/// The hash of the code that an entry is, where it is the account's; else the other hash.
-fn hash_with(entry: &StatedEntry, id: &AccountId, hash: Hash32) -> Hash32
-    ensures { result ≡ hash_with (plain entry.now) id.now hash }
-{
-    match entry {
-        StatedEntry::Code(owner, code) => if is_same(owner, id) {
-            value_hash(code.inner())
-        } else {
-            hash
-        },
-        StatedEntry::Account(_, _) => hash,
-        StatedEntry::Key(_, _, _) => hash,
-        StatedEntry::Datum(_, _, _) => hash,
-    }
-}
-
-/// The hash of an account's code, or zeros.
-#[tactic(auto, using(crate::proofs::Sums::front_of, crate::proofs::Sums::hash_more))]
-fn code_hash_in(entries: &[StatedEntry], id: &AccountId) -> Hash32
-    ensures { result ≡ code_hash_in (map plain entries.now) id.now }
-{
-    let mut hash = Hash32([0; 32]);
-    let mut left = entries.len();
-    while left > 0 {
-        left -= 1;
-        hash = hash_with(&entries[left], id, hash);
-    }
-    hash
-}
-
-fn account_among(
-    alloc: Global,
-    config: &Config,
-    entries: &[StatedEntry],
+/// An account with what was left out.
+fn account_by(
+    usages: &BTreeMap<AccountId, u128>,
+    hashes: &BTreeMap<AccountId, Hash32>,
     id: &AccountId,
     account: &StatedAccount,
 ) -> Result<Account, AllocError>
-    ensures { IfOk result (λ full. full ≡ account_among config.now entries.now id.now account.now) }
+    ensures { IfOk result (λ full. full ≡ account_by (λ q. count_at (tree.get bytes_cmp usages.now) q)
+        (λ q. unwrap_or (tree.get bytes_cmp hashes.now q) zero_hash) id.now account.now) }
 {
     let code_hash = match account.code_hash {
         Some(hash) => hash,
-        None => code_hash_in(entries, id),
+        None => hashes.get(id).copied().unwrap_or(Hash32([0; 32])),
     };
     let storage_usage = match account.storage_usage {
         Some(usage) => usage,
-        None => usage_in(alloc, config, entries, id)?,
+        None => usage_at(usages, id)?,
     };
     Ok(Account {
         amount: account.amount,
@@ -148,17 +56,17 @@ fn account_among(
 }
 
 fn write_entry(
-    alloc: Global,
-    config: &Config,
-    entries: &[StatedEntry],
+    usages: &BTreeMap<AccountId, u128>,
+    hashes: &BTreeMap<AccountId, Hash32>,
     entry: &StatedEntry,
     writer: &mut Writer,
 ) -> Result<(), AllocError>
-    ensures { OnOk result (writer.new ≡ writer.old ++ entry_bytes (filled_entry config.now entries.now entry.now)) }
+    ensures { OnOk result (writer.new ≡ writer.old ++ entry_bytes (filled_entry (λ q. count_at (tree.get bytes_cmp usages.now) q)
+        (λ q. unwrap_or (tree.get bytes_cmp hashes.now q) zero_hash) entry.now)) }
 {
     match entry {
         StatedEntry::Account(id, account) => {
-            let account = account_among(alloc, config, entries, id, account)?;
+            let account = account_by(usages, hashes, id, account)?;
             writer.put_u8(0)?;
             id.write(writer)?;
             account.write(writer)
@@ -184,17 +92,32 @@ fn write_entry(
 }
 
 fn write_entries(
+    usages: &BTreeMap<AccountId, u128>,
+    hashes: &BTreeMap<AccountId, Hash32>,
+    entries: &[StatedEntry],
+    writer: &mut Writer,
+) -> Result<(), AllocError>
+    ensures { OnOk result (writer.new ≡ writer.old ++ flat_map entry_bytes (map (filled_entry
+        (λ q. count_at (tree.get bytes_cmp usages.now) q) (λ q. unwrap_or (tree.get bytes_cmp hashes.now q) zero_hash)) entries.now)) }
+{
+    for entry in entries {
+        write_entry(usages, hashes, entry, writer)?;
+    }
+    Ok(())
+}
+
+/// The bytes of entries, with what was left out.
+fn entries_bytes(
     alloc: Global,
     config: &Config,
     entries: &[StatedEntry],
     writer: &mut Writer,
 ) -> Result<(), AllocError>
-    ensures { OnOk result (writer.new ≡ writer.old ++ flat_map entry_bytes (map (filled_entry config.now entries.now) entries.now)) }
+    ensures { OnOk result (writer.new ≡ writer.old ++ flat_map entry_bytes (filled_entries config.now entries.now)) }
 {
-    for entry in entries {
-        write_entry(alloc, config, entries, entry, writer)?;
-    }
-    Ok(())
+    let usages = usages_of(alloc, config, entries)?;
+    let hashes = hashes_of(alloc, entries)?;
+    write_entries(&usages, &hashes, entries, writer)
 }
 
 /// The bytes of a genesis file, with what was left out.
@@ -213,7 +136,7 @@ pub(crate) fn genesis_bytes(
     writer.put_raw(b"NRG1")?;
     genesis.boundaries.write(&mut writer)?;
     writer.put_u32(count)?;
-    write_entries(alloc, config, entries, &mut writer)?;
+    entries_bytes(alloc, config, entries, &mut writer)?;
     Ok(writer.finish())
 }
 

@@ -5,6 +5,7 @@
 mod answer;
 mod command;
 mod configuration;
+mod counting;
 mod exit;
 mod filling;
 mod laws;
