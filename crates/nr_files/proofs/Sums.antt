@@ -1,5 +1,5 @@
 -- What is counted of each account, from the last entry to the first.
-use Rattle.std.proofs.Common.{◌≡◌, ℕ, ◌+◌, ◌<◌, Bool, true, false, cond, List, ◌∷◌, length, drop, map, get_or, Option, Some, refl, ap, sym, ◌∙◌, arith}
+use Rattle.std.proofs.Common.{◌≡◌, ℕ, ◌+◌, ◌<◌, Bool, true, false, cond, List, ◌∷◌, [], ◌++◌, append_assoc, length, drop, take, map, get_or, Option, Some, refl, ap, sym, ◌∙◌, arith}
 use Rattle.std.specs.Prelude.{unwrap_or}
 use Rattle.std.specs.declared.cmp.Ordering.TheVariants.{Less, Equal, Greater}
 use Rattle.std.specs.Ordering.{eq_by_cmp, is_eq}
@@ -7,13 +7,17 @@ use Rattle.std.specs.Cmp.Lexicographic.{texts_ties}
 use Rattle.std.specs.BTreeMap.{is_at}
 use Rattle.std.specs.Str.{bytes_eq}
 use Rattle.std.proofs.lemmas.Map.Lookups.{exact_bytes}
-use Rattle.std.proofs.lemmas.List.{drop_more}
+use Rattle.std.proofs.lemmas.List.{append-nil, drop_more, map-append, take_more}
+use Rattle.std.proofs.lemmas.List.Concat.{flat_map-append}
+use Rattle.std.specs.List.{flat_map}
 use Rattle.std.proofs.lemmas.List.Sums.{sum_by-cons}
 use Rattle.nr_config.specs.Config.{Config}
 use Rattle.nr_ids.specs.declared.key.Hash32.{Hash32}
 use Rattle.nr_state.specs.World.{bytes_cmp}
 use Rattle.nr_blocks.specs.Genesis.{code_hash_in, entry_usage, owner, usage_if_owned, usage_in}
+use Rattle.nr_blocks.specs.GenesisFiles.{entry_bytes}
 use Rattle.nr_blocks.specs.Parts.{hash_with}
+use Rattle.nr_blocks.specs.declared.genesis_entry.GenesisEntry.{GenesisEntry}
 use Rattle.nr_json.specs.declared.genesis.StatedEntry.{StatedEntry}
 use Rattle.nr_json.specs.declared.genesis.StatedEntry.TheVariants.{Account, Code, Key, Datum}
 use Rattle.nr_files.specs.Filling.{filled_entries, filled_entry, plain, usage_with}
@@ -54,7 +58,19 @@ hash_more (Code id code) es q = refl
 hash_more (Key id key access) es q = refl
 hash_more (Datum id key value) es q = refl
 
--- ---- what was counted fills all entries
+-- ---- what is written
+pub written_more : (f : StatedEntry → GenesisEntry) (es : List StatedEntry) (n : ℕ) (e : StatedEntry) (old mid new : List ℕ) → n < length es → e ≡ get_or es n e
+    → mid ≡ old ++ flat_map entry_bytes (map f (take n es)) → new ≡ mid ++ entry_bytes (f e) → new ≡ old ++ flat_map entry_bytes (map f (take (n + 1) es))
+written_more f es n e old mid new h is before now =
+    let more : take (n + 1) es ≡ take n es ++ e ∷ [] = take_more es n e h ∙ ap (λ y. take n es ++ y ∷ []) (sym is) in
+    let parts : flat_map entry_bytes (map f (take (n + 1) es)) ≡ flat_map entry_bytes (map f (take n es)) ++ entry_bytes (f e) =
+    ap (λ l. flat_map entry_bytes (map f l)) more
+    ∙ ap (flat_map entry_bytes) (map-append f (take n es) (e ∷ []))
+    ∙ flat_map-append entry_bytes (map f (take n es)) (f e ∷ [])
+    ∙ ap (λ l. flat_map entry_bytes (map f (take n es)) ++ l) (append-nil (entry_bytes (f e))) in
+    now ∙ ap (λ l. l ++ entry_bytes (f e)) before ∙ append_assoc old (flat_map entry_bytes (map f (take n es))) (entry_bytes (f e)) ∙ ap (λ l. old ++ l) (sym parts)
+
+-- what was counted fills all entries
 pub filled_by : (c : Config) (es : List StatedEntry) (usage : List ℕ → ℕ) (hash : List ℕ → Hash32) → ((q : List ℕ) → usage q ≡ usage_in c (map plain es) q)
     → ((q : List ℕ) → hash q ≡ code_hash_in (map plain es) q) → map (filled_entry usage hash) es ≡ filled_entries c es
 filled_by c es usage hash counted hashed = λ i. map (filled_entry (λ q. counted q i) (λ q. hashed q i)) es

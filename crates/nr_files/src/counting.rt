@@ -65,7 +65,8 @@ fn add_usage(
     bytes: u128,
 ) -> Result<(), AllocError>
     ensures { OnOk result ((q : List ℕ) → count_at (tree.get bytes_cmp usages.new) q
-        ≡ cond (bytes_eq id.now q) (count_at (tree.get bytes_cmp usages.old) q + bytes) (count_at (tree.get bytes_cmp usages.old) q)) }
+        ≡ cond (bytes_eq id.now q) (count_at (tree.get bytes_cmp usages.old) q + bytes)
+        (count_at (tree.get bytes_cmp usages.old) q)) }
 {
     let name = id.duplicate(alloc)?;
     let before = usages.get(&name).copied().unwrap_or(0);
@@ -84,7 +85,8 @@ fn add_entry(
         ≡ usage_with config.now (plain entry.now) q (count_at (tree.get bytes_cmp usages.old) q)) }
 {
     let bytes = usage_of(alloc, config, entry)?;
-    add_usage(alloc, usages, owner_of(entry), bytes)
+    add_usage(alloc, usages, owner_of(entry), bytes)?;
+    Ok(())
 }
 
 /// The bytes of storage that each account uses.

@@ -61,7 +61,8 @@ fn write_entry(
     entry: &StatedEntry,
     writer: &mut Writer,
 ) -> Result<(), AllocError>
-    ensures { OnOk result (writer.new ≡ writer.old ++ entry_bytes (filled_entry (λ q. count_at (tree.get bytes_cmp usages.now) q)
+    ensures { OnOk result (writer.new ≡ writer.old ++ entry_bytes (filled_entry
+        (λ q. count_at (tree.get bytes_cmp usages.now) q)
         (λ q. unwrap_or (tree.get bytes_cmp hashes.now q) zero_hash) entry.now)) }
 {
     match entry {
@@ -98,10 +99,11 @@ fn write_entries(
     writer: &mut Writer,
 ) -> Result<(), AllocError>
     ensures { OnOk result (writer.new ≡ writer.old ++ flat_map entry_bytes (map (filled_entry
-        (λ q. count_at (tree.get bytes_cmp usages.now) q) (λ q. unwrap_or (tree.get bytes_cmp hashes.now q) zero_hash)) entries.now)) }
+        (λ q. count_at (tree.get bytes_cmp usages.now) q)
+        (λ q. unwrap_or (tree.get bytes_cmp hashes.now q) zero_hash)) entries.now)) }
 {
-    for entry in entries {
-        write_entry(usages, hashes, entry, writer)?;
+    for index in 0..entries.len() {
+        write_entry(usages, hashes, &entries[index], writer)?;
     }
     Ok(())
 }
@@ -117,7 +119,8 @@ fn entries_bytes(
 {
     let usages = usages_of(alloc, config, entries)?;
     let hashes = hashes_of(alloc, entries)?;
-    write_entries(&usages, &hashes, entries, writer)
+    write_entries(&usages, &hashes, entries, writer)?;
+    Ok(())
 }
 
 /// The bytes of a genesis file, with what was left out.

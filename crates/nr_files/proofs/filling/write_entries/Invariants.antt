@@ -9,6 +9,6 @@ use Rattle.nr_blocks.specs.GenesisFiles.{entry_bytes}
 use Rattle.nr_files.specs.Filling.{filled_entry}
 use Rattle.nr_files.proofs.filling.write_entries.Given as goal
 
-abbrev pub invariant-loop-entry : goal.invariant-loop-entry
-invariant-loop-entry l =
-    l.writer ≡ l.initial.writer ++ flat_map entry_bytes (map (filled_entry (λ q. count_at (tree.get bytes_cmp l.usages) q) (λ q. unwrap_or (tree.get bytes_cmp l.hashes q) zero_hash)) (take l.entry-index l.entries))
+abbrev pub invariant-loop-index : goal.invariant-loop-index
+invariant-loop-index l =
+    l.writer ≡ l.initial.writer ++ flat_map entry_bytes (map (filled_entry (λ q. count_at (tree.get bytes_cmp l.usages) q) (λ q. unwrap_or (tree.get bytes_cmp l.hashes q) zero_hash)) (take l.index l.entries))
