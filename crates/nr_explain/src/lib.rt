@@ -9,8 +9,6 @@ mod lines;
 mod numbers;
 mod report;
 mod sentences;
-#[cfg(test)]
-mod tests;
 
 pub use explaining::explain;
 pub use report::{ReportFault, show_report};

@@ -11,8 +11,6 @@ mod filling;
 mod laws;
 mod status;
 mod telling;
-#[cfg(test)]
-mod tests;
 mod top;
 mod writing;
 

@@ -14,8 +14,6 @@ mod keys;
 mod laws;
 mod lists;
 mod plain;
-#[cfg(test)]
-mod tests;
 mod transaction;
 mod variants;
 

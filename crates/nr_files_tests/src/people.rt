@@ -1,6 +1,6 @@
 //! Sentences and objects, written out by hand.
 
-use crate::{ReportFault, explain, show_report};
+use nr_explain::{ReportFault, explain, show_report};
 use std::alloc::Global;
 use std::test::Fail;
 

@@ -1,7 +1,7 @@
 //! Small files in memory, with ample memory. The bytes and the lines are written by hand from the formats.
 
-use crate::{Status, serve_files};
 use nr_bytes::{MemoryShelf, MemorySink};
+use nr_files::{Status, serve_files};
 use std::alloc::Global;
 use std::test::Fail;
 

@@ -1,6 +1,6 @@
 //! A genesis and faulty texts, with ample memory. What is expected is written by hand from the forms.
 
-use crate::{Form, JsonFault, StatedGenesis};
+use nr_json::{Form, JsonFault, StatedGenesis};
 use serde_json::Value;
 use std::alloc::Global;
 use std::test::Fail;
