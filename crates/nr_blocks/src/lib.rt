@@ -18,8 +18,6 @@ mod laws;
 mod owners;
 mod reading;
 mod supply;
-#[cfg(test)]
-mod tests;
 mod threads;
 
 pub use block::Block;

@@ -8,7 +8,5 @@ mod draws;
 mod generated;
 mod genesis;
 mod names;
-#[cfg(test)]
-mod tests;
 
 pub use generated::generate;

@@ -1,4 +1,4 @@
-use crate::{BlocksFault, GenesisEntry, GenesisFault, GenesisFile, read_blocks, read_genesis};
+use nr_blocks::{BlocksFault, GenesisEntry, GenesisFault, GenesisFile, read_blocks, read_genesis};
 use nr_bytes::{Blob, List};
 use nr_config::Config;
 use nr_ids::{AccountId, Hash32, PublicKey};

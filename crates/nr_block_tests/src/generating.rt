@@ -1,6 +1,6 @@
-use crate::generate;
 use nr_blocks::{BlocksFile, GenesisFile, read_blocks, read_genesis};
 use nr_config::Config;
+use nr_gen::generate;
 use nr_ids::Hash32;
 use nr_records::{encode, hash_of};
 use std::alloc::{AllocError, Global};
