@@ -1,0 +1,171 @@
+//! Small files in memory, with ample memory. The bytes and the lines are written by hand from the formats.
+
+use nr_bytes::{MemoryShelf, MemorySink};
+use nr_files::{Status, serve_files};
+use std::alloc::Global;
+use std::test::Fail;
+
+/// One block with a transfer of 5 from alice to bob, and one whose chunk is missing.
+const BLOCKS: &str = "{\"blocks\": [\
+    {\"height\": 1, \"timestamp\": 0, \"chunks\": [[{\"signer_id\": \"alice\",\
+    \"public_key\": \"ed25519:0101010101010101010101010101010101010101010101010101010101010101\",\
+    \"nonce\": 1, \"receiver_id\": \"bob\",\
+    \"block_hash\": \"0000000000000000000000000000000000000000000000000000000000000000\",\
+    \"actions\": [{\"Transfer\": {\"deposit\": \"5\"}}, \"CreateAccount\"]}]]},\
+    {\"height\": 2, \"timestamp\": 7, \"chunks\": [null]}]}";
+
+/// The bytes of these blocks.
+const BLOCKS_HEX: &str =
+    "4e524231020000000100000000000000000000000000000001000000010100000005000000616c696365000101\
+    010101010101010101010101010101010101010101010101010101010101010000000000000003000000626f62\
+    000000000000000000000000000000000000000000000000000000000000000002000000030500000000000000\
+    000000000000000000020000000000000007000000000000000100000000";
+
+/// A genesis with alice, who has a key, and bob. What may be left out is left out.
+const GENESIS: &str = "{\"boundaries\": [], \"entries\": [\
+    {\"kind\": \"account\", \"account_id\": \"alice\", \"amount\": \"100\", \"locked\": \"0\"},\
+    {\"kind\": \"account\", \"account_id\": \"bob\", \"amount\": \"20\", \"locked\": \"0\"},\
+    {\"kind\": \"key\", \"account_id\": \"alice\",\
+    \"public_key\": \"ed25519:0101010101010101010101010101010101010101010101010101010101010101\",\
+    \"access_key\": {\"nonce\": 0, \"permission\": \"FullAccess\"}}]}";
+
+/// The bytes of this genesis, with the usage 182 of alice and 100 of bob.
+const GENESIS_HEX: &str =
+    "4e52473100000000030000000005000000616c6963656400000000000000000000000000000000000000000000\
+    0000000000000000000000000000000000000000000000000000000000000000000000000000000000b6000000\
+    000000000003000000626f62140000000000000000000000000000000000000000000000000000000000000000\
+    000000000000000000000000000000000000000000000000000000000000006400000000000000020500000061\
+    6c6963650001010101010101010101010101010101010101010101010101010101010101010000000000000000\
+    01";
+
+/// How a command over one file ends, and what is written.
+fn ended(alloc: Global, words: &[&str], file: &[u8]) -> Result<(Status, Vec<u8>), Fail> {
+    let mut texts = Vec::new(alloc);
+    for word in words {
+        texts.push(String::from_str(alloc, word)?)?;
+    }
+    let mut files = Vec::new(alloc);
+    files.push((String::from_str(alloc, "F")?, Vec::from_slice(alloc, file)?))?;
+    let mut shelf = MemoryShelf::new(files, Vec::new(alloc));
+    let mut sink = MemorySink::new(alloc, 100, Vec::new(alloc), 4096)?;
+    let status = serve_files(alloc, &texts, &mut shelf, &mut sink);
+    Ok((status, Vec::from_slice(alloc, sink.bytes())?))
+}
+
+/// Whether a text is refused with this line, and nothing is written.
+fn refuses(alloc: Global, words: &[&str], text: &str, line: &str) -> Result<bool, Fail> {
+    let (status, written) = ended(alloc, words, text.as_bytes())?;
+    let told = format!(in alloc; "{status}")?;
+    Ok(status.exit_status() == 20 && told.as_str() == line && written.is_empty())
+}
+
+#[test]
+fn blocks_are_made_and_shown(rt: HostRuntime) -> Result<(), Fail> {
+    let alloc = rt.alloc();
+    let (made, bytes) = ended(alloc, &["blocks", "F"], BLOCKS.as_bytes())?;
+    assert_eq!(rt; made.exit_status(), 0);
+    assert_eq!(rt; hex::encode(alloc, bytes.as_slice())?.as_str(), BLOCKS_HEX);
+    let (shown, text) = ended(alloc, &["show", "blocks", "F"], &bytes)?;
+    assert_eq!(rt; shown.exit_status(), 0);
+    let (again, same) = ended(alloc, &["blocks", "F"], &text)?;
+    assert_eq!(rt; again.exit_status(), 0);
+    assert!(rt; same == bytes);
+    Ok(())
+}
+
+#[test]
+fn a_genesis_is_made_and_shown(rt: HostRuntime) -> Result<(), Fail> {
+    let alloc = rt.alloc();
+    let (made, bytes) = ended(alloc, &["genesis", "free", "F"], GENESIS.as_bytes())?;
+    assert_eq!(rt; made.exit_status(), 0);
+    assert_eq!(rt; hex::encode(alloc, bytes.as_slice())?.as_str(), GENESIS_HEX);
+    let (shown, text) = ended(alloc, &["show", "genesis", "free", "F"], &bytes)?;
+    assert_eq!(rt; shown.exit_status(), 0);
+    let (again, same) = ended(alloc, &["genesis", "free", "F"], &text)?;
+    assert_eq!(rt; again.exit_status(), 0);
+    assert!(rt; same == bytes);
+    Ok(())
+}
+
+#[test]
+fn a_report_and_a_line_are_told(rt: HostRuntime) -> Result<(), Fail> {
+    let alloc = rt.alloc();
+    let (shown, text) = ended(alloc, &["show", "report", "F"], b"ok\n")?;
+    assert_eq!(rt; shown.exit_status(), 0);
+    assert_eq!(rt; text.as_slice(), b"{\"line\":\"ok\"}\n".as_slice());
+    assert!(rt;
+        refuses(
+            alloc,
+            &["show", "report", "F"],
+            "ok",
+            "line 1 is no line of a report"
+        )?
+    );
+    let (told, line) = ended(alloc, &["explain", "5"], b"")?;
+    assert_eq!(rt; told.exit_status(), 0);
+    assert_eq!(rt; line.as_slice(), b"A file could not be read.".as_slice());
+    let (unknown, _) = ended(alloc, &["explain", "99"], b"")?;
+    assert_eq!(rt; unknown.exit_status(), 1);
+    Ok(())
+}
+
+#[test]
+fn faults_have_the_path_of_the_member(rt: HostRuntime) -> Result<(), Fail> {
+    let alloc = rt.alloc();
+    let rows: [(&str, &str); 7] = [
+        ("{\"blocks\": [", "the text is no JSON"),
+        ("[]", "the text is no object"),
+        ("{}", ".blocks is missing"),
+        ("{\"blocks\": {}}", ".blocks is no list"),
+        ("{\"blocks\": [7]}", ".blocks[0] is no object"),
+        (
+            "{\"blocks\": [{\"height\": -1}]}",
+            ".blocks[0].height is no whole number from 0 to 18446744073709551615",
+        ),
+        (
+            "{\"blocks\": [{\"height\": 1, \"timestamp\": 0, \"chunks\": [null, [{\"signer_id\": \"A\"}]]}]}",
+            ".blocks[0].chunks[1][0].signer_id is no account id",
+        ),
+    ];
+    for (text, line) in rows {
+        assert!(rt; refuses(alloc, &["blocks", "F"], text, line)?, "{text}");
+    }
+    Ok(())
+}
+
+#[test]
+fn entries_that_do_not_hold_together_are_told(rt: HostRuntime) -> Result<(), Fail> {
+    let alloc = rt.alloc();
+    let rows: [(&str, &str); 5] = [
+        (
+            "{\"boundaries\": [], \"entries\": [{\"kind\": \"account\", \"account_id\": \"bob\",\
+                \"amount\": \"20\", \"locked\": \"0\", \"storage_usage\": 99}]}",
+            ".entries[0].storage_usage is 99, but 100 is counted",
+        ),
+        (
+            "{\"boundaries\": [], \"entries\": [{\"kind\": \"account\", \"account_id\": \"bob\",\
+                \"amount\": 20, \"locked\": \"0\"}]}",
+            ".entries[0].amount is no amount: a text of decimal digits, \
+                at most 340282366920938463463374607431768211455",
+        ),
+        (
+            "{\"boundaries\": [], \"entries\": [{\"kind\": \"code\", \"account_id\": \"bob\", \"code\": \"\"}]}",
+            ".entries[0].account_id has no account, or is `system`",
+        ),
+        (
+            "{\"boundaries\": [\"mm\", \"aa\"], \"entries\": []}",
+            ".boundaries are more than 15, or one isn't above the one before it",
+        ),
+        (
+            "{\"boundaries\": [], \"entries\": [{\"kind\": \"datum\", \"account_id\": \"bob\", \"key\": \"6\"}]}",
+            ".entries[0].key is no text of pairs of hexadecimal digits",
+        ),
+    ];
+    for (text, line) in rows {
+        assert!(rt;
+            refuses(alloc, &["genesis", "free", "F"], text, line)?,
+            "{text}"
+        );
+    }
+    Ok(())
+}

@@ -1,0 +1,9 @@
+//! Worked examples of JSON texts, of the files that are made of them, and of what is told to people.
+#![tactic(auto)]
+
+#[cfg(test)]
+mod files;
+#[cfg(test)]
+mod people;
+#[cfg(test)]
+mod texts;

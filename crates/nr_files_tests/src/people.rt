@@ -1,0 +1,108 @@
+//! Sentences and objects, written out by hand.
+
+use nr_explain::{ReportFault, explain, show_report};
+use std::alloc::Global;
+use std::test::Fail;
+
+// The sentence of a line, and nothing where it has none.
+fn told(alloc: Global, line: &str) -> Result<Vec<u8>, Fail> {
+    let mut words = Vec::new(alloc);
+    for word in line.split(' ') {
+        words.push(String::from_str(alloc, word)?)?;
+    }
+    match explain(alloc, &words)? {
+        Some(sentence) => Ok(sentence.into_inner()),
+        None => Ok(Vec::new(alloc)),
+    }
+}
+
+#[test]
+fn statuses_have_sentences(rt: HostRuntime) -> Result<(), Fail> {
+    for (line, sentence) in [
+        ("1", "The words are no command."),
+        (
+            "2 4 4",
+            "The configuration is refused: entry 4, regular_op_cost (1 to 1000000000), is out of its bounds.",
+        ),
+        (
+            "2 2 73",
+            "The configuration is refused: entry 73, delete_account_send_local (0 to 1000000000000000), is missing.",
+        ),
+        (
+            "3 4 0 182 100",
+            "The genesis is refused: entry 0 (from 0) states a storage usage of 182 bytes, but 100 are counted.",
+        ),
+        (
+            "4 1 159",
+            "The blocks are refused: the field at byte 159 (from 0) can't be read.",
+        ),
+        (
+            "8 1 3",
+            "The schedule is refused: line 3 (from 1) is no step, or names a shard that is not there.",
+        ),
+    ] {
+        assert_eq!(rt; told(rt.alloc(), line)?.as_slice(), sentence.as_bytes());
+    }
+    Ok(())
+}
+
+#[test]
+fn other_numbers_have_none(rt: HostRuntime) -> Result<(), Fail> {
+    for line in [
+        "",
+        "0",
+        "9 1",
+        "01",
+        "3 4 0 182",
+        "3 4 0 182 100 0",
+        "3 7 0 0 0",
+        "3 1 5 7 0",
+        "2 2 0",
+        "2 2 76",
+        "2 4 011",
+        "4 1 18446744073709551616",
+        "8 1 -3",
+    ] {
+        assert_eq!(rt; told(rt.alloc(), line)?.len(), 0);
+    }
+    Ok(())
+}
+
+#[test]
+fn a_report_is_shown(rt: HostRuntime) -> Result<(), Fail> {
+    let text = b"chunk 1 0 0b0b0b0b0b0b0b0b0b0b0b0b0b0b0b0b0b0b0b0b0b0b0b0b0b0b0b0b0b0b0b0b 12 3
+run a1a1a1a1a1a1a1a1a1a1a1a1a1a1a1a1a1a1a1a1a1a1a1a1a1a1a1a1a1a1a1a1 value - 0 340282366920938463463374607431768211455
+total burnt 3
+total places 1 2 3 4 18446744073709551615
+no 2 5 1
+";
+    let json =
+        b"{\"line\":\"chunk\",\"height\":1,\"shard\":0,\"state_root\":\"0b0b0b0b0b0b0b0b0b0b0b0b0b0b0b0b0b0b0b0b0b0b0b0b0b0b0b0b0b0b0b0b\",\"gas\":12,\"burnt\":\"3\"}
+{\"line\":\"run\",\"receipt_id\":\"a1a1a1a1a1a1a1a1a1a1a1a1a1a1a1a1a1a1a1a1a1a1a1a1a1a1a1a1a1a1a1a1\",\"status\":\"value\",\"value\":\"\",\"gas\":0,\"burnt\":\"340282366920938463463374607431768211455\"}
+{\"line\":\"total\",\"total\":\"burnt\",\"tokens\":\"3\"}
+{\"line\":\"total\",\"total\":\"places\",\"routed\":1,\"executed\":2,\"postponed\":3,\"delayed\":4,\"in_flight\":18446744073709551615}
+{\"line\":\"no\",\"number\":2,\"first\":5,\"second\":1}
+";
+    assert_eq!(rt; show_report(rt.alloc(), text)?.inner(), json.as_slice());
+    Ok(())
+}
+
+#[test]
+fn the_first_faulty_line_is_named(rt: HostRuntime) -> Result<(), Fail> {
+    for (text, line) in [
+        (b"ok\nok\nno 8 0 0\nok\n".as_slice(), 3),
+        (b"ok\n\nok\n".as_slice(), 2),
+        (b"ok\nok".as_slice(), 2),
+        (
+            b"total supply 340282366920938463463374607431768211456\n".as_slice(),
+            1,
+        ),
+        (b"log abc\n".as_slice(), 1),
+    ] {
+        match show_report(rt.alloc(), text) {
+            Ok(_) => assert!(rt; false),
+            Err(fault) => assert_eq!(rt; fault, ReportFault::NoLine { line }),
+        }
+    }
+    Ok(())
+}
