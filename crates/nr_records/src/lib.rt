@@ -19,8 +19,6 @@ mod lists;
 mod options;
 mod receipt;
 mod spelled;
-#[cfg(test)]
-mod tests;
 mod threads;
 mod transaction;
 

@@ -1,9 +1,9 @@
-use crate::{
+use nr_bytes::{Blob, List, Text};
+use nr_ids::{AccountId, Hash32, PublicKey};
+use nr_records::{
     AccessKey, Account, Action, ActionReceipt, Body, CallPermission, DataReceipt, DataReceiver,
     Permission, Receipt, RecordFault, Spelled, Transaction, decode, encode, hash_of,
 };
-use nr_bytes::{Blob, List, Text};
-use nr_ids::{AccountId, Hash32, PublicKey};
 use std::alloc::Global;
 use std::fmt::Debug;
 use std::process::Abort;

@@ -1,0 +1,5 @@
+//! Tests of the spelling of records.
+#![tactic(auto)]
+
+#[cfg(test)]
+mod spelling;
