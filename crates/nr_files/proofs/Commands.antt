@@ -1,5 +1,5 @@
 -- Lists of words that are no command.
-use Rattle.std.proofs.Common.{◌≡◌, ◌<◌, ◌≤◌, ℕ, List, [], ◌∷◌, length, None, refl, arith}
+use Rattle.std.proofs.Common.{◌≡◌, ◌<◌, ◌≤◌, List, [], ◌∷◌, length, None, refl, arith}
 use Rattle.std.specs.Global.{Global}
 use Rattle.std.specs.declared.string.String.{String}
 use Rattle.nr_files.specs.Command.{command, texts}

@@ -3,30 +3,21 @@ use Rattle.std.proofs.Common.{ℕ, suc, ◌≤◌, List, [], ◌∷◌, map, Opt
 use Rattle.std.specs.Ordering.{match_ordering, nat_cmp}
 use Rattle.std.specs.Cmp.Lexicographic.{slice_cmp}
 use Rattle.std.specs.Prelude.{codes}
-use Rattle.serde_json.specs.Data.{Data, string, object, Members, no_members, member, put, depth, items_depth, members_depth}
+use Rattle.serde_json.specs.Data.{Data, string, Members, no_members, member, put, depth, items_depth, members_depth}
 use Rattle.serde_json.specs.Read.{max_depth}
 use Rattle.serde_json.specs.View.{items_of}
-use Rattle.nr_records.specs.declared.access_key.AccessKey.{AccessKey}
-use Rattle.nr_records.specs.declared.access_key.CallPermission.{CallPermission}
-use Rattle.nr_records.specs.declared.access_key.Permission.{Permission}
 use Rattle.nr_records.specs.declared.access_key.Permission.TheVariants.{Call, Full}
-use Rattle.nr_records.specs.declared.action.Action.{Action}
 use Rattle.nr_records.specs.declared.action.Action.TheVariants.{CreateAccount, DeployContract, FunctionCall, Transfer, AddKey, DeleteKey, DeleteAccount}
-use Rattle.nr_records.specs.declared.transaction.Transaction.{Transaction}
-use Rattle.nr_blocks.specs.declared.block.Block.{Block}
-use Rattle.nr_blocks.specs.declared.blocks_file.BlocksFile.{BlocksFile}
 use Rattle.nr_json.specs.AccessKeys.{call_permission_json, permission_json, access_key_json}
 use Rattle.nr_json.specs.Actions.{action_json}
 use Rattle.nr_json.specs.Blocks.{chunk_json, block_json, blocks_json}
 use Rattle.nr_json.specs.Genesis.{with_optional, account_members, entry_json, genesis_json}
-use Rattle.nr_json.specs.Keys.{hash_json, key_json}
+use Rattle.nr_json.specs.Keys.{hash_json}
 use Rattle.nr_json.specs.Lists.{list_json, option_json}
-use Rattle.nr_json.specs.Plain.{number_json, amount_json, bytes_json}
+use Rattle.nr_json.specs.Plain.{number_json, amount_json}
 use Rattle.nr_json.specs.Transactions.{transaction_json}
 use Rattle.nr_json.specs.declared.genesis.StatedAccount.{StatedAccount}
-use Rattle.nr_json.specs.declared.genesis.StatedEntry.{StatedEntry}
 use Rattle.nr_json.specs.declared.genesis.StatedEntry.TheVariants.{Account, Code, Key, Datum}
-use Rattle.nr_json.specs.declared.genesis.StatedGenesis.{StatedGenesis}
 
 -- ---- members
 by_order : (o : Ordering) (a b c : Members) (n : ℕ) → members_depth a ≤ n → members_depth b ≤ n → members_depth c ≤ n → members_depth (match_ordering o a b c) ≤ n

@@ -1,5 +1,5 @@
 -- What is spelled by bytes fits the JSON form.
-use Rattle.std.proofs.Common.{◌≡◌, ℕ, suc, ◌^◌, List, [], ◌∷◌, ◌++◌, length, drop, map, Option, Some, None, refl, subst}
+use Rattle.std.proofs.Common.{ℕ, suc, List, [], ◌∷◌, ◌++◌, length, map, Some, None, refl, subst}
 use Rattle.std.specs.List.{flat_map, AllByRecursion}
 use Rattle.std.proofs.Math.Seq.{drop-append_seam}
 use Rattle.std.proofs.lemmas.List.Concat.{flat_map-cons}
@@ -7,7 +7,7 @@ use Rattle.nr_bytes.specs.Numbers.{little, IsBytes}
 use Rattle.nr_bytes.specs.Spelling.{list, FitsList}
 use Rattle.nr_bytes.specs.Writing.{counted_bytes}
 use Rattle.nr_bytes.proofs.Steps.{IsBytes-front, IsBytes-drop}
-use Rattle.nr_ids.specs.Keys.{hash_bytes, IsHash, key_bytes, IsKey}
+use Rattle.nr_ids.specs.Keys.{hash_bytes, key_bytes, IsKey}
 use Rattle.nr_ids.specs.declared.key.PublicKey.TheVariants.{Ed25519, Secp256k1}
 use Rattle.nr_records.specs.AccessKeys.{access_key_bytes, IsPermission}
 use Rattle.nr_records.specs.Accounts.{account_bytes}
@@ -23,7 +23,7 @@ use Rattle.nr_blocks.specs.Files.{blocks_magic, blocks_bytes, IsBlocksFile, gene
 use Rattle.nr_blocks.specs.GenesisFiles.{entry_bytes, IsEntry}
 use Rattle.nr_blocks.specs.declared.genesis_entry.GenesisEntry.TheVariants as kind
 use Rattle.nr_blocks.specs.declared.genesis_file.GenesisFile.{GenesisFile}
-use Rattle.nr_json.specs.Fits.{FitsHash, FitsKey, FitsPermission, FitsAction, FitsTransaction}
+use Rattle.nr_json.specs.Fits.{FitsKey, FitsPermission, FitsAction, FitsTransaction}
 use Rattle.nr_json.specs.FitsFiles.{FitsBlock, FitsBlocks, FitsEntry, FitsGenesis}
 use Rattle.nr_files.specs.Filling.{stated_entry, stated}
 

@@ -23,9 +23,9 @@ use Rattle.nr_blocks.specs.declared.genesis_file.GenesisFile.{GenesisFile}
 use Rattle.nr_json.specs.Blocks.{blocks_json, blocks_of}
 use Rattle.nr_json.specs.Genesis.{genesis_json, genesis_of}
 use Rattle.nr_json.proofs.FileLaws as forms
-use Rattle.nr_files.specs.Due.{Due, Output, Bytes, Json, IsTextOf, IsWritten, value_in, made_blocks, shown_blocks, made_genesis, shown_genesis, due, of_bytes, file_limit}
+use Rattle.nr_files.specs.Due.{Output, Bytes, Json, IsTextOf, IsWritten, value_in, made_blocks, shown_blocks, made_genesis, shown_genesis, due, of_bytes, file_limit}
 use Rattle.nr_files.specs.Filling.{filled, filled_entry, plain, stated, stated_entry}
-use Rattle.nr_files.specs.Lines.{fault_line, genesis_line, unread_line, too_long}
+use Rattle.nr_files.specs.Lines.{genesis_line, unread_line, too_long}
 use Rattle.nr_files.specs.declared.command.Work.{Work}
 use Rattle.nr_files.specs.declared.command.Work.TheVariants.{MakeBlocks, MakeGenesis, ShowBlocks, ShowGenesis}
 use Rattle.nr_files.proofs.Depths.{blocks_depth, genesis_depth}

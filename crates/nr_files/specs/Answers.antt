@@ -1,10 +1,10 @@
 -- Which answers of the top call are right for what was asked for, and what the sink then took.
-use Rattle.std.specs.Prelude.{◌≡◌, ℕ, List, [], ◌∷◌, ◌++◌, Option, Some, None, Result, Ok, Err, string_bytes}
+use Rattle.std.specs.Prelude.{◌≡◌, ℕ, List, ◌++◌, Option, Some, None, Result, Ok, Err, string_bytes}
 use Rattle.std.specs.Global.{Global}
 use Rattle.std.specs.declared.string.String.{String}
 use Rattle.nr_bytes.specs.Outside.{Grew}
 use Rattle.nr_config.specs.Config.{Config}
-use Rattle.nr_files.specs.Command.{Asked, Nothing, File, Sentence, Request}
+use Rattle.nr_files.specs.Command.{Asked, Nothing, File, Sentence}
 use Rattle.nr_files.specs.Due.{Due, Output, IsWritten, due}
 use Rattle.nr_files.specs.Input.{Configured, By, Bars, Unknown, configured}
 use Rattle.nr_files.specs.declared.command.Work.{Work}

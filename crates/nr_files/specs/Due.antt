@@ -1,5 +1,5 @@
 -- What a file asks for: the bytes or the JSON value that are written for it, or the line that says why not. Borsh 1.0 and RFC 8259; the lines are this project's own.
-use Rattle.std.specs.Prelude.{◌≡◌, ℕ, ◌≤◌, List, [], ◌∷◌, ◌++◌, length, true, false, cond, Option, Some, None, Result, Ok, Err, nat_lt, codes, IsUtf8}
+use Rattle.std.specs.Prelude.{◌≡◌, ℕ, ◌≤◌, List, length, true, false, cond, Option, Some, None, Result, Ok, Err, nat_lt, IsUtf8}
 use Rattle.std.specs.Str.{is_utf8}
 use Rattle.json.specs.Layout.{pretty}
 use Rattle.json.specs.Lex.{tokens}

@@ -1,5 +1,5 @@
 -- How a program ends with an answer: its exit status, and the line that tells it. This project's own.
-use Rattle.std.specs.Prelude.{ℕ, List, [], ◌∷◌, ◌++◌, decimal}
+use Rattle.std.specs.Prelude.{ℕ, List, ◌∷◌, ◌++◌, decimal}
 use Rattle.nr_files.specs.declared.status.Status.{Status}
 use Rattle.nr_files.specs.declared.status.Status.TheVariants.{Done, Usage, Config, Faulty, ReadFault, WriteFault, NoMemory}
 

@@ -1,5 +1,5 @@
 -- A stated genesis with what was left out: usage and code hashes as nr_blocks counts them. This project's own.
-use Rattle.std.specs.Prelude.{ℕ, ◌+◌, List, map, cond, Option, Some, None, unwrap_or}
+use Rattle.std.specs.Prelude.{ℕ, ◌+◌, List, map, cond, Some, unwrap_or}
 use Rattle.std.specs.Str.{bytes_eq}
 use Rattle.nr_config.specs.Config.{Config}
 use Rattle.nr_ids.specs.declared.key.Hash32.{Hash32}

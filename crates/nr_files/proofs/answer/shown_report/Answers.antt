@@ -1,6 +1,3 @@
-use Rattle.nr_explain.specs.Report.{report_json}
-use Rattle.nr_explain.specs.declared.report.ReportFault.TheVariants.{Memory}
-use Rattle.nr_files.specs.Lines.{report_line}
 use Rattle.nr_files.proofs.Steps.{report_refused, report_shown}
 use Rattle.nr_files.proofs.answer.shown_report.Goals as goal
 
