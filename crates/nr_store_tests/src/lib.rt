@@ -1,4 +1,4 @@
-//! Tests of both stores side by side.
+//! Tests of the nodes of the state trie, and of both stores side by side.
 #![tactic(auto)]
 
 #[cfg(test)]
@@ -7,6 +7,8 @@ mod calls;
 mod counting;
 #[cfg(test)]
 mod many;
+#[cfg(test)]
+mod nodes;
 #[cfg(test)]
 mod pair;
 #[cfg(test)]

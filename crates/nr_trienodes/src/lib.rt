@@ -14,8 +14,6 @@ mod packed;
 mod part;
 mod putting;
 mod settling;
-#[cfg(test)]
-mod tests;
 mod threads;
 mod trimming;
 mod turn;

@@ -1,4 +1,4 @@
-use Rattle.nr_trienodes.proofs.tests.hashed.Given as goal
+use Rattle.nr_store_tests.proofs.nodes.hashed.Given as goal
 
 abbrev pub ghosts-counted : goal.ghosts-counted
 ghosts-counted a = record { name = a.blank.name; parts = a.blank.parts }

@@ -1,8 +1,8 @@
 ghost use Rattle.std.specs.Prelude.{◌≡◌, ◌<◌, Some, None, IfOk};
 ghost use Rattle.nr_trienodes.specs.Roots.{IsRoot};
 
-use crate::{NodeId, Nodes, NodesFault};
 use nr_triedef::{Steps, bytes_of};
+use nr_trienodes::{NodeId, Nodes, NodesFault};
 use std::alloc::AllocError;
 use std::marker::Brand;
 use std::sync::ledger::{Blank, Ledger};
