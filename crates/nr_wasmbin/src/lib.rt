@@ -11,8 +11,6 @@ mod module;
 mod parts;
 mod plain;
 mod section;
-#[cfg(test)]
-mod tests;
 
 pub use fault::DecodeFault;
 pub use module::decode;

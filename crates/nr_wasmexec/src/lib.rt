@@ -14,8 +14,6 @@ mod program;
 mod running;
 mod stop;
 mod storing;
-#[cfg(test)]
-mod tests;
 mod thread;
 mod variable;
 

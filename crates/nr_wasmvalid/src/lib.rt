@@ -12,8 +12,6 @@ mod parts;
 mod plain;
 mod refusal;
 mod stacks;
-#[cfg(test)]
-mod tests;
 mod threads;
 mod typing;
 mod valid;

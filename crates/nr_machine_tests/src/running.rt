@@ -1,8 +1,8 @@
 //! Small modules, run over a host that only counts gas. The values are the standard's.
 
-use crate::{Gauge, Machine, RunStop};
 use nr_bytes::{List, Text};
 use nr_config::Config;
+use nr_wasmexec::{Gauge, Machine, RunStop};
 use nr_wasmtypes::{
     Arith, Compare, Export, ExportKind, FuncBody, FuncType, Instr, Limits, Module, Plain, ValType,
 };

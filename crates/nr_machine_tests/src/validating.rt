@@ -1,9 +1,9 @@
-use super::*;
 use nr_bytes::{List, Text};
 use nr_config::Config;
 use nr_wasmtypes::{
     Arith, FuncBody, FuncType, Import, ImportKind, Instr, Load, Module, Plain, ValType,
 };
+use nr_wasmvalid::{ValidFault, validate};
 use std::alloc::{AllocError, Global};
 
 fn list<T>(alloc: Global) -> List<T> {

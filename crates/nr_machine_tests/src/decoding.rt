@@ -1,6 +1,5 @@
-use crate::fault::DecodeFault;
-use crate::module::decode;
 use nr_config::Config;
+use nr_wasmbin::{DecodeFault, decode};
 use std::alloc::Global;
 
 fn fault_of(alloc: Global, bytes: &[u8]) -> Option<DecodeFault> {
