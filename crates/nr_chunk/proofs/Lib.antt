@@ -1,3 +1,4 @@
 pub mod Values
 pub mod Converted
 pub mod Tallied
+pub mod Lent
