@@ -1,6 +1,7 @@
 //! What is written of a chain that threads ran.
 
 ghost use Rattle.std.specs.Prelude.{◌≡◌, IfOk};
+ghost use Rattle.std.specs.Thread.{IsSend};
 ghost use Rattle.nr_blocks.specs.Genesis.{IsSoundGenesis};
 ghost use Rattle.nr_top.specs.Generated.{generated_text};
 ghost use Rattle.nr_top.specs.Run.{chain, run_text};
@@ -22,6 +23,7 @@ use nr_gen::generate;
 use nr_overlap::Phases;
 use nr_settle::run_to_end;
 use nr_top::{Work, first_lines};
+use nr_wasmtypes::FuncBody;
 use nr_workers::Gate;
 use std::alloc::{AllocError, Global};
 use std::sync::Wait;
@@ -44,6 +46,10 @@ fn begin(config: Config, genesis: Genesis, blocks: List<Block>) -> Serial<ChainR
     Serial(ChainRun::new(config, genesis, blocks, caller))
 }
 
+fn is_send<T: Send>()
+    ensures { IsSend T.row }
+{}
+
 /// Runs a chain to its end, and writes its chunks and its totals.
 fn parts_of<R: Threads + Wait + Sync, G: Gate + Sync>(
     rt: &R,
@@ -56,6 +62,7 @@ fn parts_of<R: Threads + Wait + Sync, G: Gate + Sync>(
     requires { IsSoundGenesis config genesis }
     ensures { IfOk result (IsWritten (chain config genesis blocks)) }
 {
+    is_send::<List<FuncBody>>();
     let supply = genesis.supply;
     let run = begin(config, genesis, blocks);
     let shards = run.0.shards();

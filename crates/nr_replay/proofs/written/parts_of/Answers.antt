@@ -1,3 +1,7 @@
+use denote.Exit.{yes}
+use denote.Param.Send.{param_send, param_sync, arg_send, arg_sync}
+use Rattle.nr_contract.specs.contracts.caller.ContractCaller as C
+use Rattle.nr_replay.proofs.Crossing.{caller_send, caller_sync}
 use Rattle.std.proofs.Common.{List, Option, ap, ◌∙◌}
 use Rattle.std.specs.Global.{Vec}
 use Rattle.nr_overlap.specs.Balance.{sum_below}
@@ -25,3 +29,9 @@ returns g c =
     is_written x (chain c.args.config c.args.genesis c.args.blocks) ended.ended.rows.items shards.result heights.result c.args.genesis.supply
     ended.ended.tally c.begin-run.ensures shards.ensures.count heights.ensures c.requires.tokens
     c.in_ok-text.text c.in_ok-end.end c.in_ok-chunks.chunks ended.ensures.rows ended.ensures.tally text c.in_ok-end.ensures chunks
+
+pub run_to_end-requires-send-C : goal.run_to_end-requires-send-C
+run_to_end-requires-send-C g c κs within = param_send 1 _ (arg_send _ yes C.the_row (caller_send (record { owned = c.is_send.ensures.owned; leaving = λ k x w. tt })))
+
+pub run_to_end-requires-sync-C : goal.run_to_end-requires-sync-C
+run_to_end-requires-sync-C g c κs within = param_sync 1 _ (arg_sync _ yes C.the_row (caller_sync (record { owned = c.is_send.ensures.owned; leaving = λ k x w. tt })))
