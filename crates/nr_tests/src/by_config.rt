@@ -2,7 +2,7 @@
 
 use crate::config_text::{FEES, config_text};
 use crate::setting::{end_of, run_by, shelf_of, shelf_with};
-use crate::{sharded, worked};
+use crate::{contracts, sharded, worked};
 use nr_top::Status;
 use std::alloc::Global;
 use std::test::Fail;
@@ -19,18 +19,21 @@ type Changes = &'static [&'static [(&'static str, &'static str)]];
 /// One run with its report.
 struct Row {
     changes: Changes,
+    genesis: &'static str,
     blocks: &'static str,
     report: &'static str,
 }
 
-const ROWS: [Row; 6] = [
+const ROWS: [Row; 12] = [
     Row {
         changes: &[&FEES],
+        genesis: worked::GENESIS,
         blocks: worked::TRANSFER,
         report: worked::FEES_REPORT,
     },
     Row {
         changes: &[&FEES],
+        genesis: worked::GENESIS,
         blocks: worked::TRANSFER_IN_FLIGHT,
         report: worked::FEES_IN_FLIGHT_REPORT,
     },
@@ -43,23 +46,63 @@ const ROWS: [Row; 6] = [
             ],
             &FEES,
         ],
+        genesis: worked::GENESIS,
         blocks: worked::TRANSFER_TO_HERSELF,
         report: worked::FEES_AT_HOME_REPORT,
     },
     Row {
         changes: &[&FEES],
+        genesis: worked::GENESIS,
         blocks: worked::GREATEST_TRANSFER,
         report: worked::OVERFLOW_REPORT,
     },
     Row {
         changes: &[&FEES],
+        genesis: worked::GENESIS,
         blocks: sharded::TO_NOBODY,
         report: sharded::TO_NOBODY_REPORT,
     },
     Row {
         changes: &[&[("chunk_gas_limit", "1"), ("action_receipt_send_local", "1")]],
+        genesis: worked::GENESIS,
         blocks: worked::TRANSFER_TO_HERSELF,
         report: sharded::LATE_REPORT,
+    },
+    Row {
+        changes: &[&FEES],
+        genesis: contracts::CALL_KEY_GENESIS,
+        blocks: contracts::CALL_KEY_BLOCKS,
+        report: contracts::CALL_KEY_REPORT,
+    },
+    Row {
+        changes: &[&FEES],
+        genesis: contracts::LOW_ALLOWANCE_GENESIS,
+        blocks: contracts::CALL_KEY_BLOCKS,
+        report: contracts::LOW_ALLOWANCE_REPORT,
+    },
+    Row {
+        changes: &[&[("chunk_gas_limit", "1000")]],
+        genesis: contracts::LATE_DATA_GENESIS,
+        blocks: contracts::LATE_DATA_BLOCKS,
+        report: contracts::LATE_DATA_REPORT,
+    },
+    Row {
+        changes: &[&FEES],
+        genesis: contracts::DROPPED_PROMISES_GENESIS,
+        blocks: contracts::DROPPED_PROMISES_BLOCKS,
+        report: contracts::DROPPED_PROMISES_REPORT,
+    },
+    Row {
+        changes: &[&FEES],
+        genesis: contracts::REFUND_TO_DELETED_GENESIS,
+        blocks: contracts::REFUND_TO_DELETED_BLOCKS,
+        report: contracts::REFUND_TO_DELETED_REPORT,
+    },
+    Row {
+        changes: &[&[("reward_numerator", "30")], &FEES],
+        genesis: contracts::REWARD_OF_DELETED_GENESIS,
+        blocks: contracts::REWARD_OF_DELETED_BLOCKS,
+        report: contracts::REWARD_OF_DELETED_REPORT,
     },
 ];
 
@@ -67,7 +110,7 @@ const ROWS: [Row; 6] = [
 fn runs_are_reported(rt: HostRuntime) -> Result<(), Fail> {
     for row in &ROWS {
         let config = config_text(rt.alloc(), row.changes)?;
-        let ended = run_by(rt.alloc(), config.as_bytes(), worked::GENESIS, row.blocks)?;
+        let ended = run_by(rt.alloc(), config.as_bytes(), row.genesis, row.blocks)?;
         assert_eq!(rt; ended.status, Status::Done);
         assert!(rt; ended.asked(rt.alloc(), ALL)?);
         assert_eq!(rt; ended.sink.bytes(), row.report.as_bytes());

@@ -60,11 +60,22 @@ const TWO_SHARDS: &str = "gen 4 2 2\n\
      total burnt 17174400\n\
      total places 44 16 0 0 28\n";
 
+/// What the run of four blocks of four shards writes.
+const FOUR_SHARDS: &str = "gen 9 4 4\n\
+     chunks 15\n\
+     digest 91b2f69b5debb9811a667eb512f024f98b1edb6b9727c3f46481619f0301608e\n\
+     total supply 36000000000000000000000000\n\
+     total accounts 35999999999999995654239782\n\
+     total receipts 4166071218\n\
+     total burnt 179689000\n\
+     total places 220 135 8 0 77\n";
+
 #[test]
 fn generated_chains_are_run(rt: HostRuntime) -> Result<(), Fail> {
-    let rows: [(&[&str], &str); 2] = [
+    let rows: [(&[&str], &str); 3] = [
         (&["gen", "1", "1", "1"], SMALLEST),
         (&["gen", "4", "2", "2"], TWO_SHARDS),
+        (&["gen", "9", "4", "4"], FOUR_SHARDS),
     ];
     for (words, text) in rows {
         let shelf = shelf_of(rt.alloc(), worked::GENESIS, worked::TRANSFER, &[])?;

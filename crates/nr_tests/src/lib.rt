@@ -10,6 +10,8 @@ mod checked;
 #[cfg(test)]
 mod config_text;
 #[cfg(test)]
+mod contracts;
+#[cfg(test)]
 mod ends;
 #[cfg(test)]
 mod faulty;

@@ -1,7 +1,7 @@
 //! Runs that end with a report.
 
 use crate::setting::run;
-use crate::{sharded, worked};
+use crate::{contracts, sharded, worked};
 use nr_top::Status;
 use std::test::Fail;
 
@@ -12,7 +12,7 @@ struct Row {
     report: &'static str,
 }
 
-const ROWS: [Row; 12] = [
+const ROWS: [Row; 16] = [
     Row {
         genesis: worked::GENESIS,
         blocks: worked::TRANSFER,
@@ -72,6 +72,26 @@ const ROWS: [Row; 12] = [
         genesis: sharded::SIXTEEN_GENESIS,
         blocks: sharded::SIXTEEN_BLOCKS,
         report: sharded::SIXTEEN_REPORT,
+    },
+    Row {
+        genesis: contracts::ENDLESS_LOOP_GENESIS,
+        blocks: contracts::ENDLESS_LOOP_BLOCKS,
+        report: contracts::ENDLESS_LOOP_REPORT,
+    },
+    Row {
+        genesis: contracts::FLOAT_GENESIS,
+        blocks: contracts::ENDLESS_LOOP_BLOCKS,
+        report: contracts::FLOAT_REPORT,
+    },
+    Row {
+        genesis: contracts::STORAGE_GENESIS,
+        blocks: contracts::STORAGE_BLOCKS,
+        report: contracts::STORAGE_REPORT,
+    },
+    Row {
+        genesis: contracts::ABSENT_CALLED_GENESIS,
+        blocks: contracts::ABSENT_CALLED_BLOCKS,
+        report: contracts::ABSENT_CALLED_REPORT,
     },
 ];
 
