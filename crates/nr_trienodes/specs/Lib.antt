@@ -8,4 +8,5 @@ pub mod Listing
 pub mod Naming
 pub mod Packing
 pub mod Parts
+pub mod Held
 pub mod Bodies

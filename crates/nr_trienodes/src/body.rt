@@ -7,15 +7,16 @@ ghost use Rattle.nr_trienodes.specs.Shape.{no_children};
 ghost use Rattle.nr_trienodes.specs.Packing.{IsPackable, none_number};
 ghost use Rattle.nr_trienodes.specs.Bodies.{value_of, row_of, row_in};
 
+use crate::bytes::Bytes;
 use crate::packed::{Packed, Row};
-use nr_bytes::Blob;
+use crate::spare::Spare;
 use std::alloc::{AllocError, Global};
 use std::sync::Arc;
 
 /// A value that nodes share, and children.
 #[derive(Drop)]
 pub(crate) struct Both {
-    pub(crate) value: Arc<Blob>,
+    pub(crate) value: Arc<Bytes>,
     pub(crate) row: Packed,
 }
 
@@ -23,7 +24,7 @@ pub(crate) struct Both {
 #[derive(Drop)]
 pub(crate) enum Body {
     Bare,
-    Value(Arc<Blob>),
+    Value(Arc<Bytes>),
     Children(Box<Packed>),
     Both(Box<Both>),
 }
@@ -42,7 +43,7 @@ pub(crate) fn is_alone(row: &Row) -> bool
 }
 
 // What has no children.
-fn alone(value: Option<Arc<Blob>>) -> Body
+fn alone(value: Option<Arc<Bytes>>) -> Body
     ensures value { value_of result ≡ option_map arc_value value }
     ensures row { row_of result ≡ no_children }
 {
@@ -52,14 +53,19 @@ fn alone(value: Option<Arc<Blob>>) -> Body
     }
 }
 
-// What has children.
-fn with_row(alloc: Global, value: Option<Arc<Blob>>, row: Packed) -> Result<Body, AllocError>
+/// What has a value, or none, and children.
+pub(crate) fn with_row(
+    alloc: Global,
+    spare: &mut Spare,
+    value: Option<Arc<Bytes>>,
+    row: Packed,
+) -> Result<Body, AllocError>
     ensures value { IfOk result (λ body. value_of body ≡ option_map arc_value value) }
     ensures row { IfOk result (λ body. row_of body ≡ row) }
 {
     match value {
         None => {
-            let row = Box::new(alloc, row)?;
+            let row = spare.boxed(alloc, row)?;
             Ok(Body::Children(row))
         }
         Some(value) => {
@@ -71,7 +77,12 @@ fn with_row(alloc: Global, value: Option<Arc<Blob>>, row: Packed) -> Result<Body
 
 impl Body {
     /// What has this value and these children.
-    pub(crate) fn of(alloc: Global, value: Option<Arc<Blob>>, row: &Row) -> Result<Body, AllocError>
+    pub(crate) fn of(
+        alloc: Global,
+        spare: &mut Spare,
+        value: Option<Arc<Bytes>>,
+        row: &Row,
+    ) -> Result<Body, AllocError>
         requires { IsPackable row.now }
         ensures value { IfOk result (λ body. value_of body ≡ option_map arc_value value) }
         ensures row { IfOk result (λ body. row_of body ≡ row.now) }
@@ -80,12 +91,12 @@ impl Body {
         if is_alone(row) {
             return Ok(alone(value));
         }
-        let body = with_row(alloc, value, Packed::of(row))?;
+        let body = with_row(alloc, spare, value, Packed::of(row))?;
         Ok(body)
     }
 
     /// The value once more, for another node.
-    pub(crate) fn shared_value(&self) -> Result<Option<Arc<Blob>>, AllocError>
+    pub(crate) fn shared_value(&self) -> Result<Option<Arc<Bytes>>, AllocError>
         ensures { IfOk result (λ value. option_map arc_value value ≡ value_of self.now) }
     {
         match self.value() {
@@ -97,29 +108,20 @@ impl Body {
         }
     }
 
-    /// The same with another child.
-    pub(crate) fn with_child(
-        &self,
-        alloc: Global,
-        nibble: u8,
-        below: u32,
-    ) -> Result<Body, AllocError>
+    /// The children with another one.
+    pub(crate) fn row_with(&self, nibble: u8, below: u32) -> Packed
         requires nibble { nibble < 16 }
         requires below { below < none_number }
-        ensures value { IfOk result (λ body. value_of body ≡ value_of self.now) }
-        ensures row { IfOk result (λ body. row_of body ≡ slice_set (row_of self.now) nibble (Some below)) }
+        ensures { result ≡ slice_set (row_of self.now) nibble (Some below) }
     {
-        let value = self.shared_value()?;
-        let row = match self.children() {
+        match self.children() {
             None => Packed::none().with(nibble, below),
             Some(row) => row.with(nibble, below),
-        };
-        let body = with_row(alloc, value, row)?;
-        Ok(body)
+        }
     }
 
     /// The value.
-    pub(crate) fn value(&self) -> Option<&Arc<Blob>>
+    pub(crate) fn value(&self) -> Option<&Arc<Bytes>>
         ensures { option_map arc_value (option_copied result) ≡ value_of self.now }
     {
         match self {

@@ -3,6 +3,7 @@
 #![tactic(auto)]
 
 mod body;
+mod bytes;
 mod cutting;
 mod fault;
 mod finding;
@@ -14,6 +15,7 @@ mod packed;
 mod part;
 mod putting;
 mod settling;
+mod spare;
 mod threads;
 mod trimming;
 mod turn;

@@ -1,6 +1,6 @@
 //! The arena.
 
-ghost use Rattle.std.specs.Prelude.{◌≡◌, ◌<◌, ◌≤◌, ◌-◌, ◌+◌, ◌^◌, ◌==◌, ◌*◌, ◌/◌, ℕ, true, false, [], length, map, drop, replicate, slice_set, is_some, count_by, sum_by, Some, None, IfOk, OnErr};
+ghost use Rattle.std.specs.Prelude.{◌≡◌, ◌<◌, ◌≤◌, ◌-◌, ◌+◌, ◌^◌, ◌==◌, ◌*◌, ◌/◌, ℕ, true, false, [], length, map, take, drop, replicate, slice_set, is_some, count_by, sum_by, Some, None, IfOk, OnErr};
 ghost use Rattle.std.specs.Option.{option_copied, option_map};
 ghost use Rattle.std.specs.Arc.{arc_value};
 ghost use Rattle.nr_triedef.specs.Node.{IsNibbles};
@@ -12,15 +12,19 @@ ghost use Rattle.nr_trienodes.specs.Tries.{summary_at, front_usage, own_usage, I
 ghost use Rattle.nr_trienodes.specs.Naming.{new_name, renamed, with_names, IsKept, IsClosed, IsSlid, AreNamed, SlidesOn};
 ghost use Rattle.nr_trienodes.specs.Views.{shape, shapes, Sound, IsIn, Adds, KeepsHash};
 
-use crate::body::{Body, is_alone};
+use crate::body::{Body, is_alone, with_row};
+use crate::bytes::Bytes;
 use crate::packed::{Packed, Row};
 use crate::part::Part;
+use crate::spare::Spare;
 use crate::trimming::{Names, is_kept};
-use nr_bytes::Blob;
 use nr_triedef::NodeHash;
 use std::alloc::{AllocError, Global};
 use std::marker::Model;
 use std::sync::Arc;
+
+// A trim keeps at most as many boxes as it leaves nodes, or this many.
+const SPARE: usize = 1 << 14;
 
 /// The name of a node: the number of older nodes in its arena. A trim gives new names.
 #[derive(Clone, Copy, Debug, PartialEq, Eq)]
@@ -36,6 +40,14 @@ struct Node {
     hash: Option<NodeHash>,
 }
 
+// What a node holds, for another one.
+#[derive(Drop)]
+struct Like {
+    part: Part,
+    value: Option<Arc<Bytes>>,
+    row: Packed,
+}
+
 /// Nodes of tries, each named by how many are older. Contracts see them with the newest first.
 #[derive(Drop)]
 pub struct Nodes {
@@ -43,6 +55,8 @@ pub struct Nodes {
     nodes: Vec<Node>,
     // The list of the last trim, of which the next one takes the memory over.
     names: Names,
+    // The boxes of nodes that the last trim dropped.
+    spare: Spare,
 }
 
 impl Model for Nodes {
@@ -130,6 +144,28 @@ fn slide_one(nodes: &mut Vec<Node>, names: &mut Names, id: usize, next: u32) -> 
     next + 1
 }
 
+// Drops the last node, where there are more than so many.
+fn drop_last(nodes: &mut Vec<Node>, spare: &mut Spare, count: usize)
+    ensures { take count nodes.new.items ≡ take count nodes.old.items }
+{
+    if nodes.len() <= count {
+        return;
+    }
+    if let Some(node) = nodes.pop() {
+        spare.keep(node.body, count.max(SPARE));
+    }
+}
+
+// Drops the nodes behind so many, and keeps their boxes.
+fn drop_behind(nodes: &mut Vec<Node>, spare: &mut Spare, count: usize)
+    ensures { nodes.new.items ≡ take count nodes.old.items }
+{
+    for _ in count..nodes.len() {
+        drop_last(nodes, spare, count);
+    }
+    nodes.truncate(count);
+}
+
 impl Nodes {
     /// An arena without nodes. It takes no memory.
     pub fn new(alloc: Global) -> Nodes
@@ -139,6 +175,7 @@ impl Nodes {
             alloc,
             nodes: Vec::new(alloc),
             names: Vec::new(alloc),
+            spare: Spare::new(alloc),
         }
     }
 
@@ -188,12 +225,12 @@ impl Nodes {
     {
         match self.node(id).body.value() {
             None => None,
-            Some(value) => Some(value.inner()),
+            Some(value) => Some(value.as_slice()),
         }
     }
 
     /// The value once more, for another node.
-    pub(crate) fn shared_value(&self, id: u32) -> Result<Option<Arc<Blob>>, AllocError>
+    pub(crate) fn shared_value(&self, id: u32) -> Result<Option<Arc<Bytes>>, AllocError>
         requires { id < length self.now }
         ensures { IfOk result (λ value. option_map arc_value value ≡ (shape_at self.now id).value) }
     {
@@ -288,7 +325,7 @@ impl Nodes {
     pub(crate) fn push(
         &mut self,
         part: Vec<u8>,
-        value: Option<Arc<Blob>>,
+        value: Option<Arc<Bytes>>,
         row: Row,
     ) -> Result<u32, AllocError>
         requires small { IsNibbles part.items }
@@ -304,9 +341,10 @@ impl Nodes {
         let below = self.usage_below(&row)?;
         let alone = is_alone(&row);
         let usage = usage_of(&part, &value, alone, below)?;
-        let body = Body::of(self.alloc, value, &row)?;
+        let body = Body::of(self.alloc, &mut self.spare, value, &row)?;
+        let front = Part::of(self.alloc, &part)?;
         let node = Node {
-            part: Part::of(part),
+            part: front,
             body,
             usage,
             hash: None,
@@ -333,26 +371,20 @@ impl Nodes {
         Ok(usage)
     }
 
-    // A node like another one, with another child in place of one.
-    fn node_with(&self, id: u32, nibble: u8, below: u32, usage: u64) -> Result<Node, AllocError>
+    // What a node holds, with another child in place of one.
+    fn like(&self, id: u32, nibble: u8, below: u32) -> Result<Like, AllocError>
         requires there { id < length self.now }
         requires nibble { nibble < 16 }
         requires below { below < none_number }
-        ensures part { IfOk result (λ n. n.part ≡ (shape_at self.now id).part) }
-        ensures value { IfOk result (λ n. value_of n.body ≡ (shape_at self.now id).value) }
-        ensures row { IfOk result (λ n. row_of n.body ≡ slice_set (shape_at self.now id).below nibble (Some below)) }
-        ensures usage { IfOk result (λ n. n.usage ≡ usage) }
-        ensures hash { IfOk result (λ n. n.hash ≡ None) }
+        ensures part { IfOk result (λ l. l.part ≡ (shape_at self.now id).part) }
+        ensures value { IfOk result (λ l. option_map arc_value l.value ≡ (shape_at self.now id).value) }
+        ensures row { IfOk result (λ l. l.row ≡ slice_set (shape_at self.now id).below nibble (Some below)) }
     {
-        let like = self.node(id);
-        let part = like.part.try_clone(self.alloc)?;
-        let body = like.body.with_child(self.alloc, nibble, below)?;
-        Ok(Node {
-            part,
-            body,
-            usage,
-            hash: None,
-        })
+        let node = self.node(id);
+        let part = node.part.try_clone()?;
+        let value = node.body.shared_value()?;
+        let row = node.body.row_with(nibble, below);
+        Ok(Like { part, value, row })
     }
 
     /// Adds a node like another one, with another child in place of one. Besides memory, the refusal
@@ -370,7 +402,15 @@ impl Nodes {
             return Err(AllocError);
         }
         let usage = self.usage_with(id, nibble, below)?;
-        let node = self.node_with(id, nibble, below, usage)?;
+        let like = self.like(id, nibble, below)?;
+        let Like { part, value, row } = like;
+        let body = with_row(self.alloc, &mut self.spare, value, row)?;
+        let node = Node {
+            part,
+            body,
+            usage,
+            hash: None,
+        };
         self.nodes.push(node)?;
         Ok(name)
     }
@@ -406,7 +446,7 @@ impl Nodes {
         for id in 0..self.nodes.len() {
             next = slide_one(&mut self.nodes, names, id, next);
         }
-        self.nodes.truncate(next as usize);
+        drop_behind(&mut self.nodes, &mut self.spare, next as usize);
     }
 
     /// Drops all but the oldest nodes.
@@ -459,14 +499,14 @@ fn part_usage(part: &[u8], leaf: bool) -> Result<u64, AllocError>
     Ok(usage)
 }
 
-fn value_usage_of(value: &Option<Arc<Blob>>) -> Result<u64, AllocError>
+fn value_usage_of(value: &Option<Arc<Bytes>>) -> Result<u64, AllocError>
     ensures size { IfOk result (λ n. n ≡ value_usage (option_map arc_value value.now)) }
     ensures few { IfOk result (λ n. n < 2 ^ 34) }
 {
     match value {
         None => Ok(0),
         Some(value) => {
-            let length = length_of(value.inner())?;
+            let length = length_of(value.as_slice())?;
             Ok(50 + length)
         }
     }
@@ -475,7 +515,7 @@ fn value_usage_of(value: &Option<Arc<Blob>>) -> Result<u64, AllocError>
 // The usage of a node, of which the children have this together.
 fn usage_of(
     part: &[u8],
-    value: &Option<Arc<Blob>>,
+    value: &Option<Arc<Bytes>>,
     alone: bool,
     below: u64,
 ) -> Result<u64, AllocError>

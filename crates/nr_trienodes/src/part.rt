@@ -1,20 +1,23 @@
 //! The nibbles in front of a node's keys.
 
-ghost use Rattle.std.specs.Prelude.{◌≡◌, IfOk};
+ghost use Rattle.std.specs.Prelude.{◌≡◌, ◌≤◌, length, IfOk};
 
+use crate::bytes::Bytes;
 use std::alloc::{AllocError, Global};
 use std::marker::Model;
+use std::sync::Arc;
 
 // Up to so many nibbles take no memory of their own.
-const SHORT: usize = 22;
+const SHORT: usize = 14;
 
 #[derive(Drop)]
 enum Form {
-    Short { count: u8, nibbles: [u8; 22] },
-    Long(Vec<u8>),
+    Short { count: u8, nibbles: [u8; 14] },
+    Long(Arc<Bytes>),
 }
 
-/// A list of nibbles that takes no memory of its own where it is short.
+/// A list of nibbles that takes no memory of its own where it is short, and else shares it with its
+/// copies.
 #[derive(Drop)]
 pub(crate) struct Part {
     form: Form,
@@ -32,31 +35,41 @@ impl Model for Part {
     ghost invariant = { IsPart };
 }
 
+// A short list, in place.
+fn short(nibbles: &[u8]) -> Part
+    requires { length nibbles.now ≤ 14 }
+    ensures { result ≡ nibbles.now }
+{
+    let count = nibbles.len();
+    let mut short = [0; 14];
+    for i in 0..count {
+        short[i] = nibbles[i];
+    }
+    Part {
+        form: Form::Short {
+            count: count as u8,
+            nibbles: short,
+        },
+    }
+}
+
 impl Part {
     /// The list.
-    pub(crate) fn of(nibbles: Vec<u8>) -> Part
-        ensures { result ≡ nibbles.items }
+    pub(crate) fn of(alloc: Global, nibbles: &[u8]) -> Result<Part, AllocError>
+        ensures { IfOk result (λ part. part ≡ nibbles.now) }
     {
-        let count = nibbles.len();
-        if count > SHORT {
-            return Part {
-                form: Form::Long(nibbles),
-            };
+        if nibbles.len() <= SHORT {
+            return Ok(short(nibbles));
         }
-        let mut short = [0; 22];
-        for i in 0..count {
-            short[i] = nibbles[i];
-        }
-        Part {
-            form: Form::Short {
-                count: count as u8,
-                nibbles: short,
-            },
-        }
+        let bytes = Bytes::of(alloc, nibbles)?;
+        let long = Arc::new(alloc, bytes)?;
+        Ok(Part {
+            form: Form::Long(long),
+        })
     }
 
     /// The same list.
-    pub(crate) fn try_clone(&self, alloc: Global) -> Result<Part, AllocError>
+    pub(crate) fn try_clone(&self) -> Result<Part, AllocError>
         ensures { IfOk result (λ part. part ≡ self.now) }
     {
         match &self.form {
@@ -67,9 +80,9 @@ impl Part {
                 },
             }),
             Form::Long(nibbles) => {
-                let nibbles = Vec::from_slice(alloc, nibbles.as_slice())?;
+                let other = Arc::try_clone(nibbles)?;
                 Ok(Part {
-                    form: Form::Long(nibbles),
+                    form: Form::Long(other),
                 })
             }
         }

@@ -9,13 +9,13 @@ ghost use Rattle.nr_trienodes.specs.Views.{Sound};
 ghost use Rattle.nr_trienodes.specs.Turns.{left, Parts, StopsSo, Extends, Changes};
 ghost use Rattle.nr_trienodes.specs.Roots.{IsRoot, IsChanged, contents, name_in, Keeps, FullsSo};
 
+use crate::bytes::Bytes;
 use crate::fault::NodesFault;
 use crate::nodes::{NodeId, Nodes};
 use crate::settling::{
     behind, climb, front_of, replace_child, replace_value, settle, sprout, with_child,
 };
 use crate::turn::{Stop, nibble_at, walk};
-use nr_bytes::Blob;
 use std::alloc::AllocError;
 use std::sync::Arc;
 
@@ -42,7 +42,7 @@ fn split(
     shared: usize,
     key: &[u8],
     at: usize,
-    value: Arc<Blob>,
+    value: Arc<Bytes>,
 ) -> Result<Option<u32>, AllocError>
     requires node { node < length nodes.old }
     requires parts { Parts (shape_at nodes.old node) key.now at shared }
@@ -77,7 +77,7 @@ fn put_at(
     stop: Stop,
     key: &[u8],
     at: usize,
-    value: Arc<Blob>,
+    value: Arc<Bytes>,
 ) -> Result<Option<u32>, AllocError>
     requires node { node < length nodes.old }
     requires stop { StopsSo (shape_at nodes.old node) key.now at stop }
@@ -109,7 +109,7 @@ fn put_below(
     nodes: &mut Nodes,
     root: u32,
     key: &[u8],
-    value: Arc<Blob>,
+    value: Arc<Bytes>,
 ) -> Result<Option<u32>, AllocError>
     requires { root < length nodes.old }
     ensures few { length nodes.new ≤ length nodes.old + length (nibbles key.now) + 3 }
@@ -128,7 +128,7 @@ fn put_from(
     nodes: &mut Nodes,
     root: Option<NodeId>,
     key: &[u8],
-    value: Arc<Blob>,
+    value: Arc<Bytes>,
 ) -> Result<Option<u32>, AllocError>
     requires { IsRoot nodes.old root }
     ensures few { length nodes.new ≤ length nodes.old + length (nibbles key.now) + 3 }
@@ -148,12 +148,12 @@ fn put_from(
 }
 
 // A value, to be shared by nodes.
-fn held_value(nodes: &Nodes, value: &[u8]) -> Result<Arc<Blob>, AllocError>
+fn held_value(nodes: &Nodes, value: &[u8]) -> Result<Arc<Bytes>, AllocError>
     ensures { IfOk result (λ held. arc_value held ≡ value.now) }
 {
     let alloc = nodes.allocator();
-    let bytes = Vec::from_slice(alloc, value)?;
-    let held = Arc::new(alloc, Blob::of(bytes))?;
+    let bytes = Bytes::of(alloc, value)?;
+    let held = Arc::new(alloc, bytes)?;
     Ok(held)
 }
 

@@ -9,10 +9,10 @@ ghost use Rattle.nr_trienodes.specs.Tries.{IsLinked};
 ghost use Rattle.nr_trienodes.specs.Views.{Sound, IsIn};
 ghost use Rattle.nr_trienodes.specs.Turns.{AreSteps, Extends, Settles, Sprouts, Climbs, LinksSo, left};
 
+use crate::bytes::Bytes;
 use crate::nodes::Nodes;
 use crate::packed::Row;
 use crate::turn::{Way, rest_of};
-use nr_bytes::Blob;
 use std::alloc::AllocError;
 use std::sync::Arc;
 
@@ -45,7 +45,7 @@ fn links_of(row: &Row) -> Links
 fn place(
     nodes: &mut Nodes,
     part: Vec<u8>,
-    value: Option<Arc<Blob>>,
+    value: Option<Arc<Bytes>>,
     row: Row,
 ) -> Result<u32, AllocError>
     requires small { IsNibbles part.items }
@@ -84,7 +84,7 @@ fn join(nodes: &mut Nodes, front: Vec<u8>, nibble: u8, child: u32) -> Result<u32
 pub(crate) fn settle(
     nodes: &mut Nodes,
     part: Vec<u8>,
-    value: Option<Arc<Blob>>,
+    value: Option<Arc<Bytes>>,
     row: Row,
 ) -> Result<Option<u32>, AllocError>
     requires small { IsNibbles part.items }
@@ -176,7 +176,7 @@ pub(crate) fn replace_child(
 pub(crate) fn replace_value(
     nodes: &mut Nodes,
     node: u32,
-    value: Option<Arc<Blob>>,
+    value: Option<Arc<Bytes>>,
 ) -> Result<Option<u32>, AllocError>
     requires { node < length nodes.old }
     ensures few { length nodes.new ≤ length nodes.old + 1 }
@@ -218,7 +218,7 @@ pub(crate) fn sprout(
     nodes: &mut Nodes,
     key: &[u8],
     at: usize,
-    value: Arc<Blob>,
+    value: Arc<Bytes>,
 ) -> Result<u32, AllocError>
     ensures few { length nodes.new ≤ length nodes.old + 1 }
     ensures grows { Extends nodes.old nodes.new }

@@ -1,4 +1,4 @@
-use Rattle.std.proofs.Common.{◌∙◌, ◌≤◌, ◌*◌, ap, sym, subst, length, List, Option, arith, map, replicate, None}
+use Rattle.std.proofs.Common.{◌∙◌, ◌≤◌, ◌*◌, ap, sym, subst, length, List, Option, arith, map, None}
 use Rattle.std.proofs.lemmas.List.{length-replicate}
 use Rattle.std.specs.Prelude.{sum_by}
 use Rattle.std.specs.FinMap.{entries}

@@ -13,7 +13,7 @@ invariant_of-self-2 c =
     let all =
     pushed c.self.inside.nodes.items c.push.new.self.items c.args.self.now c.count-id.result _ c.args.part.items
     (option_map arc_value c.args.value) c.args.row c.in_ok-below.below c.is_alone-alone.result c.self.view_is
-    c.self.invariant.sound c.count-id.ensures.count room refl c.of-2.ensures c.in_ok-body.ensures.value
+    c.self.invariant.sound c.count-id.ensures.count room refl (c.in_ok-front.ensures ∙ c.deref-2.ensures.value) c.in_ok-body.ensures.value
     c.in_ok-body.ensures.row c.of.ensures.sixteen c.requires.small c.requires.linked c.requires.back
     c.in_ok-below.ensures c.is_alone-alone.ensures
     (c.in_ok-usage.ensures
@@ -28,7 +28,7 @@ returns-clause-ok c =
     omega (arith, count_view c.self.inside.nodes.items c.args.self.now c.self.view_is) in
     (pushed c.self.inside.nodes.items c.push.new.self.items c.args.self.now c.count-id.result _ c.args.part.items
     (option_map arc_value c.args.value) c.args.row c.in_ok-below.below c.is_alone-alone.result c.self.view_is
-    c.self.invariant.sound c.count-id.ensures.count room refl c.of-2.ensures c.in_ok-body.ensures.value
+    c.self.invariant.sound c.count-id.ensures.count room refl (c.in_ok-front.ensures ∙ c.deref-2.ensures.value) c.in_ok-body.ensures.value
     c.in_ok-body.ensures.row c.of.ensures.sixteen c.requires.small c.requires.linked c.requires.back
     c.in_ok-below.ensures c.is_alone-alone.ensures
     (c.in_ok-usage.ensures

@@ -1,4 +1,4 @@
-use Rattle.std.proofs.Common.{◌<◌, ◌+◌, ◌^◌, ◌∙◌, arith}
+use Rattle.std.proofs.Common.{◌<◌, ◌+◌, ◌^◌, ◌∙◌, refl, arith}
 use Rattle.nr_trienodes.proofs.Views.{count_view}
 use Rattle.nr_trienodes.proofs.Relinks.{relinked}
 use Rattle.nr_trienodes.proofs.nodes.Nodes.relink.Goals as goal
@@ -9,9 +9,9 @@ invariant_of-self-2 c =
     omega (arith, count_view c.self.inside.nodes.items c.args.self.now c.self.view_is) in
     let all =
     relinked c.self.inside.nodes.items c.push.new.self.items c.args.self.now c.args.id c.args.nibble c.args.below
-    c.count-name.result c.in_ok-node.node c.self.view_is c.self.invariant.sound c.requires.there c.requires.below
-    c.requires.some c.count-name.ensures.count room c.in_ok-node.ensures.part c.in_ok-node.ensures.value
-    c.in_ok-node.ensures.row c.in_ok-node.ensures.hash (c.in_ok-node.ensures.usage ∙ c.in_ok-usage.ensures)
+    c.count-name.result _ c.self.view_is c.self.invariant.sound c.requires.there c.requires.below
+    c.requires.some c.count-name.ensures.count room c.in_ok-like.ensures.part (c.in_ok-body.ensures.value ∙ c.in_ok-like.ensures.value)
+    (c.in_ok-body.ensures.row ∙ c.in_ok-like.ensures.row) refl c.in_ok-usage.ensures
     c.in_ok-push.ensures.items in
     record { sound = all.adds.sound; few = all.few }
 
@@ -20,7 +20,7 @@ returns-clause-ok c =
     let room : c.count-name.result + 1 < 2 ^ 32 =
     omega (arith, count_view c.self.inside.nodes.items c.args.self.now c.self.view_is) in
     (relinked c.self.inside.nodes.items c.push.new.self.items c.args.self.now c.args.id c.args.nibble c.args.below
-    c.count-name.result c.in_ok-node.node c.self.view_is c.self.invariant.sound c.requires.there c.requires.below
-    c.requires.some c.count-name.ensures.count room c.in_ok-node.ensures.part c.in_ok-node.ensures.value
-    c.in_ok-node.ensures.row c.in_ok-node.ensures.hash (c.in_ok-node.ensures.usage ∙ c.in_ok-usage.ensures)
+    c.count-name.result _ c.self.view_is c.self.invariant.sound c.requires.there c.requires.below
+    c.requires.some c.count-name.ensures.count room c.in_ok-like.ensures.part (c.in_ok-body.ensures.value ∙ c.in_ok-like.ensures.value)
+    (c.in_ok-body.ensures.row ∙ c.in_ok-like.ensures.row) refl c.in_ok-usage.ensures
     c.in_ok-push.ensures.items).adds

@@ -9,12 +9,12 @@ use Rattle.nr_trienodes.proofs.Sliding.{slides_end}
 use Rattle.nr_trienodes.proofs.nodes.Nodes.slide.Goals as goal
 
 pub returns-clause-named : goal.returns-clause-named
-returns-clause-named c = subst (λ (v : List Shape). AreNamed c.loop-id.names.items v (shapes c.truncate.new.self.items)) c.self.view_is (slides_end c.self.inside.nodes.items c.loop-id.self-inside.nodes.items c.truncate.new.self.items c.args.names.now.items c.loop-id.names.items c.loop-id.id c.loop-id.next c.self.invariant.sound (c.requires.long ∙ ap length (sym c.self.view_is)) (subst (λ (v : List Shape). IsClosed v c.args.names.now.items 0) (sym c.self.view_is) c.requires.closed) c.loop-id.invariant (omega (arith, c.loop-id-test.false, c.loop-id.auto.id-end, c.len-id-end.ensures, shapes-length c.self.inside.nodes.items)) c.truncate.ensures.items)
+returns-clause-named c = subst (λ (v : List Shape). AreNamed c.loop-id.names.items v (shapes c.drop_behind.new.nodes.items)) c.self.view_is (slides_end c.self.inside.nodes.items c.loop-id.self-inside.nodes.items c.drop_behind.new.nodes.items c.args.names.now.items c.loop-id.names.items c.loop-id.id c.loop-id.next c.self.invariant.sound (c.requires.long ∙ ap length (sym c.self.view_is)) (subst (λ (v : List Shape). IsClosed v c.args.names.now.items 0) (sym c.self.view_is) c.requires.closed) c.loop-id.invariant (omega (arith, c.loop-id-test.false, c.loop-id.auto.id-end, c.len-id-end.ensures, shapes-length c.self.inside.nodes.items)) c.drop_behind.ensures)
 
 pub invariant_of-self : goal.invariant_of-self
 invariant_of-self c = record {
-  sound = sound_named c.loop-id.names.items (shapes c.self.inside.nodes.items) (shapes c.truncate.new.self.items) c.self.invariant.sound (slides_end c.self.inside.nodes.items c.loop-id.self-inside.nodes.items c.truncate.new.self.items c.args.names.now.items c.loop-id.names.items c.loop-id.id c.loop-id.next c.self.invariant.sound (c.requires.long ∙ ap length (sym c.self.view_is)) (subst (λ (v : List Shape). IsClosed v c.args.names.now.items 0) (sym c.self.view_is) c.requires.closed) c.loop-id.invariant (omega (arith, c.loop-id-test.false, c.loop-id.auto.id-end, c.len-id-end.ensures, shapes-length c.self.inside.nodes.items)) c.truncate.ensures.items);
-  few = omega (arith, ap length c.truncate.ensures.items, length-take c.loop-id.next c.loop-id.self-inside.nodes.items, c.loop-id.invariant.same, shapes-length c.loop-id.self-inside.nodes.items, shapes-length c.self.inside.nodes.items, c.self.invariant.few);
+  sound = sound_named c.loop-id.names.items (shapes c.self.inside.nodes.items) (shapes c.drop_behind.new.nodes.items) c.self.invariant.sound (slides_end c.self.inside.nodes.items c.loop-id.self-inside.nodes.items c.drop_behind.new.nodes.items c.args.names.now.items c.loop-id.names.items c.loop-id.id c.loop-id.next c.self.invariant.sound (c.requires.long ∙ ap length (sym c.self.view_is)) (subst (λ (v : List Shape). IsClosed v c.args.names.now.items 0) (sym c.self.view_is) c.requires.closed) c.loop-id.invariant (omega (arith, c.loop-id-test.false, c.loop-id.auto.id-end, c.len-id-end.ensures, shapes-length c.self.inside.nodes.items)) c.drop_behind.ensures);
+  few = omega (arith, ap length c.drop_behind.ensures, length-take c.loop-id.next c.loop-id.self-inside.nodes.items, c.loop-id.invariant.same, shapes-length c.loop-id.self-inside.nodes.items, shapes-length c.self.inside.nodes.items, c.self.invariant.few);
 }
 
 pub loop-id-preserved : goal.loop-id-preserved
