@@ -4,12 +4,13 @@
 usage: bench/store.py [--store plain|trie] [--turns N] [--program PATH]
 
 The second table of a store has roots: milliseconds for the first root, microseconds for one change with its root behind
-that, and the greatest memory of the run in MiB, over flat keys of four bytes; and milliseconds for a root of nested keys
-(a, aa, aaa and so on), each with a short value.
+that, microseconds for each of a thousand changes with one root behind them, and the greatest memory of a run in MiB, of the
+filling alone and with the first root, over flat keys of four bytes; and milliseconds to fill the store with nested keys
+(a, aa, aaa and so on), each with a short value, and to compute their root.
 
 Build the program first: cd crates/near_bench && rt run. Each number is the processor time of one turn in nanoseconds: the
-time of a run with N turns less that of a run that only fills the store, the least of three tries each, over N. N is at least
-five times the keys, so that the filling doesn't hide the turns.
+time of a run with N turns less that of a run that only fills the store and computes its root, the least of three tries
+each, over N. N is at least five times the keys, so that the filling doesn't hide the turns.
 """
 import argparse
 import os
@@ -21,6 +22,7 @@ OPERATIONS = ["get", "set", "remove", "keep", "back"]
 NESTED = [1_000, 3_000, 11_200]
 # A change with its root costs the plain store the whole state.
 CHANGES = {"plain": 5, "trie": 20_000}
+WORKS = {"plain": 5, "trie": 100}
 
 
 def least_run(program, *words):
@@ -41,7 +43,7 @@ def operations(program, store, least_turns):
     print("|---|" + "---|" * len(OPERATIONS))
     for keys in SIZES:
         turns = max(least_turns, 5 * keys)
-        fill, _ = least_run(program, store, "fill", keys, 0)
+        fill, _ = least_run(program, store, "root", keys, 0)
         row = []
         for operation in OPERATIONS:
             taken, _ = least_run(program, store, operation, keys, turns)
@@ -50,18 +52,19 @@ def operations(program, store, least_turns):
 
 
 def roots(program, store):
-    print("\n| Keys | first root, ms | change and root, µs | MiB |\n|---|---|---|---|")
+    print("\n| Keys | first root, ms | change and root, µs | one of a thousand, µs | MiB filled | MiB with the root |")
+    print("|---|---|---|---|---|---|")
     for keys in SIZES:
-        turns = CHANGES[store]
-        filled, _ = least_run(program, store, "fill", keys, 0)
-        first, memory = least_run(program, store, "change", keys, 0)
-        changed, _ = least_run(program, store, "change", keys, turns)
-        row = [f"{(first - filled) * 1e3:.0f}", f"{(changed - first) / turns * 1e6:.1f}", str(memory)]
+        filled, before = least_run(program, store, "fill", keys, 0)
+        first, memory = least_run(program, store, "root", keys, 0)
+        changed, _ = least_run(program, store, "change", keys, CHANGES[store])
+        worked, _ = least_run(program, store, "working", keys, WORKS[store])
+        row = [f"{(first - filled) * 1e3:.0f}", f"{(changed - first) / CHANGES[store] * 1e6:.1f}",
+               f"{(worked - first) / WORKS[store] * 1e3:.1f}", str(before), str(memory)]
         print(f"| {keys:,} flat | " + " | ".join(row) + " |", flush=True)
     for keys in NESTED:
-        filled, _ = least_run(program, store, "nested", keys, 0)
-        whole, memory = least_run(program, store, "nested", keys, 1)
-        print(f"| {keys:,} nested | {(whole - filled) * 1e3:.0f} | | {memory} |", flush=True)
+        whole, memory = least_run(program, store, "nested", keys, 0)
+        print(f"| {keys:,} nested, filled and root | {whole * 1e3:.0f} | | | | {memory} |", flush=True)
 
 
 def main():

@@ -1,10 +1,10 @@
 //! Does one operation of a store many times over a store of a given size.
 //!
 //! The words are STORE, OPERATION, KEYS and TURNS. STORE is `plain` or `trie`. `fill` does nothing
-//! more than fill the store, and `get`, `set`, `remove`, `keep`, `back` and `root` are done TURNS times
-//! behind that; `change` computes the root, and TURNS times changes one value and computes the root
-//! again. `nested` fills the store with the keys `a`, `aa` and so on, and computes the root TURNS
-//! times. A script outside measures the time. It prints how many turns were done; other words end it
+//! more than fill the store. The others compute the root behind that; then `get`, `set`, `remove`,
+//! `keep`, `back` and `root` are done TURNS times; `change` changes one value and computes the root,
+//! TURNS times, and `working` a thousand values. `nested` fills the store with the keys `a`, `aa` and
+//! so on. A script outside measures the time. It prints how many turns were done; other words end it
 //! with status 1, and want of memory with status 7.
 //!
 //! The words `module FILE TURNS` decode and validate the module in a file TURNS times, and print

@@ -35,6 +35,8 @@ enum Operation {
     Root,
     /// One change, and the root.
     Change,
+    /// Another value at a thousand keys, spread evenly, and the root.
+    Working,
     /// The root of keys that each begin with all shorter ones.
     Nested,
 }
@@ -67,6 +69,7 @@ fn operation_of(word: &str) -> Option<Operation> {
         "back" => Some(Operation::Back),
         "root" => Some(Operation::Root),
         "change" => Some(Operation::Change),
+        "working" => Some(Operation::Working),
         "nested" => Some(Operation::Nested),
         _ => None,
     }
@@ -115,6 +118,18 @@ fn root<S: Store>(store: &mut S) -> Result<(), AllocError>
     counted_root::<S, Brand>(store, Blank::new(1))
 }
 
+/// Sets the value at a thousand keys that follow one another in the order of their making, and
+/// computes the root.
+fn work<S: Store>(store: &mut S, first: u32, keys: u32, value: &[u8]) -> Result<(), AllocError>
+    requires { 0 < keys }
+    ensures { S.marks store.new ≡ S.marks store.old }
+{
+    for number in 0..1_000 {
+        store.set(&key_of(first.wrapping_add(number) % keys), value)?;
+    }
+    root(store)
+}
+
 fn turn<S: Store>(
     store: &mut S,
     operation: Operation,
@@ -125,7 +140,7 @@ fn turn<S: Store>(
     ensures { OnOk result (S.marks store.new ≡ []) }
 {
     match operation {
-        Operation::Fill => {}
+        Operation::Fill | Operation::Working => {}
         Operation::Get => {
             let _ = store.get(key);
         }
@@ -165,12 +180,11 @@ fn turns_of<S: Store>(
     requires some { 0 < keys }
 {
     for number in 0..turns {
-        turn(
-            store,
-            operation,
-            &key_of(number % keys),
-            &number.to_be_bytes(),
-        )?;
+        let value = number.to_be_bytes();
+        turn(store, operation, &key_of(number % keys), &value)?;
+        if let Operation::Working = operation {
+            work(store, number.wrapping_mul(1_000), keys, &value)?;
+        }
     }
     Ok(())
 }
@@ -182,8 +196,9 @@ fn do_all<S: Store>(store: &mut S, alloc: Global, task: Task) -> Result<(), Allo
         Operation::Nested => fill_nested(store, alloc, task.keys)?,
         _ => fill(store, task.keys)?,
     }
-    if let Operation::Change = task.operation {
-        root(store)?;
+    match task.operation {
+        Operation::Fill => {}
+        _ => root(store)?,
     }
     if task.keys > 0 {
         turns_of(store, task.operation, task.keys, task.turns)?;
@@ -191,7 +206,8 @@ fn do_all<S: Store>(store: &mut S, alloc: Global, task: Task) -> Result<(), Allo
     Ok(())
 }
 
-/// Fills a store, and does the operation on it.
+/// Fills a store, computes its root for each operation but the filling alone, and does the operation
+/// on it.
 ///
 /// # Errors
 ///

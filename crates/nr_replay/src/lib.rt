@@ -2,7 +2,6 @@
 #![tactic(auto)]
 
 mod counting;
-mod hashing;
 mod text;
 mod top;
 mod totals;

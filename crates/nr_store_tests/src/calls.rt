@@ -77,13 +77,13 @@ impl Call {
     pub(crate) fn drawn(dice: &mut Dice) -> Call {
         let key = Key::drawn(dice);
         match dice.roll(16) {
-            0..=5 => Call::Set(key, dice.roll(256) as u8),
-            6..=8 => Call::Remove(key),
-            9 => Call::Get(key),
-            10 => Call::Below(key),
-            11 | 12 => Call::Mark,
-            13 => Call::Keep,
-            14 => Call::Back,
+            0..=4 => Call::Set(key, dice.roll(256) as u8),
+            5..=7 => Call::Remove(key),
+            8 => Call::Get(key),
+            9 => Call::Below(key),
+            10 | 11 => Call::Mark,
+            12 => Call::Keep,
+            13 | 14 => Call::Back,
             _ => Call::Root,
         }
     }

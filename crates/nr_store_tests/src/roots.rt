@@ -1,6 +1,6 @@
 //! Roots of a few keys, on each store.
 
-ghost use Rattle.std.specs.Prelude.{◌≡◌, ◌<◌};
+ghost use Rattle.std.specs.Prelude.{◌≡◌, ◌<◌, []};
 
 use nr_store::PlainStore;
 use nr_triedef::{Steps, Store, bytes_of};
@@ -75,6 +75,28 @@ fn joins<S: Store>(store: &mut S, fresh: &mut S) -> Result<bool, AllocError> {
     Ok(left == made)
 }
 
+/// The root of the three keys once `a` was taken out under a checkpoint, which is gone back to; how
+/// many keys begin with `a`; how many still do once it is taken out; and the root without all three.
+fn back_and_emptied<S: Store>(
+    store: &mut S,
+) -> Result<([u8; 32], usize, usize, [u8; 32]), AllocError>
+    requires { S.marks store.old ≡ [] }
+{
+    set_three(store)?;
+    store.reserve_marks(1)?;
+    store.mark();
+    store.remove(b"a")?;
+    store.back();
+    let three = root(store)?;
+    let two = store.below(b"a")?.inner().len();
+    store.remove(b"a")?;
+    let one = store.below(b"a")?.inner().len();
+    store.remove(b"ab")?;
+    store.remove(b"b1")?;
+    let none = root(store)?;
+    Ok((three, two, one, none))
+}
+
 fn odd_root<S: Store>(store: &mut S) -> Result<[u8; 32], AllocError> {
     store.set(b"", b"v")?;
     store.set(b"a", b"")?;
@@ -87,6 +109,14 @@ fn roots_of_three_keys(rt: HostRuntime) -> Result<(), Fail> {
     let want = [*THREE, *FOUR, *THREE];
     assert_eq!(rt; three_roots(&mut PlainStore::new(rt.alloc()))?, want);
     assert_eq!(rt; three_roots(&mut TrieStore::new(rt.alloc()))?, want);
+    Ok(())
+}
+
+#[test]
+fn three_keys_are_put_back_and_emptied(rt: HostRuntime) -> Result<(), Fail> {
+    let want = (*THREE, 2, 1, [0; 32]);
+    assert_eq!(rt; back_and_emptied(&mut PlainStore::new(rt.alloc()))?, want);
+    assert_eq!(rt; back_and_emptied(&mut TrieStore::new(rt.alloc()))?, want);
     Ok(())
 }
 

@@ -1,10 +1,9 @@
 -- How many entries each root has, and that they keep within the sizes.
-use Rattle.std.proofs.Common.{◌≡◌, ◌≢◌, ℕ, zero, suc, ◌+◌, ◌-◌, ◌<◌, ◌≤◌, Bool, true, false, cond, List, Option, Some, None, length, set, get_or, replicate, refl, sym, ap, ◌∙◌, subst, arith, inl, inr}
+use Rattle.std.proofs.Common.{◌≡◌, ℕ, ◌+◌, ◌-◌, ◌<◌, ◌≤◌, Bool, true, false, cond, List, Option, Some, None, length, set, get_or, replicate, refl, sym, ap, ◌∙◌, subst, arith, inl, inr}
 use mathlib.Core.Bool.{false≢true}
 use Rattle.std.proofs.Math.Nat.{eq-zero-or-pos}
 use Rattle.std.proofs.lemmas.Bool.{cases_eq}
 use Rattle.std.proofs.lemmas.List.{get_or-set_other, get_or-set_same, get_or-replicate}
-use Rattle.std.specs.Prelude.{◌⊎◌}
 use Rattle.std.specs.Borrow.{Bor}
 use Rattle.std.specs.Option.{is_some, option_copied}
 use Rattle.std.specs.Ordering.{is_eq, nat_cmp}
@@ -15,10 +14,10 @@ use Rattle.std.specs.FinMap.{empty, insert, remove, get, len, entries, contains_
 use Rattle.std.proofs.lemmas.Map.Lookups.{exact_bytes}
 use Rattle.nr_triedef.specs.Root.{Contents}
 use Rattle.nr_triedef.specs.Stores.{most_entries, IsSizedEntry, IsSized}
-use Rattle.nr_trienodes.specs.Roots.{IsRoot, contents, Keeps, IsChanged}
+use Rattle.nr_trienodes.specs.Roots.{contents, Keeps, IsChanged}
 use Rattle.nr_trienodes.specs.declared.nodes.NodeId.{NodeId}
 use Rattle.nr_trieupdate.proofs.Standing.{moved_kept}
-use Rattle.nr_trieupdate.specs.Levels.{Arena, Roots, root_at, held_at, IsLevel, AreLevels, IsFew, AreFew, IsMoved, AreMoved}
+use Rattle.nr_trieupdate.specs.Levels.{Arena, Roots, root_at, held_at, IsLevel, AreLevels, AreFew, IsMoved, AreMoved}
 
 -- ---- how many there are after a change
 pub copied_some : {A : Type 0} (o : Option (Bor A)) → is_some (option_copied o) ≡ is_some o
@@ -84,7 +83,7 @@ sized_remove m k there h = record { few = omega (arith, h.few, count_remove m k 
           | Greater ↦ λ f. h.each q w f
         ] found
 
-length_none : length (entries (empty {X = List ℕ} {R = slice_cmp nat_cmp})) ≡ 0
+pub length_none : length (entries (empty {X = List ℕ} {R = slice_cmp nat_cmp})) ≡ 0
 length_none = sym (len-entries (empty {X = List ℕ} {R = slice_cmp nat_cmp})) ∙ len-empty (slice_cmp nat_cmp) (List ℕ)
 
 sized_empty : IsSized empty

@@ -1,2 +1,6 @@
 pub mod Standing
 pub mod Counting
+pub mod Overlays
+pub mod Layers
+pub mod Stored
+pub mod Moved

@@ -1,16 +1,16 @@
 -- Roots one above another, after the arena or one of them changed.
-use Rattle.std.proofs.Common.{◌≡◌, ◌≢◌, ℕ, zero, suc, ◌+◌, ◌*◌, ◌-◌, ◌<◌, ◌≤◌, Bool, true, false, cond, max, List, [], ◌∷◌, Option, Some, None, length, drop, set, get_or, refl, sym, ap, ◌∙◌, subst, arith, inl, inr, add-one}
+use Rattle.std.proofs.Common.{◌≡◌, ◌≢◌, ℕ, zero, suc, ◌+◌, ◌*◌, ◌-◌, ◌<◌, ◌≤◌, List, [], ◌∷◌, Option, None, length, drop, set, refl, sym, ap, ◌∙◌, subst, arith, inl, inr, add-one}
 use Rattle.std.proofs.Math.Nat.{eq-or-lt_of_le}
 use Rattle.std.proofs.lemmas.List.{get_or-set_other, get_or-set_same}
 use Rattle.std.proofs.lemmas.List.Sums.{sum_by-cons}
-use Rattle.std.specs.Prelude.{sum_by, ◌⊎◌}
+use Rattle.std.specs.Prelude.{sum_by}
 use Rattle.std.specs.FinMap.{entries}
 use Rattle.nr_triedef.specs.Root.{Contents}
 use Rattle.nr_triedef.specs.Node.{nibbles}
 use Rattle.nr_trienodes.specs.Roots.{IsRoot, contents, cost, Keeps, Renames, IsChanged, IsFull}
 use Rattle.nr_trienodes.specs.declared.nodes.NodeId.{NodeId}
 use Rattle.std.specs.List.{AllByRecursion}
-use Rattle.nr_trieupdate.specs.Levels.{Arena, Roots, root_at, held_at, seen, most_cost, IsLevel, AreLevels, IsFew, AreFew, IsMoved, AreMoved}
+use Rattle.nr_trieupdate.specs.Levels.{Arena, Roots, root_at, held_at, seen, most_cost, saved_cost, AreFew, IsMoved, AreMoved}
 
 pub length-nibbles : (key : List ℕ) → length (nibbles key) ≡ 2 * length key
 length-nibbles [] = refl
@@ -65,6 +65,13 @@ cost_within v roots (suc n) d h =
     let rest : most_cost v roots n ≤ d = cost_within v roots n d (λ i l. h i (omega arith)) in
     omega arith
 
+pub saved_within : (v w : Arena) (roots moved : Roots) (k : ℕ) → ((i : ℕ) → i < k → cost w (root_at moved i) ≤ cost v (root_at roots i)) → saved_cost w moved k ≤ saved_cost v roots k
+saved_within v w roots moved zero h = omega arith
+saved_within v w roots moved (suc n) h = cost_within w moved n (most_cost v roots n) (λ i m.
+    let here : cost w (root_at moved i) ≤ cost v (root_at roots i) = h i (omega arith) in
+    let most : cost v (root_at roots i) ≤ most_cost v roots n = cost_most v roots n i m in
+    omega arith)
+
 -- ---- a change of the root on top
 at_top : (roots : Roots) (k : ℕ) (x : Option NodeId) → k < length roots → root_at (set roots k x) k ≡ x
 at_top roots k x h = get_or-set_same roots k x None h
@@ -82,6 +89,7 @@ pub record IsSame (v : Arena) (roots : Roots) (w : Arena) (moved : Roots) (k : �
   pub contents : held_at w moved k ≡ held_at v roots k
   pub marks : seen w moved k ≡ seen v roots k
   pub debt : most_cost w moved k ≤ most_cost v roots k
+  pub saved : saved_cost w moved k ≤ saved_cost v roots k
 
 pub unchanged : (v w : Arena) (roots moved : Roots) (k : ℕ) → k < length roots → AreMoved v roots w moved → IsSame v roots w moved k
 unchanged v w roots moved k l h = record {
@@ -91,6 +99,7 @@ unchanged v w roots moved k l h = record {
       let here : cost w (root_at moved i) ≤ cost v (root_at roots i) = (h i (omega arith)).debt in
       let most : cost v (root_at roots i) ≤ most_cost v roots k = cost_most v roots k i m in
       omega arith);
+  saved = saved_within v w roots moved k (λ i m. (h i (omega arith)).debt);
 }
 
 -- what stands after a change of the contents
@@ -98,6 +107,7 @@ pub record IsChange (v : Arena) (roots : Roots) (w : Arena) (moved : Roots) (k :
   pub contents : held_at w moved k ≡ m
   pub marks : seen w moved k ≡ seen v roots k
   pub debt : most_cost w moved k ≤ most_cost v roots k + d
+  pub saved : saved_cost w moved k ≤ saved_cost v roots k
 
 pub changed : (f : Contents → Contents) (u v w : Arena) (roots mid : Roots) (k : ℕ) (to : Option NodeId) (more : ℕ) → k < length roots → k < length mid → AreMoved u roots v mid → Keeps v w → IsChanged v w (root_at mid k) to (f (contents v (root_at mid k))) more → IsChange u roots w (set mid k to) k (f (held_at u roots k)) more
 changed f u v w roots mid k to more l short h keeps put =
@@ -107,6 +117,10 @@ changed f u v w roots mid k to more l short h keeps put =
       contents = ap (contents w) top ∙ put.map ∙ ap f (h k l).held;
       marks = seen_same u w roots (set mid k to) k (λ i m. ap (contents w) (at_other mid k i to (omega arith)) ∙ (all i (omega arith)).held);
       debt = cost_within w (set mid k to) k (most_cost u roots k + more) each;
+      saved = saved_within u w roots (set mid k to) k (λ i m.
+          let same : cost w (root_at (set mid k to) i) ≡ cost w (root_at mid i) = ap (cost w) (at_other mid k i to (omega arith)) in
+          let before : cost w (root_at mid i) ≤ cost u (root_at roots i) = (all i (omega arith)).debt in
+          omega arith);
     }
   where
     each : (i : ℕ) → i ≤ k → cost w (root_at (set mid k to) i) ≤ most_cost u roots k + more
@@ -153,6 +167,14 @@ mark_cost v roots k l = cost_within v (set roots (k + 1) (root_at roots k)) (k +
           omega arith
     ])
 
+pub mark_saved : (v : Arena) (roots : Roots) (k : ℕ) → saved_cost v (set roots (k + 1) (root_at roots k)) (k + 1) ≤ most_cost v roots k
+mark_saved v roots k =
+    subst (λ n. saved_cost v (set roots (k + 1) (root_at roots k)) n ≤ most_cost v roots k) (sym (add-one k))
+    (cost_within v (set roots (k + 1) (root_at roots k)) k (most_cost v roots k) (λ i m.
+    let same : cost v (root_at (set roots (k + 1) (root_at roots k)) i) ≡ cost v (root_at roots i) = ap (cost v) (wrote roots (k + 1) i (root_at roots k) (omega arith)) in
+    let high : cost v (root_at roots i) ≤ most_cost v roots k = cost_most v roots k i m in
+    omega arith))
+
 -- the top root moved one down
 pub keep_held : (v : Arena) (roots : Roots) (k : ℕ) → 0 < k → k < length roots → held_at v (set (set roots (k - 1) (root_at roots k)) k None) (k - 1) ≡ held_at v roots k
 keep_held v roots k some l = ap (contents v) (wrote (set roots (k - 1) (root_at roots k)) k (k - 1) None (omega arith) ∙ at_top roots (k - 1) (root_at roots k) (omega arith))
@@ -189,11 +211,15 @@ back_seen v roots k some =
     older : (v : Arena) (roots : Roots) (k : ℕ) → 0 < k → seen v roots k ≡ seen v roots (suc (k - 1))
     older v roots k some = let e : k ≡ suc (k - 1) = omega arith in ap (seen v roots) e
 
-pub back_cost : (v : Arena) (roots : Roots) (k : ℕ) → 0 < k → most_cost v (set roots k None) (k - 1) ≤ most_cost v roots k
-back_cost v roots k some = cost_within v (set roots k None) (k - 1) (most_cost v roots k) (λ i m.
-    let same : cost v (root_at (set roots k None) i) ≡ cost v (root_at roots i) = ap (cost v) (wrote roots k i None (omega arith)) in
-    let high : cost v (root_at roots i) ≤ most_cost v roots k = cost_most v roots k i (omega arith) in
-    omega arith)
+pub back_cost : (v : Arena) (roots : Roots) (k : ℕ) → 0 < k → most_cost v (set roots k None) (k - 1) ≤ saved_cost v roots k
+back_cost v roots zero some = absurd (omega arith)
+back_cost v roots (suc n) some =
+    let e : suc n - 1 ≡ n = omega arith in
+    subst (λ j. most_cost v (set roots (suc n) None) j ≤ most_cost v roots n) (sym e)
+    (cost_within v (set roots (suc n) None) n (most_cost v roots n) (λ i m.
+    let same : cost v (root_at (set roots (suc n) None) i) ≡ cost v (root_at roots i) = ap (cost v) (wrote roots (suc n) i None (omega arith)) in
+    let high : cost v (root_at roots i) ≤ most_cost v roots n = cost_most v roots n i m in
+    omega arith))
 
 pub length-seen : (v : Arena) (roots : Roots) (n : ℕ) → length (seen v roots n) ≡ n
 length-seen v roots zero = refl

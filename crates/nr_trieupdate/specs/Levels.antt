@@ -1,5 +1,5 @@
 -- Roots one above another: what each standing checkpoint saw, and what is held now. This project's own.
-use Rattle.std.specs.Prelude.{◌≡◌, ℕ, zero, suc, ◌+◌, ◌<◌, ◌≤◌, ◌^◌, max, List, [], ◌∷◌, length, Option, None, slice_index, slice_index_or}
+use Rattle.std.specs.Prelude.{◌≡◌, ℕ, zero, suc, ◌<◌, ◌≤◌, ◌^◌, max, List, [], ◌∷◌, length, Option, None, slice_index, slice_index_or}
 use Rattle.std.specs.FinMap.{entries}
 use Rattle.nr_triedef.specs.Root.{Contents}
 use Rattle.nr_triedef.specs.Stores.{most_entries, IsSized}
@@ -33,6 +33,11 @@ seen nodes roots (suc n) = held_at nodes roots n ∷ seen nodes roots n
 abbrev pub most_cost : Arena → Roots → ℕ → ℕ
 most_cost nodes roots zero = cost nodes (root_at roots zero)
 most_cost nodes roots (suc n) = max (cost nodes (root_at roots (suc n))) (most_cost nodes roots n)
+
+-- the most that the root of one of the first n has to hash
+abbrev pub saved_cost : Arena → Roots → ℕ → ℕ
+saved_cost nodes roots zero = 0
+saved_cost nodes roots (suc n) = most_cost nodes roots n
 
 -- a root that stands for so many entries, within the sizes
 pub record IsLevel (nodes : Arena) (top : Option NodeId) (many : ℕ) : Type 0 where

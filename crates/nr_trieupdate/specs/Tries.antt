@@ -1,20 +1,24 @@
 -- What a store over nodes stands for. This project's own.
-use Rattle.std.specs.Prelude.{◌≡◌, ◌+◌, ◌≤◌}
+use Rattle.std.specs.Prelude.{◌≡◌, ◌+◌, ◌≤◌, ◌∷◌, [], length, map}
+use Rattle.std.specs.List.{AllByRecursion}
+use Rattle.nr_triedef.specs.Stores.{most_entries}
 use Rattle.nr_trieupdate.specs.View.{TrieView}
-use Rattle.nr_trieupdate.specs.Levels.{held_at, seen, most_cost, most_nodes, AreLevels}
+use Rattle.nr_trieupdate.specs.Overlays.{over, most_debt, IsLayer}
 use Rattle.nr_trieupdate.specs.declared.trie_store.TrieStore.TheInside.{Inside}
 
 abbrev pub trie_view : Inside → TrieView
 trie_view s =
     record {
-      contents = held_at s.nodes s.roots s.standing;
-      marks = seen s.nodes s.roots s.standing;
-      spare = s.spare;
-      unhashed = most_cost s.nodes s.roots s.standing;
+      contents = over s.changes.contents s.base.contents;
+      marks = map (λ m. over m s.base.contents) s.changes.marks;
+      spare = s.changes.spare;
+      unhashed = s.base.unhashed + most_debt (s.changes.contents ∷ s.changes.marks);
     }
 
--- at most eight checkpoints stand and are spare, each root stands for entries within the sizes, and the arena is trimmed before it is full
+-- all checkpoints are those of the waiting changes, at most eight with those that are spare, and no more entries come to be at any than the count
 pub record IsTrie (s : Inside) : Type 0 where
-  pub few : s.standing + s.spare ≤ 8
-  pub levels : AreLevels s.nodes s.roots s.counts
-  pub bound : s.bound ≤ most_nodes
+  pub base : s.base.marks ≡ []
+  pub standing : s.standing ≡ length s.changes.marks
+  pub few : s.standing + s.changes.spare ≤ 8
+  pub most : s.count ≤ most_entries
+  pub layers : AllByRecursion (IsLayer s.base.contents s.count) (s.changes.contents ∷ s.changes.marks)

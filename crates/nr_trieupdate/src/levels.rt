@@ -10,7 +10,7 @@ ghost use Rattle.nr_trieupdate.specs.Levels.{most_nodes, AreFew, AreMoved};
 use nr_trienodes::{NodeId, Nodes, NodesFault};
 use std::alloc::AllocError;
 
-// Beyond a quarter of what stays at a trim, an arena may grow by this many nodes until the next one.
+// Beyond an eighth of what stays at a trim, an arena may grow by this many nodes until the next one.
 const SLACK: usize = 1 << 14;
 
 /// How many nodes the arena of an empty store may hold until it is first trimmed.
@@ -39,7 +39,7 @@ pub(crate) fn make_room(
     }
     nodes.trim(roots)?;
     let held = nodes.len();
-    Ok(held + held / 4 + SLACK)
+    Ok(held + held / 8 + SLACK)
 }
 
 /// Puts a value at a key.
@@ -90,7 +90,7 @@ pub(crate) fn cut(
 }
 
 // The most entries that a store holds.
-const MOST_ENTRIES: usize = 1 << 26;
+pub(crate) const MOST_ENTRIES: usize = 1 << 26;
 
 /// How many entries there are once the key has this value, where there were so many before, the key
 /// among them or not; `None` where that would pass a size of a store.

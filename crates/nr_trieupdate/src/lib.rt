@@ -1,8 +1,11 @@
 //! A store over a trie of nodes: its root costs what changed.
 #![tactic(auto)]
 
+mod base;
 mod levels;
+mod listing;
 mod threads;
 mod trie_store;
+mod working;
 
 pub use trie_store::TrieStore;

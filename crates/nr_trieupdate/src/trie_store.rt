@@ -6,27 +6,41 @@ ghost use Rattle.nr_triedef.specs.Root.{root_of};
 ghost use Rattle.nr_triedef.specs.Node.{nibbles};
 ghost use Rattle.nr_triedef.specs.Stores.{most_entries, IsSizedEntry};
 
-use crate::levels::{FIRST_BOUND, cut, grown, make_room, put};
+use crate::base::Base;
+use crate::levels::grown;
+use crate::listing::{keys_over, value_at};
+use crate::working::{held_of, is_counted, root_over, settle};
 use nr_bytes::{Blob, List};
+use nr_store::PlainStore;
 use nr_triedef::{NodeHash, Steps, Store};
-use nr_trienodes::{NodeId, Nodes};
 use std::alloc::{AllocError, Global};
 use std::marker::Model;
 use std::sync::ledger::Ledger;
 
-/// A store that keeps the nodes of its trie, with the hashes of those that were hashed.
+/// A store that keeps the nodes of its trie, with the hashes of those that were hashed. Changes wait
+/// beside the trie until the root is asked for while no checkpoint stands.
+///
+/// Contracts see what it holds, what each standing checkpoint saw (the newest first), how many more
+/// checkpoints it can make without memory, and how many nodes the next root hashes at most.
+///
+/// `set`, `mark`, `keep` and `back` cost what they cost a plain store of the keys that wait, and
+/// `get` and `remove` a look-up in the trie beside that. `root` works the changes into the trie, at
+/// the nodes of each key's way, and hashes the nodes made anew; while a checkpoint stands the changes
+/// wait on, so the next root works them in again. `below` costs what it costs the trie and the plain
+/// store, and copies the entries that it finds where a change waits among them.
+///
+/// A new key where 2^26 keys stand in the trie or wait counts as want of memory for `set`, as an
+/// entry past the store's sizes does, and so does a value of 2^32 - 1 bytes.
 #[derive(Drop)]
 pub struct TrieStore {
     alloc: Global,
-    nodes: Nodes,
-    // The root that each standing checkpoint saw, the oldest first; behind them the current one.
-    roots: [Option<NodeId>; 9],
-    // How many entries there are under each root.
-    counts: [usize; 9],
+    base: Base,
+    // The changes that wait, by their keys: 1 and the value, or 0 where a key was taken out.
+    changes: PlainStore,
+    // Neither now nor at a checkpoint are there more keys that the trie has or at which a change waits.
+    count: usize,
+    // How many checkpoints stand, all of them those of the changes.
     standing: usize,
-    spare: usize,
-    // The arena is trimmed before a change where it holds more nodes than this.
-    bound: usize,
 }
 
 impl Model for TrieStore {
@@ -45,7 +59,6 @@ impl Model for TrieStore {
 
 impl TrieStore {
     /// A store that holds nothing and has no checkpoint, standing or spare. It takes no memory.
-    #[tactic(auto, unfolding(nr_trienodes::specs::Roots::contents, nr_trienodes::specs::Roots::cost))]
     pub fn new(alloc: Global) -> TrieStore
         ensures contents { result.contents ≡ map.empty }
         ensures marks { result.marks ≡ [] }
@@ -54,12 +67,10 @@ impl TrieStore {
     {
         TrieStore {
             alloc,
-            nodes: Nodes::new(alloc),
-            roots: [None; 9],
-            counts: [0; 9],
+            base: Base::new(alloc),
+            changes: PlainStore::new(alloc),
+            count: 0,
             standing: 0,
-            spare: 0,
-            bound: FIRST_BOUND,
         }
     }
 }
@@ -72,12 +83,14 @@ impl Store for TrieStore {
     ghost spare = { λ s. s.spare };
 
     fn get(&self, key: &[u8]) -> Option<&[u8]> {
-        self.nodes.find(self.roots[self.standing], key)
+        value_at(&self.base, &self.changes, key)
     }
 
     fn sizes(&self) {
+        self.base.sizes();
+        self.changes.sizes();
         // The field is named so that the proof sees the type's own promise.
-        let _spare = self.spare;
+        let _count = self.count;
     }
 
     fn set(&mut self, key: &[u8], value: &[u8]) -> Result<(), AllocError>
@@ -88,14 +101,13 @@ impl Store for TrieStore {
         ensures spare { self.new.spare ≡ self.old.spare }
         ensures unhashed { self.new.unhashed ≤ self.old.unhashed + (2 * length (nibbles key.now) + 3) }
     {
-        let found = self.get(key).is_some();
-        let Some(count) = grown(found, self.counts[self.standing], key, value) else {
+        let counted = is_counted(&self.base, &self.changes, self.count, key);
+        let Some(count) = grown(counted, self.count, key, value) else {
             return Err(AllocError);
         };
-        self.bound = make_room(&mut self.nodes, &mut self.roots, self.bound)?;
-        let root = put(&mut self.nodes, self.roots[self.standing], key, value)?;
-        self.roots[self.standing] = Some(root);
-        self.counts[self.standing] = count;
+        let held = held_of(self.alloc, value)?;
+        self.changes.set(key, &held)?;
+        self.count = count;
         Ok(())
     }
 
@@ -110,10 +122,7 @@ impl Store for TrieStore {
         if self.get(key).is_none() {
             return Ok(false);
         }
-        self.bound = make_room(&mut self.nodes, &mut self.roots, self.bound)?;
-        let root = cut(&mut self.nodes, self.roots[self.standing], key)?;
-        self.roots[self.standing] = root;
-        self.counts[self.standing] -= 1;
+        self.changes.set(key, &[0])?;
         Ok(true)
     }
 
@@ -125,7 +134,7 @@ impl Store for TrieStore {
         ensures marks { self.new.marks ≡ self.old.marks }
         ensures unhashed { self.new.unhashed ≡ self.old.unhashed }
     {
-        self.spare = self.spare.max(n);
+        self.changes.reserve_marks(n)?;
         Ok(())
     }
 
@@ -136,11 +145,8 @@ impl Store for TrieStore {
         ensures spare { self.new.spare + 1 ≡ self.old.spare }
         ensures unhashed { self.new.unhashed ≤ self.old.unhashed }
     {
-        let saw = self.standing;
+        self.changes.mark();
         self.standing += 1;
-        self.spare -= 1;
-        self.roots[self.standing] = self.roots[saw];
-        self.counts[self.standing] = self.counts[saw];
     }
 
     fn keep(&mut self)
@@ -150,13 +156,8 @@ impl Store for TrieStore {
         ensures spare { self.new.spare ≡ self.old.spare + 1 }
         ensures unhashed { self.new.unhashed ≤ self.old.unhashed }
     {
-        let top = self.standing;
+        self.changes.keep();
         self.standing -= 1;
-        self.spare += 1;
-        self.roots[self.standing] = self.roots[top];
-        self.counts[self.standing] = self.counts[top];
-        self.roots[top] = None;
-        self.counts[top] = 0;
     }
 
     fn back(&mut self)
@@ -165,14 +166,12 @@ impl Store for TrieStore {
         ensures spare { self.new.spare ≡ self.old.spare + 1 }
         ensures unhashed { self.new.unhashed ≤ self.old.unhashed }
     {
-        self.roots[self.standing] = None;
-        self.counts[self.standing] = 0;
+        self.changes.back();
         self.standing -= 1;
-        self.spare += 1;
     }
 
     fn below(&self, prefix: &[u8]) -> Result<List<Blob>, AllocError> {
-        self.nodes.below(self.roots[self.standing], prefix)
+        keys_over(self.alloc, &self.base, &self.changes, prefix)
     }
 
     fn root<L: Ledger>(&mut self, steps: &mut Steps<L>) -> Result<NodeHash, AllocError>
@@ -184,7 +183,13 @@ impl Store for TrieStore {
         ensures unhashed { self.new.unhashed ≤ self.old.unhashed }
         ensures hashed { OnOk result (self.old.marks ≡ [] → self.new.unhashed ≡ 0) }
     {
-        let hash = self.nodes.hash(self.roots[self.standing], steps)?;
-        Ok(hash)
+        if self.standing > 0 {
+            let root = root_over(&mut self.base, &self.changes, steps)?;
+            return Ok(root);
+        }
+        settle(&mut self.base, &mut self.changes)?;
+        self.count = self.base.count();
+        let root = self.base.root(steps)?;
+        Ok(root)
     }
 }

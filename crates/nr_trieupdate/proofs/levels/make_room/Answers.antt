@@ -1,4 +1,4 @@
-use Rattle.std.proofs.Common.{◌≡◌, ◌≤◌, ◌*◌, length, arith, subst, sym, ap}
+use Rattle.std.proofs.Common.{◌≤◌, length, arith}
 use Rattle.nr_trieupdate.proofs.Standing.{all_roots, renamed, few_nodes}
 use Rattle.nr_trieupdate.proofs.levels.make_room.Goals as goal
 use Rattle.nr_trieupdate.proofs.levels.make_room.Goals.{After-len-held}

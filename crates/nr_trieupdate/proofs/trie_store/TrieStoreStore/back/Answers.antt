@@ -1,25 +1,29 @@
-use Rattle.std.proofs.Common.{ap, sym, ◌∙◌, arith, get_or, set, length, None, ◌-◌, ◌+◌, ◌<◌, ◌∷◌, drop}
-use Rattle.std.proofs.lemmas.List.{length-set}
-use Rattle.nr_trieupdate.specs.Levels.{root_at}
-use Rattle.nr_trieupdate.proofs.Standing.{back_seen, back_cost, length-seen}
-use Rattle.nr_trieupdate.proofs.Counting.{levels_set, level_none}
+use Rattle.std.proofs.Common.{◌∷◌, ap, sym, ◌∙◌, arith, length}
+use Rattle.std.specs.Prelude.{map}
+use Rattle.nr_trieupdate.specs.Overlays.{over, most_debt, IsLayer}
+use Rattle.nr_trieupdate.proofs.Overlays.{most_back}
+use Rattle.nr_trieupdate.proofs.Layers.{length_map, layers_as}
 use Rattle.nr_trieupdate.proofs.trie_store.TrieStoreStore.back.Goals as goal
 
 pub invariant_of-self : goal.invariant_of-self
 invariant_of-self c =
-    let some : 0 < c.self.inside.standing = omega (arith, c.requires, ap (λ v. length v.marks) c.self.view_is, length-seen c.self.inside.nodes c.self.inside.roots c.self.inside.standing) in
+    let old = c.self.inside.changes in
+    let new = c.back.new.self in
     record {
-      few = omega (arith, some, c.self.invariant.few);
-      levels = levels_set c.self.inside.nodes c.self.inside.roots c.self.inside.counts c.self.inside.standing None 0 (omega (arith, c.self.told)) (omega (arith, c.self.told)) (omega (arith, c.self.invariant.few)) c.self.invariant.levels (level_none c.self.inside.nodes);
-      bound = c.self.invariant.bound;
+      base = c.self.invariant.base;
+      standing = omega (arith, c.self.invariant.standing, ap length c.back.ensures.marks);
+      few = omega (arith, c.self.invariant.few, c.self.invariant.standing, ap length c.back.ensures.marks, c.back.ensures.spare);
+      most = c.self.invariant.most;
+      layers = layers_as (IsLayer c.self.inside.base.contents c.self.inside.count) old.marks (new.contents ∷ new.marks) (sym c.back.ensures.marks) c.self.invariant.layers.1;
     }
 
 pub returns-clause-marks : goal.returns-clause-marks
-returns-clause-marks c =
-    let some : 0 < c.self.inside.standing = omega (arith, c.requires, ap (λ v. length v.marks) c.self.view_is, length-seen c.self.inside.nodes c.self.inside.roots c.self.inside.standing) in
-    sym (ap (λ v. v.marks) c.self.view_is) ∙ back_seen c.self.inside.nodes c.self.inside.roots c.self.inside.standing some
+returns-clause-marks c = sym (ap (λ v. v.marks) c.self.view_is) ∙ ap (map (λ m. over m c.self.inside.base.contents)) c.back.ensures.marks
 
 pub returns-clause-unhashed : goal.returns-clause-unhashed
 returns-clause-unhashed c =
-    let some : 0 < c.self.inside.standing = omega (arith, c.requires, ap (λ v. length v.marks) c.self.view_is, length-seen c.self.inside.nodes c.self.inside.roots c.self.inside.standing) in
-    omega (arith, back_cost c.self.inside.nodes c.self.inside.roots c.self.inside.standing some, ap (λ v. v.unhashed) c.self.view_is)
+    let old = c.self.inside.changes in
+    omega (arith, ap most_debt c.back.ensures.marks, most_back old.contents old.marks, ap (λ v. v.unhashed) c.self.view_is)
+
+pub back-requires : goal.back-requires
+back-requires c = omega (arith, c.requires, ap (λ v. length v.marks) c.self.view_is, length_map c.self.inside.base.contents c.self.inside.changes.marks)
