@@ -1,3 +1,4 @@
 pub mod Chains
 pub mod Input
+pub mod Stretches
 pub mod Written

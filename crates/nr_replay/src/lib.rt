@@ -2,6 +2,7 @@
 #![tactic(auto)]
 
 mod counting;
+mod hashing;
 mod text;
 mod top;
 mod totals;

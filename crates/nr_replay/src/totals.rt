@@ -3,13 +3,10 @@
 ghost use Rattle.std.specs.Prelude.{◌≡◌, ◌++◌, IfOk};
 ghost use Rattle.nr_report.specs.Lines.{totals_text};
 ghost use Rattle.nr_top.specs.Totals.{totals_of};
-ghost use Rattle.sha2.specs.Sha256.{sha256};
 
 use nr_bytes::Blob;
 use nr_chunk::Tally;
-use nr_ids::Hash32;
 use nr_report::{Totals, write_totals};
-use sha2::{Digest, Sha256};
 use std::alloc::{AllocError, Global};
 
 /// The totals, where there was this much at first.
@@ -34,16 +31,6 @@ pub(crate) fn totals_text(alloc: Global, supply: u128, tally: Tally) -> Result<B
     let mut text = Blob::of(Vec::new(alloc));
     write_totals(alloc, &totals, &mut text)?;
     Ok(text)
-}
-
-/// The hash of a text with another one behind it.
-pub(crate) fn hash_of(text: &Blob, end: &Blob) -> Hash32
-    ensures { result.0 ≡ sha256 (text.now ++ end.now) }
-{
-    let mut hasher = Sha256::new();
-    hasher.update(text.inner());
-    hasher.update(end.inner());
-    Hash32(hasher.finalize())
 }
 
 /// A text with another one behind it.

@@ -11,8 +11,9 @@ ghost use Rattle.nr_replay.specs.Chains.{chain_in};
 ghost use Rattle.nr_replay.specs.Written.{IsWritten};
 
 use crate::counting::count_chunks;
+use crate::hashing::Hashing;
 use crate::text::chunks_text;
-use crate::totals::{hash_of, joined, totals_text};
+use crate::totals::{joined, totals_text};
 use nr_blocks::{Block, Genesis};
 use nr_bytes::{Blob, List};
 use nr_chunk::ChainRun;
@@ -21,7 +22,7 @@ use nr_contract::ContractCaller;
 use nr_exchange::Serial;
 use nr_gen::generate;
 use nr_overlap::Phases;
-use nr_settle::run_to_end;
+use nr_settle::{Unwatched, Watch, Watched, run_to_end};
 use nr_top::{Work, first_lines};
 use nr_wasmtypes::FuncBody;
 use nr_workers::Gate;
@@ -37,41 +38,49 @@ struct Written {
     chunks: u64,
 }
 
-/// A chain before its first chunk.
-fn begin(config: Config, genesis: Genesis, blocks: List<Block>) -> Serial<ChainRun<ContractCaller>>
+/// A chain before its first chunk, and who is shown its reports.
+fn begin<W: Watch>(
+    config: Config,
+    genesis: Genesis,
+    blocks: List<Block>,
+    watch: W,
+) -> Serial<Watched<ContractCaller, W>>
     requires { IsSoundGenesis config genesis }
-    ensures { chain_in result.0 ≡ chain config genesis blocks }
+    ensures { chain_in result.0.chain ≡ chain config genesis blocks }
 {
     let caller = ContractCaller::new(&config);
-    Serial(ChainRun::new(config, genesis, blocks, caller))
+    let chain = ChainRun::new(config, genesis, blocks, caller);
+    Serial(Watched { chain, watch })
 }
 
 fn is_send<T: Send>()
     ensures { IsSend T.row }
 {}
 
-/// Runs a chain to its end, and writes its chunks and its totals.
-fn parts_of<R: Threads + Wait + Sync, G: Gate + Sync>(
+/// Runs a chain to its end, and writes its chunks and its totals. Gives back who was shown its reports.
+fn parts_of<R: Threads + Wait + Sync, G: Gate + Sync, W: Watch + Drop + Send + Sync>(
     rt: &R,
     alloc: Global,
     gate: &G,
     config: Config,
     genesis: Genesis,
     blocks: List<Block>,
-) -> Result<Written, AllocError>
+    watch: W,
+) -> Result<(Written, W), AllocError>
     requires { IsSoundGenesis config genesis }
-    ensures { IfOk result (IsWritten (chain config genesis blocks)) }
+    ensures { IfOk result (λ made. IsWritten (chain config genesis blocks) made.0) }
 {
     is_send::<List<FuncBody>>();
     let supply = genesis.supply;
-    let run = begin(config, genesis, blocks);
+    let run = begin(config, genesis, blocks, watch);
     let shards = run.0.shards();
     let heights = run.0.heights();
     let ended = run_to_end(rt, alloc, gate, &run)?;
-    let text = chunks_text(alloc, &ended.rows, shards, heights)?;
+    let text = chunks_text(rt, alloc, &ended.rows, shards, heights)?;
     let chunks = count_chunks(&ended.rows, shards, heights)?;
     let end = totals_text(alloc, supply, ended.tally)?;
-    Ok(Written { text, end, chunks })
+    let Serial(Watched { chain: _, watch }) = run;
+    Ok((Written { text, end, chunks }, watch))
 }
 
 /// The report of a chain: its chunks by height and then shard, and the totals.
@@ -86,7 +95,7 @@ fn report_of<R: Threads + Wait + Sync, G: Gate + Sync>(
     requires { IsSoundGenesis config genesis }
     ensures { IfOk result (λ text. text ≡ run_text (chain config genesis blocks)) }
 {
-    let parts = parts_of(rt, alloc, gate, config, genesis, blocks)?;
+    let (parts, _) = parts_of(rt, alloc, gate, config, genesis, blocks, Unwatched)?;
     let text = joined(parts.text, &parts.end)?;
     Ok(text)
 }
@@ -105,8 +114,9 @@ fn summary_of<R: Threads + Wait + Sync, G: Gate + Sync>(
     ensures { IfOk result (λ text. text ≡ generated_text start shards blocks) }
 {
     let (genesis, made) = generate(alloc, start, shards, blocks)?;
-    let parts = parts_of(rt, alloc, gate, Config::generated(), genesis, made)?;
-    let hash = hash_of(&parts.text, &parts.end);
+    let hashing = Hashing::new(alloc, shards, made.inner())?;
+    let (parts, hashing) = parts_of(rt, alloc, gate, Config::generated(), genesis, made, hashing)?;
+    let hash = hashing.end(&parts.text, &parts.end);
     let first = first_lines(alloc, start, shards, blocks, parts.chunks, &hash)?;
     let text = joined(first, &parts.end)?;
     Ok(text)

@@ -1,4 +1,4 @@
-//! Runs of two shards that have nothing, by words and files.
+//! Runs of two shards, by words and files.
 
 use crate::gates::{AheadOfBarrier, TwoAtOpen};
 use nr_bytes::{MemoryShelf, MemorySink};
@@ -35,10 +35,25 @@ const CHUNKS: &str =
 const TOTALS: &str = "total supply 0\ntotal accounts 0\ntotal receipts 0\ntotal burnt 0\n\
                       total places 0 0 0 0 0\n";
 
-/// The words of a replay of `B` over `G`.
-fn words_of(alloc: Global) -> Result<Vec<String>, Fail> {
+/// A replay of `B` over `G`.
+const REPLAY: [&str; 4] = ["replay", "free", "G", "B"];
+
+/// A generated chain of two shards and two blocks.
+const GENERATED: [&str; 4] = ["gen", "4", "2", "2"];
+
+/// What is written of `GENERATED`.
+const SUMMARY: &str = "gen 4 2 2\n\
+                       chunks 4\n\
+                       digest 42902f6b814ea90e4c60d5847e8d9bb35df443706cfe8325d5433602e6281465\n\
+                       total supply 18000000000000000000000000\n\
+                       total accounts 17999999999999998407163183\n\
+                       total receipts 1575662417\n\
+                       total burnt 17174400\n\
+                       total places 44 16 0 0 28\n";
+
+fn words_of(alloc: Global, of: &[&str; 4]) -> Result<Vec<String>, Fail> {
     let mut words = Vec::new(alloc);
-    for word in ["replay", "free", "G", "B"] {
+    for word in *of {
         words.push(String::from_str(alloc, word)?)?;
     }
     Ok(words)
@@ -52,15 +67,16 @@ fn shelf_of(alloc: Global, blocks: &str) -> Result<MemoryShelf, Fail> {
     Ok(MemoryShelf::new(files, Vec::new(alloc)))
 }
 
-/// Whether a replay through a gate writes just this text.
+/// Whether the words, through a gate, write just this text.
 fn writes<R: Threads + Wait + Sync, G: Gate + Sync>(
     rt: &R,
     alloc: Global,
+    words: &[&str; 4],
     blocks: &str,
     gate: &G,
     text: &str,
 ) -> Result<bool, Fail> {
-    let words = words_of(alloc)?;
+    let words = words_of(alloc, words)?;
     let mut shelf = shelf_of(alloc, blocks)?;
     let mut sink = MemorySink::new(alloc, 64, Vec::new(alloc), 4096)?;
     let status = replay(rt, alloc, &words, &mut shelf, &mut sink, gate);
@@ -73,7 +89,7 @@ fn two_at_open(rt: HostRuntime) -> Result<(), Fail> {
         there: [AtomicBool::new(false), AtomicBool::new(false)],
         alone: AtomicBool::new(false),
     };
-    assert!(rt; writes(&rt, rt.alloc(), BOTH, &gate, CHUNKS)?);
+    assert!(rt; writes(&rt, rt.alloc(), &REPLAY, BOTH, &gate, CHUNKS)?);
     assert!(rt; !gate.alone.load(Ordering::SeqCst));
     Ok(())
 }
@@ -84,21 +100,27 @@ fn ahead_of_barrier(rt: HostRuntime) -> Result<(), Fail> {
         ahead: AtomicBool::new(false),
         alone: AtomicBool::new(false),
     };
-    assert!(rt; writes(&rt, rt.alloc(), BOTH, &gate, CHUNKS)?);
+    assert!(rt; writes(&rt, rt.alloc(), &REPLAY, BOTH, &gate, CHUNKS)?);
     assert!(rt; !gate.alone.load(Ordering::SeqCst));
     Ok(())
 }
 
 #[test]
 fn missing_chunks_give_totals_alone(rt: HostRuntime) -> Result<(), Fail> {
-    assert!(rt; writes(&rt, rt.alloc(), NONE, &OpenGate, TOTALS)?);
+    assert!(rt; writes(&rt, rt.alloc(), &REPLAY, NONE, &OpenGate, TOTALS)?);
+    Ok(())
+}
+
+#[test]
+fn a_generated_chain_has_its_digest(rt: HostRuntime) -> Result<(), Fail> {
+    assert!(rt; writes(&rt, rt.alloc(), &GENERATED, NONE, &OpenGate, SUMMARY)?);
     Ok(())
 }
 
 #[test]
 fn the_serial_call_knows_no_replay(rt: HostRuntime) -> Result<(), Fail> {
     let alloc = rt.alloc();
-    let words = words_of(alloc)?;
+    let words = words_of(alloc, &REPLAY)?;
     let mut shelf = shelf_of(alloc, BOTH)?;
     let mut sink = MemorySink::new(alloc, 64, Vec::new(alloc), 4096)?;
     let status = serial(alloc, &words, &mut shelf, &mut sink);

@@ -10,6 +10,7 @@ ghost use Rattle.nr_settle.specs.Shown.{AreRows};
 use crate::rows::rows_of;
 use crate::sums::{sum_lists, sum_reports, sum_worlds};
 use crate::threads::run_beside;
+use crate::watched::{Watch, Watched};
 use nr_bytes::List;
 use nr_chunk::{ChainRun, ChunkStore, ChunkWorld, Tally};
 use nr_exchange::Serial;
@@ -56,21 +57,21 @@ fn settle<C: Caller<ChunkStore>>(
 }
 
 /// Runs all shards of a chain to its end, each in a thread of its own, and counts what they come to. Each shard passes
-/// the gate at three moments of each of its chunks. Shards for which no thread can be started are run in turns by the
-/// caller. Nothing says that it comes back.
+/// the gate at three moments of each of its chunks, and whoever watches the chain is shown each report. Shards for which
+/// no thread can be started are run in turns by the caller. Nothing says that it comes back.
 ///
 /// # Errors
 ///
 /// Where memory runs out; then all threads have ended. More than 100,000 blocks count as that, and a sum that doesn't
 /// fit its number.
-pub fn run_to_end<R: Threads + Wait + Sync, C: Caller<ChunkStore> + Send + Sync, G: Gate + Sync>(
-    rt: &R,
-    alloc: Global,
-    gate: &G,
-    run: &Serial<ChainRun<C>>,
-) -> Result<Ended, AllocError>
-    ensures rows { let x = chain_with run.now.0.config run.now.0.genesis run.now.0.blocks (C.meaning run.now.0.caller) in IfOk result (λ ended. AreRows (rules_of x) ended.rows.items) }
-    ensures tally { let x = chain_with run.now.0.config run.now.0.genesis run.now.0.blocks (C.meaning run.now.0.caller) in IfOk result (λ ended. ended.tally ≡ tally_at x (ending (rules_of x))) }
+pub fn run_to_end<
+    R: Threads + Wait + Sync,
+    C: Caller<ChunkStore> + Send + Sync,
+    W: Watch + Send + Sync,
+    G: Gate + Sync,
+>(rt: &R, alloc: Global, gate: &G, run: &Serial<Watched<C, W>>) -> Result<Ended, AllocError>
+    ensures rows { let x = chain_with run.now.0.chain.config run.now.0.chain.genesis run.now.0.chain.blocks (C.meaning run.now.0.chain.caller) in IfOk result (λ ended. AreRows (rules_of x) ended.rows.items) }
+    ensures tally { let x = chain_with run.now.0.chain.config run.now.0.chain.genesis run.now.0.chain.blocks (C.meaning run.now.0.chain.caller) in IfOk result (λ ended. ended.tally ≡ tally_at x (ending (rules_of x))) }
 {
     let Finished {
         reports,
@@ -78,5 +79,5 @@ pub fn run_to_end<R: Threads + Wait + Sync, C: Caller<ChunkStore> + Send + Sync,
         left,
         ports: _,
     } = run_beside(rt, alloc, gate, run)?;
-    settle(alloc, &run.0, reports, worlds, left)
+    settle(alloc, &run.0.chain, reports, worlds, left)
 }

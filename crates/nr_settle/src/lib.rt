@@ -6,6 +6,8 @@ mod ended;
 mod rows;
 mod sums;
 mod threads;
+mod watched;
 
 pub use ended::{Ended, run_to_end};
 pub use rows::cell;
+pub use watched::{Unwatched, Watch, Watched};

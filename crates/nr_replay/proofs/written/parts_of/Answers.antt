@@ -16,7 +16,7 @@ use Rattle.nr_replay.proofs.written.parts_of.Goals as goal
 
 pub returns : goal.returns
 returns g c =
-    let x = chain_in c.begin-run.result.0 in
+    let x = chain_in c.begin-run.result.0.chain in
     let shards = c.shards-shards in
     let heights = c.heights-heights in
     let ended = c.in_ok-ended in

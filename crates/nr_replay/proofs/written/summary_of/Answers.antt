@@ -7,4 +7,4 @@ pub returns : goal.returns
 returns g c =
     let made = c.in_ok-genesis.ensures in
     generated_text_is c.args.start c.args.shards c.args.blocks _ c.in_ok-parts.parts _ c.in_ok-text.text (λ i. chain (c.generated.ensures i) (made.genesis i) (made.blocks i))
-    c.in_ok-parts.ensures c.hash_of-hash.ensures (c.in_ok-text.ensures ∙ ap (λ (t : List ℕ). t ++ c.in_ok-parts.parts.end) c.in_ok-first.ensures)
+    c.in_ok-parts.ensures c.end-hash.ensures (c.in_ok-text.ensures ∙ ap (λ (t : List ℕ). t ++ c.in_ok-parts.parts.end) c.in_ok-first.ensures)
