@@ -19,7 +19,7 @@ use std::sync::ledger::Ledger;
 pub(crate) fn held_of(alloc: Global, value: &[u8]) -> Result<Vec<u8>, AllocError>
     ensures { IfOk result (λ held. held.items ≡ 1 ∷ value.now) }
 {
-    let mut held = Vec::new(alloc);
+    let mut held = Vec::with_capacity(alloc, value.len() + 1)?;
     held.push(1)?;
     held.extend_from_slice(value)?;
     Ok(held)
@@ -30,6 +30,9 @@ pub(crate) fn held_of(alloc: Global, value: &[u8]) -> Result<Vec<u8>, AllocError
 pub(crate) fn is_counted(base: &Base, changes: &PlainStore, count: usize, key: &[u8]) -> bool
     ensures { result ≡ true → is_some (map.get (joined changes.now.contents base.now.contents) key.now) ≡ true }
 {
+    if count < MOST_ENTRIES / 2 {
+        return false;
+    }
     let waiting = changes.get(key);
     if waiting.is_some() {
         return true;
