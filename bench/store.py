@@ -3,14 +3,17 @@
 
 usage: bench/store.py [--store plain|trie] [--turns N] [--program PATH]
 
+`set` puts values without a checkpoint and never asks for a root, so the store of nodes works them in as they become
+many; `behind` is one of fifty thousand values set behind a checkpoint, with its taking back, so that all of them wait.
+
 The second table of a store has roots: milliseconds for the first root, microseconds for one change with its root behind
 that, microseconds for each of a thousand changes with one root behind them, and the greatest memory of a run in MiB, of the
 filling alone and with the first root, over flat keys of four bytes; and milliseconds to fill the store with nested keys
 (a, aa, aaa and so on), each with a short value, and to compute their root.
 
-Build the program first: cd crates/near_bench && rt run. Each number is the processor time of one turn in nanoseconds: the
-time of a run with N turns less that of a run that only fills the store and computes its root, the least of three tries
-each, over N. N is at least five times the keys, so that the filling doesn't hide the turns.
+Build the program first: cd crates/near_bench && rt run. Each number is the processor time of one operation in nanoseconds:
+the time of a run with N of them less that of a run that only fills the store and computes its root, the least of three
+tries each, over N. N is some five times the keys or more, so that the filling doesn't hide the operations.
 """
 import argparse
 import os
@@ -18,7 +21,9 @@ import subprocess
 import sys
 
 SIZES = [1_000, 10_000, 100_000, 1_000_000]
-OPERATIONS = ["get", "set", "remove", "keep", "back"]
+OPERATIONS = ["get", "behind", "set", "remove", "keep", "back"]
+# How many values one turn sets, where they aren't one.
+SETS = {"behind": 50_000}
 NESTED = [1_000, 3_000, 11_200]
 # A change with its root costs the plain store the whole state.
 CHANGES = {"plain": 5, "trie": 20_000}
@@ -46,8 +51,10 @@ def operations(program, store, least_turns):
         fill, _ = least_run(program, store, "root", keys, 0)
         row = []
         for operation in OPERATIONS:
-            taken, _ = least_run(program, store, operation, keys, turns)
-            row.append(f"{(taken - fill) / turns * 1e9:.0f}")
+            sets = SETS.get(operation, 1)
+            done = max(1, turns // sets)
+            taken, _ = least_run(program, store, operation, keys, done)
+            row.append(f"{(taken - fill) / done / sets * 1e9:.0f}")
         print(f"| {keys:,} | " + " | ".join(row) + " |", flush=True)
 
 

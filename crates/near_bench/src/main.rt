@@ -3,7 +3,8 @@
 //! The words are STORE, OPERATION, KEYS and TURNS. STORE is `plain` or `trie`. `fill` does nothing
 //! more than fill the store. The others compute the root behind that; then `get`, `set`, `remove`,
 //! `keep`, `back` and `root` are done TURNS times; `change` changes one value and computes the root,
-//! TURNS times, and `working` a thousand values. `nested` fills the store with the keys `a`, `aa` and
+//! TURNS times, and `working` a thousand values; `behind` sets fifty thousand values behind a
+//! checkpoint and takes them back, TURNS times. `nested` fills the store with the keys `a`, `aa` and
 //! so on. A script outside measures the time. It prints how many turns were done; other words end it
 //! with status 1, and want of memory with status 7.
 //!

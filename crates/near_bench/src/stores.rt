@@ -37,6 +37,8 @@ enum Operation {
     Change,
     /// Another value at a thousand keys, spread evenly, and the root.
     Working,
+    /// A checkpoint, another value at fifty thousand keys, and the changes taken back.
+    Behind,
     /// The root of keys that each begin with all shorter ones.
     Nested,
 }
@@ -70,6 +72,7 @@ fn operation_of(word: &str) -> Option<Operation> {
         "root" => Some(Operation::Root),
         "change" => Some(Operation::Change),
         "working" => Some(Operation::Working),
+        "behind" => Some(Operation::Behind),
         "nested" => Some(Operation::Nested),
         _ => None,
     }
@@ -118,16 +121,48 @@ fn root<S: Store>(store: &mut S) -> Result<(), AllocError>
     counted_root::<S, Brand>(store, Blank::new(1))
 }
 
-/// Sets the value at a thousand keys that follow one another in the order of their making, and
-/// computes the root.
-fn work<S: Store>(store: &mut S, first: u32, keys: u32, value: &[u8]) -> Result<(), AllocError>
+/// Sets the value at so many keys that follow one another in the order of their making.
+fn set_many<S: Store>(
+    store: &mut S,
+    first: u32,
+    many: u32,
+    keys: u32,
+    value: &[u8],
+) -> Result<(), AllocError>
     requires { 0 < keys }
     ensures { S.marks store.new ≡ S.marks store.old }
 {
-    for number in 0..1_000 {
+    for number in 0..many {
         store.set(&key_of(first.wrapping_add(number) % keys), value)?;
     }
+    Ok(())
+}
+
+/// Sets the value at a thousand keys, and computes the root.
+fn work<S: Store>(store: &mut S, number: u32, keys: u32, value: &[u8]) -> Result<(), AllocError>
+    requires { 0 < keys }
+    ensures { S.marks store.new ≡ S.marks store.old }
+{
+    set_many(store, number.wrapping_mul(1_000), 1_000, keys, value)?;
     root(store)
+}
+
+/// Sets the value at fifty thousand keys behind a checkpoint, and takes the changes back.
+fn set_behind<S: Store>(
+    store: &mut S,
+    number: u32,
+    keys: u32,
+    value: &[u8],
+) -> Result<(), AllocError>
+    requires some { 0 < keys }
+    requires empty { S.marks store.old ≡ [] }
+    ensures { OnOk result (S.marks store.new ≡ []) }
+{
+    store.reserve_marks(1)?;
+    store.mark();
+    set_many(store, number.wrapping_mul(50_000), 50_000, keys, value)?;
+    store.back();
+    Ok(())
 }
 
 fn turn<S: Store>(
@@ -140,7 +175,7 @@ fn turn<S: Store>(
     ensures { OnOk result (S.marks store.new ≡ []) }
 {
     match operation {
-        Operation::Fill | Operation::Working => {}
+        Operation::Fill | Operation::Working | Operation::Behind => {}
         Operation::Get => {
             let _ = store.get(key);
         }
@@ -181,9 +216,10 @@ fn turns_of<S: Store>(
 {
     for number in 0..turns {
         let value = number.to_be_bytes();
-        turn(store, operation, &key_of(number % keys), &value)?;
-        if let Operation::Working = operation {
-            work(store, number.wrapping_mul(1_000), keys, &value)?;
+        match operation {
+            Operation::Working => work(store, number, keys, &value)?,
+            Operation::Behind => set_behind(store, number, keys, &value)?,
+            _ => turn(store, operation, &key_of(number % keys), &value)?,
         }
     }
     Ok(())

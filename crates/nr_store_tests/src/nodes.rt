@@ -75,6 +75,40 @@ fn roots_of_three_and_four_keys(rt: HostRuntime) -> Result<(), Fail> {
     Ok(())
 }
 
+/// How many nodes there are once three keys were put, once the young ones were trimmed, of which the
+/// first root has none, and once all were.
+fn counts(nodes: &mut Nodes) -> Result<[usize; 3], NodesFault> {
+    let one = nodes.put(None, b"ab", b"abc")?;
+    let oldest = nodes.len();
+    let two = nodes.put(Some(one), b"a", b"abc")?;
+    let three = nodes.put(Some(two), b"b1", b"abc")?;
+    let before = nodes.len();
+    let mut roots = [Some(three)];
+    nodes.trim_young(oldest, &mut roots)?;
+    let young = nodes.len();
+    nodes.trim(&mut roots)?;
+    Ok([before, young, nodes.len()])
+}
+
+/// The root of three keys, after a trim of young nodes.
+fn trimmed_root(nodes: &mut Nodes) -> Result<[u8; 32], NodesFault> {
+    let one = nodes.put(None, b"ab", b"abc")?;
+    let oldest = nodes.len();
+    let two = nodes.put(Some(one), b"a", b"abc")?;
+    let three = nodes.put(Some(two), b"b1", b"abc")?;
+    let mut roots = [Some(three)];
+    nodes.trim_young(oldest, &mut roots)?;
+    let root = hashed(nodes, roots[0])?;
+    Ok(root)
+}
+
+#[test]
+fn trims_drop_what_no_root_needs(rt: HostRuntime) -> Result<(), Fail> {
+    assert_eq!(rt; counts(&mut Nodes::new(rt.alloc()))?, [6, 5, 4]);
+    assert_eq!(rt; trimmed_root(&mut Nodes::new(rt.alloc()))?, *THREE);
+    Ok(())
+}
+
 #[test]
 fn old_roots_stay(rt: HostRuntime) -> Result<(), Fail> {
     let mut nodes = Nodes::new(rt.alloc());

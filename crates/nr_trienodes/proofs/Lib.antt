@@ -23,3 +23,5 @@ pub mod Pushing
 pub mod Renaming
 pub mod Sliding
 pub mod Relinks
+pub mod Own
+pub mod Youngs

@@ -1,68 +1,79 @@
 -- Nodes that are kept: what is marked, and that there are no more of them than at and below the roots.
-use Rattle.std.proofs.Common.{◌≡◌, ◌<◌, ◌≤◌, ◌+◌, ◌-◌, ℕ, zero, suc, Bool, true, false, cond, List, [], ◌∷◌, ◌++◌, length, take, drop, map, replicate, get_or, set, Option, Some, None, refl, ap, sym, ◌∙◌, subst, inl, inr, add-one, arith}
+use Rattle.std.proofs.Common.{◌≡◌, ◌<◌, ◌≤◌, ◌+◌, ◌-◌, ℕ, zero, suc, Bool, true, false, cond, List, [], ◌∷◌, ◌++◌, length, take, drop, map, get_or, set, Option, Some, None, refl, ap, sym, ◌∙◌, subst, inl, inr, add-one, arith}
 use mathlib.Core.Bool.{false≢true}
 use Rattle.std.specs.Prelude.{is_some, count_by, sum_by, ◌⊎◌}
 use Rattle.std.specs.Option.{option_map}
 use Rattle.std.specs.List.{AllByRecursion}
 use Rattle.std.proofs.Math.Nat.{eq-or-lt_of_le}
 use Rattle.std.proofs.Math.ListN.{drop_of_length-le}
-use Rattle.std.proofs.lemmas.Bool.{cases_eq}
-use Rattle.std.proofs.lemmas.List.{length-set, get_or-set_same, get_or-set_other, take_all}
-use Rattle.std.proofs.lemmas.List.Sums.{sum_by-cons}
+use Rattle.std.proofs.lemmas.Bool.{cases_eq, cases_lt}
+use Rattle.std.proofs.lemmas.List.{length-set, length-take, get_or-set_same, get_or-set_other, take_all}
+use Rattle.std.proofs.lemmas.List.Sums.{sum_by-cons, sum_by-take-drop, count_by-le-length}
 use Rattle.nr_trienodes.specs.Shape.{Shape, shape_at, child, no_children}
-use Rattle.nr_trienodes.specs.Tries.{count_at, node_count, or_zero}
+use Rattle.nr_trienodes.specs.Tries.{or_zero}
 use Rattle.nr_trienodes.specs.Views.{Sound, IsIn}
-use Rattle.nr_trienodes.specs.Roots.{root_count, IsRoot, name_in}
-use Rattle.nr_trienodes.specs.Naming.{Names, new_name, IsKept, HasName, weight_of, marked, Marks, RowMarked, BelowMarked, RootsMarked}
+use Rattle.nr_trienodes.specs.Roots.{young_at, young_count, IsRoot, name_in}
+use Rattle.nr_trienodes.specs.Naming.{Names, new_name, IsKept, HasName, HaveOwn, AreOldest, IsClosed, weight_of, marked, Marks, RowMarked, BelowMarked, RootsMarked}
 use Rattle.nr_trienodes.specs.declared.nodes.NodeId.{NodeId}
-use Rattle.nr_trienodes.proofs.Folds.{fold_at}
+use Rattle.nr_trienodes.proofs.Youngs.{young_is, young_old}
 use Rattle.nr_trienodes.proofs.Sounds.{back_sound}
 use Rattle.nr_trienodes.proofs.Rows.{child_get}
 use Rattle.nr_trienodes.proofs.Sets.{child-none}
 
 -- ---- one mark
-kept_set : (names : Names) (id c : ℕ) → IsKept names c → IsKept (set names id (Some 0)) c
-kept_set [] id c h = h
-kept_set (n ∷ names) zero zero h = refl
-kept_set (n ∷ names) zero (suc c) h = h
-kept_set (n ∷ names) (suc id) zero h = h
-kept_set (n ∷ names) (suc id) (suc c) h = kept_set names id c h
+kept_set : (names : Names) (id c v : ℕ) → IsKept names c → IsKept (set names id (Some v)) c
+kept_set [] id c v h = h
+kept_set (n ∷ names) zero zero v h = refl
+kept_set (n ∷ names) zero (suc c) v h = h
+kept_set (n ∷ names) (suc id) zero v h = h
+kept_set (n ∷ names) (suc id) (suc c) v h = kept_set names id c v h
+
+set_again : (names : Names) (id v : ℕ) → new_name names id ≡ Some v → new_name (set names id (Some v)) id ≡ Some v
+set_again [] id v h = h
+set_again (n ∷ names) zero v h = refl
+set_again (n ∷ names) (suc id) v h = set_again names id v h
+
+own_set : (names : Names) (id c : ℕ) → new_name names c ≡ Some c → new_name (set names id (Some id)) c ≡ Some c
+own_set names id c h = elim (cases_eq c id) as (λ _. new_name (set names id (Some id)) c ≡ Some c) [
+  | inl e ↦ subst (λ n. new_name (set names n (Some n)) c ≡ Some c) e (set_again names c c h)
+  | inr ne ↦ get_or-set_other names id c (Some id) None ne ∙ h
+]
 
 pub marks_one : (names : Names) (o : Option ℕ) → Marks names (marked names o)
-marks_one names None = record { same = refl; kept = λ c h. h }
-marks_one names (Some id) = record { same = length-set names id (Some 0); kept = kept_set names id }
+marks_one names None = record { same = refl; kept = λ c h. h; own = λ c h. h }
+marks_one names (Some id) = record { same = length-set names id (Some id); kept = λ c h. kept_set names id c id h; own = own_set names id }
 
 pub marks_all : (a b c : Names) → Marks a b → Marks b c → Marks a c
-marks_all a b c h k = record { same = k.same ∙ h.same; kept = λ id s. k.kept id (h.kept id s) }
+marks_all a b c h k = record { same = k.same ∙ h.same; kept = λ id s. k.kept id (h.kept id s); own = λ id s. k.own id (h.own id s) }
 
-pub marked_one : (names : Names) (id : ℕ) → id < length names → IsKept (set names id (Some 0)) id
-marked_one names id lt = ap is_some (get_or-set_same names id (Some 0) None lt)
+pub marked_one : (names : Names) (id : ℕ) → id < length names → IsKept (set names id (Some id)) id
+marked_one names id lt = ap is_some (get_or-set_same names id (Some id) None lt)
 
-drop_set : (names : Names) (id n : ℕ) → id < n → drop n (set names id (Some 0)) ≡ drop n names
-drop_set [] id n lt = refl
-drop_set (x ∷ names) id zero lt = absurd (omega arith)
-drop_set (x ∷ names) zero (suc n) lt = refl
-drop_set (x ∷ names) (suc id) (suc n) lt = drop_set names id n (omega arith)
+drop_set : (names : Names) (id n v : ℕ) → id < n → drop n (set names id (Some v)) ≡ drop n names
+drop_set [] id n v lt = refl
+drop_set (x ∷ names) id zero v lt = absurd (omega arith)
+drop_set (x ∷ names) zero (suc n) v lt = refl
+drop_set (x ∷ names) (suc id) (suc n) v lt = drop_set names id n v (omega arith)
 
--- a mark adds at most what is at and below the node
-weight_same : (nodes : List Shape) (names : Names) (id n : ℕ) → n ≤ id → weight_of nodes (set names id (Some 0)) n ≡ weight_of nodes names n
-weight_same nodes names id zero le = refl
-weight_same nodes names id (suc n) le =
-    let same : new_name (set names id (Some 0)) n ≡ new_name names n = get_or-set_other names id n (Some 0) None (λ e. omega arith) in
-    (λ i. weight_same nodes names id n (omega arith) i + cond (is_some (same i)) (count_at nodes n) 0)
+-- a mark adds at most what the node counts
+weight_same : (count : ℕ → ℕ) (names : Names) (id n : ℕ) → n ≤ id → weight_of count (set names id (Some id)) n ≡ weight_of count names n
+weight_same count names id zero le = refl
+weight_same count names id (suc n) le =
+    let same : new_name (set names id (Some id)) n ≡ new_name names n = get_or-set_other names id n (Some id) None (λ e. omega arith) in
+    (λ i. weight_same count names id n (omega arith) i + cond (is_some (same i)) (count n) 0)
 
-weight_set : (nodes : List Shape) (names : Names) (id n : ℕ) → weight_of nodes (set names id (Some 0)) n ≤ weight_of nodes names n + count_at nodes id
-weight_set nodes names id zero = omega arith
-weight_set nodes names id (suc n) =
-    elim (cases_eq n id) as (λ _. weight_of nodes (set names id (Some 0)) (suc n) ≤ weight_of nodes names (suc n) + count_at nodes id) [
+weight_set : (count : ℕ → ℕ) (names : Names) (id n : ℕ) → weight_of count (set names id (Some id)) n ≤ weight_of count names n + count id
+weight_set count names id zero = omega arith
+weight_set count names id (suc n) =
+    elim (cases_eq n id) as (λ _. weight_of count (set names id (Some id)) (suc n) ≤ weight_of count names (suc n) + count id) [
       | inl e ↦
-          let before : weight_of nodes (set names id (Some 0)) n ≡ weight_of nodes names n = weight_same nodes names id n (omega arith) in
-          let here : cond (is_some (new_name (set names id (Some 0)) n)) (count_at nodes n) 0 ≤ count_at nodes n = at_most (is_some (new_name (set names id (Some 0)) n)) (count_at nodes n) in
-          let same : count_at nodes n ≡ count_at nodes id = ap (count_at nodes) e in
+          let before : weight_of count (set names id (Some id)) n ≡ weight_of count names n = weight_same count names id n (omega arith) in
+          let here : cond (is_some (new_name (set names id (Some id)) n)) (count n) 0 ≤ count n = at_most (is_some (new_name (set names id (Some id)) n)) (count n) in
+          let same : count n ≡ count id = ap count e in
           omega arith
       | inr ne ↦
-          let same : cond (is_some (new_name (set names id (Some 0)) n)) (count_at nodes n) 0 ≡ cond (is_some (new_name names n)) (count_at nodes n) 0 = ap (λ (o : Option ℕ). cond (is_some o) (count_at nodes n) 0) (get_or-set_other names id n (Some 0) None ne) in
-          let before : weight_of nodes (set names id (Some 0)) n ≤ weight_of nodes names n + count_at nodes id = weight_set nodes names id n in
+          let same : cond (is_some (new_name (set names id (Some id)) n)) (count n) 0 ≡ cond (is_some (new_name names n)) (count n) 0 = ap (λ (o : Option ℕ). cond (is_some o) (count n) 0) (get_or-set_other names id n (Some id) None ne) in
+          let before : weight_of count (set names id (Some id)) n ≤ weight_of count names n + count id = weight_set count names id n in
           omega arith
     ]
   where
@@ -70,37 +81,41 @@ weight_set nodes names id (suc n) =
     at_most true n = omega arith
     at_most false n = omega arith
 
-pub weight_marked : (nodes : List Shape) (names : Names) (o : Option ℕ) (n : ℕ) → weight_of nodes (marked names o) n ≤ weight_of nodes names n + or_zero (option_map (count_at nodes) o)
-weight_marked nodes names None n = omega arith
-weight_marked nodes names (Some id) n = weight_set nodes names id n
+pub weight_marked : (count : ℕ → ℕ) (names : Names) (o : Option ℕ) (n : ℕ) → weight_of count (marked names o) n ≤ weight_of count names n + or_zero (option_map count o)
+weight_marked count names None n = omega arith
+weight_marked count names (Some id) n = weight_set count names id n
 
-nowhere : (count n : ℕ) → new_name (replicate count None) n ≡ None
-nowhere zero n = refl
-nowhere (suc count) zero = refl
-nowhere (suc count) (suc n) = nowhere count n
-
-pub weight_none : (nodes : List Shape) (count n : ℕ) → weight_of nodes (replicate count None) n ≡ 0
-weight_none nodes count zero = refl
-weight_none nodes count (suc n) =
-    let none : new_name (replicate count None) n ≡ None = nowhere count n in
-    omega (arith, weight_none nodes count n, ap (λ (o : Option ℕ). cond (is_some o) (count_at nodes n) 0) none)
+-- what isn't kept, or counts nothing, weighs nothing
+weight_none : (count : ℕ → ℕ) (names : Names) (n : ℕ) → ((id : ℕ) → id < n → (new_name names id ≡ None) ⊎ (count id ≡ 0)) → weight_of count names n ≡ 0
+weight_none count names zero none = refl
+weight_none count names (suc n) none =
+    let here : cond (is_some (new_name names n)) (count n) 0 ≡ 0 =
+    elim (none n (omega arith)) as (λ _. cond (is_some (new_name names n)) (count n) 0 ≡ 0) [
+      | inl e ↦ ap (λ (o : Option ℕ). cond (is_some o) (count n) 0) e
+      | inr e ↦ ap (λ k. cond (is_some (new_name names n)) k 0) e ∙ nothing (is_some (new_name names n))
+    ] in
+    omega (arith, here, weight_none count names n (λ id lt. none id (omega arith)))
+  where
+    nothing : (b : Bool) → cond {A = ℕ} b 0 0 ≡ 0
+    nothing true = refl
+    nothing false = refl
 
 -- ---- a row
-pub row_none : (nodes : List Shape) (row : List (Option ℕ)) (names : Names) (n : ℕ) → RowMarked nodes (take 0 row) names names n
-row_none nodes row names n = record { marks = record { same = refl; kept = λ c h. h }; row = λ x c e. absurd cc; weight = omega arith; rest = refl }
+pub row_none : (row : List (Option ℕ)) (names : Names) (n : ℕ) → RowMarked (take 0 row) names names n
+row_none row names n = record { marks = record { same = refl; kept = λ c h. h; own = λ c h. h }; row = λ x c e. absurd cc; weight = λ count. omega arith; rest = refl }
 
-pub row_nothing : (nodes : List Shape) (row : List (Option ℕ)) (names : Names) (n : ℕ) → row ≡ no_children → RowMarked nodes row names names n
-row_nothing nodes row names n e = subst (λ (cs : List (Option ℕ)). RowMarked nodes cs names names n) (sym e) (record {
-  marks = record { same = refl; kept = λ c h. h };
+pub row_nothing : (row : List (Option ℕ)) (names : Names) (n : ℕ) → row ≡ no_children → RowMarked row names names n
+row_nothing row names n e = subst (λ (cs : List (Option ℕ)). RowMarked cs names names n) (sym e) (record {
+  marks = record { same = refl; kept = λ c h. h; own = λ c h. h };
   row = λ x c h. absurd (let none : child no_children x ≡ None = child-none 16 x in cc);
-  weight = omega arith;
+  weight = λ count. omega arith;
   rest = refl;
 })
 
-pub row_full : (nodes : List Shape) (id n : ℕ) (old new : Names) → Sound nodes → id < length nodes → 16 ≤ n → RowMarked nodes (take n (shape_at nodes id).below) old new id → RowMarked nodes (shape_at nodes id).below old new id
+pub row_full : (nodes : List Shape) (id n : ℕ) (old new : Names) → Sound nodes → id < length nodes → 16 ≤ n → RowMarked (take n (shape_at nodes id).below) old new id → RowMarked (shape_at nodes id).below old new id
 row_full nodes id n old new sound lt le h =
     let few : length (shape_at nodes id).below ≤ n = omega (arith, (sound id lt).sixteen) in
-    subst (λ (cs : List (Option ℕ)). RowMarked nodes cs old new id) (take_all n (shape_at nodes id).below few) h
+    subst (λ (cs : List (Option ℕ)). RowMarked cs old new id) (take_all n (shape_at nodes id).below few) h
 
 child_take : (row : List (Option ℕ)) (x y c : ℕ) → child (take (suc x) row) y ≡ Some c → (child (take x row) y ≡ Some c) ⊎ ((y ≡ x) × (get_or row x None ≡ Some c))
 child_take [] x y c e = absurd cc
@@ -113,20 +128,20 @@ child_take (r ∷ row) (suc x) (suc y) c e =
       | inr h ↦ inr (ap suc h.0, h.1)
     ]
 
-or_zero-map : (nodes : List Shape) (cs : List (Option ℕ)) (x : ℕ) → x < length cs → sum_by or_zero (map (option_map (count_at nodes)) (take (suc x) cs)) ≡ sum_by or_zero (map (option_map (count_at nodes)) (take x cs)) + or_zero (option_map (count_at nodes) (get_or cs x None))
-or_zero-map nodes [] x lt = absurd (omega arith)
-or_zero-map nodes (c ∷ cs) zero lt = omega (arith, sum_by-cons or_zero (option_map (count_at nodes) c) [])
-or_zero-map nodes (c ∷ cs) (suc x) lt = omega (arith, sum_by-cons or_zero (option_map (count_at nodes) c) (map (option_map (count_at nodes)) (take (suc x) cs)), sum_by-cons or_zero (option_map (count_at nodes) c) (map (option_map (count_at nodes)) (take x cs)), or_zero-map nodes cs x (omega arith))
+or_zero-map : (count : ℕ → ℕ) (cs : List (Option ℕ)) (x : ℕ) → x < length cs → sum_by or_zero (map (option_map count) (take (suc x) cs)) ≡ sum_by or_zero (map (option_map count) (take x cs)) + or_zero (option_map count (get_or cs x None))
+or_zero-map count [] x lt = absurd (omega arith)
+or_zero-map count (c ∷ cs) zero lt = omega (arith, sum_by-cons or_zero (option_map count c) [])
+or_zero-map count (c ∷ cs) (suc x) lt = omega (arith, sum_by-cons or_zero (option_map count c) (map (option_map count) (take (suc x) cs)), sum_by-cons or_zero (option_map count c) (map (option_map count) (take x cs)), or_zero-map count cs x (omega arith))
 
-pub row_step : (nodes : List Shape) (row : List (Option ℕ)) (old mid : Names) (n x : ℕ) → x < length row → ((y c : ℕ) → child row y ≡ Some c → c < n) → n ≤ length mid → RowMarked nodes (take x row) old mid n → RowMarked nodes (take (suc x) row) old (marked mid (get_or row x None)) n
-row_step nodes row old mid n x lt back within h =
+pub row_step : (row : List (Option ℕ)) (old mid : Names) (n x : ℕ) → x < length row → ((y c : ℕ) → child row y ≡ Some c → c < n) → n ≤ length mid → RowMarked (take x row) old mid n → RowMarked (take (suc x) row) old (marked mid (get_or row x None)) n
+row_step row old mid n x lt back within h =
     record {
       marks = marks_all old mid (marked mid (get_or row x None)) h.marks (marks_one mid (get_or row x None));
       row = λ y c e. elim (child_take row x y c e) as (λ _. IsKept (marked mid (get_or row x None)) c) [
         | inl f ↦ (marks_one mid (get_or row x None)).kept c (h.row y c f)
         | inr f ↦ here c f.1
       ];
-      weight = omega (arith, weight_marked nodes mid (get_or row x None) n, h.weight, or_zero-map nodes row x lt);
+      weight = λ count. omega (arith, weight_marked count mid (get_or row x None) n, h.weight count, or_zero-map count row x lt);
       rest = dropped (get_or row x None) refl ∙ h.rest;
     }
   where
@@ -135,7 +150,7 @@ row_step nodes row old mid n x lt back within h =
 
     dropped : (q : Option ℕ) → get_or row x None ≡ q → drop n (marked mid q) ≡ drop n mid
     dropped None f = refl
-    dropped (Some c) f = drop_set mid c n (back x c (sym (child_get row x) ∙ f))
+    dropped (Some c) f = drop_set mid c n c (back x c (sym (child_get row x) ∙ f))
 
 pub row_in : (nodes : List Shape) (id : ℕ) (row : List (Option ℕ)) (x : ℕ) (names : Names) → Sound nodes → id < length nodes → row ≡ (shape_at nodes id).below → length names ≡ length nodes → IsIn (length names) (get_or row x None)
 row_in nodes id row x names sound lt is len = at (get_or row x None) refl
@@ -144,17 +159,14 @@ row_in nodes id row x names sound lt is len = at (get_or row x None) refl
     at None e = tt
     at (Some c) e = let less : c < id = (sound id lt).back x c (ap (λ (cs : List (Option ℕ)). child cs x) (sym is) ∙ sym (child_get row x) ∙ e) in omega arith
 
-pub row_on : (nodes : List Shape) (id : ℕ) (row : List (Option ℕ)) (x : ℕ) (old mid new : Names) → Sound nodes → id < length nodes → row ≡ (shape_at nodes id).below → length old ≡ length nodes → x < 16 → RowMarked nodes (take x row) old mid id → new ≡ marked mid (get_or row x None) → RowMarked nodes (take (x + 1) row) old new id
+pub row_on : (nodes : List Shape) (id : ℕ) (row : List (Option ℕ)) (x : ℕ) (old mid new : Names) → Sound nodes → id < length nodes → row ≡ (shape_at nodes id).below → length old ≡ length nodes → x < 16 → RowMarked (take x row) old mid id → new ≡ marked mid (get_or row x None) → RowMarked (take (x + 1) row) old new id
 row_on nodes id row x old mid new sound lt is len few h e =
     let sixteen : length row ≡ 16 = ap length is ∙ (sound id lt).sixteen in
-    subst (λ n. RowMarked nodes (take n row) old new id) (sym (add-one x))
-    (subst (λ (t : Names). RowMarked nodes (take (suc x) row) old t id) (sym e)
-    (row_step nodes row old mid id x (omega arith) (λ y c f. (sound id lt).back y c (ap (λ (cs : List (Option ℕ)). child cs y) (sym is) ∙ f)) (omega (arith, h.marks.same)) h))
+    subst (λ n. RowMarked (take n row) old new id) (sym (add-one x))
+    (subst (λ (t : Names). RowMarked (take (suc x) row) old t id) (sym e)
+    (row_step row old mid id x (omega arith) (λ y c f. (sound id lt).back y c (ap (λ (cs : List (Option ℕ)). child cs y) (sym is) ∙ f)) (omega (arith, h.marks.same)) h))
 
 -- ---- all that is needed
-count_is : (nodes : List Shape) (id : ℕ) → Sound nodes → id < length nodes → count_at nodes id ≡ 1 + sum_by or_zero (map (option_map (count_at nodes)) (shape_at nodes id).below)
-count_is nodes id sound lt = fold_at node_count 0 nodes id (back_sound nodes sound) lt
-
 drop_at : (names : Names) (n : ℕ) → n < length names → drop n names ≡ get_or names n None ∷ drop (suc n) names
 drop_at [] n lt = absurd (omega arith)
 drop_at (x ∷ names) zero lt = refl
@@ -174,15 +186,15 @@ later [] (y ∷ b) (suc n) (suc id) le e = later [] b n id (omega arith) (drop_n
 later (x ∷ a) [] (suc n) (suc id) le e = later a [] n id (omega arith) (e ∙ sym (drop_none n [] refl))
 later (x ∷ a) (y ∷ b) (suc n) (suc id) le e = later a b n id (omega arith) e
 
-pub below_start : (nodes : List Shape) (names : Names) → length names ≡ length nodes → BelowMarked nodes names names (length nodes)
-below_start nodes names len = record {
-  marks = record { same = refl; kept = λ c h. h };
+pub below_start : (nodes : List Shape) (oldest : ℕ) (names : Names) → length names ≡ length nodes → BelowMarked nodes oldest names names (length nodes)
+below_start nodes oldest names len = record {
+  marks = record { same = refl; kept = λ c h. h; own = λ c h. h };
   closed = λ id le lt. absurd (omega arith);
   few = let le : length names ≤ length nodes = omega arith in omega (arith, ap (count_by is_some) (drop_of_length-le names le));
 }
 
-pub below_kept : (nodes : List Shape) (n : ℕ) (old mid new : Names) → Sound nodes → n < length nodes → length mid ≡ length nodes → BelowMarked nodes old mid (suc n) → IsKept mid n → RowMarked nodes (shape_at nodes n).below mid new n → BelowMarked nodes old new n
-below_kept nodes n old mid new sound lt len h kept row = record {
+pub below_kept : (nodes : List Shape) (oldest n : ℕ) (old mid new : Names) → Sound nodes → oldest ≤ n → n < length nodes → length mid ≡ length nodes → BelowMarked nodes oldest old mid (suc n) → IsKept mid n → RowMarked (shape_at nodes n).below mid new n → BelowMarked nodes oldest old new n
+below_kept nodes oldest n old mid new sound young lt len h kept row = record {
   marks = marks_all old mid new h.marks row.marks;
   closed = λ id le less is x c e. elim (eq-or-lt_of_le le) as (λ _. IsKept new c) [
     | inl same ↦ row.row x c (ap (λ i. child (shape_at nodes i).below x) same ∙ e)
@@ -190,12 +202,12 @@ below_kept nodes n old mid new sound lt len h kept row = record {
   ];
   few =
       let one : cond {A = ℕ} (is_some (new_name mid n)) 1 0 ≡ 1 = ap (λ b. cond {A = ℕ} b 1 0) kept in
-      let many : cond (is_some (new_name mid n)) (count_at nodes n) 0 ≡ count_at nodes n = ap (λ b. cond b (count_at nodes n) 0) kept in
-      omega (arith, ap (count_by is_some) row.rest, count_drop mid n (omega arith), one, many, row.weight, h.few, count_is nodes n sound lt);
+      let many : cond (is_some (new_name mid n)) (young_at nodes oldest n) 0 ≡ young_at nodes oldest n = ap (λ b. cond b (young_at nodes oldest n) 0) kept in
+      omega (arith, ap (count_by is_some) row.rest, count_drop mid n (omega arith), one, many, row.weight (young_at nodes oldest), h.few, young_is nodes oldest n (back_sound nodes sound) young lt);
 }
 
-pub below_passed : (nodes : List Shape) (n : ℕ) (old mid : Names) → n < length nodes → length mid ≡ length nodes → BelowMarked nodes old mid (suc n) → is_some (new_name mid n) ≡ false → BelowMarked nodes old mid n
-below_passed nodes n old mid lt len h none = record {
+pub below_passed : (nodes : List Shape) (oldest n : ℕ) (old mid : Names) → n < length nodes → length mid ≡ length nodes → BelowMarked nodes oldest old mid (suc n) → is_some (new_name mid n) ≡ false → BelowMarked nodes oldest old mid n
+below_passed nodes oldest n old mid lt len h none = record {
   marks = h.marks;
   closed = λ id le less is x c e. elim (eq-or-lt_of_le le) as (λ _. IsKept mid c) [
     | inl same ↦ absurd (false≢true (sym none ∙ ap (λ i. is_some (new_name mid i)) same ∙ is))
@@ -206,15 +218,15 @@ below_passed nodes n old mid lt len h none = record {
       omega (arith, count_drop mid n (omega arith), no, h.few);
 }
 
-pub below_on : (nodes : List Shape) (left : ℕ) (old mid new : Names) → Sound nodes → 0 < left → left ≤ length nodes → length old ≡ length nodes → BelowMarked nodes old mid left → is_some (new_name mid (left - 1)) ≡ true → RowMarked nodes (shape_at nodes (left - 1)).below mid new (left - 1) → BelowMarked nodes old new (left - 1)
-below_on nodes left old mid new sound some le len h kept row =
+pub below_on : (nodes : List Shape) (oldest left : ℕ) (old mid new : Names) → Sound nodes → oldest < left → left ≤ length nodes → length old ≡ length nodes → BelowMarked nodes oldest old mid left → is_some (new_name mid (left - 1)) ≡ true → RowMarked (shape_at nodes (left - 1)).below mid new (left - 1) → BelowMarked nodes oldest old new (left - 1)
+below_on nodes oldest left old mid new sound some le len h kept row =
     let e : left ≡ suc (left - 1) = omega arith in
-    below_kept nodes (left - 1) old mid new sound (omega arith) (h.marks.same ∙ len) (subst (BelowMarked nodes old mid) e h) kept row
+    below_kept nodes oldest (left - 1) old mid new sound (omega arith) (omega arith) (h.marks.same ∙ len) (subst (BelowMarked nodes oldest old mid) e h) kept row
 
-pub below_off : (nodes : List Shape) (left : ℕ) (old mid : Names) → 0 < left → left ≤ length nodes → length old ≡ length nodes → BelowMarked nodes old mid left → is_some (new_name mid (left - 1)) ≡ false → BelowMarked nodes old mid (left - 1)
-below_off nodes left old mid some le len h none =
+pub below_off : (nodes : List Shape) (oldest left : ℕ) (old mid : Names) → 0 < left → left ≤ length nodes → length old ≡ length nodes → BelowMarked nodes oldest old mid left → is_some (new_name mid (left - 1)) ≡ false → BelowMarked nodes oldest old mid (left - 1)
+below_off nodes oldest left old mid some le len h none =
     let e : left ≡ suc (left - 1) = omega arith in
-    below_passed nodes (left - 1) old mid (omega arith) (h.marks.same ∙ len) (subst (BelowMarked nodes old mid) e h) none
+    below_passed nodes oldest (left - 1) old mid (omega arith) (h.marks.same ∙ len) (subst (BelowMarked nodes oldest old mid) e h) none
 
 -- ---- the roots
 roots_more : (a b : Names) (roots : List (Option NodeId)) → Marks a b → AllByRecursion (HasName a) roots → AllByRecursion (HasName b) roots
@@ -232,24 +244,24 @@ root_at nodes [] i lt h = absurd (omega arith)
 root_at nodes (r ∷ roots) zero lt h = h.0
 root_at nodes (r ∷ roots) (suc i) lt h = root_at nodes roots i (omega arith) h.1
 
-counts_take : (nodes : List Shape) (roots : List (Option NodeId)) (i : ℕ) → i < length roots → sum_by (root_count nodes) (take (suc i) roots) ≡ sum_by (root_count nodes) (take i roots) + root_count nodes (get_or roots i None)
-counts_take nodes [] i lt = absurd (omega arith)
-counts_take nodes (r ∷ roots) zero lt = omega (arith, sum_by-cons (root_count nodes) r [])
-counts_take nodes (r ∷ roots) (suc i) lt = omega (arith, sum_by-cons (root_count nodes) r (take (suc i) roots), sum_by-cons (root_count nodes) r (take i roots), counts_take nodes roots i (omega arith))
+counts_take : (nodes : List Shape) (oldest : ℕ) (roots : List (Option NodeId)) (i : ℕ) → i < length roots → sum_by (young_count nodes oldest) (take (suc i) roots) ≡ sum_by (young_count nodes oldest) (take i roots) + young_count nodes oldest (get_or roots i None)
+counts_take nodes oldest [] i lt = absurd (omega arith)
+counts_take nodes oldest (r ∷ roots) zero lt = omega (arith, sum_by-cons (young_count nodes oldest) r [])
+counts_take nodes oldest (r ∷ roots) (suc i) lt = omega (arith, sum_by-cons (young_count nodes oldest) r (take (suc i) roots), sum_by-cons (young_count nodes oldest) r (take i roots), counts_take nodes oldest roots i (omega arith))
 
 root_marked : (nodes : List Shape) (names : Names) (r : Option NodeId) → length names ≡ length nodes → IsRoot nodes r → HasName (marked names (name_in r)) r
 root_marked nodes names None len root = tt
 root_marked nodes names (Some id) len root = marked_one names id.0 (let there : id.0 < length nodes = root.0 in omega arith)
 
-root_weight : (nodes : List Shape) (r : Option NodeId) → or_zero (option_map (count_at nodes) (name_in r)) ≡ root_count nodes r
-root_weight nodes None = refl
-root_weight nodes (Some id) = refl
+root_weight : (nodes : List Shape) (oldest : ℕ) (r : Option NodeId) → or_zero (option_map (young_at nodes oldest) (name_in r)) ≡ young_count nodes oldest r
+root_weight nodes oldest None = refl
+root_weight nodes oldest (Some id) = refl
 
 pub roots_on : (nodes : List Shape) (roots : List (Option NodeId)) (i : ℕ) (old mid new : Names) → length old ≡ length nodes → i < length roots → AllByRecursion (IsRoot nodes) roots → RootsMarked nodes (take i roots) old mid → new ≡ marked mid (name_in (get_or roots i None)) → RootsMarked nodes (take (i + 1) roots) old new
 roots_on nodes roots i old mid new len lt all h e = subst (λ n. RootsMarked nodes (take n roots) old new) (sym (add-one i)) (subst (RootsMarked nodes (take (suc i) roots) old) (sym e) (record {
   marks = marks_all old mid (marked mid (name_in (get_or roots i None))) h.marks (marks_one mid (name_in (get_or roots i None)));
   roots_kept = roots_push (marked mid (name_in (get_or roots i None))) roots i lt (roots_more mid (marked mid (name_in (get_or roots i None))) (take i roots) (marks_one mid (name_in (get_or roots i None))) h.roots_kept) (root_marked nodes mid (get_or roots i None) (h.marks.same ∙ len) (root_at nodes roots i lt all));
-  weight = omega (arith, weight_marked nodes mid (name_in (get_or roots i None)) (length nodes), root_weight nodes (get_or roots i None), h.weight, counts_take nodes roots i lt);
+  weight = λ oldest. omega (arith, weight_marked (young_at nodes oldest) mid (name_in (get_or roots i None)) (length nodes), root_weight nodes oldest (get_or roots i None), h.weight oldest, counts_take nodes oldest roots i lt);
 }))
 
 -- ---- each in a list changed in its place
@@ -291,10 +303,30 @@ in_row row x n h = at (get_or row x None) refl
     at (Some c) e = h x c (sym (child_get row x) ∙ e)
 
 -- ---- a whole trim
-pub few_kept : (nodes : List Shape) (roots : List (Option NodeId)) (none tops all : Names) → none ≡ replicate (length nodes) None → RootsMarked nodes roots none tops → BelowMarked nodes tops all 0 → count_by is_some all ≤ sum_by (root_count nodes) roots
-few_kept nodes roots none tops all e r b =
-    let nothing : weight_of nodes none (length nodes) ≡ 0 = ap (λ (t : Names). weight_of nodes t (length nodes)) e ∙ weight_none nodes (length nodes) (length nodes) in
-    omega (arith, b.few, r.weight, nothing)
+pub own_after : (a b c : Names) (oldest : ℕ) → HaveOwn a oldest → Marks a b → Marks b c → HaveOwn c oldest
+own_after a b c oldest own h k id lt = k.own id (h.own id (own id lt))
+
+-- no more nodes are kept than the oldest ones and the young ones at and below the roots
+pub few_kept : (nodes : List Shape) (roots : List (Option NodeId)) (names tops all : Names) (oldest : ℕ) → AreOldest names oldest (length nodes) → RootsMarked nodes roots names tops → BelowMarked nodes oldest tops all oldest → count_by is_some all ≤ oldest + sum_by (young_count nodes oldest) roots
+few_kept nodes roots names tops all oldest start r b =
+    let before : weight_of (young_at nodes oldest) names (length nodes) ≡ 0 = weight_none (young_at nodes oldest) names (length nodes) (λ id lt. old_or_none id) in
+    let parts : count_by is_some (take oldest all) + count_by is_some (drop oldest all) ≡ count_by is_some all = sum_by-take-drop (λ (o : Option ℕ). cond {A = ℕ} (is_some o) 1 0) all oldest in
+    let first : count_by is_some (take oldest all) ≤ length (take oldest all) = count_by-le-length is_some (take oldest all) in
+    let short : length (take oldest all) ≤ oldest = omega (arith, length-take oldest all) in
+    omega (arith, b.few, r.weight oldest, before, parts, first, short)
+  where
+    old_or_none : (id : ℕ) → (new_name names id ≡ None) ⊎ (young_at nodes oldest id ≡ 0)
+    old_or_none id = elim (cases_lt id oldest) as (λ _. (new_name names id ≡ None) ⊎ (young_at nodes oldest id ≡ 0)) [
+      | inl low ↦ inr (young_old nodes oldest id low)
+      | inr high ↦ inl (start.others id high)
+    ]
+
+-- what is needed from the oldest nodes on is kept; these are kept with their children, which are older
+pub closed_all : (nodes : List Shape) (names : Names) (oldest : ℕ) → Sound nodes → HaveOwn names oldest → IsClosed nodes names oldest → IsClosed nodes names 0
+closed_all nodes names oldest sound own closed id le lt is x c e = elim (cases_lt id oldest) as (λ _. IsKept names c) [
+  | inl low ↦ let less : c < id = (sound id lt).back x c e in ap is_some (own c (omega arith))
+  | inr high ↦ closed id high lt is x c e
+]
 
 pub roots_stay : (a b : Names) (roots : List (Option NodeId)) → ((id : ℕ) → IsKept a id → IsKept b id) → AllByRecursion (HasName a) roots → AllByRecursion (HasName b) roots
 roots_stay a b [] m h = tt

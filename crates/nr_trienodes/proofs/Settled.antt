@@ -187,9 +187,5 @@ settles_single old new part None row x c id sound lt e down others s =
 pub row_back : (nodes : List Shape) (node : ℕ) (row : List (Option ℕ)) → Sound nodes → node < length nodes → row ≡ (shape_at nodes node).below → (y d : ℕ) → child row y ≡ Some d → d < length nodes
 row_back nodes node row sound lt e y d h = let less : d < node = (sound node lt).back y d (ap (λ (r : List (Option ℕ)). child r y) (sym e) ∙ h) in omega arith
 
-pub none_mapped : {A B : Type 0} (f : A → B) (o : Option A) → is_some o ≡ false → is_some (option_map f o) ≡ false
-none_mapped f None e = refl
-none_mapped f (Some a) e = absurd cc
-
 pub fork_back : (n x c : ℕ) (row : List (Option ℕ)) → row ≡ set no_children x (Some c) → c < n → (y d : ℕ) → child row y ≡ Some d → d < n
 fork_back n x c row e lt y d h = back_set n no_children x (Some c) (leaf_back n) lt y d (ap (λ (r : List (Option ℕ)). child r y) (sym e) ∙ h)

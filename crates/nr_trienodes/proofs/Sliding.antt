@@ -6,7 +6,8 @@ use Rattle.std.proofs.Math.Nat.{eq-or-lt_of_le}
 use Rattle.std.proofs.lemmas.List.{length-set, get_or-set_same, get_or-set_other}
 use Rattle.std.proofs.lemmas.List.Sums.{sum_by-cons}
 use Rattle.nr_trienodes.specs.Shape.{Shape, shape_at, child}
-use Rattle.nr_trienodes.specs.Naming.{Names, new_name, renamed, with_names, AreNamed, IsClosed, IsSlid, Slides}
+use Rattle.nr_trienodes.specs.Naming.{Names, new_name, renamed, with_names, HaveOwn, IsKept, IsNamed, AreNamed, IsClosed, IsSlid, Slides}
+use Rattle.nr_trienodes.specs.Roots.{AreOldestKept}
 use Rattle.std.specs.List.{SwappedAt}
 use Rattle.std.proofs.lemmas.List.{length-take, get_or-take}
 use Rattle.nr_trienodes.specs.Views.{shape, shapes, Sound}
@@ -30,22 +31,58 @@ count_take [] n lt = absurd (omega arith)
 count_take (x ∷ marks) zero lt = omega (arith, sum_by-cons (λ (o : Option ℕ). cond {A = ℕ} (is_some o) 1 0) x [])
 count_take (x ∷ marks) (suc n) lt = omega (arith, sum_by-cons (λ (o : Option ℕ). cond {A = ℕ} (is_some o) 1 0) x (take (suc n) marks), sum_by-cons (λ (o : Option ℕ). cond {A = ℕ} (is_some o) 1 0) x (take n marks), count_take marks n (omega arith))
 
-pub slides_start : (nodes : List Shape) (marks : Names) → Slides nodes marks nodes marks 0 0
-slides_start nodes marks = record {
+same_of : {A : Type 0} (a b : A) (o : Option A) → o ≡ Some a → o ≡ Some b → a ≡ b
+same_of a b o e f = cc
+
+-- names of their own change nothing
+names_own : (names : Names) (s : Shape) → ((x c : ℕ) → child s.below x ≡ Some c → new_name names c ≡ Some c) → with_names names s ≡ s
+names_own names s own = ap (λ (cs : List (Option ℕ)). record s { below = cs }) (each s.below own)
+  where
+    each : (cs : List (Option ℕ)) → ((x c : ℕ) → child cs x ≡ Some c → new_name names c ≡ Some c) → map (renamed names) cs ≡ cs
+    each [] h = refl
+    each (None ∷ cs) h = ap (λ (t : List (Option ℕ)). None ∷ t) (each cs (λ x c e. h (suc x) c e))
+    each (Some c ∷ cs) h = (λ i. h 0 c refl i ∷ each cs (λ x d e. h (suc x) d e) i)
+
+own_shape : (nodes : List Shape) (names : Names) (oldest id : ℕ) → Back nodes → HaveOwn names oldest → id < oldest → id < length nodes → with_names names (shape_at nodes id) ≡ shape_at nodes id
+own_shape nodes names oldest id back own low lt = names_own names (shape_at nodes id) (λ x c e. let less : c < id = back id lt x c e in own c (omega arith))
+
+-- where the first nodes are all kept, there are as many
+count_kept : (marks : Names) (n : ℕ) → n ≤ length marks → ((id : ℕ) → id < n → IsKept marks id) → count_by is_some (take n marks) ≡ n
+count_kept marks zero le kept = refl
+count_kept marks (suc n) le kept =
+    let one : cond {A = ℕ} (is_some (new_name marks n)) 1 0 ≡ 1 = ap (λ b. cond {A = ℕ} b 1 0) (kept n (omega arith)) in
+    omega (arith, count_take marks n (omega arith), one, count_kept marks n (omega arith) (λ id lt. kept id (omega arith)))
+
+-- the oldest nodes stay
+pub slides_start : (nodes : List Shape) (marks : Names) (oldest : ℕ) → Sound nodes → length marks ≡ length nodes → oldest ≤ length nodes → HaveOwn marks oldest → Slides nodes marks nodes marks oldest oldest
+slides_start nodes marks oldest sound long le own = record {
   within = omega arith;
-  many = refl;
+  many = sym (count_kept marks oldest (omega arith) (λ id lt. ap is_some (own id lt)));
   same = refl;
   long = refl;
-  named = λ c name lt e. absurd (omega arith);
-  onto = λ name lt. absurd (omega arith);
-  rise = λ c d m n less lt e f. absurd (omega arith);
-  kept = λ c lt. absurd (omega arith);
+  named = λ c name lt e.
+      let is : name ≡ c = same_of name c (new_name marks c) e (own c lt) in
+      (omega arith, ap (shape_at nodes) is ∙ sym (own_shape nodes marks oldest c (back_sound nodes sound) own lt (omega arith)));
+  onto = λ name lt. (name, lt, own name lt);
+  rise = λ c d m n less lt e f.
+      let low : c < oldest = omega arith in
+      let first : m ≡ c = same_of m c (new_name marks c) e (own c low) in
+      let second : n ≡ d = same_of n d (new_name marks d) f (own d lt) in
+      omega arith;
+  kept = λ c lt. refl;
   marked = λ c le. refl;
   rest = λ i le lt. refl;
 }
 
-same_of : {A : Type 0} (a b : A) (o : Option A) → o ≡ Some a → o ≡ Some b → a ≡ b
-same_of a b o e f = cc
+-- behind nodes that all have their own names the next name is a node's own
+pub own_next : (nodes : List Shape) (marks : Names) (now : List Shape) (names : Names) (id next : ℕ) → id ≤ length marks → Slides nodes marks now names id next → HaveOwn names id → next ≡ id
+own_next nodes marks now names id next le h own = h.many ∙ count_kept marks id le (λ c lt. sym (h.kept c lt) ∙ ap is_some (own c lt))
+
+-- under names of their own nodes are what they were
+pub oldest_kept : (old new : List Shape) (names : Names) (oldest : ℕ) → Sound old → AreNamed names old new → HaveOwn names oldest → AreOldestKept old new oldest
+oldest_kept old new names oldest sound are own id low lt =
+    let it : IsNamed names old new id id = are.each id id lt (own id low) in
+    (it.there, it.shape ∙ own_shape old names oldest id (back_sound old sound) own low lt)
 
 -- a node that isn't kept
 pub slides_passed : (nodes : List Shape) (marks : Names) (now : List Shape) (names : Names) (id next : ℕ) → id < length marks → Slides nodes marks now names id next → is_some (new_name names id) ≡ false → Slides nodes marks now names (id + 1) next

@@ -7,6 +7,7 @@ pub mod Hashing
 pub mod Listing
 pub mod Naming
 pub mod Packing
-pub mod Parts
-pub mod Held
+pub mod NodeBytes
+pub mod Block
 pub mod Bodies
+pub mod Own

@@ -2,8 +2,8 @@
 use Rattle.std.specs.Prelude.{◌≡◌, ◌≢◌, ℕ, ◌<◌, List, length, map, take, drop, cond, is_some, true, count_by, sum_by, zero, suc, ◌+◌, ◌≤◌, Option, Some, None, slice_index_or, slice_set}
 use Rattle.std.specs.Option.{option_map}
 use Rattle.std.specs.List.{AllByRecursion}
-use Rattle.nr_trienodes.specs.Roots.{root_count}
-use Rattle.nr_trienodes.specs.Tries.{count_at, or_zero}
+use Rattle.nr_trienodes.specs.Roots.{young_at, young_count}
+use Rattle.nr_trienodes.specs.Tries.{or_zero}
 use Rattle.nr_trienodes.specs.Views.{Sound}
 use Rattle.nr_trienodes.specs.declared.nodes.NodeId.{NodeId}
 use Rattle.nr_trienodes.specs.Shape.{Shape, shape_at, child}
@@ -47,43 +47,58 @@ abbrev pub HasName : Names → Option NodeId → Type 0
 HasName names None = Unit {0}
 HasName names (Some id) = IsKept names id.0
 
--- how many nodes there are at and below those of the first n that are kept, counted once for each
-abbrev pub weight_of : List Shape → Names → ℕ → ℕ
-weight_of nodes names zero = 0
-weight_of nodes names (suc n) = weight_of nodes names n + cond (is_some (new_name names n)) (count_at nodes n) 0
+-- the first n nodes have their own names
+abbrev pub HaveOwn : Names → ℕ → Type 0
+HaveOwn names n = (id : ℕ) → id < n → new_name names id ≡ Some id
 
--- with one node more, or none, that is kept
+-- a list of so many names: the oldest nodes have their own ones, and the others none
+pub record AreOldest (names : Names) (oldest count : ℕ) : Type 0 where
+  pub long : length names ≡ count
+  pub own : HaveOwn names oldest
+  pub others : (id : ℕ) → oldest ≤ id → new_name names id ≡ None
+
+-- what those of the first n nodes that are kept count together, each by itself
+abbrev pub weight_of : (ℕ → ℕ) → Names → ℕ → ℕ
+weight_of count names zero = 0
+weight_of count names (suc n) = weight_of count names n + cond (is_some (new_name names n)) (count n) 0
+
+-- with one node more, or none, that is kept, under its own name
 abbrev pub marked : Names → Option ℕ → Names
 marked names None = names
-marked names (Some id) = slice_set names id (Some 0)
+marked names (Some id) = slice_set names id (Some id)
 
--- more nodes are kept
+-- no fewer nodes are kept, and what has its own name keeps it
 pub record Marks (old new : Names) : Type 0 where
   pub same : length new ≡ length old
   pub kept : (id : ℕ) → IsKept old id → IsKept new id
+  pub own : (id : ℕ) → new_name old id ≡ Some id → new_name new id ≡ Some id
 
 -- these nodes, of the first n, are kept too
-pub record RowMarked (nodes : List Shape) (children : List (Option ℕ)) (old new : Names) (n : ℕ) : Type 0 where
+pub record RowMarked (children : List (Option ℕ)) (old new : Names) (n : ℕ) : Type 0 where
   pub marks : Marks old new
   pub row : (x c : ℕ) → child children x ≡ Some c → IsKept new c
-  pub weight : weight_of nodes new n ≤ weight_of nodes old n + sum_by or_zero (map (option_map (count_at nodes)) children)
+  pub weight : (count : ℕ → ℕ)
+      → weight_of count new n ≤ weight_of count old n + sum_by or_zero (map (option_map count) children)
   pub rest : drop n new ≡ drop n old
 
 -- from n on, the children of nodes that are kept are kept
 abbrev pub IsClosed : List Shape → Names → ℕ → Type 0
 IsClosed nodes names n = (id : ℕ) → n ≤ id → id < length nodes → IsKept names id → (x c : ℕ) → child (shape_at nodes id).below x ≡ Some c → IsKept names c
 
--- all that is needed from n on is kept, and it is no more than what is at and below what was kept
-pub record BelowMarked (nodes : List Shape) (old new : Names) (n : ℕ) : Type 0 where
+-- all that is needed from n on is kept; without the oldest it is no more than what is at and below what was kept
+pub record BelowMarked (nodes : List Shape) (oldest : ℕ) (old new : Names) (n : ℕ) : Type 0 where
   pub marks : Marks old new
   pub closed : IsClosed nodes new n
-  pub few : count_by is_some (drop n new) + weight_of nodes new n ≤ weight_of nodes old (length nodes)
+  pub few : count_by is_some (drop n new) + weight_of (young_at nodes oldest) new n
+      ≤ weight_of (young_at nodes oldest) old (length nodes)
 
 -- the roots are kept
 pub record RootsMarked (nodes : List Shape) (tops : List (Option NodeId)) (old new : Names) : Type 0 where
   pub marks : Marks old new
   pub roots_kept : AllByRecursion (HasName new) tops
-  pub weight : weight_of nodes new (length nodes) ≤ weight_of nodes old (length nodes) + sum_by (root_count nodes) tops
+  pub weight : (oldest : ℕ)
+      → weight_of (young_at nodes oldest) new (length nodes)
+      ≤ weight_of (young_at nodes oldest) old (length nodes) + sum_by (young_count nodes oldest) tops
 
 -- a node moved to a place with the new names of its children; others but those at the two places stay
 pub record IsSlid (names : Names) (old new : List Shape) (id to : ℕ) : Type 0 where

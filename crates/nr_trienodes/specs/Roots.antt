@@ -1,9 +1,9 @@
 -- Roots: the finite maps that nodes stand for, and what stays of them. This project's own.
-use Rattle.std.specs.Prelude.{◌≡◌, ◌<◌, ◌≤◌, ℕ, ◌+◌, ◌*◌, ◌^◌, List, [], ◌∷◌, length, map, Option, Some, None, IsSome, Result, Err}
+use Rattle.std.specs.Prelude.{◌≡◌, ◌<◌, ◌≤◌, ℕ, ◌+◌, ◌*◌, ◌^◌, ltb, cond, List, [], ◌∷◌, length, map, Option, Some, None, IsSome, Result, Err}
 use Rattle.std.specs.FinMap.{empty, from_sorted}
 use Rattle.nr_triedef.specs.Node.{nibbles, paired}
 use Rattle.nr_triedef.specs.Root.{Paths, Contents}
-use Rattle.nr_trienodes.specs.Shape.{Shape}
+use Rattle.nr_trienodes.specs.Shape.{Shape, shape_at}
 use Rattle.nr_trienodes.specs.Tries.{found, paths_at, cost_at, count_at}
 use Rattle.nr_trienodes.specs.declared.fault.NodesFault.{NodesFault}
 use Rattle.nr_trienodes.specs.declared.fault.NodesFault.TheVariants.{Full}
@@ -37,6 +37,24 @@ abbrev pub root_count : List Shape → Option NodeId → ℕ
 root_count nodes None = 0
 root_count nodes (Some id) = count_at nodes id.0
 
+-- a child, where it isn't among the oldest nodes
+abbrev pub young_child : ℕ → Option ℕ → Option ℕ
+young_child oldest None = None
+young_child oldest (Some id) = cond (ltb id oldest) None (Some id)
+
+-- a node without its children among the oldest nodes
+abbrev pub young_part : ℕ → Shape → Shape
+young_part oldest s = record s { below = map (young_child oldest) s.below }
+
+-- how many nodes there are at and below a node, without the oldest ones and what is below these
+abbrev pub young_at : List Shape → ℕ → ℕ → ℕ
+young_at nodes oldest id = cond (ltb id oldest) 0 (count_at (map (young_part oldest) nodes) id)
+
+-- how many nodes of the trie of a root aren't among the oldest
+abbrev pub young_count : List Shape → ℕ → Option NodeId → ℕ
+young_count nodes oldest None = 0
+young_count nodes oldest (Some id) = young_at nodes oldest id.0
+
 -- old roots stay
 pub record Keeps (old new : List Shape) : Type 0 where
   pub root : (r : Option NodeId) → IsRoot old r → IsRoot new r
@@ -64,6 +82,10 @@ Renames old new [] [] = Unit {0}
 Renames old new [] (q ∷ qs) = ⊥
 Renames old new (r ∷ rs) [] = ⊥
 Renames old new (r ∷ rs) (q ∷ qs) = IsRoot new q × (contents new q ≡ contents old r) × (cost new q ≤ cost old r) × Renames old new rs qs
+
+-- of the oldest nodes, so many as given, each that is there stays as it is under its name
+abbrev pub AreOldestKept : List Shape → List Shape → ℕ → Type 0
+AreOldestKept old new oldest = (id : ℕ) → id < oldest → id < length old → (id < length new) × (shape_at new id ≡ shape_at old id)
 
 -- a change is refused as full exactly where there is no room, with the number of nodes held
 pub record FullsSo {A : Type 0} (held nibbles : ℕ) (result : Result A NodesFault) : Type 0 where

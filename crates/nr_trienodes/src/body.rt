@@ -1,22 +1,20 @@
 //! What a node holds: a value, children, or both.
 
 ghost use Rattle.std.specs.Prelude.{◌≡◌, ◌==◌, length, count_by, is_some, slice_set, ◌<◌, Some, IfOk};
-ghost use Rattle.std.specs.Option.{option_copied, option_map};
-ghost use Rattle.std.specs.Arc.{arc_value};
+ghost use Rattle.std.specs.Option.{option_copied};
 ghost use Rattle.nr_trienodes.specs.Shape.{no_children};
 ghost use Rattle.nr_trienodes.specs.Packing.{IsPackable, none_number};
 ghost use Rattle.nr_trienodes.specs.Bodies.{value_of, row_of, row_in};
 
-use crate::bytes::Bytes;
+use crate::node_bytes::NodeBytes;
 use crate::packed::{Packed, Row};
 use crate::spare::Spare;
 use std::alloc::{AllocError, Global};
-use std::sync::Arc;
 
-/// A value that nodes share, and children.
+/// A value and children.
 #[derive(Drop)]
 pub(crate) struct Both {
-    pub(crate) value: Arc<Bytes>,
+    pub(crate) value: NodeBytes,
     pub(crate) row: Packed,
 }
 
@@ -24,7 +22,7 @@ pub(crate) struct Both {
 #[derive(Drop)]
 pub(crate) enum Body {
     Bare,
-    Value(Arc<Bytes>),
+    Value(NodeBytes),
     Children(Box<Packed>),
     Both(Box<Both>),
 }
@@ -43,8 +41,8 @@ pub(crate) fn is_alone(row: &Row) -> bool
 }
 
 // What has no children.
-fn alone(value: Option<Arc<Bytes>>) -> Body
-    ensures value { value_of result ≡ option_map arc_value value }
+fn alone(value: Option<NodeBytes>) -> Body
+    ensures value { value_of result ≡ value }
     ensures row { row_of result ≡ no_children }
 {
     match value {
@@ -57,10 +55,10 @@ fn alone(value: Option<Arc<Bytes>>) -> Body
 pub(crate) fn with_row(
     alloc: Global,
     spare: &mut Spare,
-    value: Option<Arc<Bytes>>,
+    value: Option<NodeBytes>,
     row: Packed,
 ) -> Result<Body, AllocError>
-    ensures value { IfOk result (λ body. value_of body ≡ option_map arc_value value) }
+    ensures value { IfOk result (λ body. value_of body ≡ value) }
     ensures row { IfOk result (λ body. row_of body ≡ row) }
 {
     match value {
@@ -80,11 +78,11 @@ impl Body {
     pub(crate) fn of(
         alloc: Global,
         spare: &mut Spare,
-        value: Option<Arc<Bytes>>,
+        value: Option<NodeBytes>,
         row: &Row,
     ) -> Result<Body, AllocError>
         requires { IsPackable row.now }
-        ensures value { IfOk result (λ body. value_of body ≡ option_map arc_value value) }
+        ensures value { IfOk result (λ body. value_of body ≡ value) }
         ensures row { IfOk result (λ body. row_of body ≡ row.now) }
         ensures sixteen { length row.now ≡ 16 }
     {
@@ -96,13 +94,13 @@ impl Body {
     }
 
     /// The value once more, for another node.
-    pub(crate) fn shared_value(&self) -> Result<Option<Arc<Bytes>>, AllocError>
-        ensures { IfOk result (λ value. option_map arc_value value ≡ value_of self.now) }
+    pub(crate) fn value_again(&self) -> Result<Option<NodeBytes>, AllocError>
+        ensures { IfOk result (λ value. value ≡ value_of self.now) }
     {
         match self.value() {
             None => Ok(None),
             Some(value) => {
-                let other = Arc::try_clone(value)?;
+                let other = value.try_clone()?;
                 Ok(Some(other))
             }
         }
@@ -121,8 +119,8 @@ impl Body {
     }
 
     /// The value.
-    pub(crate) fn value(&self) -> Option<&Arc<Bytes>>
-        ensures { option_map arc_value (option_copied result) ≡ value_of self.now }
+    pub(crate) fn value(&self) -> Option<&NodeBytes>
+        ensures { option_copied result ≡ value_of self.now }
     {
         match self {
             Body::Bare => None,

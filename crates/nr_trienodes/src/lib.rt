@@ -2,17 +2,18 @@
 //! and old roots stay while new ones are made.
 #![tactic(auto)]
 
+mod block;
 mod body;
-mod bytes;
 mod cutting;
 mod fault;
 mod finding;
 mod hashing;
 mod listing;
 mod making;
+mod names;
+mod node_bytes;
 mod nodes;
 mod packed;
-mod part;
 mod putting;
 mod settling;
 mod spare;

@@ -1,11 +1,9 @@
 //! Keys in order.
 
 ghost use Rattle.std.specs.Prelude.{◌≡◌, ◌<◌, ◌%◌, ◌++◌, length, is_some, true, IfOk, OnOk};
-ghost use Rattle.std.specs.List.{AllByRecursion};
 ghost use Rattle.nr_triedef.specs.Node.{IsNibbles, paired};
 ghost use Rattle.nr_triedef.specs.Stores.{keys_below};
 ghost use Rattle.nr_trienodes.specs.Shape.{shape_at};
-ghost use Rattle.nr_trienodes.specs.Views.{Sound};
 ghost use Rattle.nr_trienodes.specs.Roots.{IsRoot, contents};
 ghost use Rattle.nr_trienodes.specs.Listing.{FitsSo, BendsSo, TopsSo, IsPlace, AreWhole, place_paths, keys_in, own_keys, PushesSo, RowPushed, PlaceListed};
 

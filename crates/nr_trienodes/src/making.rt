@@ -1,6 +1,6 @@
 //! Hashes and usages of nodes, made of those of their children.
 
-ghost use Rattle.std.specs.Prelude.{◌≡◌, ◌==◌, ◌<◌, ◌≤◌, ◌+◌, ◌*◌, ℕ, true, false, length, cond, map, is_some, count_by, sum_by, slice_index_or, None, IfOk};
+ghost use Rattle.std.specs.Prelude.{◌≡◌, ◌==◌, ◌<◌, ◌≤◌, ◌+◌, ℕ, true, false, length, cond, map, is_some, count_by, sum_by, slice_index_or, None, IfOk};
 ghost use Rattle.std.specs.Option.{option_copied, option_map};
 ghost use Rattle.nr_triedef.specs.Node.{IsNibbles, IsNode, key_part, links, summary, usage_of};
 ghost use Rattle.nr_triedef.specs.Root.{part_usage, value_usage, usage_below, leaf_with, extension, value_field, hash_below, branch, with_front};

@@ -1,27 +1,23 @@
 //! The arena.
 
-ghost use Rattle.std.specs.Prelude.{◌≡◌, ◌<◌, ◌≤◌, ◌-◌, ◌+◌, ◌^◌, ◌==◌, ◌*◌, ◌/◌, ℕ, true, false, [], length, map, take, drop, replicate, slice_set, is_some, count_by, sum_by, Some, None, IfOk, OnErr};
+ghost use Rattle.std.specs.Prelude.{◌≡◌, ◌<◌, ◌≤◌, ◌-◌, ◌+◌, ◌^◌, ◌*◌, ◌/◌, ℕ, true, false, [], length, map, take, drop, slice_set, is_some, count_by, sum_by, Some, IfOk, OnErr};
 ghost use Rattle.std.specs.Option.{option_copied, option_map};
-ghost use Rattle.std.specs.Arc.{arc_value};
 ghost use Rattle.nr_triedef.specs.Node.{IsNibbles};
 ghost use Rattle.nr_triedef.specs.Root.{usage_below, value_usage};
 ghost use Rattle.nr_trienodes.specs.Packing.{IsPackable, none_number};
 ghost use Rattle.nr_trienodes.specs.Shape.{shape_at, child, no_children};
-ghost use Rattle.nr_trienodes.specs.Bodies.{value_of, row_of};
 ghost use Rattle.nr_trienodes.specs.Tries.{summary_at, front_usage, own_usage, IsLinked};
-ghost use Rattle.nr_trienodes.specs.Naming.{new_name, renamed, with_names, IsKept, IsClosed, IsSlid, AreNamed, SlidesOn};
+ghost use Rattle.nr_trienodes.specs.Naming.{new_name, renamed, with_names, HaveOwn, AreOldest, IsKept, IsClosed, IsSlid, AreNamed, SlidesOn};
 ghost use Rattle.nr_trienodes.specs.Views.{shape, shapes, Sound, IsIn, Adds, KeepsHash};
 
 use crate::body::{Body, is_alone, with_row};
-use crate::bytes::Bytes;
+use crate::names::Names;
+use crate::node_bytes::NodeBytes;
 use crate::packed::{Packed, Row};
-use crate::part::Part;
 use crate::spare::Spare;
-use crate::trimming::{Names, is_kept};
 use nr_triedef::NodeHash;
 use std::alloc::{AllocError, Global};
 use std::marker::Model;
-use std::sync::Arc;
 
 // A trim keeps at most as many boxes as it leaves nodes, or this many.
 const SPARE: usize = 1 << 14;
@@ -34,7 +30,7 @@ pub struct NodeId(pub(crate) u32);
 // those below the child of each next nibble.
 #[derive(Drop)]
 struct Node {
-    part: Part,
+    part: NodeBytes,
     body: Body,
     usage: u64,
     hash: Option<NodeHash>,
@@ -43,8 +39,8 @@ struct Node {
 // What a node holds, for another one.
 #[derive(Drop)]
 struct Like {
-    part: Part,
-    value: Option<Arc<Bytes>>,
+    part: NodeBytes,
+    value: Option<NodeBytes>,
     row: Packed,
 }
 
@@ -72,18 +68,18 @@ impl Model for Nodes {
     ghost invariant = { IsArena };
 }
 
-fn name_of(names: &[Option<u32>], child: Option<u32>) -> Option<u32>
+fn name_of(names: &Names, child: Option<u32>) -> Option<u32>
     requires { IsIn (length names.now) child }
     ensures { result ≡ renamed names.now child }
 {
     match child {
         None => None,
-        Some(id) => names[id as usize],
+        Some(id) => names.get(id),
     }
 }
 
 // Gives the children of a packed row their new names.
-fn rename_packed(row: &mut Packed, names: &[Option<u32>])
+fn rename_packed(row: &mut Packed, names: &Names)
     requires children { (x c : ℕ) → child row.old x ≡ Some c → c < length names.now }
     requires packable { IsPackable (map (renamed names.now) row.old) }
     ensures { row.new ≡ map (renamed names.now) row.old }
@@ -94,7 +90,7 @@ fn rename_packed(row: &mut Packed, names: &[Option<u32>])
     }
 }
 
-fn rename_node(node: &mut Node, names: &[Option<u32>])
+fn rename_node(node: &mut Node, names: &Names)
     requires children { (x c : ℕ) → child (shape node.old).below x ≡ Some c → c < length names.now }
     requires packable { IsPackable (with_names names.now (shape node.old)).below }
     ensures { shape node.new ≡ with_names names.now (shape node.old) }
@@ -108,7 +104,7 @@ fn rename_node(node: &mut Node, names: &[Option<u32>])
 }
 
 // Moves a node to a lower place, with the new names of its children.
-fn move_node(nodes: &mut Vec<Node>, names: &[Option<u32>], id: usize, to: usize)
+fn move_node(nodes: &mut Vec<Node>, names: &Names, id: usize, to: usize)
     requires there { id < length nodes.old.items }
     requires lower { to ≤ id }
     requires children { (x c : ℕ) → child (shape_at (shapes nodes.old.items) id).below x ≡ Some c → c < length names.now }
@@ -119,27 +115,22 @@ fn move_node(nodes: &mut Vec<Node>, names: &[Option<u32>], id: usize, to: usize)
     nodes.swap(to, id);
 }
 
-fn set_name(names: &mut Names, id: usize, name: u32)
-    requires { id < length names.old.items }
-    ensures { names.new.items ≡ slice_set names.old.items id (Some name) }
-{
-    names[id] = Some(name);
-}
-
 // Gives a node the next name, where it is kept, and answers the name behind it.
 fn slide_one(nodes: &mut Vec<Node>, names: &mut Names, id: usize, next: u32) -> u32
     requires there { id < length nodes.old.items }
     requires lower { next ≤ id }
-    requires long { length names.old.items ≡ length nodes.old.items }
+    requires long { length names.old ≡ length nodes.old.items }
     requires few { length nodes.old.items < 2 ^ 32 }
     requires children { (x c : ℕ) → child (shape_at (shapes nodes.old.items) id).below x ≡ Some c → c < id }
-    requires names { (c name : ℕ) → c < id → new_name names.old.items c ≡ Some name → name < next }
-    ensures { SlidesOn (shapes nodes.old.items) (shapes nodes.new.items) names.old.items names.new.items id next result }
+    requires names { (c name : ℕ) → c < id → new_name names.old c ≡ Some name → name < next }
+    requires own { HaveOwn names.old id → next ≡ id }
+    ensures slides { SlidesOn (shapes nodes.old.items) (shapes nodes.new.items) names.old names.new id next result }
+    ensures older { (c : ℕ) → c < id → new_name names.new c ≡ new_name names.old c }
 {
-    if !is_kept(names, id) {
+    if !names.is_kept(id as u32) {
         return next;
     }
-    set_name(names, id, next);
+    names.set(id as u32, next);
     move_node(nodes, names, id, next as usize);
     next + 1
 }
@@ -174,7 +165,7 @@ impl Nodes {
         Nodes {
             alloc,
             nodes: Vec::new(alloc),
-            names: Vec::new(alloc),
+            names: Names::new(alloc),
             spare: Spare::new(alloc),
         }
     }
@@ -230,11 +221,11 @@ impl Nodes {
     }
 
     /// The value once more, for another node.
-    pub(crate) fn shared_value(&self, id: u32) -> Result<Option<Arc<Bytes>>, AllocError>
+    pub(crate) fn value_again(&self, id: u32) -> Result<Option<NodeBytes>, AllocError>
         requires { id < length self.now }
-        ensures { IfOk result (λ value. option_map arc_value value ≡ (shape_at self.now id).value) }
+        ensures { IfOk result (λ value. value ≡ (shape_at self.now id).value) }
     {
-        let value = self.node(id).body.shared_value()?;
+        let value = self.node(id).body.value_again()?;
         Ok(value)
     }
 
@@ -325,13 +316,13 @@ impl Nodes {
     pub(crate) fn push(
         &mut self,
         part: Vec<u8>,
-        value: Option<Arc<Bytes>>,
+        value: Option<NodeBytes>,
         row: Row,
     ) -> Result<u32, AllocError>
         requires small { IsNibbles part.items }
-        requires linked { IsLinked (option_map arc_value value) row }
+        requires linked { IsLinked value row }
         requires back { (x c : ℕ) → child row x ≡ Some c → c < length self.old }
-        ensures ok { IfOk result (λ id. Adds self.old self.new id part.items (option_map arc_value value) row) }
+        ensures ok { IfOk result (λ id. Adds self.old self.new id part.items value row) }
         ensures err { OnErr result (self.new ≡ self.old) }
     {
         let id = self.count();
@@ -342,7 +333,7 @@ impl Nodes {
         let alone = is_alone(&row);
         let usage = usage_of(&part, &value, alone, below)?;
         let body = Body::of(self.alloc, &mut self.spare, value, &row)?;
-        let front = Part::of(self.alloc, &part)?;
+        let front = NodeBytes::of(self.alloc, &part)?;
         let node = Node {
             part: front,
             body,
@@ -377,12 +368,12 @@ impl Nodes {
         requires nibble { nibble < 16 }
         requires below { below < none_number }
         ensures part { IfOk result (λ l. l.part ≡ (shape_at self.now id).part) }
-        ensures value { IfOk result (λ l. option_map arc_value l.value ≡ (shape_at self.now id).value) }
+        ensures value { IfOk result (λ l. l.value ≡ (shape_at self.now id).value) }
         ensures row { IfOk result (λ l. l.row ≡ slice_set (shape_at self.now id).below nibble (Some below)) }
     {
         let node = self.node(id);
         let part = node.part.try_clone()?;
-        let value = node.body.shared_value()?;
+        let value = node.body.value_again()?;
         let row = node.body.row_with(nibble, below);
         Ok(Like { part, value, row })
     }
@@ -415,16 +406,15 @@ impl Nodes {
         Ok(name)
     }
 
-    /// A list without names, one place for each node.
-    pub(crate) fn take_names(&mut self) -> Result<Names, AllocError>
-        ensures names { IfOk result (λ names. names.items ≡ replicate (length self.old) None) }
+    /// A list in which the oldest nodes have their own names, and the others none.
+    pub(crate) fn take_names(&mut self, oldest: usize) -> Result<Names, AllocError>
+        requires { oldest ≤ length self.old }
+        ensures names { IfOk result (λ names. AreOldest names oldest (length self.old)) }
         ensures same { self.new ≡ self.old }
     {
         let count = self.len();
-        let mut names = std::mem::replace(&mut self.names, Vec::new(self.alloc));
-        names.clear();
-        names.resize(count, None)?;
-        Ok(names)
+        let names = std::mem::replace(&mut self.names, Names::new(self.alloc));
+        names.anew(oldest, count)
     }
 
     /// Keeps the list for the next trim.
@@ -434,16 +424,21 @@ impl Nodes {
         self.names = names;
     }
 
-    /// Drops the nodes that aren't kept, and gives the others their new names in order.
-    pub(crate) fn slide(&mut self, names: &mut Names)
-        requires long { length names.old.items ≡ length self.old }
-        requires closed { IsClosed self.old names.old.items 0 }
-        ensures named { AreNamed names.new.items self.old self.new }
-        ensures count { length self.new ≡ count_by is_some names.old.items }
-        ensures kept { (id : ℕ) → IsKept names.old.items id → IsKept names.new.items id }
+    /// Drops the nodes that aren't kept, and gives the others their new names in order. The oldest
+    /// ones have theirs.
+    pub(crate) fn slide(&mut self, names: &mut Names, oldest: usize)
+        requires long { length names.old ≡ length self.old }
+        requires closed { IsClosed self.old names.old 0 }
+        requires oldest { HaveOwn names.old oldest }
+        requires there { oldest ≤ length self.old }
+        ensures named { AreNamed names.new self.old self.new }
+        ensures own { HaveOwn names.new oldest }
+        ensures count { length self.new ≡ count_by is_some names.old }
+        ensures kept { (id : ℕ) → IsKept names.old id → IsKept names.new id }
     {
-        let mut next = 0;
-        for id in 0..self.nodes.len() {
+        let _count = self.count();
+        let mut next = oldest as u32;
+        for id in oldest..self.nodes.len() {
             next = slide_one(&mut self.nodes, names, id, next);
         }
         drop_behind(&mut self.nodes, &mut self.spare, next as usize);
@@ -499,8 +494,8 @@ fn part_usage(part: &[u8], leaf: bool) -> Result<u64, AllocError>
     Ok(usage)
 }
 
-fn value_usage_of(value: &Option<Arc<Bytes>>) -> Result<u64, AllocError>
-    ensures size { IfOk result (λ n. n ≡ value_usage (option_map arc_value value.now)) }
+fn value_usage_of(value: &Option<NodeBytes>) -> Result<u64, AllocError>
+    ensures size { IfOk result (λ n. n ≡ value_usage value.now) }
     ensures few { IfOk result (λ n. n < 2 ^ 34) }
 {
     match value {
@@ -515,11 +510,11 @@ fn value_usage_of(value: &Option<Arc<Bytes>>) -> Result<u64, AllocError>
 // The usage of a node, of which the children have this together.
 fn usage_of(
     part: &[u8],
-    value: &Option<Arc<Bytes>>,
+    value: &Option<NodeBytes>,
     alone: bool,
     below: u64,
 ) -> Result<u64, AllocError>
-    ensures { IfOk result (λ n. n ≡ own_usage part.now (option_map arc_value value.now) alone below) }
+    ensures { IfOk result (λ n. n ≡ own_usage part.now value.now alone below) }
 {
     let leaf = alone && value.is_some();
     let own = value_usage_of(value)? + part_usage(part, leaf)?;

@@ -1,7 +1,6 @@
 //! Values put at keys: nodes of the way are made anew, and old ones stay.
 
 ghost use Rattle.std.specs.Prelude.{◌≡◌, ◌<◌, ◌≤◌, ◌+◌, ◌*◌, length, Some, IfOk, OnErr};
-ghost use Rattle.std.specs.Arc.{arc_value};
 ghost use Rattle.std.specs.FinMap as map;
 ghost use Rattle.nr_triedef.specs.Node.{nibbles};
 ghost use Rattle.nr_trienodes.specs.Shape.{shape_at};
@@ -9,15 +8,14 @@ ghost use Rattle.nr_trienodes.specs.Views.{Sound};
 ghost use Rattle.nr_trienodes.specs.Turns.{left, Parts, StopsSo, Extends, Changes};
 ghost use Rattle.nr_trienodes.specs.Roots.{IsRoot, IsChanged, contents, name_in, Keeps, FullsSo};
 
-use crate::bytes::Bytes;
 use crate::fault::NodesFault;
+use crate::node_bytes::NodeBytes;
 use crate::nodes::{NodeId, Nodes};
 use crate::settling::{
     behind, climb, front_of, replace_child, replace_value, settle, sprout, with_child,
 };
 use crate::turn::{Stop, nibble_at, walk};
 use std::alloc::AllocError;
-use std::sync::Arc;
 
 /// Whether the arena has room for the nodes of a change at this key.
 pub(crate) fn room_for(nodes: &Nodes, key: &[u8]) -> Result<(), NodesFault>
@@ -42,13 +40,13 @@ fn split(
     shared: usize,
     key: &[u8],
     at: usize,
-    value: Arc<Bytes>,
+    value: NodeBytes,
 ) -> Result<Option<u32>, AllocError>
     requires node { node < length nodes.old }
     requires parts { Parts (shape_at nodes.old node) key.now at shared }
     ensures few { length nodes.new ≤ length nodes.old + 3 }
     ensures grows { Extends nodes.old nodes.new }
-    ensures put { IfOk result (λ id. Changes nodes.old nodes.new (Some node) id (left key.now at) (Some (arc_value value)) (2 * length (left key.now at) + 3)) }
+    ensures put { IfOk result (λ id. Changes nodes.old nodes.new (Some node) id (left key.now at) (Some value) (2 * length (left key.now at) + 3)) }
 {
     let nibble = nodes.part(node)[shared];
     let lower = behind(nodes, node, shared + 1)?;
@@ -77,13 +75,13 @@ fn put_at(
     stop: Stop,
     key: &[u8],
     at: usize,
-    value: Arc<Bytes>,
+    value: NodeBytes,
 ) -> Result<Option<u32>, AllocError>
     requires node { node < length nodes.old }
     requires stop { StopsSo (shape_at nodes.old node) key.now at stop }
     ensures few { length nodes.new ≤ length nodes.old + 3 }
     ensures grows { Extends nodes.old nodes.new }
-    ensures put { IfOk result (λ id. Changes nodes.old nodes.new (Some node) id (left key.now at) (Some (arc_value value)) (2 * length (left key.now at) + 3)) }
+    ensures put { IfOk result (λ id. Changes nodes.old nodes.new (Some node) id (left key.now at) (Some value) (2 * length (left key.now at) + 3)) }
 {
     let _count = nodes.count();
     match stop {
@@ -109,12 +107,12 @@ fn put_below(
     nodes: &mut Nodes,
     root: u32,
     key: &[u8],
-    value: Arc<Bytes>,
+    value: NodeBytes,
 ) -> Result<Option<u32>, AllocError>
     requires { root < length nodes.old }
     ensures few { length nodes.new ≤ length nodes.old + length (nibbles key.now) + 3 }
     ensures grows { Extends nodes.old nodes.new }
-    ensures put { IfOk result (λ id. Changes nodes.old nodes.new (Some root) id (nibbles key.now) (Some (arc_value value)) (2 * length (nibbles key.now) + 3)) }
+    ensures put { IfOk result (λ id. Changes nodes.old nodes.new (Some root) id (nibbles key.now) (Some value) (2 * length (nibbles key.now) + 3)) }
 {
     let end = walk(nodes, root, key)?;
     let below = put_at(nodes, end.node, end.stop, key, end.at, value)?;
@@ -128,12 +126,12 @@ fn put_from(
     nodes: &mut Nodes,
     root: Option<NodeId>,
     key: &[u8],
-    value: Arc<Bytes>,
+    value: NodeBytes,
 ) -> Result<Option<u32>, AllocError>
     requires { IsRoot nodes.old root }
     ensures few { length nodes.new ≤ length nodes.old + length (nibbles key.now) + 3 }
     ensures grows { Extends nodes.old nodes.new }
-    ensures put { IfOk result (λ id. Changes nodes.old nodes.new (name_in root) id (nibbles key.now) (Some (arc_value value)) (2 * length (nibbles key.now) + 3)) }
+    ensures put { IfOk result (λ id. Changes nodes.old nodes.new (name_in root) id (nibbles key.now) (Some value) (2 * length (nibbles key.now) + 3)) }
 {
     match root {
         Some(root) => {
@@ -147,14 +145,12 @@ fn put_from(
     }
 }
 
-// A value, to be shared by nodes.
-fn held_value(nodes: &Nodes, value: &[u8]) -> Result<Arc<Bytes>, AllocError>
-    ensures { IfOk result (λ held. arc_value held ≡ value.now) }
+// A value, for a node.
+fn held_value(nodes: &Nodes, value: &[u8]) -> Result<NodeBytes, AllocError>
+    ensures { IfOk result (λ held. held ≡ value.now) }
 {
     let alloc = nodes.allocator();
-    let bytes = Bytes::of(alloc, value)?;
-    let held = Arc::new(alloc, bytes)?;
-    Ok(held)
+    NodeBytes::of(alloc, value)
 }
 
 // The new root, or what came to be behind the old nodes.

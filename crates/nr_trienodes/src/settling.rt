@@ -1,20 +1,17 @@
 //! Nodes made in place of others, so that each is a leaf or has two links.
 
 ghost use Rattle.std.specs.Prelude.{◌≡◌, ◌<◌, ◌≤◌, ◌+◌, ◌++◌, ◌∷◌, ℕ, length, take, drop, slice_set, is_some, true, Some, IfOk};
-ghost use Rattle.std.specs.Option.{option_map};
-ghost use Rattle.std.specs.Arc.{arc_value};
 ghost use Rattle.nr_triedef.specs.Node.{IsNibbles};
 ghost use Rattle.nr_trienodes.specs.Shape.{shape_at, child};
 ghost use Rattle.nr_trienodes.specs.Tries.{IsLinked};
 ghost use Rattle.nr_trienodes.specs.Views.{Sound, IsIn};
 ghost use Rattle.nr_trienodes.specs.Turns.{AreSteps, Extends, Settles, Sprouts, Climbs, LinksSo, left};
 
-use crate::bytes::Bytes;
+use crate::node_bytes::NodeBytes;
 use crate::nodes::Nodes;
 use crate::packed::Row;
 use crate::turn::{Way, rest_of};
 use std::alloc::AllocError;
-use std::sync::Arc;
 
 /// How many children a row has.
 #[derive(Clone, Copy, Debug)]
@@ -45,15 +42,15 @@ fn links_of(row: &Row) -> Links
 fn place(
     nodes: &mut Nodes,
     part: Vec<u8>,
-    value: Option<Arc<Bytes>>,
+    value: Option<NodeBytes>,
     row: Row,
 ) -> Result<u32, AllocError>
     requires small { IsNibbles part.items }
-    requires linked { IsLinked (option_map arc_value value) row }
+    requires linked { IsLinked value row }
     requires back { (x c : ℕ) → child row x ≡ Some c → c < length nodes.old }
     ensures few { length nodes.new ≤ length nodes.old + 1 }
     ensures grows { Extends nodes.old nodes.new }
-    ensures settled { IfOk result (λ id. Settles nodes.old nodes.new part.items (option_map arc_value value) row (Some id)) }
+    ensures settled { IfOk result (λ id. Settles nodes.old nodes.new part.items value row (Some id)) }
 {
     let id = nodes.push(part, value, row)?;
     Ok(id)
@@ -73,7 +70,7 @@ fn join(nodes: &mut Nodes, front: Vec<u8>, nibble: u8, child: u32) -> Result<u32
     let mut part = front;
     part.push(nibble)?;
     part.extend_from_slice(nodes.part(child))?;
-    let value = nodes.shared_value(child)?;
+    let value = nodes.value_again(child)?;
     let row = nodes.row(child);
     let id = place(nodes, part, value, row)?;
     Ok(id)
@@ -84,14 +81,14 @@ fn join(nodes: &mut Nodes, front: Vec<u8>, nibble: u8, child: u32) -> Result<u32
 pub(crate) fn settle(
     nodes: &mut Nodes,
     part: Vec<u8>,
-    value: Option<Arc<Bytes>>,
+    value: Option<NodeBytes>,
     row: Row,
 ) -> Result<Option<u32>, AllocError>
     requires small { IsNibbles part.items }
     requires back { (x c : ℕ) → child row x ≡ Some c → c < length nodes.old }
     ensures few { length nodes.new ≤ length nodes.old + 1 }
     ensures grows { Extends nodes.old nodes.new }
-    ensures settled { IfOk result (λ id. Settles nodes.old nodes.new part.items (option_map arc_value value) row id) }
+    ensures settled { IfOk result (λ id. Settles nodes.old nodes.new part.items value row id) }
 {
     if value.is_some() {
         let id = place(nodes, part, value, row)?;
@@ -141,7 +138,7 @@ fn remake(
 {
     let alloc = nodes.allocator();
     let part = Vec::from_slice(alloc, nodes.part(node))?;
-    let value = nodes.shared_value(node)?;
+    let value = nodes.value_again(node)?;
     let mut row = nodes.row(node);
     row[nibble as usize] = below;
     let id = settle(nodes, part, value, row)?;
@@ -176,12 +173,12 @@ pub(crate) fn replace_child(
 pub(crate) fn replace_value(
     nodes: &mut Nodes,
     node: u32,
-    value: Option<Arc<Bytes>>,
+    value: Option<NodeBytes>,
 ) -> Result<Option<u32>, AllocError>
     requires { node < length nodes.old }
     ensures few { length nodes.new ≤ length nodes.old + 1 }
     ensures grows { Extends nodes.old nodes.new }
-    ensures settled { IfOk result (λ id. Settles nodes.old nodes.new (shape_at nodes.old node).part (option_map arc_value value) (shape_at nodes.old node).below id) }
+    ensures settled { IfOk result (λ id. Settles nodes.old nodes.new (shape_at nodes.old node).part value (shape_at nodes.old node).below id) }
 {
     let alloc = nodes.allocator();
     let part = Vec::from_slice(alloc, nodes.part(node))?;
@@ -218,11 +215,11 @@ pub(crate) fn sprout(
     nodes: &mut Nodes,
     key: &[u8],
     at: usize,
-    value: Arc<Bytes>,
+    value: NodeBytes,
 ) -> Result<u32, AllocError>
     ensures few { length nodes.new ≤ length nodes.old + 1 }
     ensures grows { Extends nodes.old nodes.new }
-    ensures leaf { IfOk result (λ id. Sprouts nodes.old nodes.new id (left key.now at) (arc_value value)) }
+    ensures leaf { IfOk result (λ id. Sprouts nodes.old nodes.new id (left key.now at) value) }
 {
     let part = rest_of(nodes.allocator(), key, at)?;
     let id = nodes.push(part, Some(value), [None; 16])?;
@@ -240,7 +237,7 @@ pub(crate) fn behind(nodes: &mut Nodes, node: u32, front: usize) -> Result<u32, 
 {
     let alloc = nodes.allocator();
     let part = Vec::from_slice(alloc, &nodes.part(node)[front..])?;
-    let value = nodes.shared_value(node)?;
+    let value = nodes.value_again(node)?;
     let row = nodes.row(node);
     let id = place(nodes, part, value, row)?;
     Ok(id)

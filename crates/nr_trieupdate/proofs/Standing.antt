@@ -27,6 +27,18 @@ renamed v w (r ∷ roots) [] h i l = absurd h
 renamed v w (r ∷ roots) (q ∷ moved) h zero l = record { root = h.0; held = h.1; debt = h.2 }
 renamed v w (r ∷ roots) (q ∷ moved) h (suc i) l = renamed v w roots moved h.3 i (omega arith)
 
+-- one trim after another
+pub both_moved : (u v w : Arena) (roots mid moved : Roots) → length mid ≡ length roots → AreMoved u roots v mid → AreMoved v mid w moved → AreMoved u roots w moved
+both_moved u v w roots mid moved same h k i l =
+    let a : IsMoved u v (root_at roots i) (root_at mid i) = h i l in
+    let b : IsMoved v w (root_at mid i) (root_at moved i) = k i (omega (arith, same)) in
+    record { root = b.root; held = b.held ∙ a.held; debt = omega (arith, a.debt, b.debt) }
+
+pub few_between : (v w : Arena) (roots moved : Roots) → length moved ≡ length roots → AreFew v roots → AreMoved v roots w moved → AreFew w moved
+few_between v w roots moved same f h i l =
+    let a : IsMoved v w (root_at roots i) (root_at moved i) = h i (omega (arith, same)) in
+    record { root = a.root; few = omega (arith, (f i (omega (arith, same))).few, ap (λ (m : Contents). length (entries m)) a.held) }
+
 -- at most two nodes for each entry
 pub few_nodes : (v w : Arena) (roots moved : Roots) → AreFew v roots → Renames v w roots moved → sum_by (λ r. 2 * length (entries (contents w r))) moved ≤ 134217728 * length roots
 few_nodes v w [] [] f h = omega arith

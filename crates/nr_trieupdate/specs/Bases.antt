@@ -1,7 +1,7 @@
 -- What a store stands for whose changes go straight into the trie. This project's own.
 use Rattle.std.specs.Prelude.{◌+◌, ◌≤◌}
 use Rattle.nr_trieupdate.specs.BaseView.{BaseView}
-use Rattle.nr_trieupdate.specs.Levels.{held_at, seen, most_cost, saved_cost, most_nodes, AreLevels}
+use Rattle.nr_trieupdate.specs.Levels.{held_at, seen, most_cost, saved_cost, AreLevels, IsBounded}
 use Rattle.nr_trieupdate.specs.declared.base.Base.TheInside.{Inside}
 
 abbrev pub base_view : Inside → BaseView
@@ -18,4 +18,4 @@ base_view s =
 pub record IsBase (s : Inside) : Type 0 where
   pub few : s.standing + s.spare ≤ 8
   pub levels : AreLevels s.nodes s.roots s.counts
-  pub bound : s.bound ≤ most_nodes
+  pub bounded : IsBounded s.limits

@@ -6,6 +6,7 @@ use Rattle.nr_triedef.specs.Stores.{most_entries, IsSized}
 use Rattle.nr_trienodes.specs.Shape.{Shape}
 use Rattle.nr_trienodes.specs.Roots.{IsRoot, contents, cost}
 use Rattle.nr_trienodes.specs.declared.nodes.NodeId.{NodeId}
+use Rattle.nr_trieupdate.specs.declared.levels.Limits.{Limits}
 
 abbrev pub Arena : Type 0
 Arena = List Shape
@@ -16,6 +17,12 @@ Roots = List (Option NodeId)
 -- an arena holds no more nodes before a change
 abbrev pub most_nodes : ℕ
 most_nodes = 2 ^ 31
+
+-- limits that are passed only where there are young nodes, and all of them before the arena holds more than the most
+pub record IsBounded (limits : Limits) : Type 0 where
+  pub oldest : limits.oldest ≤ limits.young
+  pub young : limits.young ≤ limits.all
+  pub all : limits.all ≤ most_nodes
 
 abbrev pub root_at : Roots → ℕ → Option NodeId
 root_at roots i = slice_index_or roots i None

@@ -6,7 +6,7 @@ ghost use Rattle.nr_triedef.specs.Root.{root_of};
 ghost use Rattle.nr_triedef.specs.Node.{nibbles};
 ghost use Rattle.nr_triedef.specs.Stores.{most_entries, IsSizedEntry};
 
-use crate::levels::{FIRST_BOUND, cut, grown, make_room, put};
+use crate::levels::{Limits, cut, first_limits, grown, make_room, put};
 use nr_bytes::{Blob, List};
 use nr_triedef::{NodeHash, Steps, Store};
 use nr_trienodes::{NodeId, Nodes};
@@ -26,8 +26,8 @@ pub(crate) struct Base {
     counts: [usize; 9],
     standing: usize,
     spare: usize,
-    // The arena is trimmed before a change where it holds more nodes than this.
-    bound: usize,
+    // When the arena is trimmed before a change.
+    limits: Limits,
 }
 
 impl Model for Base {
@@ -60,7 +60,7 @@ impl Base {
             counts: [0; 9],
             standing: 0,
             spare: 0,
-            bound: FIRST_BOUND,
+            limits: first_limits(),
         }
     }
 
@@ -101,7 +101,7 @@ impl Store for Base {
         let Some(count) = grown(found, self.counts[self.standing], key, value) else {
             return Err(AllocError);
         };
-        self.bound = make_room(&mut self.nodes, &mut self.roots, self.bound)?;
+        self.limits = make_room(&mut self.nodes, &mut self.roots, self.limits)?;
         let root = put(&mut self.nodes, self.roots[self.standing], key, value)?;
         self.roots[self.standing] = Some(root);
         self.counts[self.standing] = count;
@@ -120,7 +120,7 @@ impl Store for Base {
         if self.get(key).is_none() {
             return Ok(false);
         }
-        self.bound = make_room(&mut self.nodes, &mut self.roots, self.bound)?;
+        self.limits = make_room(&mut self.nodes, &mut self.roots, self.limits)?;
         let root = cut(&mut self.nodes, self.roots[self.standing], key)?;
         self.roots[self.standing] = root;
         self.counts[self.standing] -= 1;

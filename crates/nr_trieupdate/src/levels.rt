@@ -1,23 +1,74 @@
 //! Changes of the arena of nodes, which always has room for one more.
 
-ghost use Rattle.std.specs.Prelude.{◌≡◌, ◌≤◌, ◌+◌, ◌*◌, Some, cond, length, IfOk, IfSome, OnOk};
+ghost use Rattle.std.specs.Prelude.{◌≡◌, ◌≤◌, ◌+◌, ◌*◌, ◌^◌, Some, cond, length, min, IfOk, IfSome, OnOk};
 ghost use Rattle.std.specs.FinMap as map;
 ghost use Rattle.nr_triedef.specs.Node.{nibbles};
 ghost use Rattle.nr_triedef.specs.Stores.{most_entries, IsSizedEntry};
 ghost use Rattle.nr_trienodes.specs.Roots.{IsRoot, contents, Keeps, IsChanged};
-ghost use Rattle.nr_trieupdate.specs.Levels.{most_nodes, AreFew, AreMoved};
+ghost use Rattle.nr_trieupdate.specs.Levels.{most_nodes, AreFew, AreMoved, IsBounded};
 
 use nr_trienodes::{NodeId, Nodes, NodesFault};
 use std::alloc::AllocError;
 
-// Beyond an eighth of what stays at a trim, an arena may grow by this many nodes until the next one.
+// Beyond a quarter of what stays at a trim of all nodes, an arena may grow by this many until the next.
 const SLACK: usize = 1 << 14;
 
-/// How many nodes the arena of an empty store may hold until it is first trimmed.
-pub(crate) const FIRST_BOUND: usize = SLACK;
+// At most about so many nodes are made between two trims of young nodes,
+const YOUNG: usize = 1 << 16;
 
-/// Trims the arena to the tries of the roots where it holds more nodes than the bound, and gives
-/// the bound for the next time.
+// and about so many at least, or all are trimmed.
+const LEAST_YOUNG: usize = 1 << 14;
+
+/// When the arena is next trimmed.
+#[derive(Clone, Copy)]
+pub(crate) struct Limits {
+    /// How many nodes the last trim left.
+    oldest: usize,
+    /// The nodes younger than those are trimmed where the arena holds more nodes than this.
+    young: usize,
+    /// All nodes are trimmed where, behind that, the arena comes near this many.
+    all: usize,
+}
+
+// The limits of an arena that holds so many nodes after a trim.
+fn limits_of(held: usize, all: usize) -> Limits
+    requires held { held ≤ all }
+    requires all { all ≤ most_nodes }
+    ensures oldest { result.oldest ≡ held }
+    ensures young { result.young ≡ min (held + 2 ^ 16) all }
+    ensures all { result.all ≡ all }
+    ensures bounded { IsBounded result }
+{
+    Limits {
+        oldest: held,
+        young: (held + YOUNG).min(all),
+        all,
+    }
+}
+
+/// The limits of an arena without nodes.
+pub(crate) fn first_limits() -> Limits
+    ensures oldest { result.oldest ≡ 0 }
+    ensures bounded { IsBounded result }
+{
+    limits_of(0, SLACK)
+}
+
+// Trims the whole arena to the tries of the roots. The roots stay where memory ran out.
+fn trim_all(nodes: &mut Nodes, roots: &mut [Option<NodeId>]) -> Result<Limits, AllocError>
+    requires nine { length roots.old ≡ 9 }
+    requires few { AreFew nodes.old roots.old }
+    ensures moved { AreMoved nodes.old roots.old nodes.new roots.new }
+    ensures room { OnOk result (length nodes.new ≤ most_nodes) }
+    ensures bounded { IfOk result (λ limits. IsBounded limits) }
+{
+    nodes.trim(roots)?;
+    let held = nodes.len();
+    Ok(limits_of(held, held + held / 4 + SLACK))
+}
+
+/// Trims the arena to the tries of the roots where it holds more nodes than the limits allow: its
+/// young nodes, and behind that all, where few more could be made until then. Gives the next limits.
 ///
 /// # Errors
 ///
@@ -25,21 +76,24 @@ pub(crate) const FIRST_BOUND: usize = SLACK;
 pub(crate) fn make_room(
     nodes: &mut Nodes,
     roots: &mut [Option<NodeId>],
-    bound: usize,
-) -> Result<usize, AllocError>
+    limits: Limits,
+) -> Result<Limits, AllocError>
     requires nine { length roots.old ≡ 9 }
     requires few { AreFew nodes.old roots.old }
-    requires bound { bound ≤ most_nodes }
+    requires bounded { IsBounded limits }
     ensures moved { AreMoved nodes.old roots.old nodes.new roots.new }
     ensures room { OnOk result (length nodes.new ≤ most_nodes) }
-    ensures bound { IfOk result (λ bound. bound ≤ most_nodes) }
+    ensures bounded { IfOk result (λ limits. IsBounded limits) }
 {
-    if nodes.len() <= bound {
-        return Ok(bound);
+    if nodes.len() <= limits.young {
+        return Ok(limits);
     }
-    nodes.trim(roots)?;
+    nodes.trim_young(limits.oldest, roots)?;
     let held = nodes.len();
-    Ok(held + held / 8 + SLACK)
+    if limits.all.saturating_sub(held) >= LEAST_YOUNG {
+        return Ok(limits_of(held, limits.all));
+    }
+    trim_all(nodes, roots)
 }
 
 /// Puts a value at a key.

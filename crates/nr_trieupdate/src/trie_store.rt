@@ -7,7 +7,7 @@ ghost use Rattle.nr_triedef.specs.Node.{nibbles};
 ghost use Rattle.nr_triedef.specs.Stores.{most_entries, IsSizedEntry};
 
 use crate::base::Base;
-use crate::levels::grown;
+use crate::levels::{MOST_ENTRIES, grown};
 use crate::listing::{keys_over, value_at};
 use crate::working::{held_of, is_counted, root_over, settle};
 use nr_bytes::{Blob, List};
@@ -17,17 +17,23 @@ use std::alloc::{AllocError, Global};
 use std::marker::Model;
 use std::sync::ledger::Ledger;
 
+// Where the count is so far above the trie's own, the next change moves those that wait into the trie.
+const MOST_WAITING: usize = 1 << 16;
+
 /// A store that keeps the nodes of its trie, with the hashes of those that were hashed. Changes wait
-/// beside the trie until the root is asked for while no checkpoint stands.
+/// beside the trie. While no checkpoint stands, `root` moves them into it, and so does a `set` or a
+/// `remove` once 65,536 of these came since they were last moved. (Once keys and calls together are
+/// 2^25, a `set` counts only at a key where no change waits, and at 2^26 nothing does.)
 ///
 /// Contracts see what it holds, what each standing checkpoint saw (the newest first), how many more
 /// checkpoints it can make without memory, and how many nodes the next root hashes at most.
 ///
 /// `set`, `mark`, `keep` and `back` cost what they cost a plain store of the keys that wait, and
-/// `get` and `remove` a look-up in the trie beside that. `root` works the changes into the trie, at
-/// the nodes of each key's way, and hashes the nodes made anew; while a checkpoint stands the changes
-/// wait on, so the next root works them in again. `below` costs what it costs the trie and the plain
-/// store, and copies the entries that it finds where a change waits among them.
+/// `get` and `remove` a look-up in the trie beside that; a call that moves the changes works them
+/// into the trie besides, at the nodes of each key's way. `root` does so too, and hashes the nodes
+/// made anew; while a checkpoint stands the changes wait on, so the next root works them in again.
+/// `below` costs what it costs the trie and the plain store, and copies the entries that it finds
+/// where a change waits among them.
 ///
 /// A new key where 2^26 keys stand in the trie or wait counts as want of memory for `set`, as an
 /// entry past the store's sizes does, and so does a value of 2^32 - 1 bytes.
@@ -38,6 +44,7 @@ pub struct TrieStore {
     // The changes that wait, by their keys: 1 and the value, or 0 where a key was taken out.
     changes: PlainStore,
     // Neither now nor at a checkpoint are there more keys that the trie has or at which a change waits.
+    // It rises at each change, so it also tells how many came since they were last moved.
     count: usize,
     // How many checkpoints stand, all of them those of the changes.
     standing: usize,
@@ -73,6 +80,58 @@ impl TrieStore {
             standing: 0,
         }
     }
+
+    // Moves the changes into the trie where many were counted and no checkpoint stands. Where memory
+    // ran out, a part of them waits on.
+    fn move_many(&mut self) -> Result<(), AllocError>
+        ensures contents { self.new.contents ≡ self.old.contents }
+        ensures marks { self.new.marks ≡ self.old.marks }
+        ensures spare { self.new.spare ≡ self.old.spare }
+        ensures unhashed { self.new.unhashed ≤ self.old.unhashed }
+    {
+        if self.standing > 0 || self.count.saturating_sub(self.base.count()) < MOST_WAITING {
+            return Ok(());
+        }
+        settle(&mut self.base, &mut self.changes)?;
+        self.count = self.base.count();
+        Ok(())
+    }
+
+    // Notes a value among the changes that wait.
+    fn note(&mut self, key: &[u8], value: &[u8]) -> Result<(), AllocError>
+        ensures ok { OnOk result (self.new.contents ≡ map.insert self.old.contents key.now value.now) }
+        ensures sizes { OnOk result (IsSizedEntry key.now value.now × (length (map.entries self.new.contents) ≤ most_entries)) }
+        ensures err { OnErr result (self.new.contents ≡ self.old.contents) }
+        ensures marks { self.new.marks ≡ self.old.marks }
+        ensures spare { self.new.spare ≡ self.old.spare }
+        ensures unhashed { self.new.unhashed ≤ self.old.unhashed + (2 * length (nibbles key.now) + 3) }
+    {
+        let counted = is_counted(&self.base, &self.changes, self.count, key);
+        let Some(count) = grown(counted, self.count, key, value) else {
+            return Err(AllocError);
+        };
+        let held = held_of(self.alloc, value)?;
+        self.changes.set(key, &held)?;
+        self.count = count;
+        Ok(())
+    }
+
+    // Notes a key as taken out, where it is there.
+    fn note_gone(&mut self, key: &[u8]) -> Result<bool, AllocError>
+        ensures found { IfOk result (λ found. found ≡ is_some (map.get self.old.contents key.now)) }
+        ensures ok { OnOk result (self.new.contents ≡ map.remove self.old.contents key.now) }
+        ensures err { OnErr result (self.new.contents ≡ self.old.contents) }
+        ensures marks { self.new.marks ≡ self.old.marks }
+        ensures spare { self.new.spare ≡ self.old.spare }
+        ensures unhashed { self.new.unhashed ≤ self.old.unhashed + (2 * length (nibbles key.now) + 3) }
+    {
+        if self.get(key).is_none() {
+            return Ok(false);
+        }
+        self.changes.set(key, &[0])?;
+        self.count = (self.count + 1).min(MOST_ENTRIES);
+        Ok(true)
+    }
 }
 
 impl Store for TrieStore {
@@ -93,6 +152,8 @@ impl Store for TrieStore {
         let _count = self.count;
     }
 
+    /// Where no checkpoint stands and 65,536 changes came since they were last moved into the trie, it
+    /// moves them first. Where memory ran out, a part of them may be there, and what is held is the same.
     fn set(&mut self, key: &[u8], value: &[u8]) -> Result<(), AllocError>
         ensures ok { OnOk result (self.new.contents ≡ map.insert self.old.contents key.now value.now) }
         ensures sizes { OnOk result (IsSizedEntry key.now value.now × (length (map.entries self.new.contents) ≤ most_entries)) }
@@ -101,14 +162,8 @@ impl Store for TrieStore {
         ensures spare { self.new.spare ≡ self.old.spare }
         ensures unhashed { self.new.unhashed ≤ self.old.unhashed + (2 * length (nibbles key.now) + 3) }
     {
-        let counted = is_counted(&self.base, &self.changes, self.count, key);
-        let Some(count) = grown(counted, self.count, key, value) else {
-            return Err(AllocError);
-        };
-        let held = held_of(self.alloc, value)?;
-        self.changes.set(key, &held)?;
-        self.count = count;
-        Ok(())
+        self.move_many()?;
+        self.note(key, value)
     }
 
     fn remove(&mut self, key: &[u8]) -> Result<bool, AllocError>
@@ -119,11 +174,9 @@ impl Store for TrieStore {
         ensures spare { self.new.spare ≡ self.old.spare }
         ensures unhashed { self.new.unhashed ≤ self.old.unhashed + (2 * length (nibbles key.now) + 3) }
     {
-        if self.get(key).is_none() {
-            return Ok(false);
-        }
-        self.changes.set(key, &[0])?;
-        Ok(true)
+        self.move_many()?;
+        let found = self.note_gone(key)?;
+        Ok(found)
     }
 
     fn reserve_marks(&mut self, n: usize) -> Result<(), AllocError>

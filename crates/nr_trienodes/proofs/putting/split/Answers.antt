@@ -1,5 +1,4 @@
 use Rattle.std.proofs.Common.{◌≡◌, ◌+◌, ◌<◌, ℕ, List, [], ◌∷◌, length, take, get_or, set, Option, Some, None, ap, sym, subst, ◌∙◌, arith}
-use Rattle.std.specs.Arc.{arc_value}
 use Rattle.nr_trienodes.specs.Shape.{Shape, child, shape_at}
 use Rattle.nr_trienodes.specs.Tries.{stripped}
 use Rattle.nr_trienodes.specs.Turns.{left, Settles}
@@ -29,8 +28,8 @@ returns-in_ok-fork-in-None-clause-put c =
     let same : shape_at low c.args.node ≡ shape_at old c.args.node = extends_shape old low c.args.node c.behind.ensures.grows c.requires.node in
     let front : c.in_ok-part.part.items ≡ take c.args.shared (shape_at old c.args.node).part = c.in_ok-part.ensures.front ∙ ap (λ (s : Shape). take c.args.shared s.part) same in
     let ends : stripped c.in_ok-part.part.items (left c.args.key.now c.args.at) ≡ Some [] = ap (λ (p : List ℕ). stripped p (left c.args.key.now c.args.at)) front ∙ c.requires.parts.matches.front ∙ ap (λ (l : List ℕ). Some l) c.in-None.ensures in
-    put_fork old low c.settle.new.nodes c.args.node c.args.shared x c.in_ok-lower.lower c.in_ok-fork-in-None.fork c.in_ok-part.part.items (left c.args.key.now c.args.at) (arc_value c.args.value) fork front (omega (arith, c.requires.parts.more)) ends
-    (subst (λ (r : List (Option ℕ)). Settles low c.settle.new.nodes c.in_ok-part.part.items (Some (arc_value c.args.value)) r c.in_ok-fork-in-None.fork) c.with_child-row.ensures c.in_ok-fork-in-None.ensures.settled)
+    put_fork old low c.settle.new.nodes c.args.node c.args.shared x c.in_ok-lower.lower c.in_ok-fork-in-None.fork c.in_ok-part.part.items (left c.args.key.now c.args.at) c.args.value fork front (omega (arith, c.requires.parts.more)) ends
+    (subst (λ (r : List (Option ℕ)). Settles low c.settle.new.nodes c.in_ok-part.part.items (Some c.args.value) r c.in_ok-fork-in-None.fork) c.with_child-row.ensures c.in_ok-fork-in-None.ensures.settled)
 
 pub returns-in_ok-branch-in-Some-clause-put : goal.returns-in_ok-branch-in-Some-clause-put
 returns-in_ok-branch-in-Some-clause-put c =
@@ -42,7 +41,7 @@ returns-in_ok-branch-in-Some-clause-put c =
     let same : shape_at low c.args.node ≡ shape_at old c.args.node = extends_shape old low c.args.node c.behind.ensures.grows c.requires.node in
     let front : c.in_ok-part.part.items ≡ take c.args.shared (shape_at old c.args.node).part = c.in_ok-part.ensures.front ∙ ap (λ (s : Shape). take c.args.shared s.part) same in
     let goes : stripped c.in_ok-part.part.items (left c.args.key.now c.args.at) ≡ Some (c.in-Some.other ∷ left c.args.key.now (place + 1)) = ap (λ (p : List ℕ). stripped p (left c.args.key.now c.args.at)) front ∙ c.requires.parts.matches.front ∙ ap (λ (l : List ℕ). Some l) c.in-Some.ensures.is in
-    put_branch old low c.sprout.new.nodes c.settle-in-Some.new.nodes c.args.node c.args.shared x c.in_ok-lower.lower c.in-Some.other c.in_ok-leaf-in-Some.leaf c.in_ok-branch-in-Some.branch c.in_ok-part.part.items (left c.args.key.now c.args.at) (left c.args.key.now (place + 1)) (arc_value c.args.value) fork c.in_ok-lower.ensures.rest.there front goes c.in-Some.ensures.small
+    put_branch old low c.sprout.new.nodes c.settle-in-Some.new.nodes c.args.node c.args.shared x c.in_ok-lower.lower c.in-Some.other c.in_ok-leaf-in-Some.leaf c.in_ok-branch-in-Some.branch c.in_ok-part.part.items (left c.args.key.now c.args.at) (left c.args.key.now (place + 1)) c.args.value fork c.in_ok-lower.ensures.rest.there front goes c.in-Some.ensures.small
     (λ eq. c.requires.parts.matches.differ c.requires.parts.more c.in-Some.other (left c.args.key.now (place + 1)) c.in-Some.ensures.is (eq ∙ ap (λ (p : List ℕ). get_or p c.args.shared 0) c.part.ensures))
     c.sprout.ensures.grows c.in_ok-leaf-in-Some.ensures.leaf
     (subst (λ (r : List (Option ℕ)). Settles c.sprout.new.nodes c.settle-in-Some.new.nodes c.in_ok-part.part.items None r c.in_ok-branch-in-Some.branch) (c.with_child-branches.ensures ∙ ap (λ (r : List (Option ℕ)). set r c.in-Some.other (Some c.in_ok-leaf-in-Some.leaf)) c.with_child-row.ensures) c.in_ok-branch-in-Some.ensures.settled)

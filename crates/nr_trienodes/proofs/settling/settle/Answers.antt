@@ -1,15 +1,14 @@
 use Rattle.std.proofs.Common.{◌≡◌, false}
 use Rattle.std.specs.Prelude.{is_some}
-use Rattle.std.specs.Arc.{arc_value}
-use Rattle.nr_trienodes.proofs.Settled.{settles_none, settles_single, none_mapped}
+use Rattle.nr_trienodes.proofs.Settled.{settles_none, settles_single}
 use Rattle.nr_trienodes.proofs.settling.settle.Goals as goal
 
 pub returns-in-Bare-clause-settled : goal.returns-in-Bare-clause-settled
 returns-in-Bare-clause-settled c =
     let none : is_some c.args.value ≡ false = cc (c.is_some.ensures, c.if-is_some.false) in
-    settles_none c.args.nodes.now c.args.part.items _ c.args.row (none_mapped arc_value c.args.value none) c.in-Bare.ensures
+    settles_none c.args.nodes.now c.args.part.items _ c.args.row none c.in-Bare.ensures
 
 pub returns-in_ok-id-in-Single-clause-settled : goal.returns-in_ok-id-in-Single-clause-settled
 returns-in_ok-id-in-Single-clause-settled c =
     let none : is_some c.args.value ≡ false = cc (c.is_some.ensures, c.if-is_some.false) in
-    settles_single c.args.nodes.now c.join.new.nodes c.args.part.items _ c.args.row c.in-Single.nibble c.in-Single.child c.in_ok-id-in-Single.id c.join.ensures.sound (c.requires.back c.in-Single.nibble c.in-Single.child c.in-Single.ensures.1) (none_mapped arc_value c.args.value none) c.in-Single.ensures.1 c.in-Single.ensures.2 c.in_ok-id-in-Single.ensures.joined
+    settles_single c.args.nodes.now c.join.new.nodes c.args.part.items _ c.args.row c.in-Single.nibble c.in-Single.child c.in_ok-id-in-Single.id c.join.ensures.sound (c.requires.back c.in-Single.nibble c.in-Single.child c.in-Single.ensures.1) none c.in-Single.ensures.1 c.in-Single.ensures.2 c.in_ok-id-in-Single.ensures.joined

@@ -3,4 +3,4 @@ use Rattle.nr_trienodes.specs.Naming.{RootsMarked}
 use Rattle.nr_trienodes.proofs.trimming.mark_roots.Given as goal
 
 abbrev pub invariant-loop-root : goal.invariant-loop-root
-invariant-loop-root l = RootsMarked l.nodes (take l.root-index l.roots) l.initial.names.items l.names.items
+invariant-loop-root l = RootsMarked l.nodes (take l.root-index l.roots) l.initial.names l.names

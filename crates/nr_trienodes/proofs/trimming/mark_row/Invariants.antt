@@ -4,4 +4,4 @@ use Rattle.nr_trienodes.specs.Shape.{shape_at}
 use Rattle.nr_trienodes.proofs.trimming.mark_row.Given as goal
 
 abbrev pub invariant-loop-x : goal.invariant-loop-x
-invariant-loop-x l = RowMarked l.nodes (take l.x (shape_at l.nodes l.id).below) l.initial.names.items l.names.items l.id
+invariant-loop-x l = RowMarked (take l.x (shape_at l.nodes l.id).below) l.initial.names l.names l.id

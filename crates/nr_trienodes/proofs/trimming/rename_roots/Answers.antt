@@ -8,4 +8,4 @@ use Rattle.nr_trienodes.proofs.trimming.rename_roots.Goals as goal
 pub loop-root-preserved : goal.loop-root-preserved
 loop-root-preserved c =
     ap (λ (r : Option NodeId). set c.loop-root.roots c.loop-root.root-index r) c.renamed.ensures
-    ∙ each_on (new_root c.args.names.now.items) c.args.roots.now c.loop-root.roots c.loop-root.root-index None c.loop-root.invariant c.loop-root-test.true
+    ∙ each_on (new_root c.args.names.now) c.args.roots.now c.loop-root.roots c.loop-root.root-index None c.loop-root.invariant c.loop-root-test.true

@@ -3,4 +3,4 @@ use Rattle.nr_trieupdate.proofs.Counting.{levels_none}
 use Rattle.nr_trieupdate.proofs.base.Base.new.Goals as goal
 
 pub invariant_of-result : goal.invariant_of-result
-invariant_of-result c = record { few = omega arith; levels = levels_none c.new.result; bound = omega arith }
+invariant_of-result c = record { few = omega arith; levels = levels_none c.new.result; bounded = c.first_limits.ensures.bounded }

@@ -9,7 +9,7 @@ invariant_of-self c =
     record {
       few = omega (arith, some, c.self.invariant.few);
       levels = levels_set c.self.inside.nodes c.self.inside.roots c.self.inside.counts c.self.inside.standing None 0 (omega (arith, c.self.told)) (omega (arith, c.self.told)) (omega (arith, c.self.invariant.few)) c.self.invariant.levels (level_none c.self.inside.nodes);
-      bound = c.self.invariant.bound;
+      bounded = c.self.invariant.bounded;
     }
 
 pub returns-clause-marks : goal.returns-clause-marks

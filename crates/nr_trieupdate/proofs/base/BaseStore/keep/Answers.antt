@@ -17,7 +17,7 @@ invariant_of-self c =
       levels = levels_set nodes (set roots (k - 1) (root_at roots k)) (set counts (k - 1) (get_or counts k 0)) k None 0 (length-set roots (k - 1) (root_at roots k) ∙ omega (arith, c.self.told)) (length-set counts (k - 1) (get_or counts k 0) ∙ omega (arith, c.self.told)) (omega (arith, c.self.invariant.few))
           (levels_set nodes roots counts (k - 1) (root_at roots k) (get_or counts k 0) (omega (arith, c.self.told)) (omega (arith, c.self.told)) (omega (arith, c.self.invariant.few)) c.self.invariant.levels (c.self.invariant.levels k (omega (arith, c.self.invariant.few))))
           (level_none nodes);
-      bound = c.self.invariant.bound;
+      bounded = c.self.invariant.bounded;
     }
 
 pub returns-clause-marks : goal.returns-clause-marks

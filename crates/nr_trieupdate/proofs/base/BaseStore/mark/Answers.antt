@@ -10,7 +10,7 @@ invariant_of-self c =
     record {
       few = omega (arith, c.requires, ap (λ v. v.spare) c.self.view_is, c.self.invariant.few);
       levels = levels_set c.self.inside.nodes c.self.inside.roots c.self.inside.counts (c.self.inside.standing + 1) (root_at c.self.inside.roots c.self.inside.standing) (get_or c.self.inside.counts c.self.inside.standing 0) (omega (arith, c.self.told)) (omega (arith, c.self.told)) room c.self.invariant.levels (c.self.invariant.levels c.self.inside.standing (omega arith));
-      bound = c.self.invariant.bound;
+      bounded = c.self.invariant.bounded;
     }
 
 pub returns-clause-marks : goal.returns-clause-marks

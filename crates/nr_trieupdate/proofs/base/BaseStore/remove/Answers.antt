@@ -50,5 +50,5 @@ invariant_of-self-2 c = record {
   levels = levels_cut c.self.inside.nodes c.make_room.new.nodes c.cut.new.nodes c.self.inside.roots c.make_room.new.roots c.self.inside.counts c.self.inside.standing c.in_ok-root.root c.args.key.now (2 * length (nibbles c.args.key.now) + 3)
       (omega (arith, c.self.told)) (omega (arith, c.self.told, c.make_room.auto.roots)) (omega (arith, c.self.told)) (omega (arith, c.self.invariant.few))
       c.self.invariant.levels c.in_ok-self-inside.ensures.moved c.in_ok-root.ensures.kept c.in_ok-root.ensures.cut (there c);
-  bound = c.in_ok-self-inside.ensures.bound;
+  bounded = c.in_ok-self-inside.ensures.bounded;
 }

@@ -6,5 +6,5 @@ pub invariant_of-self : goal.invariant_of-self
 invariant_of-self c = record {
   few = omega (arith, c.requires, ap (λ v. length v.marks) c.self.view_is, length-seen c.self.inside.nodes c.self.inside.roots c.self.inside.standing, c.self.invariant.few, c.max-self-inside.ensures);
   levels = c.self.invariant.levels;
-  bound = c.self.invariant.bound;
+  bounded = c.self.invariant.bounded;
 }

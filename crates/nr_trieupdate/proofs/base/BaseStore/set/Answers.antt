@@ -44,7 +44,7 @@ levels c =
     c.self.invariant.levels c.in_ok-self-inside.ensures.moved c.in_ok-root.ensures.kept c.in_ok-root.ensures.put there c.in-Some.ensures.entry c.in-Some.ensures.few c.in-Some.ensures.count
 
 pub invariant_of-self-2 : goal.invariant_of-self-2
-invariant_of-self-2 c = record { few = c.self.invariant.few; levels = levels c; bound = c.in_ok-self-inside.ensures.bound }
+invariant_of-self-2 c = record { few = c.self.invariant.few; levels = levels c; bounded = c.in_ok-self-inside.ensures.bounded }
 
 pub returns-clause-sizes : goal.returns-clause-sizes
 returns-clause-sizes c = (c.in-Some.ensures.entry, (levels c c.self.inside.standing (omega (arith, c.self.invariant.few))).sized.few)

@@ -3,9 +3,10 @@ use Rattle.std.specs.Option.{is_some}
 use Rattle.std.specs.FinMap as map
 use Rattle.nr_trieupdate.specs.Overlays.{over}
 use Rattle.nr_trieupdate.proofs.Counting.{copied_some, remove_absent}
+use Rattle.nr_trieupdate.proofs.Layers.{layers_more}
 use Rattle.nr_trieupdate.proofs.Overlays.{joined_over}
 use Rattle.nr_trieupdate.proofs.Stored.{noted_contents, noted_debt, set_layers}
-use Rattle.nr_trieupdate.proofs.trie_store.TrieStoreStore.remove.Goals as goal
+use Rattle.nr_trieupdate.proofs.trie_store.TrieStore.note_gone.Goals as goal
 
 pub returns-then-is_none-clause-ok : goal.returns-then-is_none-clause-ok
 returns-then-is_none-clause-ok c = remove_absent c.args.self.now.contents c.args.key.now (ap is_some (sym c.get.ensures) ∙ copied_some c.get.result ∙ c.if-is_none.ensures)
@@ -22,9 +23,10 @@ invariant_of-self-2 c =
       base = c.self.invariant.base;
       standing = c.self.invariant.standing ∙ sym (ap length c.in_ok-set.ensures.marks);
       few = omega (arith, c.self.invariant.few, c.in_ok-set.ensures.spare);
-      most = c.self.invariant.most;
-      layers = set_layers base old.contents new.contents old.marks new.marks key (0 ∷ []) true c.self.inside.count c.self.inside.count c.in_ok-set.ensures.ok c.in_ok-set.ensures.marks
-          (λ _. joined_over old.contents base key there) refl c.self.invariant.layers;
+      most = omega arith;
+      layers = layers_more base c.self.inside.count _ (new.contents ∷ new.marks) (omega arith)
+          (set_layers base old.contents new.contents old.marks new.marks key (0 ∷ []) true c.self.inside.count c.self.inside.count c.in_ok-set.ensures.ok c.in_ok-set.ensures.marks
+          (λ _. joined_over old.contents base key there) refl c.self.invariant.layers);
     }
 
 pub returns-clause-ok : goal.returns-clause-ok

@@ -1,5 +1,5 @@
 use Rattle.std.proofs.Common.{◌≡◌}
-use Rattle.near_bench.proofs.stores.work.Given as goal
+use Rattle.near_bench.proofs.stores.set_many.Given as goal
 
 abbrev pub invariant-loop-number : goal.invariant-loop-number
 invariant-loop-number g l = g.S.Store.marks l.store ≡ g.S.Store.marks l.initial.store

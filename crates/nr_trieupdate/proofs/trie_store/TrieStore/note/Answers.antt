@@ -2,7 +2,7 @@ use Rattle.std.proofs.Common.{◌≡◌, ◌∷◌, ap, sym, ◌∙◌, arith, l
 use Rattle.std.specs.FinMap as map
 use Rattle.nr_trieupdate.proofs.Overlays.{few_over}
 use Rattle.nr_trieupdate.proofs.Stored.{noted_contents, noted_debt, set_layers}
-use Rattle.nr_trieupdate.proofs.trie_store.TrieStoreStore.set.Goals as goal
+use Rattle.nr_trieupdate.proofs.trie_store.TrieStore.note.Goals as goal
 
 pub invariant_of-self-2 : goal.invariant_of-self-2
 invariant_of-self-2 c =

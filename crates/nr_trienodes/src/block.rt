@@ -1,4 +1,4 @@
-//! Bytes that nodes hold.
+//! The bytes that nodes share.
 
 ghost use Rattle.std.specs.Prelude.{◌≡◌, ◌≤◌, length, IfOk};
 
@@ -14,26 +14,27 @@ enum Form {
     Long(Vec<u8>),
 }
 
-/// Bytes that take no memory of their own where they are few.
+/// The bytes of a value or a part, which its nodes share. They take no memory beside the block where
+/// they are few.
 #[derive(Drop)]
-pub(crate) struct Bytes {
+pub(crate) struct Block {
     form: Form,
 }
 
-impl Model for Bytes {
+impl Model for Block {
     ghost use Rattle.std.specs.Prelude.{List, ℕ};
 
     ghost Value = { List ℕ };
 
-    ghost use Rattle.nr_trienodes.specs.Held.{bytes_view, AreBytes};
+    ghost use Rattle.nr_trienodes.specs.Block.{block_view, IsBlock};
 
-    ghost view = { bytes_view };
+    ghost view = { block_view };
 
-    ghost invariant = { AreBytes };
+    ghost invariant = { IsBlock };
 }
 
 // Few bytes, in place.
-fn short(bytes: &[u8]) -> Bytes
+fn short(bytes: &[u8]) -> Block
     requires { length bytes.now ≤ 30 }
     ensures { result ≡ bytes.now }
 {
@@ -42,7 +43,7 @@ fn short(bytes: &[u8]) -> Bytes
     for i in 0..count {
         short[i] = bytes[i];
     }
-    Bytes {
+    Block {
         form: Form::Short {
             count: count as u8,
             bytes: short,
@@ -50,16 +51,16 @@ fn short(bytes: &[u8]) -> Bytes
     }
 }
 
-impl Bytes {
+impl Block {
     /// A copy of bytes.
-    pub(crate) fn of(alloc: Global, bytes: &[u8]) -> Result<Bytes, AllocError>
+    pub(crate) fn of(alloc: Global, bytes: &[u8]) -> Result<Block, AllocError>
         ensures { IfOk result (λ copy. copy ≡ bytes.now) }
     {
         if bytes.len() <= SHORT {
             return Ok(short(bytes));
         }
         let long = Vec::from_slice(alloc, bytes)?;
-        Ok(Bytes {
+        Ok(Block {
             form: Form::Long(long),
         })
     }

@@ -1,5 +1,0 @@
-use Rattle.std.proofs.Common.{◌≡◌, ◌<◌, ℕ, length, get_or}
-use Rattle.nr_trienodes.proofs.part.short.Given as goal
-
-abbrev pub invariant-loop-i : goal.invariant-loop-i
-invariant-loop-i l = record { full : length l.short ≡ 14; made : (k : ℕ) → k < l.i → get_or l.short k 0 ≡ get_or l.nibbles k 0 }
