@@ -13,8 +13,8 @@ use Rattle.nr_triedef.specs.Root.{Paths, Contents, summary_of}
 use Rattle.nr_trienodes.specs.Shape.{Shape, shape_at, child, fold}
 use Rattle.nr_trienodes.specs.Tries.{Answer, answer, nothing, found, node_paths, paths_at, node_summary, summary_at, node_cost, cost_at, is_leaf}
 use Rattle.nr_trienodes.specs.Views.{Stands, Sound}
-use Rattle.nr_trienodes.specs.Roots.{root_count, IsRoot, packed, contents, cost, Renames}
-use Rattle.nr_trienodes.specs.Naming.{Names, new_name, renamed, new_root, HasName, IsNamed, AreNamed}
+use Rattle.nr_trienodes.specs.Roots.{root_count, IsRoot, packed, contents, cost, Renames, IsOldest, OldestStay}
+use Rattle.nr_trienodes.specs.Naming.{Names, new_name, renamed, new_root, HasName, HaveOwn, IsNamed, AreNamed}
 use Rattle.nr_trienodes.specs.declared.nodes.NodeId.{NodeId}
 use Rattle.nr_trienodes.proofs.Folds.{Back, by_names, fold_at}
 use Rattle.nr_trienodes.proofs.Sounds.{back_sound, sum_by-map}
@@ -133,6 +133,30 @@ roots_named names old new (Some id ∷ roots) sound are h kept = one (new_name n
         let is : new_root names (Some id) ≡ Some name = ap (option_map (λ (n : ℕ). let name : NodeId = record { 0 = n } in name)) e in
         let it = root_named names old new id name sound are e h.0 in
         subst (λ (q : Option NodeId). Renames old new (Some id ∷ roots) (q ∷ map (new_root names) roots)) (sym is) (it.0, it.1, it.2, rest)
+
+-- the oldest nodes have their own names, and so do the roots that name them
+pub oldest_stay : (names : Names) (oldest : ℕ) (roots : List (Option NodeId)) → HaveOwn names oldest
+    → OldestStay oldest roots (map (new_root names) roots)
+oldest_stay names oldest [] own = tt
+oldest_stay names oldest (r ∷ roots) own = (one r, oldest_stay names oldest roots own)
+  where
+    one : (r : Option NodeId) → IsOldest oldest r → new_root names r ≡ r
+    one None old = refl
+    one (Some id) old = ap (option_map (λ (n : ℕ). let name : NodeId = record { 0 = n } in name)) (own id.0 old)
+
+-- of the names of roots those of nodes that aren't there don't tell
+pub oldest_there : (nodes : List Shape) (oldest few : ℕ) (roots moved : List (Option NodeId))
+    → ((id : ℕ) → id < oldest → id < length nodes → id < few) → AllByRecursion (IsRoot nodes) roots
+    → OldestStay few roots moved → OldestStay oldest roots moved
+oldest_there nodes oldest few [] [] within h stay = tt
+oldest_there nodes oldest few [] (q ∷ moved) within h stay = absurd stay
+oldest_there nodes oldest few (r ∷ roots) [] within h stay = absurd stay
+oldest_there nodes oldest few (r ∷ roots) (q ∷ moved) within h stay =
+    (λ old. stay.0 (one r h.0 old), oldest_there nodes oldest few roots moved within h.1 stay.1)
+  where
+    one : (r : Option NodeId) → IsRoot nodes r → IsOldest oldest r → IsOldest few r
+    one None root old = tt
+    one (Some id) root old = within id.0 old root.0
 
 -- at most two nodes for each entry
 root_few : (nodes : List Shape) (r : Option NodeId) → Sound nodes → IsRoot nodes r → root_count nodes r ≤ 2 * length (entries (contents nodes r))

@@ -83,6 +83,18 @@ Renames old new [] (q ∷ qs) = ⊥
 Renames old new (r ∷ rs) [] = ⊥
 Renames old new (r ∷ rs) (q ∷ qs) = IsRoot new q × (contents new q ≡ contents old r) × (cost new q ≤ cost old r) × Renames old new rs qs
 
+-- none, or the name of one of the oldest nodes
+abbrev pub IsOldest : ℕ → Option NodeId → Type 0
+IsOldest oldest None = Unit {0}
+IsOldest oldest (Some id) = id.0 < oldest
+
+-- each root that is none or names one of the oldest nodes is as it was
+abbrev pub OldestStay : ℕ → List (Option NodeId) → List (Option NodeId) → Type 0
+OldestStay oldest [] [] = Unit {0}
+OldestStay oldest [] (q ∷ qs) = ⊥
+OldestStay oldest (r ∷ rs) [] = ⊥
+OldestStay oldest (r ∷ rs) (q ∷ qs) = (IsOldest oldest r → q ≡ r) × OldestStay oldest rs qs
+
 -- of the oldest nodes, so many as given, each that is there stays as it is under its name
 abbrev pub AreOldestKept : List Shape → List Shape → ℕ → Type 0
 AreOldestKept old new oldest = (id : ℕ) → id < oldest → id < length old → (id < length new) × (shape_at new id ≡ shape_at old id)

@@ -5,7 +5,7 @@ ghost use Rattle.std.specs.List.{AllByRecursion};
 ghost use Rattle.std.specs.FinMap as map_of;
 ghost use Rattle.nr_trienodes.specs.Shape.{shape_at};
 ghost use Rattle.nr_trienodes.specs.Views.{IsIn};
-ghost use Rattle.nr_trienodes.specs.Roots.{IsRoot, Renames, AreOldestKept, contents, name_in, root_count, young_count};
+ghost use Rattle.nr_trienodes.specs.Roots.{IsRoot, Renames, OldestStay, AreOldestKept, contents, name_in, root_count, young_count};
 ghost use Rattle.nr_trienodes.specs.Naming.{marked, new_root, AreOldest, HasName, RowMarked, BelowMarked, RootsMarked};
 
 use crate::names::Names;
@@ -99,6 +99,7 @@ fn trim_to(nodes: &mut Nodes, names: &mut Names, oldest: usize, roots: &mut [Opt
     requires names { AreOldest names.old oldest (length nodes.old) }
     requires roots { AllByRecursion (IsRoot nodes.old) roots.old }
     ensures ok { Renames nodes.old nodes.new roots.old roots.new }
+    ensures same { OldestStay oldest roots.old roots.new }
     ensures oldest { AreOldestKept nodes.old nodes.new oldest }
     ensures few { length nodes.new ≤ oldest + sum_by (young_count nodes.old oldest) roots.old }
     ensures less { length nodes.new ≤ length nodes.old }
@@ -131,9 +132,9 @@ impl Nodes {
     }
 
     /// Drops the nodes that no named root needs, except the oldest ones, so many of them as given, and
-    /// gives the roots their new names. The oldest ones stay as they are under their names; the work
-    /// and the memory that it takes grow with the younger ones and the roots alone. All other names
-    /// mean nothing afterwards.
+    /// gives the roots their new names. The oldest ones stay as they are under their names, and a root
+    /// that names one of them keeps that name; the work and the memory that it takes grow with the
+    /// younger ones and the roots alone. All other names mean nothing afterwards.
     ///
     /// # Errors
     ///
@@ -145,6 +146,7 @@ impl Nodes {
     ) -> Result<(), AllocError>
         requires { AllByRecursion (IsRoot self.old) roots.old }
         ensures ok { OnOk result (Renames self.old self.new roots.old roots.new) }
+        ensures same { OnOk result (OldestStay oldest roots.old roots.new) }
         ensures oldest { OnOk result (AreOldestKept self.old self.new oldest) }
         ensures few { OnOk result (length self.new ≤ oldest + sum_by (young_count self.old oldest) roots.old) }
         ensures less { length self.new ≤ length self.old }

@@ -1,8 +1,8 @@
 use Rattle.std.proofs.Common.{◌∙◌, sym, subst, arith}
 use Rattle.std.specs.Prelude.{is_some}
 use Rattle.std.proofs.lemmas.List.Sums.{count_by-le-length}
-use Rattle.nr_trienodes.specs.Roots.{Renames}
-use Rattle.nr_trienodes.proofs.Renaming.{roots_named}
+use Rattle.nr_trienodes.specs.Roots.{Renames, OldestStay}
+use Rattle.nr_trienodes.proofs.Renaming.{roots_named, oldest_stay}
 use Rattle.nr_trienodes.proofs.Marking.{few_kept, roots_stay, own_after, closed_all}
 use Rattle.nr_trienodes.proofs.Sliding.{oldest_kept}
 use Rattle.nr_trienodes.proofs.trimming.trim_to.Goals as goal
@@ -33,6 +33,9 @@ returns-clause-ok c =
     subst (Renames c.args.nodes.now c.slide.new.self c.args.roots.now) (sym c.rename_roots.ensures)
     (roots_named c.slide.new.names c.args.nodes.now c.slide.new.self c.args.roots.now c.count-count.ensures.sound c.slide.ensures.named c.requires.roots
     (roots_stay c.mark_roots.new.names c.slide.new.names c.args.roots.now (λ id h. c.slide.ensures.kept id (c.mark_below.ensures.marks.kept id h)) c.mark_roots.ensures.roots_kept))
+
+pub returns-clause-same : goal.returns-clause-same
+returns-clause-same c = subst (OldestStay c.args.oldest c.args.roots.now) (sym c.rename_roots.ensures) (oldest_stay c.slide.new.names c.args.oldest c.args.roots.now c.slide.ensures.own)
 
 pub returns-clause-oldest : goal.returns-clause-oldest
 returns-clause-oldest c = oldest_kept c.args.nodes.now c.slide.new.self c.slide.new.names c.args.oldest c.count-count.ensures.sound c.slide.ensures.named c.slide.ensures.own
