@@ -37,7 +37,7 @@ enum Operation {
     Change,
     /// Another value at a thousand keys, spread evenly, and the root.
     Working,
-    /// A checkpoint, another value at fifty thousand keys, and the changes taken back.
+    /// A checkpoint, fifty thousand values set at keys in turn, and the changes taken back.
     Behind,
     /// The root of keys that each begin with all shorter ones.
     Nested,
@@ -147,7 +147,7 @@ fn work<S: Store>(store: &mut S, number: u32, keys: u32, value: &[u8]) -> Result
     root(store)
 }
 
-/// Sets the value at fifty thousand keys behind a checkpoint, and takes the changes back.
+/// Sets fifty thousand values at keys in turn behind a checkpoint, and takes the changes back.
 fn set_behind<S: Store>(
     store: &mut S,
     number: u32,

@@ -1,3 +1,5 @@
+//! The arena of nodes by itself: its roots, what a change keeps, and what trims leave.
+
 ghost use Rattle.std.specs.Prelude.{◌≡◌, ◌<◌, Some, None, IfOk};
 ghost use Rattle.nr_trienodes.specs.Roots.{IsRoot};
 

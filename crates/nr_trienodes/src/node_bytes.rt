@@ -1,4 +1,4 @@
-//! Block that nodes hold: a value, or the nibbles of a part.
+//! Bytes that nodes hold: a value, or the nibbles of a part.
 
 ghost use Rattle.std.specs.Prelude.{◌≡◌, ◌≤◌, length, IfOk};
 
@@ -16,7 +16,7 @@ enum Form {
     Long(Arc<Block>),
 }
 
-/// Block that take no memory of their own where they are few, and else share it with their copies.
+/// Bytes that take no memory of their own where they are few, and else share it with their copies.
 #[derive(Drop)]
 pub(crate) struct NodeBytes {
     form: Form,

@@ -19,7 +19,7 @@ use nr_triedef::NodeHash;
 use std::alloc::{AllocError, Global};
 use std::marker::Model;
 
-// A trim keeps at most as many boxes as it leaves nodes, or this many.
+// A trim keeps a box more only where fewer are held than it leaves nodes, or than this many.
 const SPARE: usize = 1 << 14;
 
 /// The name of a node: the number of older nodes in its arena. A trim gives new names.
@@ -51,7 +51,7 @@ pub struct Nodes {
     nodes: Vec<Node>,
     // The list of the last trim, of which the next one takes the memory over.
     names: Names,
-    // The boxes of nodes that the last trim dropped.
+    // Boxes of nodes that trims dropped.
     spare: Spare,
 }
 
@@ -311,8 +311,8 @@ impl Nodes {
         }
     }
 
-    /// Adds a node. Besides memory, the refusal is for a part or a value of 2^32 bytes or more, for a
-    /// usage that passes u64, and for 2^32 nodes.
+    /// Adds a node. Besides memory, the refusal is for a part of 2^32 nibbles or a value of 2^32 bytes
+    /// or more, for a usage that passes u64, and for 2^32 nodes.
     pub(crate) fn push(
         &mut self,
         part: Vec<u8>,

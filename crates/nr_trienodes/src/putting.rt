@@ -185,8 +185,8 @@ impl Nodes {
     /// # Errors
     ///
     /// `Full` exactly where the arena holds more than 2^32 - 4 - 2n nodes, where n is the number of
-    /// the key's nibbles. Want of memory, as which count a part or a value of 2^32 bytes or more and
-    /// a usage that passes u64. Each leaves the nodes as they were.
+    /// the key's nibbles. Want of memory, as which count a value of 2^32 bytes or more and a usage
+    /// that passes u64. Each leaves the nodes as they were.
     #[tactic(auto, using(crate::proofs::Changed::keeps_extends, crate::proofs::Changed::cut_back))]
     pub fn put(
         &mut self,

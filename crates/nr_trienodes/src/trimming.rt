@@ -112,8 +112,8 @@ fn trim_to(nodes: &mut Nodes, names: &mut Names, oldest: usize, roots: &mut [Opt
 }
 
 impl Nodes {
-    /// Drops the nodes that no named root needs, and gives the roots their new names. All other names
-    /// mean nothing afterwards.
+    /// Drops the nodes that no named root needs, and gives the roots their new names; none stays none.
+    /// All other names mean nothing afterwards.
     ///
     /// # Errors
     ///
@@ -121,6 +121,7 @@ impl Nodes {
     pub fn trim(&mut self, roots: &mut [Option<NodeId>]) -> Result<(), AllocError>
         requires { AllByRecursion (IsRoot self.old) roots.old }
         ensures ok { OnOk result (Renames self.old self.new roots.old roots.new) }
+        ensures none { OnOk result (OldestStay 0 roots.old roots.new) }
         ensures tries { OnOk result (length self.new ≤ sum_by (root_count self.old) roots.old) }
         ensures few { OnOk result (length self.new ≤ sum_by (λ r. 2 * length (map_of.entries (contents self.new r))) roots.new) }
         ensures err { OnErr result (self.new ≡ self.old) }
@@ -134,7 +135,7 @@ impl Nodes {
     /// Drops the nodes that no named root needs, except the oldest ones, so many of them as given, and
     /// gives the roots their new names. The oldest ones stay as they are under their names, and a root
     /// that names one of them keeps that name; the work and the memory that it takes grow with the
-    /// younger ones and the roots alone. All other names mean nothing afterwards.
+    /// younger ones and the roots alone. The names of other nodes mean nothing afterwards.
     ///
     /// # Errors
     ///

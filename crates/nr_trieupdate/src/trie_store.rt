@@ -35,8 +35,9 @@ const MOST_WAITING: usize = 1 << 16;
 /// `below` costs what it costs the trie and the plain store, and copies the entries that it finds
 /// where a change waits among them.
 ///
-/// A new key where 2^26 keys stand in the trie or wait counts as want of memory for `set`, as an
-/// entry past the store's sizes does, and so does a value of 2^32 - 1 bytes.
+/// A new key where 2^26 keys and calls are counted, as keys that stand in the trie or wait, counts as
+/// want of memory for `set`, as an entry past the store's sizes does, and so does a value of
+/// 2^32 - 1 bytes.
 #[derive(Drop)]
 pub struct TrieStore {
     alloc: Global,
@@ -44,7 +45,7 @@ pub struct TrieStore {
     // The changes that wait, by their keys: 1 and the value, or 0 where a key was taken out.
     changes: PlainStore,
     // Neither now nor at a checkpoint are there more keys that the trie has or at which a change waits.
-    // It rises at each change, so it also tells how many came since they were last moved.
+    // Below 2^25 it rises at each change, so it also tells how many came since they were last moved.
     count: usize,
     // How many checkpoints stand, all of them those of the changes.
     standing: usize,

@@ -26,7 +26,7 @@ pub(crate) fn held_of(alloc: Global, value: &[u8]) -> Result<Vec<u8>, AllocError
 }
 
 /// Whether a key is known to be among those counted: a change waits at it, or, where the count can't
-/// grow, it is in the trie.
+/// grow, it is in the trie. Below 2^25 it isn't looked for, and none is.
 pub(crate) fn is_counted(base: &Base, changes: &PlainStore, count: usize, key: &[u8]) -> bool
     ensures { result ≡ true → is_some (map.get (joined changes.now.contents base.now.contents) key.now) ≡ true }
 {
