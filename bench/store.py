@@ -3,17 +3,19 @@
 
 usage: bench/store.py [--store plain|trie] [--turns N] [--program PATH]
 
-`set` puts values without a checkpoint and never asks for a root, so the store of nodes works them in as they become
-many; `behind` is one of fifty thousand values set behind a checkpoint, with its taking back, so that all of them wait.
+`set` puts values without a checkpoint and never asks for a root, so the store of nodes works them in as they
+become many; `behind` is one of fifty thousand values set behind a checkpoint, with its taking back, so that all of
+them wait.
 
-The second table of a store has roots: milliseconds for the first root, microseconds for one change with its root behind
-that, microseconds for each of a thousand changes with one root behind them, and the greatest memory of a run in MiB, of the
-filling alone and with the first root, over flat keys of four bytes; and milliseconds to fill the store with nested keys
-(a, aa, aaa and so on), each with a short value, and to compute their root.
+The second table of a store has roots, over flat keys of four bytes: milliseconds for the first root, microseconds
+for one change with its root behind that, microseconds for each of a thousand changes with one root behind them, and
+the greatest memory of a run in MiB, of the filling alone and with the first root. Behind these come nested keys (a,
+aa, aaa and so on), each with a short value: milliseconds to fill the store and to compute the root, and the memory.
 
-Build the program first: cd crates/near_bench && rt run. Each number is the processor time of one operation in nanoseconds:
-the time of a run with N of them less that of a run that only fills the store and computes its root, the least of three
-tries each, over N. N is some five times the keys or more, so that the filling doesn't hide the operations.
+Build the program first: cd crates/near_bench && rt run. Each number is the processor time of one operation in
+nanoseconds: the time of a run with N of them less that of a run that only fills the store and computes its root, the
+least of three tries each, over N. N is some five times the keys or more, so that the filling doesn't hide the
+operations.
 """
 import argparse
 import os
