@@ -34,8 +34,8 @@ cold_step nodes (Some c ∷ row) (suc i) lt =
 pub record Pushed (nodes : List Shape) (row : List (Option ℕ)) (i : ℕ) (old new : List ℕ) : Type 0 where
   pub is : new ≡ old ++ cold nodes (take i row)
 
-pub pushed_first : (nodes : List Shape) (row : List (Option ℕ)) (queue : List ℕ) → Pushed nodes row 0 queue queue
-pushed_first nodes row queue = record { is = sym (append-nil queue) }
+pub pushed_first : (nodes : List Shape) (below : List (Option ℕ)) (queue : List ℕ) → Pushed nodes below 0 queue queue
+pushed_first nodes below queue = record { is = sym (append-nil queue) }
 
 pub pushed_more : (nodes : List Shape) (row : List (Option ℕ)) (i j : ℕ) (old new more : List ℕ) → Pushed nodes row i old new → i < length row → j ≡ i + 1 → more ≡ new ++ cold nodes (get_or row i None ∷ []) → Pushed nodes row j old more
 pushed_more nodes row i j old new more p lt ej em =

@@ -138,10 +138,10 @@ child-past [] y le = refl
 child-past (d ∷ row) zero le = absurd (omega arith)
 child-past (d ∷ row) (suc y) le = child-past row y (omega arith)
 
-pub links_all : (row : List (Option ℕ)) (links : Links) → length row ≡ 16 → LinksBelow row 16 links → LinksSo row links
-links_all row Bare len h = λ y. elim (cases_lt y 16) [ inl lt ↦ h y lt | inr le ↦ child-past row y (omega arith) ]
-links_all row (Single x c) len h = (h.0, h.1, λ y ne. elim (cases_lt y 16) [ inl lt ↦ h.2 y lt ne | inr le ↦ child-past row y (omega arith) ])
-links_all row Several len h = absurd h
+pub links_all : (below : List (Option ℕ)) (links : Links) → length below ≡ 16 → LinksBelow below 16 links → LinksSo below links
+links_all below Bare len h = λ y. elim (cases_lt y 16) [ inl lt ↦ h y lt | inr le ↦ child-past below y (omega arith) ]
+links_all below (Single x c) len h = (h.0, h.1, λ y ne. elim (cases_lt y 16) [ inl lt ↦ h.2 y lt ne | inr le ↦ child-past below y (omega arith) ])
+links_all below Several len h = absurd h
 
 -- ---- none, and the only child
 none_given : (nodes : List Shape) (row : List (Option ℕ)) (m : Option (List ℕ)) → ((y : ℕ) → child row y ≡ None) → None ≡ given None (map (option_map (found nodes)) row) m

@@ -8,6 +8,6 @@ pub mod Listing
 pub mod Naming
 pub mod Packing
 pub mod NodeBytes
-pub mod Block
+pub mod SharedBytes
 pub mod Bodies
 pub mod Own

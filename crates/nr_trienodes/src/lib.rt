@@ -2,7 +2,6 @@
 //! and old roots stay while new ones are made.
 #![tactic(auto)]
 
-mod block;
 mod body;
 mod cutting;
 mod fault;
@@ -16,6 +15,7 @@ mod nodes;
 mod packed;
 mod putting;
 mod settling;
+mod shared_bytes;
 mod spare;
 mod threads;
 mod trimming;

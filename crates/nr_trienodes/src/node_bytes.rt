@@ -2,7 +2,7 @@
 
 ghost use Rattle.std.specs.Prelude.{◌≡◌, ◌≤◌, length, IfOk};
 
-use crate::block::Block;
+use crate::shared_bytes::SharedBytes;
 use std::alloc::{AllocError, Global};
 use std::marker::Model;
 use std::sync::Arc;
@@ -13,7 +13,7 @@ const SHORT: usize = 14;
 #[derive(Drop)]
 enum Form {
     Short { count: u8, bytes: [u8; 14] },
-    Long(Arc<Block>),
+    Long(Arc<SharedBytes>),
 }
 
 /// Bytes that take no memory of their own where they are few, and else share it with their copies.
@@ -60,7 +60,7 @@ impl NodeBytes {
         if bytes.len() <= SHORT {
             return Ok(short(bytes));
         }
-        let held = Block::of(alloc, bytes)?;
+        let held = SharedBytes::of(alloc, bytes)?;
         let long = Arc::new(alloc, held)?;
         Ok(NodeBytes {
             form: Form::Long(long),

@@ -14,10 +14,10 @@ use std::alloc::AllocError;
 const SLACK: usize = 1 << 14;
 
 // At most about so many nodes are made between two trims of young nodes,
-const YOUNG: usize = 1 << 16;
+const YOUNG: usize = 1 << 13;
 
 // and about so many at least, or all are trimmed.
-const LEAST_YOUNG: usize = 1 << 14;
+const LEAST_YOUNG: usize = 1 << 12;
 
 /// When the arena is next trimmed.
 #[derive(Clone, Copy)]
@@ -35,7 +35,7 @@ fn limits_of(held: usize, all: usize) -> Limits
     requires held { held ≤ all }
     requires all { all ≤ most_nodes }
     ensures oldest { result.oldest ≡ held }
-    ensures young { result.young ≡ min (held + 2 ^ 16) all }
+    ensures young { result.young ≡ min (held + 2 ^ 13) all }
     ensures all { result.all ≡ all }
     ensures bounded { IsBounded result }
 {

@@ -1,5 +1,5 @@
 use Rattle.std.proofs.Common.{◌≡◌, ◌<◌, ℕ, length, get_or}
-use Rattle.nr_trienodes.proofs.block.short.Given as goal
+use Rattle.nr_trienodes.proofs.shared_bytes.short.Given as goal
 
 abbrev pub invariant-loop-i : goal.invariant-loop-i
 invariant-loop-i l = record { full : length l.short ≡ 30; made : (k : ℕ) → k < l.i → get_or l.short k 0 ≡ get_or l.bytes k 0 }

@@ -14,27 +14,26 @@ enum Form {
     Long(Vec<u8>),
 }
 
-/// The bytes of a value or a part, which its nodes share. They take no memory beside the block where
-/// they are few.
+/// The bytes of a value or a part, which its nodes share. They take no further memory where they are few.
 #[derive(Drop)]
-pub(crate) struct Block {
+pub(crate) struct SharedBytes {
     form: Form,
 }
 
-impl Model for Block {
+impl Model for SharedBytes {
     ghost use Rattle.std.specs.Prelude.{List, ℕ};
 
     ghost Value = { List ℕ };
 
-    ghost use Rattle.nr_trienodes.specs.Block.{block_view, IsBlock};
+    ghost use Rattle.nr_trienodes.specs.SharedBytes.{shared_view, AreSharedBytes};
 
-    ghost view = { block_view };
+    ghost view = { shared_view };
 
-    ghost invariant = { IsBlock };
+    ghost invariant = { AreSharedBytes };
 }
 
 // Few bytes, in place.
-fn short(bytes: &[u8]) -> Block
+fn short(bytes: &[u8]) -> SharedBytes
     requires { length bytes.now ≤ 30 }
     ensures { result ≡ bytes.now }
 {
@@ -43,7 +42,7 @@ fn short(bytes: &[u8]) -> Block
     for i in 0..count {
         short[i] = bytes[i];
     }
-    Block {
+    SharedBytes {
         form: Form::Short {
             count: count as u8,
             bytes: short,
@@ -51,16 +50,16 @@ fn short(bytes: &[u8]) -> Block
     }
 }
 
-impl Block {
+impl SharedBytes {
     /// A copy of bytes.
-    pub(crate) fn of(alloc: Global, bytes: &[u8]) -> Result<Block, AllocError>
+    pub(crate) fn of(alloc: Global, bytes: &[u8]) -> Result<SharedBytes, AllocError>
         ensures { IfOk result (λ copy. copy ≡ bytes.now) }
     {
         if bytes.len() <= SHORT {
             return Ok(short(bytes));
         }
         let long = Vec::from_slice(alloc, bytes)?;
-        Ok(Block {
+        Ok(SharedBytes {
             form: Form::Long(long),
         })
     }
