@@ -15,13 +15,15 @@ pub(crate) struct Refuser {
 }
 
 impl<S: Store> Caller<S> for Refuser {
-    ghost use Rattle.nr_action_tests.specs.Refused.{refused, refused_law};
+    ghost use Rattle.nr_action_tests.specs.Refused.{refused, refused_law, refused_local};
 
     ghost config = { λ caller. caller.config };
 
     ghost meaning = { λ caller. refused caller.kind caller.part caller.burnt };
 
     ghost law = { λ caller. refused_law caller.config caller.kind caller.part caller.burnt };
+
+    ghost local = { λ caller. refused_local caller.kind caller.part caller.burnt };
 
     fn call(
         &self,

@@ -2,3 +2,4 @@ pub mod Standing
 pub mod Failing
 pub mod Made
 pub mod Doing
+pub mod OverActions

@@ -2,3 +2,5 @@ pub mod Values
 pub mod Converted
 pub mod Tallied
 pub mod Lent
+pub mod OverChunk
+pub mod Localized

@@ -18,3 +18,4 @@ pub mod Routed
 pub mod GenesisSums
 pub mod Lawful
 pub mod Lasting
+pub mod Locality

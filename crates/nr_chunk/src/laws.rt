@@ -2,10 +2,26 @@
 
 ghost use Rattle.nr_chunk.specs.Amounts.{tokens};
 ghost use Rattle.nr_chunk.specs.Chain.{Chain, IsChain, rules_of};
+ghost use Rattle.nr_chunk.specs.Locality.{IsLocalChunk};
+ghost use Rattle.nr_config.specs.Config.{Config};
 ghost use Rattle.nr_overlap.specs.Balance.{IsKeptBy};
+ghost use Rattle.nr_state.specs.Calls.{Called};
+ghost use Rattle.nr_state.specs.Keyed.{IsKeyed};
+ghost use Rattle.nr_state.specs.Local.{IsLocal};
+ghost use Rattle.nr_state.specs.Valid.{IsValidWorld};
+ghost use Rattle.nr_state.specs.World.{World};
+ghost use Rattle.nr_state.specs.declared.calls.CallContext.{CallContext};
 
 /// The chunks of a run keep tokens: what a chunk's world and the lists that it takes hold is in the world behind it, in
 /// the lists that it sends, or burnt. It does nothing when it runs.
 pub fn chunk_laws()
     ensures tokens { (x : Chain) → IsChain x → IsKeptBy (rules_of x) (tokens x) }
+{}
+
+/// A chunk on the part of a world that it touches comes to what it comes to on the whole world.
+pub fn locality_laws()
+    // Where calls look at nothing but the current account.
+    ensures local { (c : Config) (call : World → CallContext → Called) → IsLocal call → IsLocalChunk c call }
+    // In a valid world each postponed receipt is kept under its receiver.
+    ensures keyed { (c : Config) (w : World) → IsValidWorld c w → IsKeyed w }
 {}

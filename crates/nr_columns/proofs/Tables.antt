@@ -155,7 +155,7 @@ module _ {K X : Type 0} {t : Table K X} (is : IsTable t) where
       differ false h = refl
 
   -- maps that answer alike at each key are equal
-  same_by : (m n : FinMap t.cmp X) → ((q : K) → valid t q ≡ true → get m q ≡ get n q) → ((q : K) → valid t q ≡ false → get m q ≡ get n q) → m ≡ n
+  pub same_by : (m n : FinMap t.cmp X) → ((q : K) → valid t q ≡ true → get m q ≡ get n q) → ((q : K) → valid t q ≡ false → get m q ≡ get n q) → m ≡ n
   same_by m n f g = same_map is.total is.exact m n (λ q. elim (valid t q) as (λ b. valid t q ≡ b → get m q ≡ get n q) [ true ↦ f q | false ↦ g q ] refl)
 
   -- ---- what is read out
@@ -191,11 +191,11 @@ module _ {K X : Type 0} {t : Table K X} (is : IsTable t) where
       one j None = get-remove is.total (gathered t es) j k
       one j (Some x) = get-insert is.total (gathered t es) j x k
 
-  get_part_none : (c : Contents) (k : K) → valid t k ≡ false → get (part t c) k ≡ None
+  pub get_part_none : (c : Contents) (k : K) → valid t k ≡ false → get (part t c) k ≡ None
   unfolding part
   get_part_none c k v = get_gathered_none (entries c) k v
 
-  get_part_valid : (c : Contents) (k : K) → valid t k ≡ true → get (part t c) k ≡ option_and_then t.read (get c (t.key k))
+  pub get_part_valid : (c : Contents) (k : K) → valid t k ≡ true → get (part t c) k ≡ option_and_then t.read (get c (t.key k))
   unfolding part
   get_part_valid c k v = get_gathered (entries c) k v ∙ ap (option_and_then t.read) (sym (get-entries c (t.key k)))
 

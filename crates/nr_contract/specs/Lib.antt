@@ -5,3 +5,5 @@ pub mod Preparing
 pub mod Contract
 pub mod Calls
 pub mod Law
+pub mod Mapped
+pub mod LocalCalls

@@ -186,12 +186,15 @@ fn load_gas(bytes: usize, config: &Config) -> u128
 impl<S: Store> Caller<S> for ContractCaller {
     ghost use Rattle.nr_contract.specs.Contract.{call};
     ghost use Rattle.nr_contract.specs.Law.{is_caller};
+    ghost use Rattle.nr_contract.specs.LocalCalls.{call_is_local};
 
     ghost config = { λ caller. caller };
 
     ghost meaning = { λ caller. call caller };
 
     ghost law = { λ caller. is_caller caller };
+
+    ghost local = { λ caller. call_is_local caller };
 
     fn call(
         &self,

@@ -6,4 +6,5 @@ pub mod Places
 pub mod Rule
 pub mod Steps
 pub mod Views
+pub mod Seats
 pub mod Ports

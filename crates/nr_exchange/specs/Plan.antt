@@ -1,5 +1,5 @@
 -- The serial run as an exchange sees it: which chunks are there, and the lists that each one seals. After the Nomicon, Chain Specification (Chunks and cross-shard receipts).
-use Rattle.std.specs.Prelude.{◌≡◌, ℕ, ◌<◌, ◌≤◌, Bool, true, false, List, [], Option, Some, None, slice_get}
+use Rattle.std.specs.Prelude.{◌≡◌, ℕ, zero, suc, ◌+◌, ◌<◌, ◌≤◌, Bool, true, false, cond, List, [], Option, Some, None, slice_get}
 use Rattle.nr_overlap.specs.Rules.{Rules, Sealing}
 use Rattle.nr_overlap.specs.Serial.{sealing_at}
 
@@ -22,6 +22,11 @@ plan_of r = record { shards = r.shards; heights = r.heights; present = r.present
 -- the list of a source and a height for a shard
 abbrev pub list_of : {L : Type 0} → Plan L → ℕ → ℕ → ℕ → Option L
 list_of p s h d = slice_get (p.lists s h) d
+
+-- how many chunks a source has up to a height. Each of them sends one list to each shard
+abbrev pub chunks_to : {L : Type 0} → Plan L → ℕ → ℕ → ℕ
+chunks_to p s zero = 0
+chunks_to p s (suc h) = chunks_to p s h + cond (p.present s (suc h)) 1 0
 
 -- the first height after one at which the source has a chunk
 pub record IsNextChunk {L : Type 0} (p : Plan L) (s after h : ℕ) : Type 0 where

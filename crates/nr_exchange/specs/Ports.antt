@@ -1,12 +1,14 @@
 -- What clauses say of an exchange and its ports. This project's own.
-use Rattle.std.specs.Prelude.{◌≡◌, ℕ, ◌%◌, ◌^◌, ◌<◌, ◌≤◌, Bool, List, Some, Result, Ok, Err, length, nat_le, slice_get}
+use Rattle.std.specs.Prelude.{◌≡◌, ℕ, ◌+◌, ◌%◌, ◌^◌, ◌<◌, ◌≤◌, Bool, List, Option, Some, None, Result, Ok, Err, length, nat_le, slice_get}
+use Rattle.nr_exchange.specs.declared.note.Room.{Room}
 use Rattle.nr_exchange.specs.declared.note.Note.{Note}
 use Rattle.nr_exchange.specs.declared.port.Parcel.{Parcel}
 use Rattle.nr_exchange.specs.declared.port.Parcel.TheVariants.{Whole, Abandoned}
 use Rattle.nr_exchange.specs.declared.port.NotYet.{NotYet}
+use Rattle.nr_exchange.specs.declared.port.Full.{Full}
 use Rattle.nr_exchange.specs.Plan.{Plan, list_of}
-use Rattle.nr_exchange.specs.Notes.{fresh, looked, claims}
-use Rattle.nr_exchange.specs.Steps.{Tells}
+use Rattle.nr_exchange.specs.Notes.{fresh, room, looked, claims, gave_back, with_rooms, asked, raised}
+use Rattle.nr_exchange.specs.Steps.{Tells, sent}
 use Rattle.nr_exchange.specs.Views.{ExchangeView, PortView}
 
 -- the port was made with the exchange, whose run has this plan
@@ -15,6 +17,7 @@ pub record IsPortOf {P L : Type 0} (plan : P → Plan L) (e : ExchangeView P) (p
   pub run : p.note.run ≡ e.run
   pub inside : p.note.shard < (plan e.run).shards
   pub linked : length p.note.links ≡ (plan e.run).shards
+  pub roomed : length p.note.rooms ≡ (plan e.run).shards
 
 module _ {P : Type 0} where
   -- a port that has done nothing
@@ -27,9 +30,9 @@ module _ {P : Type 0} where
     pub front : slice_get ports 0 ≡ Some (start_port e shards 0 k)
     pub others : (i : ℕ) → 0 < i → i < k → slice_get ports i ≡ Some (start_port e shards i 0)
 
-  -- the answer of a take that loaded n
+  -- the answer of a take that loaded n. The place of a list that was found is given back
   abbrev pub Answers : {L : Type 0} → Plan L → ℕ → ℕ → Note P → ℕ → Result (Parcel L) NotYet → Note P → Type 0
-  Answers p s h v n (Ok (Whole l)) w = (h ≤ n % 2 ^ 32) × (list_of p s h v.shard ≡ Some l) × (w ≡ claims v s n h)
+  Answers p s h v n (Ok (Whole l)) w = (h ≤ n % 2 ^ 32) × (list_of p s h v.shard ≡ Some l) × (w ≡ gave_back (claims v s n h) s)
   Answers p s h v n (Ok (Abandoned k)) w = (k ≡ n % 2 ^ 32) × (n % 2 ^ 32 < h) × (2 ^ 32 ≤ n) × (w ≡ looked v s n)
   Answers p s h v n (Err e) w = (e.published ≡ n % 2 ^ 32) × (n % 2 ^ 32 < h) × (n < 2 ^ 32) × (w ≡ looked v s n)
 
@@ -39,3 +42,35 @@ module _ {P : Type 0} where
   -- the answer is the mark that was loaded
   abbrev pub Marks : ℕ → Note P → Bool → Note P → Type 0
   Marks s v answer w = (n : ℕ) × Tells v s n × (answer ≡ nat_le (2 ^ 32) n) × (w ≡ looked v s n)
+
+-- a taken word was loaded once more, and was no less than before
+pub record IsAsked (before after : Room) : Type 0 where
+  pub once : after.loads ≡ before.loads + 1
+  pub later : before.taken ≤ after.taken
+
+module _ {P L : Type 0} (p : Plan L) (v w : Note P) where
+  -- the taken words of the links to the first k destinations were loaded, and each of these has room for one list more
+  pub record HaveRoom (k : ℕ) : Type 0 where
+    pub rest : w ≡ with_rooms v w.out w.rooms
+    pub all : length w.rooms ≡ length v.rooms
+    pub asked : (d : ℕ) → d < k → IsAsked (room v d) (room w d)
+    pub free : (d : ℕ) → d < k → sent p v < (room w d).taken + 8
+    pub others : (d : ℕ) → k ≤ d → room w d ≡ room v d
+
+module _ {P L : Type 0} (p : Plan L) (v w : Note P) where
+  -- the link to a destination, which took so many lists, is the first that has no room
+  pub record HasNoRoom (dest taken : ℕ) : Type 0 where
+    pub inside : dest < p.shards
+    pub full : sent p v ≡ taken + 8
+    pub found : (u : Note P) × HaveRoom p v u dest × ((room u dest).taken ≤ taken) × (w ≡ asked u dest taken)
+
+module _ {P : Type 0} where
+  -- the answer of a search for room on each link
+  abbrev pub LooksForRoom : {L : Type 0} → Plan L → Note P → Option (ℕ × ℕ) → Note P → Type 0
+  LooksForRoom p v None w = HaveRoom p v w p.shards × (w.out ≡ p.shards)
+  LooksForRoom p v (Some found) w = HasNoRoom p v w found.0 found.1
+
+  -- the answer of a call to publish lists
+  abbrev pub Publishes : {L : Type 0} → Plan L → List L → Note P → Result (Unit {0}) (Full L) → Note P → Type 0
+  Publishes p lists v (Ok _) w = (u : Note P) × HaveRoom p v u p.shards × (w ≡ raised u)
+  Publishes p lists v (Err full) w = (full.lists ≡ lists) × HasNoRoom p v w full.dest.0 full.taken

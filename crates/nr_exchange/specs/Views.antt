@@ -3,7 +3,7 @@ use Rattle.std.specs.Prelude.{◌≡◌, ℕ, ◌^◌, ◌<◌}
 use Rattle.atomic_table.specs.Seated.{TableId}
 use Rattle.nr_exchange.specs.declared.note.Note.{Note}
 use Rattle.nr_exchange.specs.Plan.{Plan}
-use Rattle.nr_exchange.specs.Places.{places}
+use Rattle.nr_exchange.specs.Places.{words, places}
 
 pub record ExchangeView (P : Type 0) : Type 0 where
   pub name : TableId
@@ -14,9 +14,8 @@ pub record PortView (P : Type 0) : Type 0 where
   pub note : Note P
 
 -- an exchange has as many words and places as its run asks for
-pub record IsSized {L : Type 0} (p : Plan L) (name : TableId) (shards heights : ℕ) : Type 0 where
+pub record IsSized {L : Type 0} (p : Plan L) (name : TableId) (shards : ℕ) : Type 0 where
   pub shards_is : shards ≡ p.shards
-  pub heights_is : heights ≡ p.heights
-  pub words : name.words ≡ p.shards
+  pub words_are : name.words ≡ words p
   pub slots : name.slots ≡ places p
   pub small : places p < 2 ^ 64

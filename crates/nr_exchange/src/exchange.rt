@@ -3,28 +3,29 @@ ghost use Rattle.std.specs.Prelude.{◌≡◌, ◌<◌, ◌≤◌, [], IfOk};
 ghost use Rattle.std.specs.Mem.Slots.{slots_items, slots_len, IsFull};
 ghost use Rattle.atomic_table.specs.Table.{Final};
 ghost use Rattle.nr_exchange.specs.Notes.{fresh};
-ghost use Rattle.nr_exchange.specs.Places.{places};
+ghost use Rattle.nr_exchange.specs.Places.{words, places};
 ghost use Rattle.nr_exchange.specs.Ports.{AreMade};
 ghost use Rattle.nr_exchange.specs.Rule.{ExchangeRule};
 
 use crate::law::{Law, Next};
 use crate::note::Note;
-use crate::places::count_places;
+use crate::places::{count_places, count_words};
 use crate::planned::Planned;
 use crate::port::Port;
 use atomic_table::{Closed, Seat, Table};
 use std::alloc::{AllocError, Global};
 use std::marker::Model;
 
-/// The exchange between the shards of a run: a published word for each, and places for the lists on their way.
+/// The exchange between the shards of a run: a published word for each of them, and for each link from one to another
+/// a taken word and a ring of eight places for the lists on their way.
 ///
 /// A published word is the number of heights that its shard has published, plus 2^32 where the shard has abandoned the
-/// run. Contracts see the exchange's name and its run.
+/// run. A taken word is the number of lists that the destination has taken out of the ring. Contracts see the
+/// exchange's name and its run.
 #[derive(Drop)]
 pub struct Exchange<P: Planned> {
     pub(crate) table: Table<Option<P::Parcel>, Note<P>, P, Law, Global>,
     pub(crate) shards: u32,
-    pub(crate) heights: u64,
 }
 
 impl<P: Planned> Model for Exchange<P> {
@@ -34,7 +35,7 @@ impl<P: Planned> Model for Exchange<P> {
 
     ghost view = { λ e. record { name = e.table.shared.table_id; run = e.table.shared.key } };
 
-    ghost invariant = { λ e. IsSized (P.plan e.table.shared.key) e.table.shared.table_id e.shards e.heights × P.is_run e.table.shared.key };
+    ghost invariant = { λ e. IsSized (P.plan e.table.shared.key) e.table.shared.table_id e.shards × P.is_run e.table.shared.key };
 }
 
 /// An exchange for a run, and the ports of its shards in order of number. None of them has published, taken or
@@ -53,15 +54,10 @@ pub fn make_exchange<P: Planned>(
     ensures ports { IfOk result (λ made. AreMade made.0 (P.plan run.now).shards (P.plan run.now).shards made.1.items) }
 {
     let shards = run.shards();
-    let heights = run.heights();
-    let count = count_places(shards, heights)?;
-    let words = Vec::from_elem(alloc, 0u64, shards as usize)?;
+    let count = count_places(shards)?;
+    let words = Vec::from_elem(alloc, 0u64, count_words(shards)?)?;
     let (table, seat) = Table::vacant(alloc, words.as_slice(), count, run)?;
-    let exchange = Exchange {
-        table,
-        shards,
-        heights,
-    };
+    let exchange = Exchange { table, shards };
     let ports = split_all(alloc, &exchange, seat)?;
     Ok((exchange, ports))
 }
@@ -76,13 +72,18 @@ fn split_all<P: Planned>(
     requires some { 0 < (P.plan exchange.now.run).shards }
     ensures { IfOk result (λ ports. AreMade exchange.now (P.plan exchange.now.run).shards (P.plan exchange.now.run).shards ports.items) }
 {
+    let shards = exchange.shards as usize;
     let mut ports = Vec::new(alloc);
+    let taken = Vec::from_elem(alloc, 0u64, shards)?;
     ports.push(Port {
         seat,
         shard: 0,
         abandoned: false,
+        sent: 0,
+        taken,
     })?;
     for shard in 1..exchange.shards {
+        let taken = Vec::from_elem(alloc, 0u64, shards)?;
         let seat = exchange
             .table
             .shared
@@ -91,6 +92,8 @@ fn split_all<P: Planned>(
             seat,
             shard,
             abandoned: false,
+            sent: 0,
+            taken,
         })?;
     }
     Ok(ports)
@@ -102,14 +105,10 @@ impl<P: Planned> Exchange<P> {
     pub fn close(self) -> Closed<Option<P::Parcel>, Global>
         ensures rule { Final (ExchangeRule self.run (P.plan self.run)) (slots_items result.words) (slots_items result.slots) }
         ensures full { IsFull result.words × IsFull result.slots }
-        ensures words { slots_len result.words ≡ (P.plan self.run).shards }
+        ensures words { slots_len result.words ≡ words (P.plan self.run) }
         ensures places { slots_len result.slots ≡ places (P.plan self.run) }
     {
-        let Exchange {
-            table,
-            shards: _,
-            heights: _,
-        } = self;
+        let Exchange { table, shards: _ } = self;
         table.close()
     }
 }

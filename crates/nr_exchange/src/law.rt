@@ -38,18 +38,29 @@ impl<P: Planned> Play<Option<P::Parcel>, Note<P>> for Try<P> {
     ghost then = { Tries P.plan };
 }
 
-/// A load of the own word that takes out a place of the next height.
-pub struct Hold<P> {
+/// An addition to a taken word, with which the place of a claimed list goes home.
+pub struct GiveBack<P> {
     marker: PhantomData<P>,
 }
 
-impl<P: Planned> Play<Option<P::Parcel>, Note<P>> for Hold<P> {
-    ghost use Rattle.nr_exchange.specs.Steps.{Holds};
+impl<P: Planned> Play<Option<P::Parcel>, Note<P>> for GiveBack<P> {
+    ghost use Rattle.nr_exchange.specs.Steps.{GivesBack};
 
-    ghost then = { Holds P.plan };
+    ghost then = { GivesBack P.plan };
 }
 
-/// The places of the next height go home, and the number rises.
+/// A load of a taken word that takes out the place for the next list where there is room.
+pub struct Ask<P> {
+    marker: PhantomData<P>,
+}
+
+impl<P: Planned> Play<Option<P::Parcel>, Note<P>> for Ask<P> {
+    ghost use Rattle.nr_exchange.specs.Steps.{Asks};
+
+    ghost then = { Asks P.plan };
+}
+
+/// The places for the lists go home, and the number rises.
 pub struct Raise<P> {
     marker: PhantomData<P>,
 }
@@ -58,6 +69,17 @@ impl<P: Planned> Play<Option<P::Parcel>, Note<P>> for Raise<P> {
     ghost use Rattle.nr_exchange.specs.Steps.{Raises};
 
     ghost then = { Raises P.plan };
+}
+
+/// The number rises past a missing chunk.
+pub struct Pass<P> {
+    marker: PhantomData<P>,
+}
+
+impl<P: Planned> Play<Option<P::Parcel>, Note<P>> for Pass<P> {
+    ghost use Rattle.nr_exchange.specs.Steps.{Passes};
+
+    ghost then = { Passes P.plan };
 }
 
 /// The mark of abandonment is added.

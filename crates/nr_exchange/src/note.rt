@@ -11,6 +11,16 @@ pub struct Link {
     pub marked: bool,
     /// How often the source's published word was loaded.
     pub loads: u64,
+    /// How many of the source's lists it took and gave the place back. The taken word of the link shows it.
+    pub given: u64,
+}
+
+/// What a port knows of a destination.
+pub struct Room {
+    /// How many of the port's lists it took, as the taken word of the link was loaded last.
+    pub taken: u64,
+    /// How often that word was loaded.
+    pub loads: u64,
 }
 
 /// The row of a shard.
@@ -25,8 +35,10 @@ pub struct Note<P> {
     pub number: u64,
     /// Whether the shard has abandoned the run.
     pub abandoned: bool,
-    /// How many places of the next height are out with the port.
+    /// To how many destinations, from the first on, the place for the next list is out with the port.
     pub out: u64,
     /// A link for each source, in order of number.
     pub links: LinkedList<Link>,
+    /// A room for each destination, in order of number.
+    pub rooms: LinkedList<Room>,
 }

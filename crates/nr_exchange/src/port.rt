@@ -1,11 +1,11 @@
 //! The port of a shard, and what it does on the exchange.
-ghost use Rattle.std.specs.Prelude.{◌≡◌, ◌+◌, ◌<◌, ◌≤◌, true, false, IsOk};
+ghost use Rattle.std.specs.Prelude.{◌≡◌, ◌+◌, ◌<◌, ◌≤◌, true, false};
 ghost use Rattle.nr_exchange.specs.Plan.{IsNextChunk};
-ghost use Rattle.nr_exchange.specs.Notes.{link, raised, gives_up, holding};
-ghost use Rattle.nr_exchange.specs.Ports.{IsPortOf, Takes, Marks};
+ghost use Rattle.nr_exchange.specs.Notes.{link, passed, gives_up};
+ghost use Rattle.nr_exchange.specs.Ports.{IsPortOf, Takes, Marks, Publishes};
 
 use crate::exchange::Exchange;
-use crate::law::{GiveUp, Look, Raise, Try};
+use crate::law::{GiveBack, GiveUp, Look, Pass, Raise, Try};
 use crate::note::Note;
 use crate::planned::Planned;
 use atomic_table::Seat;
@@ -28,7 +28,8 @@ pub struct NotYet {
     pub published: u64,
 }
 
-/// There is no room for the list to a shard, which took so many lists of this source. All lists come back.
+/// There is no room for the list to a shard, which took so many lists of this source, eight fewer than were published
+/// to it. All lists come back.
 #[derive(Debug, Drop)]
 pub struct Full<T> {
     pub dest: ShardId,
@@ -41,24 +42,28 @@ const MARK: u64 = 1 << 32;
 
 /// The port of a shard on the exchange that it was made with. It carries what the shard knows of the others.
 ///
-/// Contracts see the exchange's name and a `Note`: what the shard has published, and of each source what was claimed
-/// and seen, and how often its word was loaded.
+/// Contracts see the exchange's name and a `Note`: what the shard has published, of each source what was claimed, seen
+/// and given back, of each destination what was known as taken, and how often the words were loaded.
 #[derive(Drop)]
 pub struct Port<P: Planned> {
     pub(crate) seat: Seat<Option<P::Parcel>, Note<P>>,
     pub(crate) shard: u32,
     pub(crate) abandoned: bool,
+    /// How many lists it has published to each shard.
+    pub(crate) sent: u64,
+    /// How many lists it has taken of each source.
+    pub(crate) taken: Vec<u64>,
 }
 
 impl<P: Planned> Model for Port<P> {
-    ghost use Rattle.std.specs.Prelude.{◌≡◌};
     ghost use Rattle.nr_exchange.specs.Views.{PortView};
+    ghost use Rattle.nr_exchange.specs.Seats.{IsSeated};
 
     ghost Value = { PortView P };
 
     ghost view = { λ p. record { name = p.seat.table_id; note = p.seat.me.0 } };
 
-    ghost invariant = { λ p. (p.shard ≡ p.seat.me.0.shard) × (p.abandoned ≡ p.seat.me.0.abandoned) × (p.seat.me.0.out ≡ 0) };
+    ghost invariant = { λ p. IsSeated (P.plan p.seat.me.0.run) p.seat.me p.shard p.abandoned p.sent p.taken.items };
 }
 
 unsafe impl<P: Planned> Send for Port<P> {}
@@ -72,7 +77,8 @@ impl<P: Planned> Port<P> {
     }
 
     /// Tries to take the next list that a source has for this shard, by one load of the source's published word. A
-    /// source's lists are taken in order of height, and none is left out. It takes no memory and never waits.
+    /// source's lists are taken in order of height, and none is left out. The place of a list that was taken is free
+    /// again for its source. It takes no memory and never waits.
     ///
     /// The answer is `Whole` with the serial run's list exactly where the loaded number is at least the height, and
     /// else `Abandoned` exactly where the loaded word has the mark.
@@ -96,11 +102,10 @@ impl<P: Planned> Port<P> {
         let word = words.load::<Try<P>>(&mut self.seat, source.0 as usize);
         let published = word % MARK;
         if height.0 <= published {
-            let place = exchange.place(source.0, height.0, self.shard);
-            match words.exchange(&mut self.seat, place, None) {
-                Some(list) => Ok(Parcel::Whole(list)),
-                None => unreachable!(),
-            }
+            let before = self.taken[source.0 as usize];
+            let list = exchange.take_claimed(&mut self.seat, source.0, self.shard, before);
+            self.taken[source.0 as usize] = before + 1;
+            Ok(Parcel::Whole(list))
         } else if word >= MARK {
             Ok(Parcel::Abandoned { published })
         } else {
@@ -108,11 +113,13 @@ impl<P: Planned> Port<P> {
         }
     }
 
-    /// Publishes the lists of the shard's next height, which are the serial run's. It takes no memory and never waits.
+    /// Publishes the lists of the shard's next height, which are the serial run's. It loads the taken word of each link
+    /// once, in order of destination, up to the first that has no room. It takes no memory and never waits.
     ///
     /// # Errors
     ///
-    /// None: there is a place for each list of each height.
+    /// `Full` exactly where a link has no room: eight lists more were published than its taken word, as loaded in this
+    /// call, tells as taken. The lists come back, and nothing is published.
     pub fn publish(
         &mut self,
         exchange: &Exchange<P>,
@@ -125,13 +132,22 @@ impl<P: Planned> Port<P> {
         requires there { (P.plan exchange.now.run).present self.old.note.shard height.0 ≡ true }
         requires lists { lists ≡ (P.plan exchange.now.run).lists self.old.note.shard height.0 }
         ensures port { IsPortOf P.plan exchange.now self.new }
-        ensures fits { IsOk result }
-        ensures raised { self.new.note ≡ raised (holding self.old.note (P.plan exchange.now.run).shards) }
+        ensures published { Publishes (P.plan exchange.now.run) lists self.old.note result self.new.note }
     {
-        let words = &exchange.table.shared;
-        exchange.put_all(&mut self.seat, self.shard, height.0, lists);
-        words.fetch_add::<Raise<P>>(&mut self.seat, self.shard as usize, 1);
-        Ok(())
+        match exchange.look_for_room(&mut self.seat, self.shard, self.sent) {
+            Some((dest, taken)) => Err(Full {
+                dest: ShardId(dest),
+                taken,
+                lists,
+            }),
+            None => {
+                exchange.put_all(&mut self.seat, self.shard, self.sent, height.0, lists);
+                let words = &exchange.table.shared;
+                words.fetch_add::<Raise<P>>(&mut self.seat, self.shard as usize, 1);
+                self.sent += 1;
+                Ok(())
+            }
+        }
     }
 
     /// Goes past the shard's next height, whose chunk is missing.
@@ -141,12 +157,12 @@ impl<P: Planned> Port<P> {
         requires last { height.0 ≤ (P.plan exchange.now.run).heights }
         requires missing { (P.plan exchange.now.run).present self.old.note.shard height.0 ≡ false }
         ensures port { IsPortOf P.plan exchange.now self.new }
-        ensures raised { self.new.note ≡ raised self.old.note }
+        ensures passed { self.new.note ≡ passed self.old.note }
     {
         exchange
             .table
             .shared
-            .fetch_add::<Raise<P>>(&mut self.seat, self.shard as usize, 1);
+            .fetch_add::<Pass<P>>(&mut self.seat, self.shard as usize, 1);
     }
 
     /// Marks the run as abandoned by this shard. A port that has done so does nothing.

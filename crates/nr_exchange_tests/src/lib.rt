@@ -6,5 +6,5 @@ mod pair;
 #[cfg(test)]
 mod tests;
 
-pub use answer::Answer;
+pub use answer::{Answer, Gave, Round};
 pub use pair::{Chunk, Pair, Sent};

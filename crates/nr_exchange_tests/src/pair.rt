@@ -3,7 +3,7 @@ use nr_ids::{Height, ShardId};
 use nr_overlap::Phases;
 use std::alloc::{AllocError, Global};
 
-/// A run of two shards and two blocks, of which the first has no chunk of shard 1.
+/// A run of two shards and ten blocks, of which the first has no chunk of shard 1.
 pub struct Pair;
 
 /// A chunk.
@@ -49,7 +49,7 @@ impl Phases for Pair {
     }
 
     fn heights(&self) -> u64 {
-        2
+        10
     }
 
     fn present(&self, shard: ShardId, height: Height) -> bool {

@@ -17,3 +17,4 @@ pub mod Kept
 pub mod Bounds
 pub mod Laws
 pub mod Holding
+pub mod LocalRows

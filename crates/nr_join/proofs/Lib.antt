@@ -3,3 +3,4 @@ pub mod Inputs
 pub mod Freed
 pub mod Moves
 pub mod Cases
+pub mod OverOffering

@@ -8,3 +8,4 @@ pub mod Stepping
 pub mod Concluding
 pub mod Executing
 pub mod Whole
+pub mod OverExecution

@@ -13,6 +13,8 @@ use Rattle.nr_records.specs.declared.account.Account.{Account}
 use Rattle.nr_records.specs.declared.receipt.Body.TheVariants.{Act}
 use Rattle.nr_records.specs.declared.receipt.Receipt.{Receipt}
 use Rattle.nr_state.specs.Calls.{Called, ChangesOnly, Ended, GoesOn, IsCaller, IsEnd, Stopped}
+use Rattle.nr_state.specs.Local.{IsLocal}
+use Rattle.nr_state.specs.Scopes.{one_account, over, over_called}
 use Rattle.nr_state.specs.World.{World}
 use Rattle.nr_state.specs.declared.calls.CallContext.{CallContext}
 use Rattle.nr_state.specs.declared.calls.CallEnd.{CallEnd}
@@ -131,6 +133,25 @@ pub burning_law : (c : Config) (burnt : ℕ) → IsCaller c (burns c burnt)
 burning_law c burnt = record {
   ended = λ w x end after can e. call_ended c burnt w x (bytes_eq x.method (codes "trap")) (bytes_eq x.method (codes "ask")) end after e;
   stopped = λ w x kind part b can e. omega (arith, ap burnt_of e, call_burns c burnt w x (bytes_eq x.method (codes "trap")) (bytes_eq x.method (codes "ask")));
+}
+
+-- ---- they leave the world, and look at nothing of it
+module _ (c : Config) (burnt : ℕ) (w v : World) (x : CallContext) where
+  asks_there : (b : Bool) → cond b (Ended (asking c burnt x) (over (one_account x.current) w v)) (Stopped 17 0 x.gas)
+      ≡ over_called (one_account x.current) v (cond b (Ended (asking c burnt x) w) (Stopped 17 0 x.gas))
+  asks_there true = refl
+  asks_there false = refl
+
+  call_there : (trap ask : Bool)
+      → cond trap (Stopped 15 1 (min burnt x.gas)) (cond ask (asks c burnt (over (one_account x.current) w v) x) (Ended (returning burnt x) (over (one_account x.current) w v)))
+      ≡ over_called (one_account x.current) v (cond trap (Stopped 15 1 (min burnt x.gas)) (cond ask (asks c burnt w x) (Ended (returning burnt x) w)))
+  call_there true ask = refl
+  call_there false true = asks_there (nat_le (asked_gas c) x.gas)
+  call_there false false = refl
+
+pub burning_local : (c : Config) (burnt : ℕ) → IsLocal (burns c burnt)
+burning_local c burnt = record {
+  alone = λ w v x. call_there c burnt w v x (bytes_eq x.method (codes "trap")) (bytes_eq x.method (codes "ask"));
 }
 
 -- ---- what the parts of the code answer: the end of the call, or its failure

@@ -102,13 +102,15 @@ fn ask(
 }
 
 impl<S: Store> Caller<S> for Burner {
-    ghost use Rattle.nr_receipt_tests.specs.Burning.{burns, burning_law};
+    ghost use Rattle.nr_receipt_tests.specs.Burning.{burns, burning_law, burning_local};
 
     ghost config = { λ caller. caller.config };
 
     ghost meaning = { λ caller. burns caller.config caller.burnt };
 
     ghost law = { λ caller. burning_law caller.config caller.burnt };
+
+    ghost local = { λ caller. burning_local caller.config caller.burnt };
 
     fn call(
         &self,

@@ -104,7 +104,7 @@ Held = List (Key × Receipt)
 abbrev pub all_awaits : Held → List (Key × Hash32)
 all_awaits es = flat_map awaits (map (λ e. e.1) es)
 
-abbrev IsIn : Key × Receipt → Held → Type 0
+abbrev pub IsIn : Key × Receipt → Held → Type 0
 IsIn e [] = ⊥
 IsIn e (f ∷ fs) = (e ≡ f) ⊎ IsIn e fs
 
@@ -126,7 +126,7 @@ below k e (f ∷ fs) h is =
     let hs = parts_of _ _ h in
     elim is [ inl same ↦ subst (λ (g : Key × Receipt). T (is_lt (pair_cmp k g.0))) (sym same) hs.0 | inr there ↦ below k e fs hs.1 there ]
 
-found : (es : Held) → T (is_sorted pair_cmp es) → (e : Key × Receipt) → IsIn e es → find pair_cmp e.0 es ≡ Some e.1
+pub found : (es : Held) → T (is_sorted pair_cmp es) → (e : Key × Receipt) → IsIn e es → find pair_cmp e.0 es ≡ Some e.1
 found [] h e is = absurd is
 found (f ∷ fs) h e is =
     let hs = parts_of _ _ h in

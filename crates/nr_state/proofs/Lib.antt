@@ -18,3 +18,10 @@ pub mod KeyCosts
 pub mod OwnInputs
 pub mod Worlds
 pub mod ShownWorlds
+pub mod OverMaps
+pub mod OverWorlds
+pub mod OverCalls
+pub mod OverAwaiting
+pub mod OverEntries
+pub mod ValidPart
+pub mod WorldsRead

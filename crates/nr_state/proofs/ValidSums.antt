@@ -102,7 +102,7 @@ module _ {K X : Type 0} {R : K → K → Ordering} (o : IsTotalOrder R) (same : 
   values-remove f m k = omega (arith, sum-remove (λ e. f e.1) m k, sum_of_values f (entries m), sum_of_values f (entries (remove m k)))
 
   -- ---- entries that pass a test
-  entries-retain_keys : (m : FinMap R X) (p : K → Bool) → entries (retain_keys m p) ≡ where_key R p (entries m)
+  pub entries-retain_keys : (m : FinMap R X) (p : K → Bool) → entries (retain_keys m p) ≡ where_key R p (entries m)
   entries-retain_keys m p =
       let alike : (q x : K) → R q x ≡ Equal → p x ≡ p q = λ q x t. ap p (sym (same q x t)) in
       let rising : T (is_sorted R (where_key R p (entries m))) = is_sorted-where_key R p (entries m) (entries_sorted m) in

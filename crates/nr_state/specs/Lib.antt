@@ -12,3 +12,7 @@ pub mod Valid
 pub mod Keeping
 pub mod Calls
 pub mod Owners
+pub mod Scopes
+pub mod Local
+pub mod Keyed
+pub mod Entries

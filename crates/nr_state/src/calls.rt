@@ -79,6 +79,7 @@ pub enum CallStop {
 pub trait Caller<S: Store> {
     ghost use Rattle.nr_config.specs.Config.{Config};
     ghost use Rattle.nr_state.specs.Calls.{Called, CanCall, Answers, Leaves, IsCaller};
+    ghost use Rattle.nr_state.specs.Local.{IsLocal};
     ghost use Rattle.nr_state.specs.World.{World};
     ghost use Rattle.nr_state.specs.declared.calls.CallContext.{CallContext};
 
@@ -109,4 +110,7 @@ pub trait Caller<S: Store> {
 
     /// What every caller promises.
     ghost law: { (caller : Self) → IsCaller (config caller) (meaning caller) };
+
+    /// A call looks at nothing but the current account, its code and its data, and changes nothing else.
+    ghost local: { (caller : Self) → IsLocal (meaning caller) };
 }

@@ -1,6 +1,6 @@
 //! What holds of every world. Each function here does nothing when it runs: its contract is the law.
 
-ghost use Rattle.std.specs.Prelude.{◌≡◌, ◌≤◌, ℕ, List, Option, Some, None, true, false, nat_lt};
+ghost use Rattle.std.specs.Prelude.{◌≡◌, ◌≤◌, ℕ, Bool, List, Option, Some, None, true, false, nat_lt};
 ghost use Rattle.std.specs.FinMap as map;
 ghost use Rattle.std.specs.List.{AllByRecursion, list_any};
 ghost use Rattle.nr_config.specs.Config.{Config};
@@ -13,9 +13,12 @@ ghost use Rattle.nr_records.specs.declared.account.Account.{Account};
 ghost use Rattle.nr_records.specs.declared.receipt.Receipt.{Receipt};
 ghost use Rattle.nr_state.specs.Calls.{ChangesOnly};
 ghost use Rattle.nr_state.specs.Changes.{set_datum, removed_datum, with_received};
-ghost use Rattle.nr_state.specs.Flat.{inputs_of, is_missing, missing_inputs};
+ghost use Rattle.nr_state.specs.Entries.{IsReadBack, is_of};
+ghost use Rattle.nr_state.specs.Flat.{flat, inputs_of, is_missing, missing_inputs};
 ghost use Rattle.nr_state.specs.Keeping.{HasOwnInputs, IsKept, MovesReceipts, MovesTokens, OwnsApart};
+ghost use Rattle.nr_state.specs.Keyed.{IsKeyed};
 ghost use Rattle.nr_state.specs.Queues.{awaited_by, has_awaited};
+ghost use Rattle.nr_state.specs.Scopes.{all_of, over, over_map, part_of};
 ghost use Rattle.nr_state.specs.Usage.{key_usage};
 ghost use Rattle.nr_state.specs.Valid.{IsValidWorld, Waits};
 ghost use Rattle.nr_state.specs.View.{ArePostponed, IsTold, repeats_input};
@@ -103,4 +106,21 @@ pub fn own_change_laws()
         → ChangesOnly id w (set_datum c w id key value) }
     ensures datum_removed { (c : Config) (id key : List ℕ) (w : World)
         → ChangesOnly id w (removed_datum c w id key) }
+{}
+
+/// What some accounts have of a world, with its delayed queue.
+pub fn part_laws()
+    // Of a valid world it is valid.
+    ensures valid { (c : Config) (x : List ℕ → Bool) (w : World) → IsValidWorld c w → IsValidWorld c (part_of x w) }
+    // Where its names are ids and its records fit their fields, so it is of the part.
+    ensures fits { (x : List ℕ → Bool) (w : World) → IsWorld w → IsWorld (part_of x w) }
+    // Its trie entries are those of these accounts and of the queue.
+    ensures entries { (x : List ℕ → Bool) (w : World) → IsKeyed w → IsReadBack w
+        → flat (part_of x w) ≡ map.retain_keys (flat w) (is_of x) }
+    // With another part its trie entries are the part's, and elsewhere as they were.
+    ensures changed { (x : List ℕ → Bool) (u w : World) → IsKeyed u → IsKeyed w → IsReadBack u → IsReadBack w
+        → flat (over (all_of x) u w) ≡ over_map (is_of x) (flat u) (flat w) }
+    ensures read { (x : List ℕ → Bool) (w : World) → IsKeyed w → IsReadBack w → IsReadBack (part_of x w) }
+    // A world whose names are ids and whose records fit their fields is read back from its trie entries.
+    ensures told { (w : World) → IsWorld w → ArePostponed w → IsReadBack w }
 {}

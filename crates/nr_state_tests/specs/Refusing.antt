@@ -1,8 +1,9 @@
 -- Calls that always fail as calls of an absent method do, and burn nothing. This project's own.
-use Rattle.std.specs.Prelude.{ℕ}
+use Rattle.std.specs.Prelude.{ℕ, refl}
 use Rattle.std.proofs.Common.{ap, arith}
 use Rattle.nr_config.specs.Config.{Config}
 use Rattle.nr_state.specs.Calls.{Called, Ended, Stopped, IsCaller}
+use Rattle.nr_state.specs.Local.{IsLocal}
 use Rattle.nr_state.specs.World.{World}
 use Rattle.nr_state.specs.declared.calls.CallContext.{CallContext}
 
@@ -19,3 +20,6 @@ refused_law c = record {
   ended = λ w x end after can e. absurd cc;
   stopped = λ w x kind part burnt can e. omega (arith, ap burnt_of e);
 }
+
+pub refused_local : IsLocal refused
+refused_local = record { alone = λ w v x. refl }

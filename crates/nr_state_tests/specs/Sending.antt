@@ -1,7 +1,7 @@
 -- Calls that send one token back to the account that made the receipt. This project's own.
 use Rattle.std.specs.Prelude.{◌≡◌, ℕ, ◌+◌, ◌-◌, ◌<◌, ◌≤◌, Bool, true, false, cond, List, [], ◌∷◌, Option, Some, None, refl, nat_lt, nat_le}
 use Rattle.std.specs.FinMap.{get}
-use Rattle.std.proofs.Common.{subst, arith}
+use Rattle.std.proofs.Common.{ap, subst, arith, ◌∙◌}
 use Rattle.std.proofs.lemmas.Bool.{leb-true, ltb-true}
 use Rattle.std.proofs.lemmas.List.Sums.{sum_by-cons}
 use Rattle.nr_config.specs.Config.{Config}
@@ -18,6 +18,10 @@ use Rattle.nr_state.specs.World.{World, with_account}
 use Rattle.nr_state.specs.declared.calls.CallContext.{CallContext}
 use Rattle.nr_state.specs.declared.calls.CallEnd.{CallEnd}
 use Rattle.nr_state.specs.declared.calls.Returned.TheVariants.{Value}
+use Rattle.nr_state.specs.Local.{IsLocal}
+use Rattle.nr_state.specs.Scopes.{one_account, over, over_called}
+use Rattle.nr_state.proofs.OverWorlds.{seen, account_written}
+use Rattle.nr_state.proofs.ValidOwned.{itself}
 use Rattle.nr_state.proofs.ValidCalls.{changes_account}
 use Rattle.nr_state.proofs.ValidTokens.{moves_tokens}
 use Rattle.nr_state.proofs.ValidWorlds.{with_account_kept}
@@ -105,4 +109,24 @@ pub sent_law : (c : Config) → IsCaller c (sent c)
 sent_law c = record {
   ended = λ w x end after can e. keeps c w x (Ended end after) e;
   stopped = λ w x kind part burnt can e. keeps c w x (Stopped kind part burnt) e;
+}
+
+-- ---- they look at the current account alone
+module _ (c : Config) (w v : World) (x : CallContext) where
+  sent_where : (b : Bool) (account : Account)
+      → cond b (Ended (sent_end c x) (with_account (over (one_account x.current) w v) x.current (with_less account))) (Stopped 14 0 0)
+      ≡ over_called (one_account x.current) v (cond b (Ended (sent_end c x) (with_account w x.current (with_less account))) (Stopped 14 0 0))
+  sent_where true account =
+      ap (Ended (sent_end c x)) (account_written (one_account x.current) v w x.current (with_less account) (itself x.current))
+  sent_where false account = refl
+
+  sent_there : (o : Option Account) → sent_by c (over (one_account x.current) w v) x o ≡ over_called (one_account x.current) v (sent_by c w x o)
+  sent_there None = refl
+  sent_there (Some account) = sent_where (can_send c x.gas account) account
+
+pub sent_local : (c : Config) → IsLocal (sent c)
+sent_local c = record {
+  alone = λ w v x.
+      ap (sent_by c (over (one_account x.current) w v) x) (seen (one_account x.current) v w x.current (itself x.current))
+      ∙ sent_there c w v x (get w.accounts x.current);
 }

@@ -24,13 +24,15 @@ pub(crate) struct Refuser {
 }
 
 impl<S: Store> Caller<S> for Refuser {
-    ghost use Rattle.nr_state_tests.specs.Refusing.{refused, refused_law};
+    ghost use Rattle.nr_state_tests.specs.Refusing.{refused, refused_law, refused_local};
 
     ghost config = { λ caller. caller.config };
 
     ghost meaning = { λ caller. refused };
 
     ghost law = { λ caller. refused_law caller.config };
+
+    ghost local = { λ caller. refused_local };
 
     fn call(
         &self,
@@ -172,13 +174,15 @@ fn send<S: Store>(
 }
 
 impl<S: Store> Caller<S> for Sender {
-    ghost use Rattle.nr_state_tests.specs.Sending.{sent, sent_law};
+    ghost use Rattle.nr_state_tests.specs.Sending.{sent, sent_law, sent_local};
 
     ghost config = { λ caller. caller.config };
 
     ghost meaning = { λ caller. sent caller.config };
 
     ghost law = { λ caller. sent_law caller.config };
+
+    ghost local = { λ caller. sent_local caller.config };
 
     fn call(
         &self,

@@ -2,3 +2,4 @@ pub mod Costing
 pub mod Charging
 pub mod Paying
 pub mod Converting
+pub mod OverConversion

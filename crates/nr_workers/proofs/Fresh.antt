@@ -6,7 +6,7 @@ use native.Mathlib.Decide.{ℕ_discrete}
 use Rattle.nr_overlap.specs.Rules.{Rules}
 use Rattle.nr_overlap.proofs.Basics.{some_alike}
 use Rattle.nr_exchange.specs.declared.planned.Serial.{Serial}
-use Rattle.nr_exchange.specs.Notes.{no_link}
+use Rattle.nr_exchange.specs.Notes.{no_link, no_room}
 use Rattle.nr_exchange.specs.Views.{ExchangeView, PortView}
 use Rattle.nr_exchange.specs.Ports.{start_port, AreMade}
 use Rattle.nr_workers.specs.Stages.{IsFresh}
@@ -22,7 +22,7 @@ module _ {P W K L R : Type 0} (rules : P → Rules W K L R) (e : ExchangeView (S
   starts : (s made : ℕ) → s < (rules e.run.0).shards → IsFresh rules e (start_port e (rules e.run.0).shards s made) × ((start_port e (rules e.run.0).shards s made).note.shard ≡ s)
   starts s made lt = (
     record {
-      port_of = record { name = refl; run = refl; inside = lt; linked = length-replicate (rules e.run.0).shards no_link };
+      port_of = record { name = refl; run = refl; inside = lt; linked = length-replicate (rules e.run.0).shards no_link; roomed = length-replicate (rules e.run.0).shards no_room };
       number_is = refl;
       claimed = λ t inside. no_claim (rules e.run.0).shards t;
     },

@@ -6,13 +6,13 @@ use Rattle.nr_exchange.specs.declared.planned.Serial.{Serial}
 use Rattle.nr_exchange.specs.SerialPlan.{serial_plan}
 use Rattle.nr_exchange.specs.declared.port.Parcel.TheVariants.{Whole}
 use Rattle.nr_exchange.specs.Plan.{plan_of, IsNextChunk}
-use Rattle.nr_exchange.specs.Notes.{link, claims}
+use Rattle.nr_exchange.specs.Notes.{link, claims, gave_back}
 use Rattle.nr_exchange.specs.Views.{ExchangeView, PortView}
 use Rattle.nr_exchange.specs.Ports.{IsPortOf, Takes}
 use Rattle.nr_workers.specs.Taking.{done_after, source_after, HasClaimed, Finds, IsInbox}
 use Rattle.nr_workers.specs.declared.inbox.Inbox.{Inbox}
 use Rattle.nr_workers.specs.declared.inbox.Found.TheVariants.{Passed}
-use Rattle.nr_exchange.proofs.Holding.{claims_here, claims_else}
+use Rattle.nr_exchange.proofs.Claimed.{taken_here, taken_else}
 use Rattle.nr_workers.proofs.Orders.{none_of}
 use Rattle.nr_workers.proofs.Takings.{last_there, is_next, goes_on, goes_past}
 
@@ -51,11 +51,11 @@ module _ {P W K L R : Type 0} (rules : P → Rules W K L R) (e : ExchangeView (S
       let r = rules e.run.0 in
       let v = i.port.note in
       let within : i.source < length v.links = (let l = inbox.port_of.linked in let t = inbox.source_there in omega arith) in
-      let note : i'.port.note ≡ claims v i.source took.0 (i.done + 1) = ap (λ p. p.note) port_is ∙ took.2.2 in
+      let note : i'.port.note ≡ gave_back (claims v i.source took.0 (i.done + 1)) i.source = ap (λ p. p.note) port_is ∙ took.2.2 in
       moved i i' inbox (subst (IsPortOf (serial_plan rules) e) (sym port_is) port_of) (done ∙ ap (λ (n : ℕ). done_after n i.done i.source) all) (source ∙ ap (λ (n : ℕ). source_after n i.source) all)
       (goes_on r v i'.port.note i.done i.source inbox.claimed
-      (ap (λ w. (link w i.source).claimed) note ∙ claims_here v i.source took.0 (i.done + 1) within ∙ sym (last_there r i.source i.done there))
-      (λ t apart. ap (λ w. (link w t).claimed) note ∙ ap (λ l. l.claimed) (claims_else v i.source took.0 (i.done + 1) t apart)))
+      (ap (λ w. (link w i.source).claimed) note ∙ taken_here v i.source took.0 (i.done + 1) within ∙ sym (last_there r i.source i.done there))
+      (λ t apart. ap (λ w. (link w t).claimed) note ∙ taken_else v i.source took.0 (i.done + 1) t apart))
 
   -- the next list is another one
   pub moved_on : (s last shards : ℕ) (i i' : Inbox P W K L R) (list : Option L) → i.done < last → shards ≡ (rules e.run.0).shards → list ≡ list_to (rules e.run.0) (sealing_at (rules e.run.0) i.source (i.done + 1)) s

@@ -10,8 +10,7 @@ use Rattle.nr_overlap.specs.Lawful.{AreLawful}
 use Rattle.nr_overlap.proofs.SerialLemmas.{sealing_there, sealing_missing, world_there, world_missing}
 use Rattle.nr_exchange.specs.declared.planned.Serial.{Serial}
 use Rattle.nr_exchange.specs.SerialPlan.{serial_plan}
-use Rattle.nr_exchange.specs.Plan.{plan_of}
-use Rattle.nr_exchange.specs.Notes.{link, raised}
+use Rattle.nr_exchange.specs.Notes.{link, passed}
 use Rattle.nr_exchange.specs.Views.{ExchangeView}
 use Rattle.nr_exchange.specs.Ports.{IsPortOf}
 use Rattle.nr_exchange.specs.Laws.{lists_there}
@@ -23,7 +22,7 @@ use Rattle.nr_workers.specs.Stages.{IsBetween, IsStage, IsAt}
 use Rattle.nr_workers.specs.declared.inbox.Inbox.{Inbox}
 use Rattle.nr_workers.specs.declared.inbox.Found.TheVariants.{Passed}
 use Rattle.nr_workers.specs.declared.worker.Stage.{Stage}
-use Rattle.nr_workers.specs.declared.worker.Stage.TheVariants.{Idle, Opened, Ended}
+use Rattle.nr_workers.specs.declared.worker.Stage.TheVariants.{Idle, Opened, Sealed, Ended}
 use Rattle.nr_workers.proofs.Orders.{flat_map_more}
 use Rattle.nr_workers.proofs.Takings.{last_small, last_there, last_missing, still_claimed}
 use Rattle.nr_workers.proofs.Rows.{no_row, row_after}
@@ -66,7 +65,7 @@ module _ {W K L R : Type 0} (r : Rules W K L R) where
 module _ {P W K L R : Type 0} (rules : P → Rules W K L R) (e : ExchangeView (Serial P W K L R)) where
   -- a height without a chunk
   pub skips : (s h : ℕ) (i i' : Inbox P W K L R) (world : W) (reports : List R) → IsAt rules e s i h (Idle world) reports → h < (rules e.run.0).heights → (rules e.run.0).present s (h + 1) ≡ false
-      → IsPortOf (serial_plan rules) e i'.port → i'.port.note ≡ raised i.port.note → i'.done ≡ i.done → i'.source ≡ i.source → IsAt rules e s i' (h + 1) (Idle world) reports
+      → IsPortOf (serial_plan rules) e i'.port → i'.port.note ≡ passed i.port.note → i'.done ≡ i.done → i'.source ≡ i.source → IsAt rules e s i' (h + 1) (Idle world) reports
   skips s h i i' world reports at below missing port_of note done source =
       let r = rules e.run.0 in
       record {
@@ -153,30 +152,71 @@ module _ {P W K L R : Type 0} (rules : P → Rules W K L R) (e : ExchangeView (S
       let b = at.stage_is.3 in
       at.stage_is.0 ∙ work_whole (rules e.run.0) s h i.done i.source b.to all (b.whole all)
 
-  -- it is sealed and published
-  pub seals : (s h : ℕ) (i i' : Inbox P W K L R) (working : K) (world : W) (report : R) (reports reports' : List R) → IsAt rules e s i h (Opened working) reports → h ≤ i.done
-      → IsPortOf (serial_plan rules) e i'.port → i'.port.note.shard ≡ i.port.note.shard → i'.port.note.number ≡ h + 1 → ((t : ℕ) → (link i'.port.note t).claimed ≡ (link i.port.note t).claimed) → i'.done ≡ i.done → i'.source ≡ i.source
-      → world ≡ ((rules e.run.0).seals working).world → report ≡ ((rules e.run.0).seals working).report → reports' ≡ reports ++ report ∷ [] → IsAt rules e s i' (h + 1) (Idle world) reports'
-  seals s h i i' working world report reports reports' at all port_of shard number claims done source world_is report_is reports_is =
+  -- it is sealed
+  pub seals : (s h : ℕ) (i : Inbox P W K L R) (working : K) (world : W) (report : R) (lists : List L) (reports reports' : List R) → IsAt rules e s i h (Opened working) reports → h ≤ i.done
+      → world ≡ ((rules e.run.0).seals working).world → report ≡ ((rules e.run.0).seals working).report → lists ≡ ((rules e.run.0).seals working).lists → reports' ≡ reports ++ report ∷ [] → IsAt rules e s i h (Sealed world lists) reports'
+  seals s h i working world report lists reports reports' at all world_is report_is lists_is reports_is =
       let r = rules e.run.0 in
       let whole = works_whole s h i working reports at all in
       let b = at.stage_is.3 in
       record {
-        inbox = record {
-          port_of = port_of;
-          source_there = subst (λ (n : ℕ). n < r.shards) (sym source) at.inbox.source_there;
-          claimed = subst (λ (n : ℕ). HasClaimed r i'.port.note n i'.source) (sym done) (subst (λ (n : ℕ). HasClaimed r i'.port.note i.done n) (sym source)
-              (still_claimed r i.port.note i'.port.note i.done i.source at.inbox.claimed claims));
-        };
-        shard_is = shard ∙ at.shard_is;
-        number_is = sym number;
-        within = (let below = at.stage_is.1 in omega arith);
+        inbox = at.inbox;
+        shard_is = at.shard_is;
+        number_is = at.number_is;
+        within = at.within;
         stage_is = (
           world_is ∙ ap (λ k. (r.seals k).world) whole ∙ sym (world_there r s h at.stage_is.2),
-          (let to = b.to in let f = first_there r s h at.stage_is.2 in omega arith),
-          source ∙ b.whole all,
+          lists_is ∙ ap (λ k. (r.seals k).lists) whole ∙ sym (lists_there r s h at.stage_is.2),
+          at.stage_is.1,
+          at.stage_is.2,
+          (let to = b.to in omega arith),
+          b.whole all,
         );
         reports_are = reports_is ∙ (λ j. at.reports_are j ++ (report_is ∙ ap (λ k. (r.seals k).report) whole) j ∷ []) ∙ sym (reports_there r s h at.stage_is.2);
+      }
+
+  -- the port of an inbox, after a step that claims nothing
+  another_port : (i i' : Inbox P W K L R) → IsInbox rules e i → IsPortOf (serial_plan rules) e i'.port → ((t : ℕ) → (link i'.port.note t).claimed ≡ (link i.port.note t).claimed) → i'.done ≡ i.done → i'.source ≡ i.source → IsInbox rules e i'
+  another_port i i' inbox port_of claims done source =
+      let r = rules e.run.0 in
+      record {
+        port_of = port_of;
+        source_there = subst (λ (n : ℕ). n < r.shards) (sym source) inbox.source_there;
+        claimed = subst (λ (n : ℕ). HasClaimed r i'.port.note n i'.source) (sym done) (subst (λ (n : ℕ). HasClaimed r i'.port.note i.done n) (sym source)
+            (still_claimed r i.port.note i'.port.note i.done i.source inbox.claimed claims));
+      }
+
+  -- the lists of a sealed chunk are published
+  pub publishes : (s h : ℕ) (i i' : Inbox P W K L R) (world : W) (lists : List L) (reports : List R) → IsAt rules e s i h (Sealed world lists) reports
+      → IsPortOf (serial_plan rules) e i'.port → i'.port.note.shard ≡ i.port.note.shard → i'.port.note.number ≡ i.port.note.number + 1 → ((t : ℕ) → (link i'.port.note t).claimed ≡ (link i.port.note t).claimed) → i'.done ≡ i.done → i'.source ≡ i.source
+      → IsAt rules e s i' (h + 1) (Idle world) reports
+  publishes s h i i' world lists reports at port_of shard number claims done source =
+      let r = rules e.run.0 in
+      record {
+        inbox = another_port i i' at.inbox port_of claims done source;
+        shard_is = shard ∙ at.shard_is;
+        number_is = ap (λ (n : ℕ). n + 1) at.number_is ∙ sym number;
+        within = (let below = at.stage_is.2 in omega arith);
+        stage_is = (
+          at.stage_is.0,
+          (let all = at.stage_is.4 in let f = first_there r s h at.stage_is.3 in omega arith),
+          source ∙ at.stage_is.5,
+        );
+        reports_are = at.reports_are;
+      }
+
+  -- or they come back
+  pub stays_sealed : (s h : ℕ) (i i' : Inbox P W K L R) (world : W) (lists lists' : List L) (reports : List R) → IsAt rules e s i h (Sealed world lists) reports
+      → IsPortOf (serial_plan rules) e i'.port → i'.port.note.shard ≡ i.port.note.shard → i'.port.note.number ≡ i.port.note.number → ((t : ℕ) → (link i'.port.note t).claimed ≡ (link i.port.note t).claimed) → i'.done ≡ i.done → i'.source ≡ i.source → lists' ≡ lists
+      → IsAt rules e s i' h (Sealed world lists') reports
+  stays_sealed s h i i' world lists lists' reports at port_of shard number claims done source same =
+      record {
+        inbox = another_port i i' at.inbox port_of claims done source;
+        shard_is = shard ∙ at.shard_is;
+        number_is = at.number_is ∙ sym number;
+        within = at.within;
+        stage_is = (at.stage_is.0, same ∙ at.stage_is.1, at.stage_is.2, at.stage_is.3, at.stage_is.4 ∙ sym done, source ∙ at.stage_is.5);
+        reports_are = at.reports_are;
       }
 
   -- behind the last height
@@ -263,10 +303,3 @@ module _ {P W K L R : Type 0} (rules : P → Rules W K L R) (e : ExchangeView (S
         let is = found.1 ∙ ap (list_to r (sealing_at r i.source (i.done + 1))) at.shard_is in
         subst (λ k. can_take k list) (sym at.stage_is.0)
         (may_take r laws s h i.done i.source list (inside_of s h i (Opened working) reports at) at.stage_is.1 at.stage_is.2 at.stage_is.3.from found.0 at.inbox.source_there (sent_there r i.source i.done s list (sym is)) (sym is))
-
-  -- the lists of the chunk are the serial run's
-  pub sealed_lists : (s h : ℕ) (i : Inbox P W K L R) (working : K) (lists : List L) (reports : List R) → IsAt rules e s i h (Opened working) reports → h ≤ i.done → lists ≡ ((rules e.run.0).seals working).lists
-      → lists ≡ (plan_of (rules e.run.0)).lists i.port.note.shard (h + 1)
-  sealed_lists s h i working lists reports at all is =
-      let r = rules e.run.0 in
-      is ∙ ap (λ k. (r.seals k).lists) (works_whole s h i working reports at all) ∙ sym (lists_there r s h at.stage_is.2) ∙ ap (λ (n : ℕ). (plan_of r).lists n (h + 1)) (sym at.shard_is)

@@ -6,8 +6,8 @@ ghost use Rattle.nr_exchange.specs.Plan.{plan_of};
 ghost use Rattle.nr_exchange.specs.Notes.{link};
 ghost use Rattle.nr_exchange.specs.Ports.{IsPortOf};
 ghost use Rattle.nr_exchange.specs.SerialPlan.{serial_plan};
-ghost use Rattle.nr_workers.specs.Stages.{IsWorkerAt, IsWorker};
-ghost use Rattle.nr_workers.specs.declared.worker.Stage.TheVariants.{Idle, Opened, Ended};
+ghost use Rattle.nr_workers.specs.Stages.{IsWorkerAt, IsWorker, number_after};
+ghost use Rattle.nr_workers.specs.declared.worker.Stage.TheVariants.{Idle, Opened, Sealed, Ended};
 
 use crate::gate::{Gate, Moment};
 use crate::inbox::Found;
@@ -25,7 +25,7 @@ use std::mem;
 pub(crate) enum Turn {
     /// The worker made a step.
     Moved,
-    /// The next list isn't there yet.
+    /// The next list isn't there yet, or there is no room for one.
     Waits,
     /// There is nothing more to do.
     Done,
@@ -117,29 +117,7 @@ fn give<P: Phases>(
     }
 }
 
-/// Publishes the lists of a chunk.
-fn publish<P: Phases>(
-    exchange: &Exchange<Serial<P>>,
-    port: &mut Port<Serial<P>>,
-    height: Height,
-    lists: List<P::Parcel>,
-)
-    requires port { IsPortOf (serial_plan P.rules) exchange.now port.old }
-    requires next { height.0 ≡ port.old.note.number + 1 }
-    requires last { height.0 ≤ (P.rules exchange.now.run.0).heights }
-    requires there { (P.rules exchange.now.run.0).present port.old.note.shard height.0 ≡ true }
-    requires lists { lists ≡ (plan_of (P.rules exchange.now.run.0)).lists port.old.note.shard height.0 }
-    ensures port { IsPortOf (serial_plan P.rules) exchange.now port.new }
-    ensures shard { port.new.note.shard ≡ port.old.note.shard }
-    ensures number { port.new.note.number ≡ height.0 }
-    ensures claims { (t : ℕ) → (link port.new.note t).claimed ≡ (link port.old.note t).claimed }
-{
-    let Ok(()) = port.publish(exchange, height, lists) else {
-        unreachable!();
-    };
-}
-
-/// Seals the chunk, and publishes its lists.
+/// Seals the chunk.
 fn seal_next<P: Phases, G: Gate>(
     alloc: Global,
     phases: &P,
@@ -155,17 +133,75 @@ fn seal_next<P: Phases, G: Gate>(
     ensures at { OnOk result (IsWorkerAt P.rules exchange.now worker.new worker.new.stage) }
     ensures port { IsPortOf (serial_plan P.rules) exchange.now worker.new.inbox.port }
 {
+    let _exchange = exchange;
     let _shards = phases.shards();
     let _heights = phases.heights();
     let (world, report, lists) = phases.seal_chunk(alloc, working)?;
     worker.reports.push(report)?;
-    let height = Height(worker.height + 1);
-    gate.pass(worker.shard, height, Moment::AfterSeal);
-    publish(exchange, &mut worker.inbox.port, height, lists);
-    gate.pass(worker.shard, height, Moment::AfterPublish);
-    worker.height += 1;
-    worker.stage = Stage::Idle(world);
+    gate.pass(worker.shard, Height(worker.height + 1), Moment::AfterSeal);
+    worker.stage = Stage::Sealed(world, lists);
     Ok(())
+}
+
+/// Tries to publish lists. Where a link has no room they come back. A run that the destination of such a link has
+/// abandoned is as good as want of memory.
+fn publish<P: Phases>(
+    exchange: &Exchange<Serial<P>>,
+    port: &mut Port<Serial<P>>,
+    height: Height,
+    lists: List<P::Parcel>,
+) -> Result<Option<List<P::Parcel>>, AllocError>
+    requires port { IsPortOf (serial_plan P.rules) exchange.now port.old }
+    requires next { height.0 ≡ port.old.note.number + 1 }
+    requires last { height.0 ≤ (P.rules exchange.now.run.0).heights }
+    requires there { (P.rules exchange.now.run.0).present port.old.note.shard height.0 ≡ true }
+    requires lists { lists ≡ (plan_of (P.rules exchange.now.run.0)).lists port.old.note.shard height.0 }
+    ensures port { IsPortOf (serial_plan P.rules) exchange.now port.new }
+    ensures shard { port.new.note.shard ≡ port.old.note.shard }
+    ensures number { IfOk result (λ back. port.new.note.number ≡ number_after back port.old.note.number) }
+    ensures lists { IfOk result (λ back. IfSome back (λ same. same ≡ lists)) }
+    ensures claims { (t : ℕ) → (link port.new.note t).claimed ≡ (link port.old.note t).claimed }
+{
+    match port.publish(exchange, height, lists) {
+        Ok(()) => Ok(None),
+        Err(full) => {
+            if port.has_abandoned(exchange, full.dest) {
+                return Err(AllocError);
+            }
+            Ok(Some(full.lists))
+        }
+    }
+}
+
+/// Tries to publish the lists of the chunk that is sealed.
+fn sealed_turn<P: Phases, G: Gate>(
+    phases: &P,
+    exchange: &Exchange<Serial<P>>,
+    gate: &G,
+    worker: &mut Worker<P>,
+    world: P::World,
+    lists: List<P::Parcel>,
+) -> Result<Turn, AllocError>
+    requires run { phases.now ≡ exchange.now.run.0 }
+    requires at { IsWorkerAt P.rules exchange.now worker.old (Sealed world lists) }
+    ensures shard { worker.new.shard ≡ worker.old.shard }
+    ensures at { OnOk result (IsWorkerAt P.rules exchange.now worker.new worker.new.stage) }
+    ensures port { IsPortOf (serial_plan P.rules) exchange.now worker.new.inbox.port }
+{
+    let _heights = phases.heights();
+    let height = Height(worker.height + 1);
+    match publish(exchange, &mut worker.inbox.port, height, lists)? {
+        Some(lists) => {
+            worker.stage = Stage::Sealed(world, lists);
+            Ok(Turn::Waits)
+        }
+        None => {
+            gate.pass(worker.shard, height, Moment::AfterPublish);
+            worker.height += 1;
+            worker.stage = Stage::Idle(world);
+            Ok(Turn::Moved)
+        }
+    }
 }
 
 /// Tries to take the next list into the chunk, or else seals it.
@@ -273,6 +309,7 @@ fn try_turn<P: Phases, G: Gate>(
     match mem::replace(&mut worker.stage, Stage::Lost) {
         Stage::Idle(world) => idle_turn(alloc, phases, exchange, gate, worker, world),
         Stage::Opened(working) => opened_turn(alloc, phases, exchange, gate, worker, working),
+        Stage::Sealed(world, lists) => { sealed_turn(phases, exchange, gate, worker, world, lists) }
         Stage::Ended(world, left) => ended_turn(phases, exchange, worker, world, left),
         Stage::Lost => Err(AllocError),
     }

@@ -6,6 +6,7 @@ ghost use Rattle.nr_workers.specs.Shards.{AreFresh, AreWorkers};
 
 use crate::inbox::Inbox;
 use crate::left::Left;
+use nr_bytes::List;
 use nr_exchange::{Exchange, Port, Serial};
 use nr_ids::ShardId;
 use nr_overlap::Phases;
@@ -18,6 +19,8 @@ pub(crate) enum Stage<W, K, L> {
     Idle(W),
     /// A chunk at work.
     Opened(K),
+    /// The world behind a chunk that is sealed, and its lists, which aren't published yet.
+    Sealed(W, List<L>),
     /// The last world, and the lists that no chunk takes.
     Ended(W, Left<L>),
     /// Nothing: memory was wanting, or a source has abandoned the run.

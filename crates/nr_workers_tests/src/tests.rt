@@ -188,3 +188,46 @@ fn a_chunk_passes_its_gate_three_times(rt: HostRuntime) -> Result<(), Fail> {
     assert!(rt; finished.worlds.inner().iter().all(|last| last.height == 3));
     Ok(())
 }
+
+/// Thirty blocks, of which shard 1 has a chunk only in the first and the last.
+fn thirty(alloc: Global, refused: Option<(u32, u64)>) -> Result<Roll, AllocError> {
+    let both: &[bool] = &[true, true];
+    let alone: &[bool] = &[true, false];
+    let mut blocks: Vec<&[bool]> = Vec::new(alloc);
+    blocks.push(both)?;
+    for _height in 2..30u64 {
+        blocks.push(alone)?;
+    }
+    blocks.push(both)?;
+    roll(alloc, 2, blocks.as_slice(), refused)
+}
+
+// Shard 1 takes nothing before its last chunk, so shard 0 comes to a full ring.
+#[test]
+fn a_shard_waits_for_room(rt: HostRuntime) -> Result<(), Fail> {
+    let alloc = rt.alloc();
+    let finished = run(&rt, alloc, thirty(alloc, None)?, &OpenGate)?;
+    let mut names = Vec::new(alloc);
+    names.push(name(1, 0))?;
+    names.push(name(1, 1))?;
+    for height in 2..30u64 {
+        names.push(name(height, 0))?;
+    }
+    let second: [&[Name]; 2] = [&[], names.as_slice()];
+    assert!(rt; took(finished.reports.inner(), 1, &second));
+    assert!(rt;
+        are_left(
+            finished.left.inner(),
+            &[(0, 30, 0), (0, 30, 1), (1, 30, 0), (1, 30, 1)]
+        )
+    );
+    Ok(())
+}
+
+// Shard 1 gives up at its last chunk, while shard 0 waits for room on the link to it.
+#[test]
+fn nobody_waits_for_room_of_a_shard_that_gave_up(rt: HostRuntime) -> Result<(), Fail> {
+    let alloc = rt.alloc();
+    assert!(rt; run(&rt, alloc, thirty(alloc, Some((1, 30)))?, &OpenGate).is_err());
+    Ok(())
+}

@@ -5,6 +5,7 @@ use native.Mathlib.Decide.{ℕ_discrete}
 use Rattle.nr_exchange.specs.Views.{ExchangeView, PortView}
 use Rattle.nr_exchange.specs.Notes.{fresh, one_made}
 use Rattle.nr_exchange.specs.Ports.{start_port, AreMade}
+use Rattle.nr_exchange.proofs.PlaceLemmas.{published_below}
 use Rattle.nr_exchange.proofs.Makes.{forks_for}
 use Rattle.nr_exchange.proofs.exchange.split_all.Goals as goal
 
@@ -18,7 +19,7 @@ split_seat-seat-requires g c =
     let seen = alike _ _ (sym (slice_get_read c.loop-shard.ports.items (length c.loop-shard.ports.items) 0 c.index_mut.result.now refl (omega arith) c.index_mut.ensures.value) ∙ c.loop-shard.invariant.front) in
     let front = c.behind-ports.view_is ∙ seen in (
       ap (λ q. q.name) front ∙ sym (ap (λ e. e.name) c.exchange.view_is),
-      subst (λ (n : ℕ). 0 < n) (sym inv.0.words) (subst (λ e. 0 < (g.P.Planned.plan e.run).shards) (sym c.exchange.view_is) c.requires.some),
+      subst (λ (n : ℕ). 0 < n) (sym inv.0.words_are) (published_below (g.P.Planned.plan c.exchange.inside.table.shared.key) 0 (subst (λ e. 0 < (g.P.Planned.plan e.run).shards) (sym c.exchange.view_is) c.requires.some)),
       forks_for g.P.Planned.plan c.exchange.inside.table.shared.key c.behind-ports.inside.seat.id c.behind-ports.inside.seat.me.0 c.loop-shard.shard
           (ap (λ q. q.note) front ∙ (λ k. fresh (sym c.exchange.view_is k).run (g.P.Planned.plan (sym c.exchange.view_is k).run).shards 0 c.loop-shard.shard))
           (subst (λ (n : ℕ). c.loop-shard.shard < n) inv.0.shards_is c.loop-shard-test.true),

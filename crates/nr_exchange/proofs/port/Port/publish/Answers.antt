@@ -1,49 +1,67 @@
-use Rattle.std.proofs.Common.{sym, ◌∙◌, subst, ◌<◌, ◌≤◌, ◌+◌, ◌++◌, ℕ, ap, length, arith}
+use Rattle.std.proofs.Common.{◌≡◌, ◌+◌, ◌<◌, true, ℕ, [], sym, ap, ◌∙◌, subst, arith}
 use Rattle.nr_exchange.specs.Notes.{raised}
-use Rattle.nr_exchange.specs.Places.{carry}
-use Rattle.nr_exchange.proofs.Adds.{publishes_as}
-use Rattle.nr_exchange.proofs.Holding.{holding_is}
+use Rattle.nr_exchange.specs.Steps.{sent}
+use Rattle.nr_exchange.specs.Ports.{HaveRoom}
+use Rattle.nr_exchange.proofs.Counts.{chunks_within}
+use Rattle.nr_exchange.proofs.PlaceLemmas.{published_below}
+use Rattle.nr_exchange.proofs.Adds.{publishes_at}
+use Rattle.nr_exchange.proofs.Seating.{seated_raised, seated_as}
 use Rattle.nr_exchange.proofs.Ties.{opened}
 use Rattle.nr_exchange.proofs.port.Port.publish.Goals as goal
 
 pub fetch_add-requires : goal.fetch_add-requires
 fetch_add-requires g c =
-    let o = opened g.P.Planned.plan _ _ _ _ c.exchange.view_is c.self.view_is c.requires.port in
-    let inv = c.exchange.invariant in
-    let own = c.self.invariant.0 in
+    let plan = g.P.Planned.plan in
+    let run = c.args.exchange.now.run in
+    let key = ap (λ e. e.run) c.exchange.view_is in
+    let o = opened plan _ _ _ _ c.exchange.view_is c.self.view_is c.requires.port in
+    let own = c.self.invariant.shard_is in
+    let note = ap (λ q. q.note) c.self.view_is in
     let e = c.put_all.ensures.me in
-    let hold = holding_is c.self.inside.seat.me.0 (g.P.Planned.plan c.args.exchange.now.run).shards in (
-      c.put_all.ensures.same.0 ∙ o.name,
-      subst (λ (n : ℕ). n < c.exchange.inside.table.shared.table_id.words) (sym own) (subst (λ (n : ℕ). c.self.inside.seat.me.0.shard < n) (sym inv.0.words) o.inside),
-      publishes_as g.P.Planned.plan _ _ _ c.put_all.new.seat.me c.self.inside.shard c.args.height.0 c.self.inside.seat.me.1
-          (ap (λ m. m.0.run) e ∙ (hold.run_is ∙ o.run))
-          (own ∙ sym (ap (λ m. m.0.shard) e ∙ hold.shard_is))
-          (c.requires.next ∙ (ap (λ q. q.note.number + 1) (sym c.self.view_is) ∙ ap (λ (n : ℕ). n + 1) (sym (ap (λ m. m.0.number) e ∙ hold.number_is))))
-          (subst (λ e. c.args.height.0 ≤ (g.P.Planned.plan e.run).heights) (sym c.exchange.view_is) c.requires.last)
-          (ap (λ m. m.1) e ∙ (λ k. carry (g.P.Planned.plan (sym c.exchange.view_is k).run) c.self.inside.shard c.args.height.0 (g.P.Planned.plan (sym c.exchange.view_is k).run).shards ++ c.self.inside.seat.me.1)),
+    let first = ap (λ m. m.0) e in
+    let rest = c.in-None.ensures.room.0.rest in
+    let run_is = o.run ∙ key in (
+      c.put_all.ensures.same.0 ∙ (c.in-None.ensures.same.0 ∙ o.name),
+      subst (λ (n : ℕ). c.self.inside.shard < n) (sym c.exchange.invariant.0.words_are) (published_below (plan c.exchange.inside.table.shared.key) c.self.inside.shard (subst (λ (n : ℕ). n < (plan c.exchange.inside.table.shared.key).shards) (sym own) o.inside)),
+      publishes_at plan run c.exchange.inside.table.shared.key _ _ c.put_all.new.seat.me c.self.inside.shard c.args.height.0 c.self.inside.sent key
+          (ap (λ v. v.run) first ∙ (ap (λ v. v.run) rest ∙ run_is))
+          (own ∙ sym (ap (λ v. v.shard) first ∙ ap (λ v. v.shard) rest))
+          (c.requires.next ∙ ap (λ (n : ℕ). n + 1) (sym (ap (λ v. v.number) first ∙ (ap (λ v. v.number) rest ∙ ap (λ v. v.number) note))))
+          c.requires.last
+          (subst (λ (s : ℕ). (plan run).present s c.args.height.0 ≡ true) (sym (own ∙ ap (λ v. v.shard) note)) c.requires.there)
+          (ap (λ v. v.out) first ∙ c.in-None.ensures.room.1)
+          (c.self.invariant.published_are ∙ (ap (λ r. sent (plan r) c.self.inside.seat.me.0) run_is ∙ sym (ap (λ v. sent (plan run) v) first ∙ ap (λ v. sent (plan run) v) rest)))
+          (ap (λ m. m.1) e),
     )
 
-pub invariant_of-self : goal.invariant_of-self
-invariant_of-self g c =
-    let w = c.fetch_add.ensures.2 ∙ ap raised (ap (λ m. m.0) c.put_all.ensures.me) in
-    let hold = holding_is c.self.inside.seat.me.0 (g.P.Planned.plan c.args.exchange.now.run).shards in (
-      c.self.invariant.0 ∙ sym (ap (λ v. v.shard) w ∙ hold.shard_is),
-      c.self.invariant.1 ∙ sym (ap (λ v. v.abandoned) w ∙ hold.mark_is),
-      ap (λ v. v.out) w,
-    )
+pub overflow_add-self : goal.overflow_add-self
+overflow_add-self g c =
+    let note = ap (λ q. q.note) c.self.view_is in
+    let a = c.self.invariant.published_are in
+    let b = chunks_within (g.P.Planned.plan c.self.inside.seat.me.0.run) c.self.inside.seat.me.0.shard c.self.inside.seat.me.0.number in
+    let d = c.requires.next ∙ ap (λ (n : ℕ). n + 1) (sym (ap (λ v. v.number) note)) in
+    omega (arith, a, b, d)
 
-pub returns-clause-port : goal.returns-clause-port
-returns-clause-port g c =
-    let w = c.fetch_add.ensures.2 ∙ ap raised (ap (λ m. m.0) c.put_all.ensures.me) in
-    let hold = holding_is c.self.inside.seat.me.0 (g.P.Planned.plan c.args.exchange.now.run).shards in
-    record {
-      name = c.fetch_add.ensures.0 ∙ (c.put_all.ensures.same.0 ∙ (ap (λ q. q.name) c.self.view_is ∙ c.requires.port.name));
-      run = ap (λ v. v.run) w ∙ (hold.run_is ∙ (ap (λ q. q.note.run) c.self.view_is ∙ c.requires.port.run));
-      inside = subst (λ (n : ℕ). n < (g.P.Planned.plan c.args.exchange.now.run).shards) (sym (ap (λ v. v.shard) w ∙ (hold.shard_is ∙ ap (λ q. q.note.shard) c.self.view_is))) c.requires.port.inside;
-      linked = ap (λ v. length v.links) w ∙ (hold.linked ∙ (ap (λ q. length q.note.links) c.self.view_is ∙ c.requires.port.linked));
-    }
+pub invariant_of-self-in-None : goal.invariant_of-self-in-None
+invariant_of-self-in-None g c =
+    let plan = g.P.Planned.plan in
+    let run = c.args.exchange.now.run in
+    let note = ap (λ q. q.note) c.self.view_is in
+    let run_is = ap (λ v. v.run) note ∙ c.requires.port.run in
+    let first = ap (λ m. m.0) c.put_all.ensures.me in
+    let room = c.in-None.ensures.room.0 in
+    let is = c.fetch_add.ensures.2 ∙ ap (λ v. (raised v, [])) first in
+    let own = c.self.invariant.shard_is in
+    seated_as plan run c.fetch_add.new.seat.me.0.run c.fetch_add.new.seat.me _ _ _ _
+    (sym (ap (λ m. m.0.run) is ∙ (ap (λ v. v.run) room.rest ∙ run_is)))
+    (seated_raised (plan run) c.self.inside.seat.me c.fetch_add.new.seat.me c.look_for_room.new.seat.me.0 c.self.inside.shard c.self.inside.sent c.self.inside.abandoned c.self.inside.taken.items
+    (seated_as plan c.self.inside.seat.me.0.run run c.self.inside.seat.me _ _ _ _ run_is c.self.invariant) room
+    (subst (λ (x : ℕ). (plan run).present c.self.inside.shard x ≡ true) (c.requires.next ∙ ap (λ (n : ℕ). n + 1) (sym (ap (λ v. v.number) note)))
+    (subst (λ (s : ℕ). (plan run).present s c.args.height.0 ≡ true) (sym (own ∙ ap (λ v. v.shard) note)) c.requires.there)) is)
 
-pub put_all-requires-clause-all : goal.put_all-requires-clause-all
-put_all-requires-clause-all g c κs within =
-    let run = subst (λ e. g.P.Planned.is_run e.run) c.exchange.view_is c.exchange.invariant.1 in
-    ap length c.requires.lists ∙ g.met.P.Planned.one_each _ run _ _ (let e = c.requires.next in omega arith) c.requires.there
+pub returns-in-None-clause-published : goal.returns-in-None-clause-published
+returns-in-None-clause-published g c =
+    let plan = g.P.Planned.plan in
+    let run = c.args.exchange.now.run in
+    let note = ap (λ q. q.note) c.self.view_is in
+    (c.look_for_room.new.seat.me.0, subst (λ v. HaveRoom (plan run) v c.look_for_room.new.seat.me.0 (plan run).shards) note c.in-None.ensures.room.0, ap (λ m. m.0) c.fetch_add.ensures.2 ∙ ap (λ m. raised m.0) c.put_all.ensures.me)
