@@ -113,12 +113,16 @@ has_chunks shards n b = if length b.chunks == shards then Ok tt else Err (blocks
 abbrev pub has_height : Check Block BlocksFault
 has_height n b = if b.height.0 == n + 1 then Ok tt else Err (blocks.HeightOrder b.height.0)
 
--- one chunk for each shard, heights in order, at most 256 blocks; or the first fault
+-- how many blocks a file may have
+abbrev pub most_blocks : ℕ
+most_blocks = 100000
+
+-- one chunk for each shard, heights in order, not too many blocks; or the first fault
 unfoldable pub ordered : ℕ → List Block → Result (Unit {0}) BlocksFault
 ordered shards bs = do
   chunks ← each (has_chunks shards) bs
   heights ← each has_height bs
-  if nat_le (length bs) 256 then Ok tt else Err blocks.TooMany
+  if nat_le (length bs) most_blocks then Ok tt else Err blocks.TooMany
 
 -- what a blocks file gives
 unfoldable pub blocks_read : ℕ → List ℕ → Result (List Block) BlocksFault

@@ -6,8 +6,8 @@ ghost use Rattle.nr_blocks.specs.Judging.{each, has_chunks, has_height, ordered}
 use crate::block::Block;
 use crate::fault::BlocksFault;
 
-/// The most blocks that a file may have.
-const MOST_BLOCKS: usize = 256;
+/// The most blocks that a file may have, and so a run.
+pub const MOST_BLOCKS: usize = 100_000;
 
 fn check_chunks(block: &Block, shards: u32) -> Result<(), BlocksFault>
     ensures { (n : ℕ) → result ≡ has_chunks shards n block.now }
@@ -53,8 +53,7 @@ fn check_all_heights(blocks: &[Block]) -> Result<(), BlocksFault>
     Ok(())
 }
 
-/// Each block has a chunk for each shard, the heights count from 1, and there are at most 256
-/// blocks.
+/// Each block has a chunk for each shard, the heights count from 1, and there are not too many.
 #[tactic(auto, unfolding(crate::specs::Judging::ordered))]
 pub(crate) fn check_blocks(blocks: &[Block], shards: u32) -> Result<(), BlocksFault>
     ensures { result ≡ ordered shards blocks.now }

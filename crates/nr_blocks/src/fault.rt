@@ -51,7 +51,7 @@ pub enum BlocksFault {
     ShardCount { height: u64 },
     /// The first block whose height isn't its number, counted from 1, by the height that it states.
     HeightOrder { height: u64 },
-    /// More than 256 blocks.
+    /// More than [`MOST_BLOCKS`](crate::MOST_BLOCKS) blocks.
     TooMany,
     /// The first field that can't be read is the ordinal of an action of staking, at this place.
     Stake { at: u64 },

@@ -21,6 +21,7 @@ mod supply;
 mod threads;
 
 pub use block::Block;
+pub use block_checks::MOST_BLOCKS;
 pub use blocks_file::BlocksFile;
 pub use fault::{BlocksFault, GenesisFault};
 pub use first_state::fill;

@@ -75,7 +75,7 @@ chains =
     ∷ blocks (codes "1") (codes "the field at byte ") unread
     ∷ blocks (codes "2") (codes "the block of height ") (number (codes " has not one chunk for each shard."))
     ∷ blocks (codes "3") (codes "a block has the height ") (number (codes ", which is not its number, counted from 1."))
-    ∷ blocks (codes "4") (codes "there are more than 256.") zero_told
+    ∷ blocks (codes "4") (codes "there are more than 100,000.") zero_told
     ∷ blocks (codes "5") (codes "the action at byte ") (number (codes " (from 0) is one of staking."))
     ∷ blocks (codes "6") (codes "they change their shards at height ") (number (codes ", but there or just before a block or a chunk is missing."))
     ∷ []

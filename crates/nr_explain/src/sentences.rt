@@ -104,7 +104,7 @@ static CHAINS: [&[Field]; 7] = [
         Number: ", which is not its number, counted from 1."
     ],
     fields![
-        Figure("4"): "The blocks are refused: ", Figure("4"): "there are more than 256.",
+        Figure("4"): "The blocks are refused: ", Figure("4"): "there are more than 100,000.",
         Figure("0"): ""
     ],
     fields![

@@ -4,7 +4,7 @@ use Rattle.std.specs.Prelude.{if◌then◌else◌, replicate}
 use Rattle.std.proofs.lemmas.Bool.{eq-eqb, le-leb}
 use Rattle.std.proofs.lemmas.List.{length-append}
 use Rattle.nr_bytes.specs.Reading.{◌>>=◌}
-use Rattle.nr_blocks.specs.Judging.{Check, each, each_from, has_chunks, has_height, ordered}
+use Rattle.nr_blocks.specs.Judging.{Check, each, each_from, has_chunks, has_height, most_blocks, ordered}
 use Rattle.nr_blocks.specs.declared.block.Block.{Block}
 use Rattle.nr_blocks.specs.declared.fault.BlocksFault.TheVariants.{HeightOrder, ShardCount, TooMany}
 use Rattle.nr_gen.specs.Chain.{State, block_of, chunk_of, generated_blocks}
@@ -64,6 +64,6 @@ unfolding ordered generated_blocks
 blocks_ordered start shards n few =
     let s : State = (start, replicate shards 0) in
     let bs = blocks_in shards n s in
-    let short : length bs ≤ 256 = omega (arith, length_turns n (block_of shards) s) in
+    let short : length bs ≤ most_blocks = omega (arith, length_turns n (block_of shards) s) in
     passes_then (each (has_chunks shards) bs) _ (chunks_pass shards n s)
     (passes_then (each has_height bs) _ (heights_pass shards n s) (ap (λ b. if b then all_right else Err TooMany) (le-leb _ _ short)))

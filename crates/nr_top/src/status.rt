@@ -22,7 +22,7 @@ pub enum Status {
     /// The file has no blocks for the shards of the genesis. The kind is 0 where it is longer than
     /// 256 MiB, 1 where a field can't be read (`a` is its place), 2 where a block hasn't one chunk for
     /// each shard (`a` is its height), 3 where a block's height isn't its number, from 1 (`a` is its
-    /// height), 4 where there are more than 256 blocks, and 5 where an action of staking stands (`a`
+    /// height), 4 where there are more than 100,000 blocks, and 5 where an action of staking stands (`a`
     /// is its place).
     Blocks { kind: u32, a: u64 },
     /// The file is no schedule for the shards of the genesis. The kind is 0 where it is longer than
