@@ -60,7 +60,7 @@ module _ {W K L R : Type 0} (r : Rules W K L R) where
             (ap (λ o. wrong_list o pair.0 pair.1 (at ps pair.1)) next ∙ right_next pair (at ps pair.1) (omega (arith, due.to, least pair.1 due.source)));
       }
 
-  good_idle : (ps : List Position) (s : ℕ) → s < r.shards → (at ps s).number < r.heights → (at ps s).stage ≡ Idle → (b : Bool) → r.present s ((at ps s).number + 1) ≡ b → IsGood ps s (cond b (OpenChunk (record { 0 = s })) (PublishLists (record { 0 = s })))
+  pub good_idle : (ps : List Position) (s : ℕ) → s < r.shards → (at ps s).number < r.heights → (at ps s).stage ≡ Idle → (b : Bool) → r.present s ((at ps s).number + 1) ≡ b → IsGood ps s (cond b (OpenChunk (record { 0 = s })) (PublishLists (record { 0 = s })))
   good_idle ps s l below stage true there = record { actor_is = refl; inside = l; enabled = not_refused ps s (at ps s) (OpenChunk (record { 0 = s })) below (λ i. is_idle (stage i) && there i) refl }
   good_idle ps s l below stage false there = record { actor_is = refl; inside = l; enabled = not_refused ps s (at ps s) (PublishLists (record { 0 = s })) below (λ i. is_sealed (stage i) || (is_idle (stage i) && not (there i))) refl }
 
@@ -71,14 +71,14 @@ module _ {W K L R : Type 0} (r : Rules W K L R) where
   good_event ps s l below least Sealed stage = record { actor_is = refl; inside = l; enabled = not_refused ps s (at ps s) (PublishLists (record { 0 = s })) below (λ i. is_sealed (stage i) || (is_idle (stage i) && not (r.present s ((at ps s).number + 1)))) refl }
 
   -- ---- closer to the end
-  cost_rises : (s n m : ℕ) → n ≤ m → cost r s n ≤ cost r s m
+  pub cost_rises : (s n m : ℕ) → n ≤ m → cost r s n ≤ cost r s m
   cost_rises s n zero l = let z : n ≡ 0 = omega arith in subst (λ t. cost r s t ≤ 0) (sym z) (omega arith)
   cost_rises s n (suc m) l = elim (same_or_not n (suc m)) [
     | inl e ↦ subst (λ t. cost r s t ≤ cost r s (suc m)) (sym e) (omega arith)
     | inr ne ↦ let q : cost r s n ≤ cost r s m = cost_rises s n m (omega (arith, ne)) in omega arith
   ]
 
-  cost_next : (s n : ℕ) → cost r s (n + 1) ≡ cost r s n + (length (due_after r s n) + 3)
+  pub cost_next : (s n : ℕ) → cost r s (n + 1) ≡ cost r s n + (length (due_after r s n) + 3)
   cost_next s n = ap (cost r s) (add-one n)
 
   -- more steps are made, and no more than there are
@@ -124,7 +124,7 @@ module _ {W K L R : Type 0} (r : Rules W K L R) where
   sum_falls : (n i : ℕ) (f g : ℕ → ℕ) → i < n → ((j : ℕ) → j < n → (j ≡ i → ⊥) → g j ≡ f j) → g i < f i → sum_below n g < sum_below n f
   sum_falls n i f g l e d = let c : sum_below n g + f i ≡ sum_below n f + g i = sum_change n i f g l e in omega arith
 
-  closer : (ps : List Position) (e : Event) → IsReached r ps → IsInside r.shards e → refusal r ps e ≡ None → left r (moved ps e) < left r ps
+  pub closer : (ps : List Position) (e : Event) → IsReached r ps → IsInside r.shards e → refusal r ps e ≡ None → left r (moved ps e) < left r ps
   closer ps e is inside none =
       let i : ℕ = actor e in
       let p : Position = moved_by e (at ps i) in

@@ -16,3 +16,5 @@ pub mod Bounds
 pub mod Staying
 pub mod Ended
 pub mod Running
+pub mod Cutting
+pub mod Leading

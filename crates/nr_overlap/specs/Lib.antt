@@ -11,3 +11,5 @@ pub mod Run
 pub mod Balance
 pub mod Next
 pub mod Whole
+pub mod Cut
+pub mod Led

@@ -6,6 +6,7 @@
 mod due;
 mod event;
 mod interleaved;
+pub mod laws;
 mod next;
 mod phases;
 mod position;

@@ -8,6 +8,7 @@ use Rattle.nr_chunk.specs.Lasting.{flight_is, reached_by, reached_end, report_is
 use Rattle.nr_chunk.specs.Lawful.{one_each, tokens_kept}
 use Rattle.nr_chunk.specs.Views.{Kept, Working}
 use Rattle.nr_overlap.specs.Balance.{AddsUp, AllAddsUp, Amount, IsKeptBy}
+use Rattle.nr_overlap.specs.Cut.{IsSerialCut}
 use Rattle.nr_overlap.specs.Held.{IsReached}
 use Rattle.nr_overlap.specs.Inside.{AreInside}
 use Rattle.nr_overlap.specs.Moves.{refusal}
@@ -17,8 +18,10 @@ use Rattle.nr_overlap.specs.declared.event.Event.{Event}
 use Rattle.nr_overlap.specs.declared.event.Why.{Why}
 use Rattle.nr_overlap.specs.declared.position.Position.{Position}
 use Rattle.nr_overlap.proofs.Along.{at_height}
+use Rattle.nr_overlap.proofs.Cutting.{cuts_are_serial}
 use Rattle.nr_overlap.proofs.Ended.{is_ending}
 use Rattle.nr_overlap.proofs.Founding.{at_replicate}
+use Rattle.nr_overlap.proofs.Leading.{reached_are_led}
 use Rattle.nr_overlap.proofs.Sums.{first_sums, keeps_sums}
 use Rattle.nr_places.proofs.Counts.{all_counts}
 use Rattle.nr_places.proofs.Kept.{places_kept}
@@ -26,7 +29,7 @@ use Rattle.nr_places.proofs.Placed.{places_add_up}
 use Rattle.nr_places.proofs.Sums.{tokens_add_up}
 use Rattle.nr_places.specs.Moments.{routed, executed, postponed, delayed, flying}
 use Rattle.nr_places.specs.Places.{places}
-use Rattle.nr_places.specs.Replay.{Holds, PlacesAddUp}
+use Rattle.nr_places.specs.Replay.{Holds, HoldsAtEnd, HoldsIn, HoldsWhereReached, PlacesAddUp, cut_by}
 use Rattle.nr_records.specs.declared.chunk_result.ChunkResult.{ChunkResult}
 use Rattle.nr_records.specs.declared.receipt.Receipt.{Receipt}
 
@@ -66,8 +69,6 @@ module _ (x : Chain) (is : IsChain x) where
       let counts = all_counts x is ps reached in
       let all = places_add_up x ps (λ q. 1) (places_add (λ q. 1)) in
       record {
-        chunks = report_is r ps;
-        lists = λ s h d list e. (flight_is r ps s h d list e).1;
         tokens = tokens_add_up x ps is tokens_add;
         places = λ f. places_add_up x ps f (places_add f);
         counts = counts;
@@ -86,3 +87,23 @@ module _ (x : Chain) (is : IsChain x) where
 
   pub end_holds : Holds x (ending r)
   end_holds = holds_at (ending r) (reached_end r) (λ m kept. sums_at_end r (one_each x is) m kept (omega arith))
+
+  -- ---- of the cuts that events make
+  pub holds_in : (es : List Event) → AreInside r.shards es → HoldsIn x (cut_by x es) (run_of r (opening r) es)
+  holds_in es inside =
+      let ps : List Position = run_of r (opening r) es in
+      let serial : IsSerialCut r (cut_by x es) ps = cuts_are_serial r (one_each x is) es inside in
+      record {
+        serial = serial;
+        chunks = λ s h y e. report_is r ps s h y (sym (serial.report s h) ∙ e);
+        lists = λ s h d list e. (flight_is r ps s h d list (sym (serial.list s h d) ∙ e)).1;
+        sums = replay_holds es inside;
+      }
+
+  pub holds_reached : HoldsWhereReached x
+  holds_reached ps reached =
+      let led = reached_are_led r ps reached in
+      (led.0, led.1, led.2, subst (HoldsIn x (cut_by x led.0)) led.2 (holds_in led.0 led.1))
+
+  pub holds_over : HoldsAtEnd x
+  holds_over = holds_reached (ending r) (reached_end r)

@@ -5,7 +5,9 @@ use Rattle.nr_blocks.specs.Genesis.{supply}
 use Rattle.nr_chunk.specs.Chain.{Chain, rules_of}
 use Rattle.nr_chunk.specs.Tallies.{five}
 use Rattle.nr_overlap.specs.Inside.{AreInside}
-use Rattle.nr_overlap.specs.Moment.{report_at, flight_at}
+use Rattle.nr_chunk.specs.Views.{Kept, Working}
+use Rattle.nr_overlap.specs.Cut.{Cut, IsSerialCut, cut_of, first_cut}
+use Rattle.nr_overlap.specs.Held.{IsReached}
 use Rattle.nr_overlap.specs.Run.{run_of, opening, ending}
 use Rattle.nr_overlap.specs.Serial.{list_to, sealing_at}
 use Rattle.nr_overlap.specs.declared.event.Event.{Event}
@@ -20,9 +22,6 @@ abbrev pub PlacesAddUp : List ℕ → Type 0
 PlacesAddUp n = slice_index n 0 ≡ slice_index n 1 + slice_index n 2 + slice_index n 3 + slice_index n 4
 
 pub record Holds (x : Chain) (ps : List Position) : Type 0 where
-  -- each chunk that is sealed has the report of the serial run, and each list in flight is the serial run's
-  pub chunks : (s h : ℕ) (y : ChunkResult) → report_at (rules_of x) ps s h ≡ Some y → option_map (λ z. z.report) (sealing_at (rules_of x) s h) ≡ Some y
-  pub lists : (s h d : ℕ) (list : List Receipt) → flight_at (rules_of x) ps s h d ≡ Some list → list_to (rules_of x) (sealing_at (rules_of x) s h) d ≡ Some list
   -- what accounts have, what receipts hold that aren't executed and what was burnt is together the first supply
   pub tokens : (tally_at x ps).accounts + (tally_at x ps).receipts + (tally_at x ps).burnt ≡ supply x.entries
   -- each routed receipt is in one place: whatever receipts have, as the count of one of them, the four places have of it what was routed
@@ -31,10 +30,31 @@ pub record Holds (x : Chain) (ps : List Position) : Type 0 where
   pub counts : (tally_at x ps).places ≡ five (length (routed x ps)) (length (executed x ps)) (length (postponed x ps)) (length (delayed x ps)) (length (flying x ps))
   pub printed : PlacesAddUp (tally_at x ps).places
 
+-- of a cut, whose values its steps made by the phases alone
+pub record HoldsIn (x : Chain) (c : Cut Kept Working (List Receipt) ChunkResult) (ps : List Position) : Type 0 where
+  -- its worlds, working states, reports and lists are the serial run's at these positions
+  pub serial : IsSerialCut (rules_of x) c ps
+  -- each chunk that it sealed has the report of the serial run, and each list that it sealed and didn't take is the serial run's
+  pub chunks : (s h : ℕ) (y : ChunkResult) → c.report s h ≡ Some y → option_map (λ z. z.report) (sealing_at (rules_of x) s h) ≡ Some y
+  pub lists : (s h d : ℕ) (list : List Receipt) → c.list s h d ≡ Some list → list_to (rules_of x) (sealing_at (rules_of x) s h) d ≡ Some list
+  pub sums : Holds x ps
+
+-- the cut that a list of events makes
+abbrev pub cut_by : (x : Chain) → List Event → Cut Kept Working (List Receipt) ChunkResult
+cut_by x es = cut_of (rules_of x) (first_cut (rules_of x)) es
+
 -- wherever a list of events leads from the opening
 abbrev pub HoldsAlways : Chain → Type 0
-HoldsAlways x = (es : List Event) → AreInside (rules_of x).shards es → Holds x (run_of (rules_of x) (opening (rules_of x)) es)
+HoldsAlways x = (es : List Event) → AreInside (rules_of x).shards es → HoldsIn x (cut_by x es) (run_of (rules_of x) (opening (rules_of x)) es)
+
+-- some events lead to these positions, and so it is there
+abbrev pub HoldsAt : Chain → List Position → Type 0
+HoldsAt x ps = (es : List Event) × AreInside (rules_of x).shards es × (run_of (rules_of x) (opening (rules_of x)) es ≡ ps) × HoldsIn x (cut_by x es) ps
+
+-- at all positions that steps can reach
+abbrev pub HoldsWhereReached : Chain → Type 0
+HoldsWhereReached x = (ps : List Position) → IsReached (rules_of x) ps → HoldsAt x ps
 
 -- and where the run is over
 abbrev pub HoldsAtEnd : Chain → Type 0
-HoldsAtEnd x = Holds x (ending (rules_of x))
+HoldsAtEnd x = HoldsAt x (ending (rules_of x))

@@ -4,7 +4,7 @@ ghost use Rattle.std.specs.Prelude.{ℕ};
 ghost use Rattle.nr_chunk.specs.Chain.{Chain, IsChain, rules_of};
 ghost use Rattle.nr_overlap.specs.Balance.{IsKeptBy};
 ghost use Rattle.nr_places.specs.Places.{FreesPostponed, places};
-ghost use Rattle.nr_places.specs.Replay.{HoldsAlways, HoldsAtEnd};
+ghost use Rattle.nr_places.specs.Replay.{HoldsAlways, HoldsAtEnd, HoldsWhereReached};
 ghost use Rattle.nr_records.specs.declared.receipt.Receipt.{Receipt};
 
 /// The chunks of a run keep receipts: whatever receipts have, as the count of one of them, was routed or was there
@@ -16,11 +16,13 @@ pub fn places_laws()
     ensures freed { (x : Chain) → IsChain x → FreesPostponed x }
 {}
 
-/// The replay theorem. Wherever a list of events leads a core over a chain, each chunk that is sealed and each list in
-/// flight is that of the serial run; accounts, receipts and what was burnt add up to the first supply; each receipt that
+/// The replay theorem. Wherever a list of events leads from the opening, the worlds, working states, reports and lists
+/// that the steps made by the phases alone are those of the serial run: each chunk that is sealed has its report, and
+/// each list in flight is its list. Accounts, receipts and what was burnt add up to the first supply; each receipt that
 /// was routed is executed, postponed, delayed or in flight, in one place; and the tallies of what stands count these
-/// receipts. So it is at the end of the run. It does nothing when it runs.
+/// receipts. So it is at all positions that steps can reach, and at the end of the run. It does nothing when it runs.
 pub fn replay_law()
     ensures always { (x : Chain) → IsChain x → HoldsAlways x }
+    ensures reached { (x : Chain) → IsChain x → HoldsWhereReached x }
     ensures over { (x : Chain) → IsChain x → HoldsAtEnd x }
 {}

@@ -4,3 +4,4 @@ pub mod Cells
 pub mod Above
 pub mod Adding
 pub mod Counted
+pub mod Moments

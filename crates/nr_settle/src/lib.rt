@@ -3,6 +3,7 @@
 #![tactic(auto)]
 
 mod ended;
+pub mod laws;
 mod rows;
 mod sums;
 mod threads;

@@ -8,3 +8,6 @@ pub mod Moves
 pub mod Slots
 pub mod Fresh
 pub mod Finishing
+pub mod Counted
+pub mod InHand
+pub mod Homes

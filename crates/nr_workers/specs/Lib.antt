@@ -6,3 +6,5 @@ pub mod Stages
 pub mod Shards
 pub mod Shares
 pub mod Crew
+pub mod Standing
+pub mod Hands

@@ -8,6 +8,7 @@ mod done;
 mod gate;
 mod gather;
 mod inbox;
+pub mod laws;
 mod left;
 mod shards;
 mod steps;

@@ -1,5 +1,5 @@
-use Rattle.nr_places.proofs.Replay.{end_holds, replay_holds}
+use Rattle.nr_places.proofs.Replay.{holds_in, holds_over, holds_reached}
 use Rattle.nr_places.proofs.laws.replay_law.Goals as goal
 
 pub returns : goal.returns
-returns c = record { always = replay_holds; over = end_holds }
+returns c = record { always = holds_in; reached = holds_reached; over = holds_over }
