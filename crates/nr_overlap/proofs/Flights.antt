@@ -3,6 +3,7 @@ use Rattle.std.proofs.Common.{◌≡◌, ℕ, zero, suc, ◌+◌, ◌<◌, ◌�
 use Rattle.std.specs.Prelude.{slice_get, nat_le, ◌&&◌, ◌||◌, ◌==◌, unwrap_or}
 use Rattle.std.specs.Option.{option_map}
 use Rattle.std.proofs.lemmas.Option.{slice_get-map}
+use Rattle.std.specs.Global.{Box}
 use Rattle.nr_overlap.specs.Rules.{Rules, Sealing}
 use Rattle.nr_overlap.specs.Serial.{list_to, sealing_at}
 use Rattle.nr_overlap.specs.Positions.{at, top}
@@ -93,13 +94,13 @@ module _ {W K L R : Type 0} (r : Rules W K L R) where
 
   -- ---- a row more
   -- the entry that stands for what a chunk gave, before any list is taken
-  abbrev pub IsNew : Option (Sealing W L R) → Option (Row L R) → Type 0
+  abbrev pub IsNew : Option (Sealing W L R) → Option (Box (Row L R)) → Type 0
   IsNew None None = Unit {0}
   IsNew None (Some e) = ⊥
   IsNew (Some z) None = ⊥
   IsNew (Some z) (Some e) = IsRowOf z e
 
-  new_report : (o : Option (Sealing W L R)) (e : Option (Row L R)) → IsNew o e → row_report e ≡ option_map (λ z. z.report) o
+  new_report : (o : Option (Sealing W L R)) (e : Option (Box (Row L R))) → IsNew o e → row_report e ≡ option_map (λ z. z.report) o
   new_report None None n = refl
   new_report None (Some e) n = elim n [ ]
   new_report (Some z) None n = elim n [ ]
@@ -109,27 +110,27 @@ module _ {W K L R : Type 0} (r : Rules W K L R) where
   slot_map None = refl
   slot_map (Some l) = refl
 
-  new_slot : (o : Option (Sealing W L R)) (e : Option (Row L R)) (d : ℕ) → IsNew o e → row_slot e d ≡ list_to r o d
+  new_slot : (o : Option (Sealing W L R)) (e : Option (Box (Row L R))) (d : ℕ) → IsNew o e → row_slot e d ≡ list_to r o d
   new_slot None None d n = refl
   new_slot None (Some e) d n = elim n [ ]
   new_slot (Some z) None d n = elim n [ ]
   new_slot (Some z) (Some e) d n = ap (λ xs. unwrap_or (slice_get xs d) None) n.1 ∙ ap (λ o. unwrap_or o None) (slice_get-map (λ l. Some l) z.lists d) ∙ slot_map (slice_get z.lists d)
 
   -- entries of a row with one more
-  row_more_same : (row : List (Option (Row L R))) (e : Option (Row L R)) (h : ℕ) → (h ≡ length row → ⊥) → row_entry (row ++ e ∷ []) h ≡ row_entry row h
+  row_more_same : (row : List (Option (Box (Row L R)))) (e : Option (Box (Row L R))) (h : ℕ) → (h ≡ length row → ⊥) → row_entry (row ++ e ∷ []) h ≡ row_entry row h
   row_more_same [] e zero ne = absurd (ne refl)
   row_more_same [] e (suc h) ne = refl
   row_more_same (x ∷ row) e zero ne = refl
   row_more_same (x ∷ row) e (suc h) ne = row_more_same row e h (λ q. ne (omega arith))
 
-  row_more_new : (row : List (Option (Row L R))) (e : Option (Row L R)) (h : ℕ) → h ≡ length row → row_entry (row ++ e ∷ []) h ≡ e
+  row_more_new : (row : List (Option (Box (Row L R)))) (e : Option (Box (Row L R))) (h : ℕ) → h ≡ length row → row_entry (row ++ e ∷ []) h ≡ e
   row_more_new [] e zero q = refl
   row_more_new [] e (suc h) q = absurd (omega arith)
   row_more_new (x ∷ row) e zero q = absurd (omega arith)
   row_more_new (x ∷ row) e (suc h) q = row_more_new row e h (omega arith)
 
   -- reports and lists of the shard that seals, or has no chunk
-  pub report_added : (ps qs : List Position) (i : ℕ) (p : Position) (row : List (Option (Row L R))) (e : Option (Row L R)) (h : ℕ) → Becomes ps qs i p → top p ≡ top (at ps i) + 1 → length row ≡ top (at ps i) + 1
+  pub report_added : (ps qs : List Position) (i : ℕ) (p : Position) (row : List (Option (Box (Row L R)))) (e : Option (Box (Row L R))) (h : ℕ) → Becomes ps qs i p → top p ≡ top (at ps i) + 1 → length row ≡ top (at ps i) + 1
       → IsNew (sealing_at r i (top (at ps i) + 1)) e → row_report (row_entry row h) ≡ report_at r ps i h
       → row_report (row_entry (row ++ e ∷ []) h) ≡ report_at r qs i h
   report_added ps qs i p row e h be more long new old =
@@ -141,7 +142,7 @@ module _ {W K L R : Type 0} (r : Rules W K L R) where
             ∙ ap (option_map (λ z. z.report)) (sym (shown_before i h (at ps i) p more ne) ∙ sym later)
       ]
 
-  pub list_added : (ps qs : List Position) (i : ℕ) (p : Position) (row : List (Option (Row L R))) (e : Option (Row L R)) (h d : ℕ) → Becomes ps qs i p → top p ≡ top (at ps i) + 1 → length row ≡ top (at ps i) + 1
+  pub list_added : (ps qs : List Position) (i : ℕ) (p : Position) (row : List (Option (Box (Row L R)))) (e : Option (Box (Row L R))) (h d : ℕ) → Becomes ps qs i p → top p ≡ top (at ps i) + 1 → length row ≡ top (at ps i) + 1
       → IsNew (sealing_at r i (top (at ps i) + 1)) e
       → ((h : ℕ) → 0 < h → r.present i h ≡ true → took r d (at qs d) h i ≡ took r d (at ps d) h i)
       → (r.present i (top (at ps i) + 1) ≡ true → took r d (at ps d) (top (at ps i) + 1) i ≡ false)

@@ -4,6 +4,7 @@ use Rattle.std.specs.Prelude.{slice_get, Vec, replicate}
 use Rattle.std.specs.declared.alloc.Global.{Global}
 use Rattle.std.specs.Option.{option_map}
 use Rattle.std.proofs.lemmas.Option.{slice_get_cases}
+use Rattle.std.specs.Global.{Box}
 use Rattle.nr_overlap.specs.Rules.{Rules}
 use Rattle.nr_overlap.specs.Serial.{list_to, world_after, past_after, sealing_at}
 use Rattle.nr_overlap.specs.Positions.{at, start}
@@ -56,9 +57,9 @@ module _ {W K L R : Type 0} (r : Rules W K L R) where
     pub dues : length x.dues.items ≡ n
     pub rows : length x.rows.items ≡ n
     pub values : (s : ℕ) (v : Held W K) → slice_get x.held.items s ≡ Some v → IsFirstHeld s v
-    pub each : (s : ℕ) (row : Vec (Option (Row L R)) Global) → slice_get x.rows.items s ≡ Some row → row.items ≡ None ∷ []
+    pub each : (s : ℕ) (row : Vec (Option (Box (Row L R))) Global) → slice_get x.rows.items s ≡ Some row → row.items ≡ None ∷ []
 
-  pub first_more : (n : ℕ) (x y : Shards W K L R) (w : W) (due : Vec (ℕ × ℕ) Global) (row : Vec (Option (Row L R)) Global) → AreFirst n x → w ≡ r.begins n → row.items ≡ None ∷ []
+  pub first_more : (n : ℕ) (x y : Shards W K L R) (w : W) (due : Vec (ℕ × ℕ) Global) (row : Vec (Option (Box (Row L R))) Global) → AreFirst n x → w ≡ r.begins n → row.items ≡ None ∷ []
       → y.positions.items ≡ x.positions.items ++ start ∷ [] → y.held.items ≡ x.held.items ++ World w ∷ [] → y.dues.items ≡ x.dues.items ++ due ∷ [] → y.rows.items ≡ x.rows.items ++ row ∷ [] → AreFirst (n + 1) y
   first_more n x y w due row is w_is row_is a b c d = record {
     positions = a ∙ ap (λ t. t ++ start ∷ []) is.positions ∙ replicate_grown n start;
@@ -71,7 +72,7 @@ module _ {W K L R : Type 0} (r : Rules W K L R) where
     ];
     each = λ s t e. elim (get_grown x.rows.items row s t (ap (λ z. slice_get z s) (sym d) ∙ e)) [
       | inl p ↦ is.each s t p
-      | inr p ↦ ap (λ (z : Vec (Option (Row L R)) Global). z.items) p.1 ∙ row_is
+      | inr p ↦ ap (λ (z : Vec (Option (Box (Row L R))) Global). z.items) p.1 ∙ row_is
     ];
   }
 

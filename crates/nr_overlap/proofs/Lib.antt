@@ -1,4 +1,5 @@
 pub mod Basics
+pub mod Cells
 pub mod DueLemmas
 pub mod SerialLemmas
 pub mod Enabled

@@ -5,6 +5,7 @@ use Rattle.std.specs.declared.alloc.Global.{Global}
 use Rattle.std.specs.declared.alloc.AllocError.{AllocError}
 use Rattle.std.specs.Option.{option_map}
 use Rattle.std.proofs.lemmas.Option.{slice_get_within, slice_get_cases, slice_get_read, get_or_from_slice_get}
+use Rattle.std.specs.Global.{Box}
 use Rattle.nr_overlap.specs.Rules.{Rules}
 use Rattle.nr_overlap.specs.Lawful.{AreLawful}
 use Rattle.nr_overlap.specs.Serial.{due_after, list_to, with_list, sealing_at, work, world_after}
@@ -35,14 +36,14 @@ use Rattle.nr_overlap.proofs.Reaching.{Becomes, becomes, keeps_reached, none_pas
 use Rattle.nr_overlap.proofs.Flights.{IsNew, flight_alike, flights_same, reports_same, report_added, list_added, flights_taken, flight_taken, flight_due}
 
 -- ---- one place of a list of lists
-pub row_same : {L R : Type 0} (rows : List (Vec (Option (Row L R)) Global)) (i : ℕ) (v : Vec (Option (Row L R)) Global) → i < length rows → row_of (slice_set rows i v) i ≡ v.items
-row_same {L = L} {R = R} rows i v l = ap (λ (o : Option (Vec (Option (Row L R)) Global)). unwrap_or (option_map (λ row. row.items) o) []) (get-set_same rows i v l)
+pub row_same : {L R : Type 0} (rows : List (Vec (Option (Box (Row L R))) Global)) (i : ℕ) (v : Vec (Option (Box (Row L R))) Global) → i < length rows → row_of (slice_set rows i v) i ≡ v.items
+row_same {L = L} {R = R} rows i v l = ap (λ (o : Option (Vec (Option (Box (Row L R))) Global)). unwrap_or (option_map (λ row. row.items) o) []) (get-set_same rows i v l)
 
-pub row_other : {L R : Type 0} (rows : List (Vec (Option (Row L R)) Global)) (i j : ℕ) (v : Vec (Option (Row L R)) Global) → (j ≡ i → ⊥) → row_of (slice_set rows i v) j ≡ row_of rows j
-row_other {L = L} {R = R} rows i j v ne = ap (λ (o : Option (Vec (Option (Row L R)) Global)). unwrap_or (option_map (λ row. row.items) o) []) (get-set_other rows i j v ne)
+pub row_other : {L R : Type 0} (rows : List (Vec (Option (Box (Row L R))) Global)) (i j : ℕ) (v : Vec (Option (Box (Row L R))) Global) → (j ≡ i → ⊥) → row_of (slice_set rows i v) j ≡ row_of rows j
+row_other {L = L} {R = R} rows i j v ne = ap (λ (o : Option (Vec (Option (Box (Row L R))) Global)). unwrap_or (option_map (λ row. row.items) o) []) (get-set_other rows i j v ne)
 
-pub row_read : {L R : Type 0} (rows : List (Vec (Option (Row L R)) Global)) (i : ℕ) (v : Vec (Option (Row L R)) Global) → slice_get rows i ≡ Some v → row_of rows i ≡ v.items
-row_read {L = L} {R = R} rows i v e = ap (λ (o : Option (Vec (Option (Row L R)) Global)). unwrap_or (option_map (λ row. row.items) o) []) e
+pub row_read : {L R : Type 0} (rows : List (Vec (Option (Box (Row L R))) Global)) (i : ℕ) (v : Vec (Option (Box (Row L R))) Global) → slice_get rows i ≡ Some v → row_of rows i ≡ v.items
+row_read {L = L} {R = R} rows i v e = ap (λ (o : Option (Vec (Option (Box (Row L R))) Global)). unwrap_or (option_map (λ row. row.items) o) []) e
 
 dues_same : (dues : List (Vec (ℕ × ℕ) Global)) (i : ℕ) (v : Vec (ℕ × ℕ) Global) → i < length dues → dues_at (slice_set dues i v) i ≡ v.items
 dues_same dues i v l = ap (λ (o : Option (Vec (ℕ × ℕ) Global)). unwrap_or (option_map (λ due. due.items) o) []) (get-set_same dues i v l)
@@ -92,7 +93,7 @@ module _ {W K L R : Type 0} (r : Rules W K L R) where
   IsHeld-missing s n m Nothing missing is = is
 
   -- the row of a chunk that is sealed
-  pub new_row : (s n m : ℕ) (v : Held W K) (row : Row L R) → m ≡ length (due_after r s n) → r.present s (n + 1) ≡ true
+  pub new_row : (s n m : ℕ) (v : Held W K) (row : Box (Row L R)) → m ≡ length (due_after r s n) → r.present s (n + 1) ≡ true
       → IsHeld r s (record { number = n; stage = Opened; taken = m }) v → IsRowFrom r v row → IsNew r (sealing_at r s (n + 1)) (Some row)
   new_row s n m (World w) row all there is from = elim from [ ]
   new_row s n m (Working k) row all there is from = subst (λ o. IsNew r o (Some row)) (sym (sealing_there r s n there ∙ ap (λ t. Some (r.seals t)) (ap (work r s n) (sym all) ∙ some_alike (work r s n m) k is))) from
@@ -171,7 +172,7 @@ module _ {W K L R : Type 0} (r : Rules W K L R) where
       (λ s h d l m. ap (λ t. row_slot (entry t s h) d) rows ∙ is.lists s h d l m ∙ sym (flights_same r x.positions.items y.positions.items i p be same claims s h d l))
 
   -- a step that adds a row
-  pub adding : (x y : Shards W K L R) (i : ℕ) (p : Position) (e : Option (Row L R)) (old new : Vec (Option (Row L R)) Global) → IsSerial r x → i < r.shards → Becomes x.positions.items y.positions.items i p → IsReached r y.positions.items → Sums y.positions.items
+  pub adding : (x y : Shards W K L R) (i : ℕ) (p : Position) (e : Option (Box (Row L R))) (old new : Vec (Option (Box (Row L R))) Global) → IsSerial r x → i < r.shards → Becomes x.positions.items y.positions.items i p → IsReached r y.positions.items → Sums y.positions.items
       → top p ≡ top (at x.positions.items i) + 1 → top (at x.positions.items i) ≡ (at x.positions.items i).number → Claims x.positions.items i p
       → length y.held.items ≡ length x.held.items
       → ((v : Held W K) → slice_get y.held.items i ≡ Some v → IsHeld r i p v) → ((j : ℕ) → (j ≡ i → ⊥) → slice_get y.held.items j ≡ slice_get x.held.items j)
@@ -199,7 +200,7 @@ module _ {W K L R : Type 0} (r : Rules W K L R) where
             ∙ sym (flight_alike r x.positions.items y.positions.items s h d (ap (λ (q : Position). shown r s q h) (be.others s ne)) (λ pos pre. claimed d s h l pos pre))
       ])
     where
-      longer : (t : List (Option (Row L R))) → length (t ++ e ∷ []) ≡ length t + 1
+      longer : (t : List (Option (Box (Row L R)))) → length (t ++ e ∷ []) ≡ length t + 1
       longer t = length-append t (e ∷ [])
 
       claimed : (d s h : ℕ) → s < r.shards → 0 < h → r.present s h ≡ true → took r d (at y.positions.items d) h s ≡ took r d (at x.positions.items d) h s
@@ -281,7 +282,7 @@ module _ {W K L R : Type 0} (r : Rules W K L R) where
       idle_opened : Idle ≡ Opened → ⊥
       idle_opened e = cc
 
-  pub missing_serial : (x y : Shards W K L R) (s : ShardId) (q : Position) (old new : Vec (Option (Row L R)) Global) → IsSerial r x → s.0 < r.shards → refusal r x.positions.items (PublishLists s) ≡ None
+  pub missing_serial : (x y : Shards W K L R) (s : ShardId) (q : Position) (old new : Vec (Option (Box (Row L R))) Global) → IsSerial r x → s.0 < r.shards → refusal r x.positions.items (PublishLists s) ≡ None
       → q ≡ get_or x.positions.items s.0 q → q.stage ≡ Idle → old ≡ get_or x.rows.items s.0 old → new.items ≡ old.items ++ None ∷ []
       → y.positions.items ≡ slice_set x.positions.items s.0 (record { number = q.number + 1; stage = Idle; taken = 0 }) → y.held.items ≡ x.held.items → y.dues.items ≡ x.dues.items → y.rows.items ≡ slice_set x.rows.items s.0 new
       → IsSerial r y × (y.positions.items ≡ moved x.positions.items (PublishLists s))
@@ -331,7 +332,7 @@ module _ {W K L R : Type 0} (r : Rules W K L R) where
       let least : length (due_after r i q.number) ≤ q.taken = none_past (due_after r i q.number) q.taken (subst (λ (t : Position). slice_get (due_after r i t.number) t.taken ≡ None) here can.none_left) in
       record { stage = opened; below = chunk.0; there = chunk.1; all = omega arith }
 
-  pub seal_serial : (x y : Shards W K L R) (s : ShardId) (q : Position) (v u : Held W K) (row : Row L R) (old new : Vec (Option (Row L R)) Global) → IsSerial r x → s.0 < r.shards → refusal r x.positions.items (SealChunk s) ≡ None
+  pub seal_serial : (x y : Shards W K L R) (s : ShardId) (q : Position) (v u : Held W K) (row : Box (Row L R)) (old new : Vec (Option (Box (Row L R))) Global) → IsSerial r x → s.0 < r.shards → refusal r x.positions.items (SealChunk s) ≡ None
       → q ≡ get_or x.positions.items s.0 q → v ≡ get_or x.held.items s.0 v → u ≡ sealed_held r v → IsRowFrom r v row → old ≡ get_or x.rows.items s.0 old → new.items ≡ old.items ++ Some row ∷ []
       → y.positions.items ≡ slice_set x.positions.items s.0 (record { number = q.number; stage = Sealed; taken = 0 }) → y.held.items ≡ slice_set x.held.items s.0 u → y.dues.items ≡ x.dues.items → y.rows.items ≡ slice_set x.rows.items s.0 new
       → IsSerial r y × (y.positions.items ≡ moved x.positions.items (SealChunk s))
@@ -368,7 +369,7 @@ module _ {W K L R : Type 0} (r : Rules W K L R) where
   happens_err e x y (Err fault) is_err kept same = (kept, same)
 
   -- a row that stays in part
-  pub rows_kept : (x y : Shards W K L R) (i : ℕ) (old new : Vec (Option (Row L R)) Global) → IsKept r x → y.rows.items ≡ slice_set x.rows.items i new → i < r.shards → old ≡ get_or x.rows.items i old
+  pub rows_kept : (x y : Shards W K L R) (i : ℕ) (old new : Vec (Option (Box (Row L R))) Global) → IsKept r x → y.rows.items ≡ slice_set x.rows.items i new → i < r.shards → old ≡ get_or x.rows.items i old
       → length new.items ≡ length old.items → ((h : ℕ) → row_report (row_entry new.items h) ≡ row_report (row_entry old.items h))
       → ((s : ℕ) → length (row_of y.rows.items s) ≡ length (row_of x.rows.items s)) × ((s h : ℕ) → row_report (entry y.rows.items s h) ≡ row_report (entry x.rows.items s h)) × (row_of y.rows.items i ≡ new.items) × (row_of x.rows.items i ≡ old.items) × ((s : ℕ) → (s ≡ i → ⊥) → row_of y.rows.items s ≡ row_of x.rows.items s)
   rows_kept x y i old new is rows_is inside old_at long reports =
@@ -448,7 +449,7 @@ module _ {W K L R : Type 0} (r : Rules W K L R) where
       let some = within_some (r.seals k).lists d (omega (arith, in_d, one_each k)) in
       (some.0, (λ i. list_to r (sealing_at r (next.source i) (next.height i)) d) ∙ ap (λ o. list_to r o d) sealed ∙ some.1)
 
-  pub take_serial : (x y : Shards W K L R) (d s : ShardId) (h : Height) (q q3 : Position) (v u : Held W K) (list : Option L) (old new : Vec (Option (Row L R)) Global) → ((k : K) → length (r.seals k).lists ≡ r.shards)
+  pub take_serial : (x y : Shards W K L R) (d s : ShardId) (h : Height) (q q3 : Position) (v u : Held W K) (list : Option L) (old new : Vec (Option (Box (Row L R))) Global) → ((k : K) → length (r.seals k).lists ≡ r.shards)
       → IsSerial r x → d.0 < r.shards → s.0 < r.shards → refusal r x.positions.items (TakeList d s h) ≡ None
       → q ≡ get_or x.positions.items d.0 q → q3 ≡ get_or x.positions.items d.0 q3 → v ≡ get_or x.held.items d.0 v → u ≡ took_held r v list → old ≡ get_or x.rows.items s.0 old
       → list ≡ row_slot (row_entry old.items h.0) d.0 → row_slot (row_entry new.items h.0) d.0 ≡ None
@@ -548,7 +549,7 @@ module _ {W K L R : Type 0} (r : Rules W K L R) (can_open_ : ℕ → ℕ → W �
   takes_held i n m (Working k) pair list l inside below there next from some is = subst (λ (o : Option L). Takes {W = W} can_take_ (Working k) o) (sym (from ∙ some)) (subst (λ t. can_take_ t l) (some_alike (work r i n m) k is) (laws.takes i n m pair l inside below there next some))
   takes_held i n m Nothing pair list l inside below there next from some is = is
 
-  pub can_give_list : (x : Shards W K L R) (d s : ShardId) (h : Height) (v : Held W K) (list : Option L) (old : Vec (Option (Row L R)) Global) → IsSerial r x → d.0 < r.shards → s.0 < r.shards → refusal r x.positions.items (TakeList d s h) ≡ None
+  pub can_give_list : (x : Shards W K L R) (d s : ShardId) (h : Height) (v : Held W K) (list : Option L) (old : Vec (Option (Box (Row L R))) Global) → IsSerial r x → d.0 < r.shards → s.0 < r.shards → refusal r x.positions.items (TakeList d s h) ≡ None
       → v ≡ get_or x.held.items d.0 v → old ≡ get_or x.rows.items s.0 old → list ≡ row_slot (row_entry old.items h.0) d.0 → Takes can_take_ v list
   can_give_list x d s h v list old is in_d in_s n v_at old_at list_is =
       let q : Position = at x.positions.items d.0 in

@@ -5,6 +5,7 @@ use Rattle.std.specs.Option.{option_map}
 use Rattle.std.specs.declared.alloc.Global.{Global}
 use Rattle.std.proofs.lemmas.Option.{slice_get_read, slice_get_past}
 use Rattle.std.proofs.lemmas.List.{get_or_past}
+use Rattle.std.specs.Global.{Box}
 use Rattle.nr_overlap.specs.Rules.{Rules}
 use Rattle.nr_overlap.specs.Positions.{at, start}
 use Rattle.nr_overlap.specs.Moment.{shown, world_at, world_in, working_at, working_in, report_at, flight_at}
@@ -59,7 +60,7 @@ module _ {W K L R : Type 0} (r : Rules W K L R) where
   -- a shard that isn't there has no report
   outside : (x : Shards W K L R) (s h : ℕ) → IsKept r x → r.shards ≤ s → row_report (entry x.rows.items s h) ≡ report_at r x.positions.items s h
   outside x s h is past =
-      ap (λ (o : Option (Vec (Option (Row L R)) Global)). row_report (row_entry (unwrap_or (option_map (λ row. row.items) o) []) h)) (slice_get_past x.rows.items s (omega (arith, past, is.rows)))
+      ap (λ (o : Option (Vec (Option (Box (Row L R))) Global)). row_report (row_entry (unwrap_or (option_map (λ row. row.items) o) []) h)) (slice_get_past x.rows.items s (omega (arith, past, is.rows)))
       ∙ sym (ap (λ (q : Position). option_map (λ z. z.report) (shown r s q h)) (get_or_past x.positions.items s start (omega (arith, past, is.reached.count)))
       ∙ ap (option_map (λ z. z.report)) (shown_first r s h))
 
@@ -69,6 +70,6 @@ module _ {W K L R : Type 0} (r : Rules W K L R) where
     | inr e ↦ outside x s h is (ge_of s r.shards e)
   ] ∙ ap (λ t. report_at r t s h) same
 
-  pub flight_shown : (x : Shards W K L R) (s h d : ℕ) (v : Vec (Option (Row L R)) Global) (row : List (Option (Row L R))) (o : Option L) (ps : List Position) → IsSerial r x → s < r.shards → d < r.shards → v ≡ get_or x.rows.items s v → row ≡ v.items → o ≡ row_slot (row_entry row h) d → x.positions.items ≡ ps → o ≡ flight_at r ps s h d
+  pub flight_shown : (x : Shards W K L R) (s h d : ℕ) (v : Vec (Option (Box (Row L R))) Global) (row : List (Option (Box (Row L R)))) (o : Option L) (ps : List Position) → IsSerial r x → s < r.shards → d < r.shards → v ≡ get_or x.rows.items s v → row ≡ v.items → o ≡ row_slot (row_entry row h) d → x.positions.items ≡ ps → o ≡ flight_at r ps s h d
   flight_shown x s h d v row o ps is l m v_at row_is o_is same = o_is ∙ ap (λ t. row_slot (row_entry t h) d) (row_is ∙ sym (row_read x.rows.items s v (slice_get_read x.rows.items (length x.rows.items) s v refl (omega (arith, l, is.kept.rows)) v_at)))
       ∙ is.lists s h d l m ∙ ap (λ t. flight_at r t s h d) same

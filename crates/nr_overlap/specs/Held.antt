@@ -3,6 +3,7 @@ use Rattle.std.specs.Prelude.{◌≡◌, ℕ, ◌+◌, ◌<◌, ◌≤◌, true,
 use Rattle.std.specs.declared.alloc.Global.{Global}
 use Rattle.std.specs.declared.alloc.AllocError.{AllocError}
 use Rattle.std.specs.Option.{option_map}
+use Rattle.std.specs.Global.{Box}
 use Rattle.nr_overlap.specs.Rules.{Rules, Sealing}
 use Rattle.nr_overlap.specs.Serial.{due_after}
 use Rattle.nr_overlap.specs.Positions.{at, top}
@@ -19,29 +20,33 @@ use Rattle.nr_overlap.specs.declared.position.Stage.TheVariants.{Idle, Opened, S
 use Rattle.nr_overlap.specs.declared.position.Position.{Position}
 
 -- ---- what stands in the rows
-abbrev pub row_entry : {L R : Type 0} → List (Option (Row L R)) → ℕ → Option (Row L R)
+abbrev pub row_entry : {L R : Type 0} → List (Option (Box (Row L R))) → ℕ → Option (Box (Row L R))
 row_entry row h = unwrap_or (slice_get row h) None
 
-abbrev pub row_slot : {L R : Type 0} → Option (Row L R) → ℕ → Option L
+-- a slot, where there is one
+abbrev pub cell : {L : Type 0} → List (Option L) → ℕ → Option L
+cell lists d = unwrap_or (slice_get lists d) None
+
+abbrev pub row_slot : {L R : Type 0} → Option (Box (Row L R)) → ℕ → Option L
 row_slot None d = None
-row_slot (Some e) d = unwrap_or (slice_get e.lists.items d) None
+row_slot (Some e) d = cell e.value.lists.items d
 
-abbrev pub row_report : {L R : Type 0} → Option (Row L R) → Option R
+abbrev pub row_report : {L R : Type 0} → Option (Box (Row L R)) → Option R
 row_report None = None
-row_report (Some e) = Some e.report
+row_report (Some e) = Some e.value.report
 
-abbrev pub row_of : {L R : Type 0} → List (Vec (Option (Row L R)) Global) → ℕ → List (Option (Row L R))
+abbrev pub row_of : {L R : Type 0} → List (Vec (Option (Box (Row L R))) Global) → ℕ → List (Option (Box (Row L R)))
 row_of rows s = unwrap_or (option_map (λ row. row.items) (slice_get rows s)) []
 
-abbrev pub entry : {L R : Type 0} → List (Vec (Option (Row L R)) Global) → ℕ → ℕ → Option (Row L R)
+abbrev pub entry : {L R : Type 0} → List (Vec (Option (Box (Row L R))) Global) → ℕ → ℕ → Option (Box (Row L R))
 entry rows s h = row_entry (row_of rows s) h
 
 abbrev pub dues_at : List (Vec (ℕ × ℕ) Global) → ℕ → List (ℕ × ℕ)
 dues_at dues s = unwrap_or (option_map (λ due. due.items) (slice_get dues s)) []
 
 -- the row of a sealed chunk, before any list is taken
-abbrev pub IsRowOf : {W L R : Type 0} → Sealing W L R → Row L R → Type 0
-IsRowOf z e = (e.report ≡ z.report) × (e.lists.items ≡ map (λ l. Some l) z.lists)
+abbrev pub IsRowOf : {W L R : Type 0} → Sealing W L R → Box (Row L R) → Type 0
+IsRowOf z e = (e.value.report ≡ z.report) × (e.value.lists.items ≡ map (λ l. Some l) z.lists)
 
 module _ {W K L R : Type 0} (r : Rules W K L R) where
   -- ---- positions that steps lead to
@@ -105,7 +110,7 @@ module _ {W K L R : Type 0} (r : Rules W K L R) where
   sealed_held (Working k) = World (r.seals k).world
   sealed_held Nothing = Nothing
 
-  abbrev pub IsRowFrom : Held W K → Row L R → Type 0
+  abbrev pub IsRowFrom : Held W K → Box (Row L R) → Type 0
   IsRowFrom (World w) row = ⊥
   IsRowFrom (Working k) row = IsRowOf (r.seals k) row
   IsRowFrom Nothing row = ⊥

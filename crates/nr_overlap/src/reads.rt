@@ -26,7 +26,7 @@ pub(crate) fn working_of<W, K>(held: &Held<W, K>) -> Option<&K>
     }
 }
 
-fn report_in<L, R>(entry: &Option<Row<L, R>>) -> Option<&R>
+fn report_in<L, R>(entry: &Option<Box<Row<L, R>>>) -> Option<&R>
     ensures { option_copied result ≡ row_report entry.now }
 {
     match entry {
@@ -35,7 +35,7 @@ fn report_in<L, R>(entry: &Option<Row<L, R>>) -> Option<&R>
     }
 }
 
-fn list_in<L, R>(entry: &Option<Row<L, R>>, dest: usize) -> Option<&L>
+fn list_in<L, R>(entry: &Option<Box<Row<L, R>>>, dest: usize) -> Option<&L>
     ensures { option_copied result ≡ row_slot entry.now dest }
 {
     match entry {
@@ -47,7 +47,7 @@ fn list_in<L, R>(entry: &Option<Row<L, R>>, dest: usize) -> Option<&L>
     }
 }
 
-fn report_of<L, R>(row: &[Option<Row<L, R>>], height: usize) -> Option<&R>
+fn report_of<L, R>(row: &[Option<Box<Row<L, R>>>], height: usize) -> Option<&R>
     ensures { option_copied result ≡ row_report (row_entry row.now height) }
 {
     match row.get(height) {
@@ -56,7 +56,7 @@ fn report_of<L, R>(row: &[Option<Row<L, R>>], height: usize) -> Option<&R>
     }
 }
 
-pub(crate) fn slot_of<L, R>(row: &[Option<Row<L, R>>], height: usize, dest: usize) -> Option<&L>
+pub(crate) fn slot_of<L, R>(row: &[Option<Box<Row<L, R>>>], height: usize, dest: usize) -> Option<&L>
     ensures { option_copied result ≡ row_slot (row_entry row.now height) dest }
 {
     match row.get(height) {
@@ -67,7 +67,7 @@ pub(crate) fn slot_of<L, R>(row: &[Option<Row<L, R>>], height: usize, dest: usiz
 
 /// The report of a chunk, of any shard at any height.
 pub(crate) fn report_in_rows<L, R>(
-    rows: &[Vec<Option<Row<L, R>>>],
+    rows: &[Vec<Option<Box<Row<L, R>>>>],
     shard: usize,
     height: usize,
 ) -> Option<&R>

@@ -1,7 +1,7 @@
 //! The steps of a shard, each where it is enabled.
 
 ghost use Rattle.std.specs.Prelude.{◌≡◌, ◌<◌, ◌+◌, ◌≤◌, ◌++◌, ◌∷◌, [], ℕ, IfOk, OnOk, OnErr, length, map, List, Option, Some, None, slice_get, slice_set};
-ghost use Rattle.nr_overlap.specs.Held.{IsSerial, IsKept, IsHeld, Happens, Opens, Takes, Seals, opened_held, took_held, sealed_held, IsRowFrom, row_of, row_entry, row_slot, row_report, IsRowOf};
+ghost use Rattle.nr_overlap.specs.Held.{IsSerial, IsKept, IsHeld, Happens, Opens, Takes, Seals, opened_held, took_held, sealed_held, IsRowFrom, cell, row_of, row_entry, row_slot, row_report, IsRowOf};
 ghost use Rattle.nr_overlap.specs.declared.event.Event.TheVariants.{OpenChunk, TakeList, SealChunk, PublishLists};
 ghost use Rattle.nr_overlap.specs.Inside.{IsInside, actor};
 ghost use Rattle.nr_overlap.specs.Moves.{refusal, moved};
@@ -65,7 +65,7 @@ fn seal_held<P: Phases>(
     alloc: Global,
     phases: &P,
     held: &mut Held<P::World, P::Working>,
-) -> Result<Row<P::Parcel, P::Report>, AllocError>
+) -> Result<Box<Row<P::Parcel, P::Report>>, AllocError>
     requires { Seals (P.can_seal phases.now) held.old }
     ensures held { OnOk result (held.new ≡ sealed_held (P.rules phases.now) held.old) }
     ensures row { IfOk result (λ row. IsRowFrom (P.rules phases.now) held.old row) }
@@ -74,8 +74,9 @@ fn seal_held<P: Phases>(
         Held::Working(working) => {
             let (world, report, lists) = phases.seal_chunk(alloc, working)?;
             let lists = slots_of(alloc, lists.into_inner())?;
+            let row = Box::new(alloc, Row { report, lists })?;
             *held = Held::World(world);
-            Ok(Row { report, lists })
+            Ok(row)
         }
         _ => unreachable!(),
     }
@@ -83,25 +84,68 @@ fn seal_held<P: Phases>(
 
 // ---- what one shard has sealed
 
+/// How many slots stand up to the last list.
+fn used<L>(lists: &[Option<L>]) -> usize
+    ensures past { (d : ℕ) → result ≤ d → cell lists.now d ≡ None }
+    ensures within { result ≤ length lists.now }
+{
+    let mut used = lists.len();
+    while used > 0 && lists[used - 1].is_none() {
+        used -= 1;
+    }
+    used
+}
+
+/// Gives up the slots behind the last list.
+#[tactic(auto, using(crate::proofs::Cells::cell_taken))]
+fn trim<L: Drop>(alloc: Global, lists: &mut Vec<Option<L>>)
+    ensures { (d : ℕ) → cell lists.new.items d ≡ cell lists.old.items d }
+{
+    let used = used(lists);
+    if used == 0 {
+        *lists = Vec::new(alloc);
+    } else {
+        lists.truncate(used);
+    }
+}
+
+/// Takes the list out of a slot, if it is there.
+fn take_cell<L: Drop>(lists: &mut Vec<Option<L>>, dest: usize) -> Option<L>
+    ensures list { result ≡ cell lists.old.items dest }
+    ensures gone { cell lists.new.items dest ≡ None }
+    ensures others { (d : ℕ) → (d ≡ dest → ⊥) → cell lists.new.items d ≡ cell lists.old.items d }
+{
+    match lists.get_mut(dest) {
+        Some(list) => list.take(),
+        None => None,
+    }
+}
+
 /// Takes a list out of a sealed chunk.
-fn take_from<L: Drop, R: Drop>(entry: &mut Option<Row<L, R>>, dest: usize) -> Option<L>
+fn take_from<L: Drop, R: Drop>(
+    alloc: Global,
+    entry: &mut Option<Box<Row<L, R>>>,
+    dest: usize,
+) -> Option<L>
     ensures list { result ≡ row_slot entry.old dest }
     ensures gone { row_slot entry.new dest ≡ None }
     ensures others { (d : ℕ) → (d ≡ dest → ⊥) → row_slot entry.new d ≡ row_slot entry.old d }
     ensures report { row_report entry.new ≡ row_report entry.old }
 {
     match entry {
-        Some(sealed) => match sealed.lists.get_mut(dest) {
-            Some(list) => list.take(),
-            None => None,
-        },
+        Some(sealed) => {
+            let list = take_cell(&mut sealed.lists, dest);
+            trim(alloc, &mut sealed.lists);
+            list
+        }
         None => None,
     }
 }
 
 /// Takes the list out of a slot.
 fn take_slot<L: Drop, R: Drop>(
-    row: &mut Vec<Option<Row<L, R>>>,
+    alloc: Global,
+    row: &mut Vec<Option<Box<Row<L, R>>>>,
     height: usize,
     dest: usize,
 ) -> Option<L>
@@ -112,7 +156,7 @@ fn take_slot<L: Drop, R: Drop>(
     ensures reports { (h : ℕ) → row_report (row_entry row.new.items h) ≡ row_report (row_entry row.old.items h) }
     ensures long { length row.new.items ≡ length row.old.items }
 {
-    take_from(&mut row[height], dest)
+    take_from(alloc, &mut row[height], dest)
 }
 
 // ---- the steps
@@ -165,6 +209,7 @@ fn take_at<P: Phases>(
 {
     let place = dest.0 as usize;
     let list = take_slot(
+        alloc,
         &mut shards.rows[source.0 as usize],
         height.0 as usize,
         place,

@@ -12,7 +12,7 @@ use std::test::Fail;
 use std::thread::Threads;
 
 /// A genesis of two shards without entries, in hexadecimal.
-const GENESIS: &str = "4e52473101000000020000006d6d00000000";
+pub(crate) const GENESIS: &str = "4e52473101000000020000006d6d00000000";
 
 /// Two blocks, each with an empty chunk of both shards.
 const BOTH: &str = "4e52423102000000010000000000000000000000000000000200000001000000000100000000\
@@ -51,7 +51,7 @@ const SUMMARY: &str = "gen 4 2 2\n\
                        total burnt 17174400\n\
                        total places 44 16 0 0 28\n";
 
-fn words_of(alloc: Global, of: &[&str; 4]) -> Result<Vec<String>, Fail> {
+pub(crate) fn words_of(alloc: Global, of: &[&str; 4]) -> Result<Vec<String>, Fail> {
     let mut words = Vec::new(alloc);
     for word in *of {
         words.push(String::from_str(alloc, word)?)?;
