@@ -54,8 +54,7 @@ pub record IsSameSeal (x : List ℕ → Bool) (w : World) (whole part : Sealing 
   pub world : whole.world ≡ record part.world { world = over (all_of x) part.world.world w }
 
 -- ---- the law: from every world with receipts under their receivers, as valid ones have them, and for all accounts
--- among
--- which are those that the chunk touches
+-- among which are those that the chunk touches
 pub record IsLocalChunk (c : Config) (call : World → CallContext → Called) : Type 0 where
   pub worked : (x : List ℕ → Bool) (k : Working) (txs : List Transaction) (lists : List (List Receipt))
       → IsKeyed k.world

@@ -11,6 +11,6 @@ mod planned;
 mod port;
 
 pub use exchange::{Exchange, make_exchange};
-pub use note::{Link, Note};
+pub use note::{Link, Note, Room};
 pub use planned::{Planned, Serial};
 pub use port::{Full, NotYet, Parcel, Port};

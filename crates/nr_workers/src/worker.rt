@@ -23,7 +23,7 @@ pub(crate) enum Stage<W, K, L> {
     Sealed(W, List<L>),
     /// The last world, and the lists that no chunk takes.
     Ended(W, Left<L>),
-    /// Nothing: memory was wanting, or a source has abandoned the run.
+    /// Nothing: memory was wanting, or a shard that it waited for has abandoned the run.
     Lost,
 }
 
