@@ -3,6 +3,7 @@
 
 usage: bench/runs.py [--program PATH] [--only accounts|blocks|transactions|shards|delayed]
        bench/runs.py --beside [PATH] [--program PATH] [--blocks N]
+       bench/runs.py --long [PATH] [--program PATH]
 
 Build the program first: cd crates/near_serial && rt run. Each input has accounts with a key each, spread evenly over the
 shards, and blocks of transfers from each account to the next one in turn. Under `delayed` a receipt costs gas, and a chunk's
@@ -11,6 +12,9 @@ limit lets a hundred of them run, so that the others wait. The time is that of o
 With `--beside` the serial program and the one with a thread for each shard (crates/near_replay) run one after the other on
 the same files, and on the same generated chains of N blocks (256), on one, two and four cores as far as there are so many.
 The ratio is the time by threads over the serial one. Both must write the same.
+
+With `--long` both run on chains of up to 100,000 blocks over an empty genesis. All chunks are empty: of all shards in each
+block, of the first shard alone but for the first block and the last, or none.
 """
 import argparse
 import hashlib
@@ -28,6 +32,9 @@ ROWS = {
     "shards": [(10_000, 16, 1_600, 1), (10_000, 16, 1_600, 4), (10_000, 16, 1_600, 16)],
     "delayed": [(1_000, 16, 1_000, 1), (4_000, 16, 4_000, 4)],
 }
+
+
+LONG = [(2, 100_000, "first"), (2, 10_000, "first"), (16, 10_000, "all"), (16, 20_000, "all"), (16, 100_000, "all"), (16, 100_000, "none")]
 
 
 def name(number):
@@ -81,6 +88,41 @@ def blocks(accounts, heights, each, shards):
                 nonces[signer] += 1
                 parts.append(transfer(signer, (signer + 1) % accounts, nonces[signer]))
     return b"".join(parts)
+
+
+def long_files(files, shards, heights, there):
+    """An empty genesis, and blocks of empty chunks."""
+    boundaries = [bytes([97 + shard] * 2) for shard in range(1, shards)]
+    with open(files[0], "wb") as out:
+        out.write(b"NRG1" + struct.pack("<I", len(boundaries)) + b"".join(map(counted, boundaries)) + struct.pack("<I", 0))
+    empty, missing = b"\1" + struct.pack("<I", 0), b"\0"
+    with open(files[1], "wb") as out:
+        out.write(b"NRB1" + struct.pack("<I", heights))
+        for height in range(1, heights + 1):
+            whole = there == "all" or there == "first" and height in (1, heights)
+            first = missing if there == "none" else empty
+            chunks = first + (empty if whole else missing) * (shards - 1)
+            out.write(struct.pack("<QQI", height, 0, shards) + chunks)
+
+
+def long_chains(programs):
+    print("| Shards | Blocks | Chunks | Seconds, serial | MiB | Seconds, threads | MiB | Ratio |")
+    print("|---|---|---|---|---|---|---|---|")
+    with tempfile.TemporaryDirectory() as folder:
+        files = [os.path.join(folder, part) for part in ("genesis", "blocks")]
+        for shards, heights, there in LONG:
+            child = os.fork()
+            if child == 0:
+                long_files(files, shards, heights, there)
+                os._exit(0)
+            os.waitpid(child, 0)
+            words = [[verb, "free"] + files for verb in ("run", "replay")]
+            runs = [min((timed(*pair, folder) for _ in range(3)), key=lambda run: run[0]) for pair in zip(programs, words)]
+            (serial, held, first), (threads, beside, second) = runs
+            if first != second:
+                sys.exit(f"the programs write different reports: {shards} shards, {heights} blocks, {there}")
+            row = f"| {shards} | {heights:,} | {there} | {serial:.2f} | {held:.0f} | {threads:.2f} | {beside:.0f} | {threads / serial:.2f} |"
+            print(row, flush=True)
 
 
 def configuration(what):
@@ -169,11 +211,15 @@ def main():
     parser.add_argument("--program")
     parser.add_argument("--only", choices=ROWS)
     parser.add_argument("--beside", nargs="?", const="")
+    parser.add_argument("--long", nargs="?", const="")
     parser.add_argument("--blocks", type=int, default=256)
     arguments = parser.parse_args()
     program = built(arguments.program, "near_serial")
     if arguments.beside is not None:
         side_by_side([program, built(arguments.beside, "near_replay")], arguments.blocks)
+        return
+    if arguments.long is not None:
+        long_chains([program, built(arguments.long, "near_replay")])
         return
     print("| Accounts | Blocks | Transactions a block | Shards | Seconds | MiB |")
     print("|---|---|---|---|---|---|")
@@ -184,4 +230,5 @@ def main():
                 print("| " + " | ".join(f"{number:,}" for number in row) + f" | {taken:.2f} | {memory:.0f} |", flush=True)
 
 
-main()
+if __name__ == "__main__":
+    main()
