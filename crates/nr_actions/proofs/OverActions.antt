@@ -42,7 +42,7 @@ module _ (p : Scope) (v : World) where
   unless_over [] a = refl
   unless_over (t ∷ ts) a =
       elim t.0 as (λ b. cond b (fails t.1) (unless ts (over_acted p v a))
-          ≡ over_acted p v (cond b (fails t.1) (unless ts a)))
+      ≡ over_acted p v (cond b (fails t.1) (unless ts a)))
       [ true ↦ refl | false ↦ unless_over ts a ]
 
   on_account_over : (o : Option Account) (f g : Account → Acted)
@@ -88,7 +88,7 @@ module _ (p : Scope) (v : World) (c : Config) (f : Frame) (own : p.own f.receive
       at_receiver w _ _ (λ account.
       let paid : Account = with_deposit account x.deposit in
       (λ i. on_code (code_seen p v w f.receiver own i)
-          (ended f last (call (account_written p v w f.receiver paid own i) x)))
+      (ended f last (call (account_written p v w f.receiver paid own i) x)))
       ∙ ap (λ came. on_code (get w.code f.receiver) (ended f last came))
       (called_over call local p (with_account w f.receiver paid) v x current)
       ∙ ap (on_code (get w.code f.receiver)) (ended_over last (call (with_account w f.receiver paid) x))
@@ -100,7 +100,7 @@ module _ (p : Scope) (v : World) (c : Config) (f : Frame) (own : p.own f.receive
       ap (λ u. set_key c u f.receiver (implicit_key f.receiver) full_key)
       (account_written p v w f.receiver (new_account c amount) own)
       ∙ key_set p v c (with_account w f.receiver (new_account c amount)) f.receiver (implicit_key f.receiver) full_key
-          own keys
+      own keys
 
   raised_over : (w : World) (key : PublicKey) (amount : ℕ) (o : Option AccessKey)
       → with_raised c (over p w v) f.receiver key amount o ≡ over p (with_raised c w f.receiver key amount o) v
@@ -112,9 +112,9 @@ module _ (p : Scope) (v : World) (c : Config) (f : Frame) (own : p.own f.receive
   refunded_over w deposit =
       elim (is_refund f)
       as (λ b. cond b (with_raised c (over p w v) f.receiver f.act.signer_key deposit
-          (get (over p w v).keys (f.receiver, f.act.signer_key))) (over p w v)
+      (get (over p w v).keys (f.receiver, f.act.signer_key))) (over p w v)
       ≡ over p (cond b (with_raised c w f.receiver f.act.signer_key deposit
-          (get w.keys (f.receiver, f.act.signer_key))) w) v) [
+      (get w.keys (f.receiver, f.act.signer_key))) w) v) [
         | true ↦ ap (with_raised c (over p w v) f.receiver f.act.signer_key deposit)
             (key_seen p v w f.receiver f.act.signer_key keys)
             ∙ raised_over w f.act.signer_key deposit (get w.keys (f.receiver, f.act.signer_key))
@@ -161,8 +161,10 @@ module _ (p : Scope) (v : World) (c : Config) (f : Frame) (own : p.own f.receive
   deleted_over w beneficiary =
       at_receiver w _ _ (λ account.
       (λ i. unless ((is_other f, NoPermission) ∷ (not (account.locked == 0), Locked)
-      ∷ (nat_lt (delete_state_limit c) (account.storage_usage - usage_of_code_seen p v w f.receiver own i),
-          LargeState) ∷ [])
+      ∷ (
+        nat_lt (delete_state_limit c) (account.storage_usage - usage_of_code_seen p v w f.receiver own i),
+        LargeState,
+      ) ∷ [])
       (Acts (account_removed p v w f.receiver own keys i) (after_deletion f beneficiary account)))
       ∙ unless_over p v (deletion_failures c w f account) _)
 
@@ -205,7 +207,7 @@ module _ (f : Frame) where
   given_keeps : (c : Config) (w : World) (deposit : ℕ) (o : Option Account) → KeepsReceiver f (given c w f deposit o)
   given_keeps c w deposit None =
       elim (makes_account f)
-          as (λ b. KeepsReceiver f (cond b (Acts (with_implicit c w f.receiver deposit) f) (fails NoAccount)))
+      as (λ b. KeepsReceiver f (cond b (Acts (with_implicit c w f.receiver deposit) f) (fails NoAccount)))
       [ true ↦ refl | false ↦ tt ]
   given_keeps c w deposit (Some account) = refl
 
@@ -221,7 +223,7 @@ module _ (f : Frame) where
   unfolding act
   act_keeps c call w last CreateAccount =
       done (creation_failures c w f) (with_account w f.receiver (new_account c 0)) (record f { actor = f.receiver })
-          refl
+      refl
   act_keeps c call w last (DeployContract code) =
       on_account_keeps (get w.accounts f.receiver) _ (λ account.
       done ((is_other f, NoPermission) ∷ []) (set_code w f.receiver code) f refl)

@@ -39,9 +39,11 @@ of_map P f (x ∷ xs) all = (all.0, of_map P f xs all.1)
 of_lists : {A : Type 0} (P : A → Type 0) (lists : List (List A)) → AllByRecursion P (flat_map (λ list. list) lists)
     → AllByRecursion (AllByRecursion P) lists
 of_lists P [] all = tt
-of_lists P (list ∷ lists) all =
-    (front P list (flat_map (λ list. list) lists) all, of_lists P lists
-        (back P list (flat_map (λ list. list) lists) all))
+of_lists P (list ∷ lists) all = (
+  front P list (flat_map (λ list. list) lists) all,
+  of_lists P lists
+      (back P list (flat_map (λ list. list) lists) all),
+)
 
 -- ---- receipts under their receivers
 pub valid_keyed : (c : Config) (w : World) → IsValidWorld c w → IsKeyed w
@@ -50,7 +52,7 @@ valid_keyed c w valid k r is = sym (ap (λ (key : List ℕ × List ℕ). key.0) 
 part_keyed : (x : List ℕ → Bool) (w : World) → IsKeyed w → IsKeyed (part_of x w)
 part_keyed x w h k r is =
     by (x k.0) (sym (get-retain_keys w.postponed (λ q. x q.0) k
-        (λ q e. ap (λ (key : List ℕ × List ℕ). x key.0) (sym (exact_data k q e)))) ∙ is)
+    (λ q e. ap (λ (key : List ℕ × List ℕ). x key.0) (sym (exact_data k q e)))) ∙ is)
   where
     by : (b : Bool) → cond b (get w.postponed k) None ≡ Some r → r.receiver ≡ k.0
     by true e = h k r e
@@ -79,7 +81,7 @@ module _ (c : Config) (call : World → CallContext → Called) (local : IsLocal
   pub work_is_local : (k : Working) (txs : List Transaction) (lists : List (List Receipt)) → IsKeyed k.world
       → HasAll x (touched k.world txs (flat_map (λ list. list) lists))
       → IsSameWork x k.world (worked c call k txs lists) (worked c call (record k { world = part_of x k.world }) txs
-          lists)
+      lists)
   work_is_local k txs lists keyed all =
       let w : World = k.world in
       let received : List (List ℕ) = map (λ (r : Receipt). r.receiver) (flat_map (λ list. list) lists) in
@@ -93,12 +95,12 @@ module _ (c : Config) (call : World → CallContext → Called) (local : IsLocal
       (of_map P (λ (r : Receipt). r.receiver) (flat_map (λ list. list) lists) (back P queued received rest)) in
       let part : Working = record k { world = part_of x w } in
       ap (λ u. worked c call (record k { world = u }) txs lists) (sym (over_itself (all_of x) w)
-          ∙ sym (over_part x w w))
+      ∙ sym (over_part x w w))
       ∙ worked_over w keyed part txs lists (record { keyed = part_keyed x w keyed; queued = delayed }) signers taken
 
   pub seal_is_local : (boundaries : List (List ℕ)) (shards : ℕ) (w : World) (whole part : Working)
       → IsSameWork x w whole part
-          → IsSameSeal x w (seal_chunk boundaries shards whole) (seal_chunk boundaries shards part)
+      → IsSameSeal x w (seal_chunk boundaries shards whole) (seal_chunk boundaries shards part)
   seal_is_local boundaries shards w whole part is = record {
     lists = ap (λ k. (seal_chunk boundaries shards k).lists) is;
     report = λ i. record (seal_chunk boundaries shards (is i)).report
@@ -122,9 +124,10 @@ or_true false b h = h
 
 held : (ids all : List (List ℕ)) → ((id : List ℕ) → is_in ids id ≡ true → is_in all id ≡ true) → HasAll (is_in all) ids
 held [] all h = tt
-held (id ∷ ids) all h =
-    (h id (ap (λ b. b || is_in ids id) (itself id)),
-    held ids all (λ other there. h other (or_true (bytes_eq other id) (is_in ids other) there)))
+held (id ∷ ids) all h = (
+  h id (ap (λ b. b || is_in ids id) (itself id)),
+  held ids all (λ other there. h other (or_true (bytes_eq other id) (is_in ids other) there)),
+)
 
 pub all_in : (ids : List (List ℕ)) → HasAll (is_in ids) ids
 all_in ids = held ids ids (λ id there. there)

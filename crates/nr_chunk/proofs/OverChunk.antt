@@ -54,7 +54,7 @@ same_waiting : (x : List ℕ → Bool) (u w : World) → u ≡ over owned u w �
 same_waiting x u w is h = record {
   keyed = λ k r there.
       h.keyed k r (sym (get-over pair_total exact_data (λ k. false) u.postponed w.postponed k)
-          ∙ ap (λ (t : World). get t.postponed k) (sym is) ∙ there);
+      ∙ ap (λ (t : World). get t.postponed k) (sym is) ∙ there);
   queued = subst (AllByRecursion (IsFor x)) (sym (ap (λ (t : World). t.delayed) is)) h.queued;
 }
 
@@ -106,7 +106,7 @@ module _ (x : List ℕ → Bool) (v : World) (kept : IsKeyed v) (c : Config) (ca
       ≡ beyond (cond b (offered_to c call k r (offer k.world r)) (late k r))) [
         | true ↦ ap (offered_to c call (beyond k) r) (offer_over (all_of x) v kept k.world r keyed here)
             ∙ by_offer_over (record k { world = (offer k.world r).0 }) r (offer k.world r).1
-                (offer_fine k.world r keyed).runs here
+            (offer_fine k.world r keyed).runs here
         | false ↦ refl
       ]
 
@@ -197,7 +197,7 @@ module _ (x : List ℕ → Bool) (v : World) (kept : IsKeyed v) (c : Config) (ca
 
   by_conversion_over : (o : Opening) (tx : Transaction) (came : Conversion)
       → by_conversion (beyond_opening o) tx (over_conversion (all_of x) v came)
-          ≡ beyond_opening (by_conversion o tx came)
+      ≡ beyond_opening (by_conversion o tx came)
   by_conversion_over o tx (Ok made) =
       aside_over (is_local tx) (with_converted o.working tx made.0 made.1) o.local made.1.receipt
   by_conversion_over o tx (Err fault) = refl
@@ -207,7 +207,7 @@ module _ (x : List ℕ → Bool) (v : World) (kept : IsKeyed v) (c : Config) (ca
   unfolding convert_next
   next_over o tx here =
       ap (by_conversion (beyond_opening o) tx) (convert_over (all_of x) v c tx o.working.place here here
-          o.working.world)
+      o.working.world)
       ∙ by_conversion_over o tx (convert c o.working.world tx o.working.place)
 
   aside_stays : (b : Bool) (k : Working) (list : List Receipt) (r : Receipt) → (b ≡ true → IsFor x r) → Stays x k.world
@@ -217,7 +217,7 @@ module _ (x : List ℕ → Bool) (v : World) (kept : IsKeyed v) (c : Config) (ca
 
   by_conversion_stays : (o : Opening) (tx : Transaction) (came : Conversion) → x tx.signer ≡ true → StaysOpen o
       → came ≡ over_conversion owned o.working.world came → GoesTo tx.receiver came
-          → StaysOpen (by_conversion o tx came)
+      → StaysOpen (by_conversion o tx came)
   by_conversion_stays o tx (Ok made) here h is goes =
       let apart : made.0 ≡ over owned made.0 o.working.world = cc in
       aside_stays (is_local tx) (with_converted o.working tx made.0 made.1) o.local made.1.receipt
@@ -231,7 +231,7 @@ module _ (x : List ℕ → Bool) (v : World) (kept : IsKeyed v) (c : Config) (ca
       let w : World = o.working.world in
       by_conversion_stays o tx (convert c w tx o.working.place) here h
       (ap (λ u. convert c u tx o.working.place) (sym (over_itself owned w))
-          ∙ convert_over owned w c tx o.working.place refl refl w)
+      ∙ convert_over owned w c tx o.working.place refl refl w)
       (convert_goes c w tx o.working.place)
 
   all_over : (txs : List Transaction) (o : Opening) → AllByRecursion (λ (tx : Transaction). x tx.signer ≡ true) txs
@@ -265,6 +265,6 @@ module _ (x : List ℕ → Bool) (v : World) (kept : IsKeyed v) (c : Config) (ca
   opened_stays k txs h all =
       let o : Opening = convert_all c k txs in
       let s : StaysOpen o = all_stays txs (record { working = k; local = [] }) all (record { stays = h; listed = tt })
-          in
+      in
       let served : Stays x (served_local c call o).world = taken_stays o.local o.working s.stays s.listed in
       queue_stays (served_local c call o).world.delayed (served_local c call o) served served.queued

@@ -48,10 +48,10 @@ IsSameWork x w whole part = whole ≡ record part { world = over (all_of x) part
 
 -- the lists, and of the report all but the root: the lines, the gas and what was burnt
 pub record IsSameSeal (x : List ℕ → Bool) (w : World) (whole part : Sealing Kept (List Receipt) ChunkResult) : Type 0
-    where
-  pub lists : whole.lists ≡ part.lists
-  pub report : whole.report ≡ record part.report { root = whole.report.root }
-  pub world : whole.world ≡ record part.world { world = over (all_of x) part.world.world w }
+  where
+    pub lists : whole.lists ≡ part.lists
+    pub report : whole.report ≡ record part.report { root = whole.report.root }
+    pub world : whole.world ≡ record part.world { world = over (all_of x) part.world.world w }
 
 -- ---- the law: from every world with receipts under their receivers, as valid ones have them, and for all accounts
 -- among which are those that the chunk touches

@@ -65,7 +65,7 @@ module _ (v : World) (x : CallContext) where
     burns = λ s n h. h;
     calls = λ s f args h.
         answer_keeps (row f args (with_guest s.host s.memory))
-            ((row_local v f args (with_guest s.host s.memory)).context ∙ h);
+        ((row_local v f args (with_guest s.host s.memory)).context ∙ h);
   }
 
   abbrev there : Called → Called

@@ -188,7 +188,7 @@ module _ (P : (A : Type 0) → Act A → Type 0) (kept : AreKept P) where
   zeros ptr =
       chain (log.text_at ptr) _
       (seeing (λ s. log.before_zero (drop ptr s.guest)) (λ o. or_fault o out_of_bounds) (λ s w. refl)
-          (λ o. found o _)) (λ text.
+      (λ o. found o _)) (λ text.
       chain (pay_bytes (length text)) _ (pays _) (λ paid. gives text))
 
   texts : (len ptr : ℕ) → Stays (log.text_of len ptr)
@@ -206,10 +206,13 @@ module _ (P : (A : Type 0) → Act A → Type 0) (kept : AreKept P) where
   unfolding log.add_log
   adds_log text =
       seeing
-      (λ s. (nat_le (max_logs s.config) (length s.logs)
-      || nat_lt (max_log_bytes s.config) (log.log_bytes s.logs + length text), s.logs ++ text ∷ []))
+      (λ s. (
+        nat_le (max_logs s.config) (length s.logs)
+            || nat_lt (max_log_bytes s.config) (log.log_bytes s.logs + length text),
+        s.logs ++ text ∷ [],
+      ))
       (λ (p : Bool × List (List ℕ)). λ s. if p.0 then Stops s (stop.Fault too_many_logs) else Goes
-          (record s { logs = p.1 }) tt)
+      (record s { logs = p.1 }) tt)
       (λ s w. refl) (λ p. log_if p.0 _ p.1)
 
   returns : (value : List ℕ) → Stays (log.set_value value)
@@ -220,12 +223,12 @@ module _ (P : (A : Type 0) → Act A → Type 0) (kept : AreKept P) where
   short_key : (key : List ℕ) → Stays (storage.short_key key)
   short_key key =
       seeing (λ s. nat_lt (max_key_bytes s.config) (length key)) (λ b. fault_if b key_too_long) (λ s w. refl)
-          (λ b. tested b _)
+      (λ b. tested b _)
 
   short_value : (value : List ℕ) → Stays (storage.short_value value)
   short_value value =
       seeing (λ s. nat_lt (max_value_bytes s.config) (length value)) (λ b. fault_if b value_too_long) (λ s w. refl)
-          (λ b. tested b _)
+      (λ b. tested b _)
 
   founds : (reg : ℕ) (o : Option (List ℕ)) → Stays (storage.found_in reg o)
   founds reg None = gives {A = ℕ} 0
@@ -241,7 +244,7 @@ module _ (P : (A : Type 0) → Act A → Type 0) (kept : AreKept P) where
   place : Stays promises.place_for_one
   place =
       seeing (λ s. nat_le (max_promises s.config) (length s.book.promises)) (λ b. fault_if b too_many_promises)
-          (λ s w. refl) (λ b. tested b _)
+      (λ s w. refl) (λ b. tested b _)
 
   sizes : (count : ℕ) → Stays (promises.indices_size count)
   sizes count =
@@ -285,7 +288,7 @@ module _ (P : (A : Type 0) → Act A → Type 0) (kept : AreKept P) where
   room : (count : ℕ) → Stays (action.has_room count)
   room count =
       seeing (λ s. nat_le (max_actions s.config) count) (λ b. fault_if b too_many_actions) (λ s w. refl)
-          (λ b. tested b _)
+      (λ b. tested b _)
 
   -- ---- the rows
   read_register : (reg ptr : ℕ) → Stays (register.read_register reg ptr)
@@ -323,7 +326,7 @@ module _ (P : (A : Type 0) → Act A → Type 0) (kept : AreKept P) where
   unfolding context.signer_account_pk
   signer_account_pk reg =
       chain begin _ (pays _) (λ b. seeing (λ s. key_bytes s.context.signer_key) (to_register reg) (λ s w. refl)
-          (writes reg))
+      (writes reg))
 
   input : (reg : ℕ) → Stays (context.input reg)
   unfolding context.input
@@ -354,14 +357,14 @@ module _ (P : (A : Type 0) → Act A → Type 0) (kept : AreKept P) where
   unfolding context.account_balance
   account_balance ptr =
       chain begin _ (pays _) (λ b. chain (look (λ s. (account_of s).amount)) _
-          (kept.account_seen _ (λ account. account.amount))
+      (kept.account_seen _ (λ account. account.amount))
       (λ amount. stores ptr (little 16 amount)))
 
   account_locked_balance : (ptr : ℕ) → Stays (context.account_locked_balance ptr)
   unfolding context.account_locked_balance
   account_locked_balance ptr =
       chain begin _ (pays _) (λ b. chain (look (λ s. (account_of s).locked)) _
-          (kept.account_seen _ (λ account. account.locked))
+      (kept.account_seen _ (λ account. account.locked))
       (λ locked. stores ptr (little 16 locked)))
 
   attached_deposit : (ptr : ℕ) → Stays (context.attached_deposit ptr)
@@ -382,10 +385,10 @@ module _ (P : (A : Type 0) → Act A → Type 0) (kept : AreKept P) where
       chain begin _ (pays _) (λ b. chain (bytes_of len ptr) _ (arguments len ptr) (λ value.
       chain (log.short_return value) _
       (seeing (λ s. nat_lt (max_return_bytes s.config) (length value)) (λ b. fault_if b return_too_long) (λ s w. refl)
-          (λ b. tested b _)) (λ a.
+      (λ b. tested b _)) (λ a.
       chain (log.pay_outputs (length value)) _
       (seeing (λ s. log.outputs_cost s.config s.context.current s.context.outputs (length value)) burn (λ s w. refl)
-          kept.burns)
+      kept.burns)
       (λ p. returns value))))
 
   panic_utf8 : (len ptr : ℕ) → Stays (log.panic_utf8 len ptr)

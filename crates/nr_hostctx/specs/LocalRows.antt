@@ -69,13 +69,13 @@ module _ (v : World) where
   unfolding burn
   burns n s =
       choose s (has_gas s.gas n) _ _ _ _ (record { same = refl; context = refl })
-          (record { same = refl; context = refl })
+      (record { same = refl; context = refl })
 
   prepays : (n : ℕ) → IsLocalAct (Unit {0}) (promise n)
   unfolding promise
   prepays n s =
       choose s (has_gas s.gas n) _ _ _ _ (record { same = refl; context = refl })
-          (record { same = refl; context = refl })
+      (record { same = refl; context = refl })
 
   -- ---- the account and its data
   account_there : (s : HostState) → account_of (elsewhere s) ≡ account_of s
@@ -84,8 +84,11 @@ module _ (v : World) where
       (seen (one_account s.context.current) v s.world s.context.current (itself s.context.current))
 
   sees_account : (A : Type 0) (f : Account → A) → IsLocalAct A (look (λ s. f (account_of s)))
-  sees_account A f s = record { same = ap (λ account. Goes (elsewhere s) (f account)) (account_there s); context =
-      refl }
+  sees_account A f s = record {
+    same = ap (λ account. Goes (elsewhere s) (f account)) (account_there s);
+    context =
+        refl;
+  }
 
   datum_at : (key : List ℕ) (s : HostState)
       → get (elsewhere s).world.data_of (s.context.current, key) ≡ get s.world.data_of (s.context.current, key)
@@ -98,7 +101,7 @@ module _ (v : World) where
     same =
         ap (λ (w : World). Goes (record s { world = w }) tt)
         (datum_set (one_account s.context.current) v s.config s.world s.context.current key value
-            (itself s.context.current));
+        (itself s.context.current));
     context = refl;
   }
 
@@ -108,7 +111,7 @@ module _ (v : World) where
     same =
         ap (λ (w : World). Goes (record s { world = w }) tt)
         (datum_removed (one_account s.context.current) v s.config s.world s.context.current key
-            (itself s.context.current));
+        (itself s.context.current));
     context = refl;
   }
 
@@ -175,7 +178,7 @@ module _ (v : World) where
       result : Account → World → Came (Unit {0})
       result account w =
           if nat_lt account.amount deposit then Stops s (stop.Fault balance_exceeded) else Goes
-              (record s { world = w }) tt
+          (record s { world = w }) tt
 
       there : Came (Unit {0})
       there =
@@ -188,8 +191,10 @@ module _ (v : World) where
 
       paid : action.take deposit (elsewhere s) ≡ there
       paid = λ i. if nat_lt (account_there s i).amount deposit then Stops (elsewhere s) (stop.Fault balance_exceeded)
-          else Goes (record s { world = (ap (less (over p s.world v)) (account_there s)
-              ∙ account_written p v s.world id (account_less (account_of s) deposit) (itself id)) i }) tt
+          else Goes (record s {
+            world = (ap (less (over p s.world v)) (account_there s)
+                ∙ account_written p v s.world id (account_less (account_of s) deposit) (itself id)) i;
+          }) tt
 
   with_action_is : (r : Result Book PromiseFault) → IsLocalAct (Unit {0}) (action.with_action r)
   with_action_is (Ok book) s = record { same = refl; context = refl }

@@ -113,8 +113,11 @@ module _ (p : Scope) (v : World) where
       ∙ without_over (without_received w receiver id) receiver ids h
 
   run_over : (w : World) (r : Receipt) → p.waiting r.receiver ≡ true → run (over p w v) r ≡ over_offered p v (run w r)
-  run_over w r h = λ i. (without_over w r.receiver (inputs_of r.body) h i, Run r
-      (data_over w r.receiver (inputs_of r.body) h i))
+  run_over w r h = λ i. (
+    without_over w r.receiver (inputs_of r.body) h i,
+    Run r
+        (data_over w r.receiver (inputs_of r.body) h i),
+  )
 
   -- ---- the cases
   cond_over : (b : Bool) (x y : World × Offered) → cond b (over_offered p v x) (over_offered p v y)
@@ -126,7 +129,7 @@ module _ (p : Scope) (v : World) where
       ≡ over_offered p v (postpone w r)
   postpone_over w r h =
       (λ i. cond (is_some (postponed_seen p v w r.receiver r.receipt_id.0 h i))
-          (over p w v, Clash r (SameId r.receipt_id))
+      (over p w v, Clash r (SameId r.receipt_id))
       (receipt_postponed p v w r h i, Postponed r.receipt_id))
       ∙ cond_over (is_some (get w.postponed (r.receiver, r.receipt_id.0))) (w, Clash r (SameId r.receipt_id))
       (with_postponed w r, Postponed r.receipt_id)
@@ -144,7 +147,7 @@ module _ (p : Scope) (v : World) where
     held_over w r k h = λ i.
         option_or (option_map SameInput (first_repeated (inputs_of r.body)))
         (option_map Awaited (find (λ (id : Hash32). is_some (awaited_seen p w v k kept r.receiver id h i))
-            (inputs_of r.body)))
+        (inputs_of r.body)))
 
     release_over : (w : World) (r : Receipt) (by : Hash32) (o : Option Receipt) → IsKeyed w → p.waiting r.receiver
         ≡ true
@@ -180,7 +183,7 @@ module _ (p : Scope) (v : World) where
         ∙ ap (cond (is_some (get w.received (r.receiver, d.data_id.0))) (over p w v, Clash r (Arrived d.data_id)))
         (store_over came r d.data_id k h)
         ∙ cond_over (is_some (get w.received (r.receiver, d.data_id.0))) (w, Clash r (Arrived d.data_id))
-            (store came r d.data_id)
+        (store came r d.data_id)
 
     body_over : (w : World) (r : Receipt) (body : Body) → IsKeyed w → p.waiting r.receiver ≡ true
         → offer_body (over p w v) r body ≡ over_offered p v (offer_body w r body)

@@ -56,7 +56,11 @@ fn report_of<L, R>(row: &[Option<Box<Row<L, R>>>], height: usize) -> Option<&R>
     }
 }
 
-pub(crate) fn slot_of<L, R>(row: &[Option<Box<Row<L, R>>>], height: usize, dest: usize) -> Option<&L>
+pub(crate) fn slot_of<L, R>(
+    row: &[Option<Box<Row<L, R>>>],
+    height: usize,
+    dest: usize,
+) -> Option<&L>
     ensures { option_copied result ≡ row_slot (row_entry row.now height) dest }
 {
     match row.get(height) {

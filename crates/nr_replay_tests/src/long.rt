@@ -96,7 +96,10 @@ fn a_shard_is_away_between_the_first_block_and_the_last(rt: HostRuntime) -> Resu
     assert!(rt; status == Status::Done && beside_status == Status::Done);
     assert!(rt; text == beside_sink.bytes());
     assert_eq!(rt; lines(text), 100_007);
-    assert!(rt; text.strip_suffix(b"\ntotal places 0 0 0 0 0\n".as_slice()).is_some());
+    assert!(rt;
+        text.strip_suffix(b"\ntotal places 0 0 0 0 0\n".as_slice())
+            .is_some()
+    );
     Ok(())
 }
 

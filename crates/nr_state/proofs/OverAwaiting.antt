@@ -73,7 +73,7 @@ keyed_by P false m n r h k is = k is
 pub over_keyed : (p : Scope) (w v : World) → IsKeyed w → IsKeyed v → IsKeyed (over p w v)
 over_keyed p w v h k at r is =
     keyed_by (λ (q : Receipt). q.receiver ≡ at.0) (p.waiting at.0) (get w.postponed at) (get v.postponed at) r
-        (h at r) (k at r)
+    (h at r) (k at r)
     (sym (get-over pair_total exact_data (λ k. p.waiting k.0) w.postponed v.postponed at) ∙ is)
 
 pub awaited_seen : (p : Scope) (w v : World) → IsKeyed w → IsKeyed v → (receiver : List ℕ) (id : Hash32)

@@ -71,10 +71,10 @@ module _ (x : List ℕ → Bool) (u w : World) (h : IsKeyed u) (k : IsKeyed w) w
   lacked : (r : Receipt) → missing_inputs both r ≡ cond (x r.receiver) (missing_inputs u r) (missing_inputs w r)
   lacked r =
       (λ i. count_by (λ (id : Hash32). is_none (get-over pair_total exact_data (λ (q : Key). x q.0) u.received
-          w.received (r.receiver, id.0) i)) (inputs_of r.body))
+      w.received (r.receiver, id.0) i)) (inputs_of r.body))
       ∙ elim (x r.receiver) as (λ b.
       count_by (λ (id : Hash32). is_none
-          (cond b (get u.received (r.receiver, id.0)) (get w.received (r.receiver, id.0)))) (inputs_of r.body)
+      (cond b (get u.received (r.receiver, id.0)) (get w.received (r.receiver, id.0)))) (inputs_of r.body)
       ≡ cond b (missing_inputs u r) (missing_inputs w r)) [ true ↦ refl | false ↦ refl ]
 
   lacked_by : (q : Key) (o : Option Receipt) → ((r : Receipt) → o ≡ Some r → r.receiver ≡ q.0)
@@ -88,7 +88,7 @@ module _ (x : List ℕ → Bool) (u w : World) (h : IsKeyed u) (k : IsKeyed w) w
   missing_both = same_map pair_total exact_data _ _ (λ q.
       missing_at both q
       ∙ ap (option_map (missing_inputs both)) (get-over pair_total exact_data (λ (q : Key). x q.0) u.postponed
-          w.postponed q)
+      w.postponed q)
       ∙ by q (x q.0) refl
       ∙ (λ i. cond (x q.0) (sym (missing_at u q) i) (sym (missing_at w q) i))
       ∙ sym (get-over pair_total exact_data (λ (q : Key). x q.0) (missing_in u) (missing_in w) q))
@@ -101,17 +101,17 @@ module _ (x : List ℕ → Bool) (u w : World) (h : IsKeyed u) (k : IsKeyed w) w
       by : (q : Key) (b : Bool) → x q.0 ≡ b
           → option_map (missing_inputs both) (cond (x q.0) (get u.postponed q) (get w.postponed q))
           ≡ cond (x q.0) (option_map (missing_inputs u) (get u.postponed q))
-              (option_map (missing_inputs w) (get w.postponed q))
+          (option_map (missing_inputs w) (get w.postponed q))
       by q true e =
           ap (λ b. option_map (missing_inputs both) (cond b (get u.postponed q) (get w.postponed q))) e
           ∙ lacked_by q (get u.postponed q) (h q) ∙ one q true (get u.postponed q) e
           ∙ sym (ap (λ b. cond b (option_map (missing_inputs u) (get u.postponed q))
-              (option_map (missing_inputs w) (get w.postponed q))) e)
+          (option_map (missing_inputs w) (get w.postponed q))) e)
       by q false e =
           ap (λ b. option_map (missing_inputs both) (cond b (get u.postponed q) (get w.postponed q))) e
           ∙ lacked_by q (get w.postponed q) (k q) ∙ one q false (get w.postponed q) e
           ∙ sym (ap (λ b. cond b (option_map (missing_inputs u) (get u.postponed q))
-              (option_map (missing_inputs w) (get w.postponed q))) e)
+          (option_map (missing_inputs w) (get w.postponed q))) e)
 
   pub columns_both : columns_of both ≡ over_columns x (columns_of u) (columns_of w)
   columns_both = λ i. record (columns_of both) { awaited = awaited_both i; missing = missing_both i }
@@ -170,7 +170,7 @@ module _ (x : List ℕ → Bool) (c d m : Contents) (mixed : (b : List ℕ) → 
     keys =
         part_over keys_law c d m (is_of x) (λ q. x q.0) mixed
         (λ q e. key_owner x q (at_first 2 (q.0 ++ 2 ∷ key_bytes q.1))
-            (unchecked keys_table (keys_table.key q) (keys_table.unkey (keys_table.key q)) q e)) i;
+        (unchecked keys_table (keys_table.key q) (keys_table.unkey (keys_table.key q)) q e)) i;
     code = part_over code_law c d m (is_of x) x mixed (λ q e. refl) i;
     data_of = part_over data_law c d m (is_of x) (λ q. x q.0) mixed
         (λ q e. at_comma 9 q (unchecked data_table (data_table.key q) (data_table.unkey (data_table.key q)) q e)) i;
@@ -217,7 +217,7 @@ entries_over x u w h k g l =
     as_laid (over (all_of x) u w)
     ∙ ap laid_columns
     (columns_both x u w h k ∙ (λ i. over_columns x (sym g i) (sym l i))
-        ∙ sym (columns_mixed x (flat u) (flat w) m mixed))
+    ∙ sym (columns_mixed x (flat u) (flat w) m mixed))
     ∙ laid_mixed x (flat u) (flat w) m mixed (laid_world u g) (laid_world w l)
 
 -- ---- the entries of a part

@@ -21,7 +21,7 @@ unfolding first_of
 find-append_all R q [] fs = refl
 find-append_all R q (e ∷ es) fs =
     elim (eq_by_cmp R q e.0) as (λ b. cond b (Some e.1) (find R q (es ++ fs))
-        ≡ first_of (cond b (Some e.1) (find R q es)) (find R q fs)) [
+    ≡ first_of (cond b (Some e.1) (find R q es)) (find R q fs)) [
       | true ↦ refl
       | false ↦ find-append_all R q es fs
     ]

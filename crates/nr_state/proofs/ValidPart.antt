@@ -45,7 +45,7 @@ module _ {K X : Type 0} {R : K → K → Ordering} (o : IsTotalOrder R) (exact :
   one_fewer : (f : X → ℕ) (p : K → Bool) (e : K × X) (es : List (K × X)) (b : Bool)
       → sum_by f (map (λ e. e.1) (where_key R p es)) ≤ sum_by f (map (λ e. e.1) es)
       → sum_by f (map (λ e. e.1) (cond b (e ∷ where_key R p es) (where_key R p es))) ≤ sum_by f
-          (e.1 ∷ map (λ e. e.1) es)
+      (e.1 ∷ map (λ e. e.1) es)
   one_fewer f p e es true h =
       omega (arith, h, sum_by-cons f e.1 (map (λ e. e.1) (where_key R p es)), sum_by-cons f e.1 (map (λ e. e.1) es))
   one_fewer f p e es false h = omega (arith, h, sum_by-cons f e.1 (map (λ e. e.1) es))
@@ -58,7 +58,7 @@ module _ {K X : Type 0} {R : K → K → Ordering} (o : IsTotalOrder R) (exact :
   fewer_values : (f : X → ℕ) (m : FinMap R X) (p : K → Bool) → sum_by f (values (retain_keys m p)) ≤ sum_by f (values m)
   fewer_values f m p =
       subst (λ es. sum_by f (map (λ e. e.1) es) ≤ sum_by f (values m)) (sym (entries-retain_keys o exact m p))
-          (fewer f p (entries m))
+      (fewer f p (entries m))
 
 -- ---- what an owner's entries count
 not_owned : {K X : Type 0} (x : List ℕ → Bool) (id : List ℕ) (count : K → X → ℕ) (e : (List ℕ × K) × X) → x id ≡ true
@@ -112,7 +112,7 @@ module _ (x : List ℕ → Bool) (c : Config) (w : World) where
         owner_kept id h.0 (are.code id h.1);
     data_of = λ k has.
         let h = here (x k.0) (get w.data_of k) (subst IsSome (kept pair_total exact_data w.data_of (λ q. x q.0) k)
-            has) in
+        has) in
         owner_kept k.0 h.0 (are.data_of k h.1);
     no_system = λ id has.
         are.no_system id (here (x id) (get w.accounts id) (subst IsSome (accounts_kept id) has)).1;
@@ -141,15 +141,18 @@ module _ (x : List ℕ → Bool) (c : Config) (w : World) where
     waits = λ k r is.
         let h = was k r is in
         still_waits r (ap x (sym (ap (λ (q : List ℕ × List ℕ). q.0) (are.postponed.each k r h.1).keyed))
-            ∙ h.0) (are.waits k r h.1);
+        ∙ h.0) (are.waits k r h.1);
     bounded = λ k r is. are.bounded k r (was k r is).1;
     delayed = are.delayed;
   }
 
   pub tokens_of_part : world_tokens c part ≤ world_tokens c w
   tokens_of_part =
-      omega (arith, fewer_values nat_list_cmp_total exact_bytes account_tokens w.accounts x,
-      fewer_values pair_total exact_data (receipt_tokens c) w.postponed (λ q. x q.0))
+      omega (
+        arith,
+        fewer_values nat_list_cmp_total exact_bytes account_tokens w.accounts x,
+        fewer_values pair_total exact_data (receipt_tokens c) w.postponed (λ q. x q.0),
+      )
 
   pub part_valid : IsValidWorld c w → IsValidWorld c part
   part_valid valid = record {

@@ -95,9 +95,10 @@ module _ {K X : Type 0} {R : K → K → Ordering} (o : IsTotalOrder R) (exact :
   each_entry : (P : K → X → Type 0) (es : List (K × X)) → T (is_sorted R es)
       → ((k : K) (x : X) → find R k es ≡ Some x → P k x) → AllByRecursion (λ e. P e.0 e.1) es
   each_entry P [] s h = tt
-  each_entry P (e ∷ es) s h =
-      (h e.0 e.1 (ap (λ b. cond b (Some e.1) (find R e.0 es)) ((eq_by_cmp_equiv o).refl e.0)),
-      each_entry P es (second _ _ s) (λ k x is. h k x (later k x is (eq_by_cmp R k e.0) refl)))
+  each_entry P (e ∷ es) s h = (
+    h e.0 e.1 (ap (λ b. cond b (Some e.1) (find R e.0 es)) ((eq_by_cmp_equiv o).refl e.0)),
+    each_entry P es (second _ _ s) (λ k x is. h k x (later k x is (eq_by_cmp R k e.0) refl)),
+  )
     where
       later : (k : K) (x : X) → find R k es ≡ Some x → (b : Bool) → eq_by_cmp R k e.0 ≡ b
           → cond b (Some e.1) (find R k es) ≡ Some x
@@ -131,7 +132,7 @@ module _ {K X : Type 0} {t : Table K X} {pick : Columns → FinMap t.cmp X}
   laid_whole m c s e none can =
       laid_in (entries m) c
       (each_entry is.law.total is.law.exact (CanLay t) (entries m) (entries_sorted m)
-          (λ k x found. can k x (get-entries m k ∙ found)))
+      (λ k x found. can k x (get-entries m k ∙ found)))
       ∙ ap (λ r. put_in r (piled (entries m) (pick r))) e
       ∙ ap (λ n. put_in s (piled (entries m) n)) none
       ∙ ap (put_in s) (piled_all is.law.total is.law.exact m)
@@ -168,7 +169,7 @@ read_columns k can =
     (laid_whole code_column (λ s m. refl) (λ s m n. refl) (λ s. refl) k.code _ _
     (laid_whole keys_column (λ s m. refl) (λ s m n. refl) (λ s. refl) k.keys _ _
     (laid_whole accounts_column (λ s m. refl) (λ s m n. refl) (λ s. refl) k.accounts _ _ no_columns_in refl
-        can.accounts)
+    can.accounts)
     refl can.keys) refl can.code) refl can.data_of) refl can.received) refl can.awaited) refl can.missing) refl
     can.postponed) refl can.delayed) refl
 
@@ -195,8 +196,12 @@ module _ (w : World) (fits : IsWorld w) (are : ArePostponed w) where
           let count : missing_inputs w r ≡ n = cc in
           let small : n < 256 ^ 4 =
           subst (λ m. m < 256 ^ 4) count
-          (omega (arith, count_by-le-length (is_missing w r.receiver) (inputs_of r.body), few_inputs r.body
-              h.1.1.1.1.1)) in
+          (omega (
+            arith,
+            count_by-le-length (is_missing w r.receiver) (inputs_of r.body),
+            few_inputs r.body
+                h.1.1.1.1.1,
+          )) in
           (comma_there q.0 q.1 h.0, count_back n small)
 
   numbered_fits : (list : List Receipt) (from n : ℕ) (r : Receipt) → AllByRecursion IsReceipt list
@@ -218,9 +223,10 @@ module _ (w : World) (fits : IsWorld w) (are : ArePostponed w) where
   delayed_laid : (n : ℕ) (r : Receipt) → get (columns_of w).delayed n ≡ Some r → CanLay delayed_table n r
   delayed_laid n r is =
       let h = numbered_fits w.delayed w.served n r fits.delayed
-          (sym (get-from_entries nat_cmp_total (numbered w.served w.delayed) n) ∙ is) in
-      (number_there n (omega (arith, h.0, fits.served)),
-      ap read_of (whole_again record_fault receipt_at receipt_bytes IsReceipt receipt_law r h.1))
+      (sym (get-from_entries nat_cmp_total (numbered w.served w.delayed) n) ∙ is) in (
+        number_there n (omega (arith, h.0, fits.served)),
+        ap read_of (whole_again record_fault receipt_at receipt_bytes IsReceipt receipt_law r h.1),
+      )
 
   queue_read : (q : ℕ × ℕ) → queue_in w ≡ Some q → queue_of (queue_bytes q) ≡ Some q
   queue_read q is = by ((w.served + length w.delayed) == 0) is
@@ -236,26 +242,34 @@ module _ (w : World) (fits : IsWorld w) (are : ArePostponed w) where
   pub world_read : IsReadBack w
   unfolding flat
   world_read = read_columns (columns_of w) (record {
-    accounts = λ id a is.
-        (refl, ap read_of (whole_again record_fault account_at account_bytes IsAccount account_law a
-            (fits.accounts id a is).1));
+    accounts = λ id a is. (
+      refl,
+      ap read_of (whole_again record_fault account_at account_bytes IsAccount account_law a
+          (fits.accounts id a is).1),
+    );
     keys = λ q a is.
-        let h = fits.keys q a is in
-        (rest_there q.0 q.1 h.0 h.1.0, ap read_of (whole_again record_fault access_key_at access_key_bytes IsAccessKey
-            access_key_law a h.1.1));
+        let h = fits.keys q a is in (
+          rest_there q.0 q.1 h.0 h.1.0,
+          ap read_of (whole_again record_fault access_key_at access_key_bytes IsAccessKey
+              access_key_law a h.1.1),
+        );
     code = λ id v is. (refl, refl);
     data_of = λ q v is. (comma_there q.0 q.1 (fits.data_of q v is), refl);
     received = λ q v is.
-        let h = fits.received q v is in
-        (comma_there q.0 q.1 h.0, ap read_of
-            (whole_again record_fault (option_at blob_at) (option_bytes counted_bytes) (IsOption IsCounted)
-            (option_law blob_at counted_bytes IsCounted (blob_law record_fault)) v h.1.1));
+        let h = fits.received q v is in (
+          comma_there q.0 q.1 h.0,
+          ap read_of
+              (whole_again record_fault (option_at blob_at) (option_bytes counted_bytes) (IsOption IsCounted)
+              (option_law blob_at counted_bytes IsCounted (blob_law record_fault)) v h.1.1),
+        );
     awaited = awaited_laid;
     missing = missing_laid;
     postponed = λ q r is.
-        let h = fits.postponed q r is in
-        (comma_there q.0 q.1 h.0, ap read_of (whole_again record_fault receipt_at receipt_bytes IsReceipt receipt_law
-            r h.1.1));
+        let h = fits.postponed q r is in (
+          comma_there q.0 q.1 h.0,
+          ap read_of (whole_again record_fault receipt_at receipt_bytes IsReceipt receipt_law
+              r h.1.1),
+        );
     delayed = delayed_laid;
     queue = queue_read;
   })
