@@ -11,41 +11,32 @@ use std::test::Fail;
 use std::thread::Threads;
 
 /// The most blocks of a file.
-const BLOCKS: u64 = 100_000;
-
-/// What a block has behind its height: no time, two shards, and an empty chunk of the first.
-const FIRST_SHARD: [u8; 17] = *b"\0\0\0\0\0\0\0\0\x02\0\0\0\x01\0\0\0\0";
-
-/// An empty chunk.
-const EMPTY: [u8; 5] = *b"\x01\0\0\0\0";
-
-/// No chunk.
-const MISSING: [u8; 1] = *b"\0";
+const BLOCKS: u32 = 100_000;
 
 /// Adds a block. The second shard has a chunk only in the first block and in the last.
 fn add_block(bytes: &mut Vec<u8>, height: u64, last: u64) -> Result<(), Fail> {
     bytes.extend_from_slice(height.to_le_bytes().as_slice())?;
-    bytes.extend_from_slice(FIRST_SHARD.as_slice())?;
+    bytes.extend_from_slice(b"\0\0\0\0\0\0\0\0\x02\0\0\0\x01\0\0\0\0".as_slice())?;
     if height == 1 || height == last {
-        bytes.extend_from_slice(EMPTY.as_slice())?;
+        bytes.extend_from_slice(b"\x01\0\0\0\0".as_slice())?;
     } else {
-        bytes.extend_from_slice(MISSING.as_slice())?;
+        bytes.extend_from_slice(b"\0".as_slice())?;
     }
     Ok(())
 }
 
 /// A blocks file of so many blocks.
-fn blocks_of(alloc: Global, count: u64) -> Result<Vec<u8>, Fail> {
+fn blocks_of(alloc: Global, count: u32) -> Result<Vec<u8>, Fail> {
     let mut bytes = Vec::from_slice(alloc, b"NRB1".as_slice())?;
-    bytes.extend_from_slice((count as u32).to_le_bytes().as_slice())?;
+    bytes.extend_from_slice(count.to_le_bytes().as_slice())?;
     for below in 0..count {
-        add_block(&mut bytes, below + 1, count)?;
+        add_block(&mut bytes, u64::from(below) + 1, u64::from(count))?;
     }
     Ok(bytes)
 }
 
 /// The genesis `G`, and blocks `B` of so many.
-fn shelf_of(alloc: Global, count: u64) -> Result<MemoryShelf, Fail> {
+fn shelf_of(alloc: Global, count: u32) -> Result<MemoryShelf, Fail> {
     let mut files = Vec::new(alloc);
     files.push((String::from_str(alloc, "G")?, hex::decode(alloc, GENESIS)?))?;
     files.push((String::from_str(alloc, "B")?, blocks_of(alloc, count)?))?;
@@ -57,7 +48,7 @@ fn sink_of(alloc: Global) -> Result<MemorySink, Fail> {
 }
 
 /// How the serial run ends, and what it wrote.
-fn serially(alloc: Global, count: u64) -> Result<(Status, MemorySink), Fail> {
+fn serially(alloc: Global, count: u32) -> Result<(Status, MemorySink), Fail> {
     let words = words_of(alloc, &["run", "free", "G", "B"])?;
     let mut shelf = shelf_of(alloc, count)?;
     let mut sink = sink_of(alloc)?;
@@ -69,7 +60,7 @@ fn serially(alloc: Global, count: u64) -> Result<(Status, MemorySink), Fail> {
 fn beside<R: Threads + Wait + Sync>(
     rt: &R,
     alloc: Global,
-    count: u64,
+    count: u32,
 ) -> Result<(Status, MemorySink), Fail> {
     let words = words_of(alloc, &["replay", "free", "G", "B"])?;
     let mut shelf = shelf_of(alloc, count)?;
@@ -78,14 +69,9 @@ fn beside<R: Threads + Wait + Sync>(
     Ok((status, sink))
 }
 
+/// How many lines a text has.
 fn lines(text: &[u8]) -> usize {
-    let mut lines = 0;
-    for byte in text {
-        if *byte == b'\n' {
-            lines += 1;
-        }
-    }
-    lines
+    text.iter().filter(|byte| **byte == b'\n').count()
 }
 
 #[test]
