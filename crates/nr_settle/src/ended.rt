@@ -62,8 +62,8 @@ fn settle<C: Caller<ChunkStore>>(
 ///
 /// # Errors
 ///
-/// Where memory runs out; then all threads have ended. More blocks than [`MOST_BLOCKS`](nr_blocks::MOST_BLOCKS) count as
-/// that, and a sum that doesn't fit its number.
+/// Where memory runs out; then all threads have ended. More blocks than [`MOST_BLOCKS`](nr_blocks::MOST_BLOCKS) count
+/// as that, and a sum that doesn't fit its number.
 pub fn run_to_end<
     R: Threads + Wait + Sync,
     C: Caller<ChunkStore> + Send + Sync,
