@@ -1,6 +1,6 @@
 -- The reports in rows of a run that is over: their text is the report's, and there are as many as chunks were sealed.
 use Rattle.std.proofs.Common.{◌≡◌, ℕ, zero, suc, ◌+◌, ◌<◌, List, ◌++◌, Option, refl, sym, ap, ◌∙◌, arith}
-use Rattle.std.specs.Global.{Vec}
+use Rattle.std.specs.Global.{Box, Vec}
 use Rattle.nr_chunk.specs.Chain.{Chain, rules_of}
 use Rattle.nr_chunk.specs.Views.{Kept, Working}
 use Rattle.nr_overlap.specs.Balance.{sum_below}
@@ -25,7 +25,7 @@ unfolding text_below
 text_same zero f g e = refl
 text_same (suc n) f g e = (λ j. text_same n f g (λ i l. e i (omega (arith, l))) j ++ e n (omega arith) j)
 
-module _ (x : Chain) (rows : List (Vec (Option ChunkResult))) (are : AreRows (rules_of x) rows) where
+module _ (x : Chain) (rows : List (Vec (Option (Box ChunkResult)))) (are : AreRows (rules_of x) rows) where
   abbrev r : Rules Kept Working (List Receipt) ChunkResult
   r = rules_of x
 

@@ -1,6 +1,6 @@
 -- What is written of a chain that was run to its end.
 use Rattle.std.proofs.Common.{◌≡◌, ℕ, List, ◌++◌, Option, refl, sym, ap, subst, ◌∙◌}
-use Rattle.std.specs.Global.{Vec}
+use Rattle.std.specs.Global.{Box, Vec}
 use Rattle.sha2.specs.Sha256.{sha256}
 use Rattle.nr_blocks.specs.Genesis.{supply}
 use Rattle.nr_chunk.specs.Chain.{Chain, rules_of}
@@ -21,7 +21,7 @@ use Rattle.nr_replay.specs.declared.written.Written.{Written}
 use Rattle.nr_replay.proofs.Shown.{count_is, text_is}
 
 -- y is the chain x, and so much it had at first
-module _ (x y : Chain) (rows : List (Vec (Option ChunkResult))) (shards heights supplied : ℕ) (tally : Tally) (same : x ≡ y)
+module _ (x y : Chain) (rows : List (Vec (Option (Box ChunkResult)))) (shards heights supplied : ℕ) (tally : Tally) (same : x ≡ y)
     (shards_are : shards ≡ (rules_of x).shards) (heights_are : heights ≡ (rules_of x).heights) (first : supplied ≡ supply y.entries) where
   supplied_is : supplied ≡ supply x.entries
   supplied_is = first ∙ ap (λ (z : Chain). supply z.entries) (sym same)

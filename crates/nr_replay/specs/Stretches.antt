@@ -1,6 +1,6 @@
 -- The heights of a run in stretches, whose texts are written beside each other. This project's own.
 use Rattle.std.specs.Prelude.{◌≡◌, ℕ, ◌+◌, ◌*◌, ◌/◌, ◌%◌, min, List, ◌++◌, Option}
-use Rattle.std.specs.Global.{Vec}
+use Rattle.std.specs.Global.{Box, Vec}
 use Rattle.nr_records.specs.declared.chunk_result.ChunkResult.{ChunkResult}
 use Rattle.nr_settle.specs.Shown.{cell}
 use Rattle.nr_top.specs.Checking.{report_text}
@@ -11,7 +11,7 @@ abbrev pub start_of : ℕ → ℕ → ℕ
 start_of heights number = heights / 8 * number + min (heights % 8) number
 
 -- the text of the chunks at a height
-abbrev pub height_text : List (Vec (Option ChunkResult)) → ℕ → ℕ → List ℕ
+abbrev pub height_text : List (Vec (Option (Box ChunkResult))) → ℕ → ℕ → List ℕ
 height_text rows shards below = text_below shards (λ s. report_text (cell rows s below))
 
 -- a text that leads from all below a stretch to all below the next one

@@ -10,7 +10,7 @@ use nr_settle::cell;
 use std::alloc::AllocError;
 
 /// 1 where a shard has a chunk at a height, else 0.
-fn count_chunk(rows: &[Vec<Option<ChunkResult>>], shard: u32, below: u64) -> u64
+fn count_chunk(rows: &[Vec<Option<Box<ChunkResult>>>], shard: u32, below: u64) -> u64
     ensures count { result ≡ one_if_there (cell rows.now shard below) }
     ensures one { result ≤ 1 }
 {
@@ -21,7 +21,7 @@ fn count_chunk(rows: &[Vec<Option<ChunkResult>>], shard: u32, below: u64) -> u64
 }
 
 /// How many chunks a height has.
-fn count_height(rows: &[Vec<Option<ChunkResult>>], shards: u32, below: u64) -> u64
+fn count_height(rows: &[Vec<Option<Box<ChunkResult>>>], shards: u32, below: u64) -> u64
     ensures { result ≡ sum_below shards (λ s. one_if_there (cell rows.now s below)) }
 {
     let mut count = 0;
@@ -33,7 +33,7 @@ fn count_height(rows: &[Vec<Option<ChunkResult>>], shards: u32, below: u64) -> u
 
 /// How many chunks there are. A number above 64 bits counts as want of memory.
 pub(crate) fn count_chunks(
-    rows: &[Vec<Option<ChunkResult>>],
+    rows: &[Vec<Option<Box<ChunkResult>>>],
     shards: u32,
     heights: u64,
 ) -> Result<u64, AllocError>

@@ -20,7 +20,7 @@ const STRETCHES: usize = 8;
 /// Adds the text of a chunk, where it is there.
 fn add_chunk(
     alloc: Global,
-    rows: &[Vec<Option<ChunkResult>>],
+    rows: &[Vec<Option<Box<ChunkResult>>>],
     shard: u32,
     below: u64,
     text: &mut Blob,
@@ -37,7 +37,7 @@ fn add_chunk(
 #[tactic(auto, unfolding(nr_top::specs::Run::text_below))]
 fn add_height(
     alloc: Global,
-    rows: &[Vec<Option<ChunkResult>>],
+    rows: &[Vec<Option<Box<ChunkResult>>>],
     shards: u32,
     below: u64,
     text: &mut Blob,
@@ -64,7 +64,7 @@ fn start_of(heights: u64, number: usize) -> u64
 /// The text of a stretch of heights.
 fn stretch_of(
     alloc: Global,
-    rows: &[Vec<Option<ChunkResult>>],
+    rows: &[Vec<Option<Box<ChunkResult>>>],
     shards: u32,
     heights: u64,
     number: usize,
@@ -84,7 +84,7 @@ fn stretch_of(
 fn stretches<R: Threads + Sync>(
     rt: &R,
     alloc: Global,
-    rows: &[Vec<Option<ChunkResult>>],
+    rows: &[Vec<Option<Box<ChunkResult>>>],
     shards: u32,
     heights: u64,
 ) -> Result<Vec<Result<Blob, AllocError>>, AllocError>
@@ -114,7 +114,7 @@ fn add_stretch(stretch: &Result<Blob, AllocError>, text: &mut Blob) -> Result<()
 pub(crate) fn chunks_text<R: Threads + Sync>(
     rt: &R,
     alloc: Global,
-    rows: &[Vec<Option<ChunkResult>>],
+    rows: &[Vec<Option<Box<ChunkResult>>>],
     shards: u32,
     heights: u64,
 ) -> Result<Blob, AllocError>

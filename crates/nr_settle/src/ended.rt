@@ -28,7 +28,7 @@ use std::thread::Threads;
 #[derive(Drop)]
 pub struct Ended {
     /// By shard, and then height from 1, with a gap where there is no chunk.
-    pub rows: Vec<Vec<Option<ChunkResult>>>,
+    pub rows: Vec<Vec<Option<Box<ChunkResult>>>>,
     pub tally: Tally,
 }
 
@@ -62,8 +62,8 @@ fn settle<C: Caller<ChunkStore>>(
 ///
 /// # Errors
 ///
-/// Where memory runs out; then all threads have ended. More than 100,000 blocks count as that, and a sum that doesn't
-/// fit its number.
+/// Where memory runs out; then all threads have ended. More blocks than [`MOST_BLOCKS`](nr_blocks::MOST_BLOCKS) count
+/// as that, and a sum that doesn't fit its number.
 pub fn run_to_end<
     R: Threads + Wait + Sync,
     C: Caller<ChunkStore> + Send + Sync,

@@ -1,14 +1,26 @@
 //! The reports of a run by shard and height.
 
-ghost use Rattle.std.specs.Prelude.{◌≡◌, IfOk, Some};
+ghost use Rattle.std.specs.Prelude.{◌≡◌, ◌++◌, ◌∷◌, [], IfOk, OnOk, Some};
 ghost use Rattle.std.specs.Option.{option_copied};
 ghost use Rattle.nr_workers.specs.Outcome.{reports_to, reports_by_shard};
-ghost use Rattle.nr_settle.specs.Shown.{row_of, AreRows, cell, cell_in};
+ghost use Rattle.nr_settle.specs.Shown.{row_of, reports_in, AreRows, cell, cell_in};
 
 use nr_bytes::List;
 use nr_ids::{Height, ShardId};
 use nr_overlap::Phases;
 use std::alloc::{AllocError, Global};
+
+/// Adds the report of a chunk.
+fn push_report<R: Drop>(
+    alloc: Global,
+    row: &mut Vec<Option<Box<R>>>,
+    report: R,
+) -> Result<(), AllocError>
+    ensures { OnOk result (reports_in row.new.items ≡ reports_in row.old.items ++ Some report ∷ []) }
+{
+    row.push(Some(Box::new(alloc, report)?))?;
+    Ok(())
+}
 
 /// The reports of a shard in order of height, with a gap where it has no chunk.
 fn row_of<P: Phases>(
@@ -16,16 +28,16 @@ fn row_of<P: Phases>(
     phases: &P,
     shard: u32,
     reports: List<P::Report>,
-) -> Result<Vec<Option<P::Report>>, AllocError>
+) -> Result<Vec<Option<Box<P::Report>>>, AllocError>
     requires { reports ≡ reports_to (P.rules phases.now) shard (P.rules phases.now).heights }
-    ensures { IfOk result (λ row. row.items ≡ row_of (P.rules phases.now) shard) }
+    ensures { IfOk result (λ row. reports_in row.items ≡ row_of (P.rules phases.now) shard) }
 {
     let mut row = Vec::new(alloc);
     let mut rest = reports.into_inner().into_iter();
     for below in 0..phases.heights() {
         if phases.present(ShardId(shard), Height(below + 1)) {
             match rest.next() {
-                Some(report) => row.push(Some(report))?,
+                Some(report) => push_report(alloc, &mut row, report)?,
                 None => unreachable!(),
             }
         } else {
@@ -35,12 +47,12 @@ fn row_of<P: Phases>(
     Ok(row)
 }
 
-/// The reports of all shards, by shard and height, with a gap where there is no chunk.
+/// The reports of all shards, by shard and height, with a gap where there is no chunk. A gap takes a few bytes.
 pub(crate) fn rows_of<P: Phases>(
     alloc: Global,
     phases: &P,
     reports: List<List<P::Report>>,
-) -> Result<Vec<Vec<Option<P::Report>>>, AllocError>
+) -> Result<Vec<Vec<Option<Box<P::Report>>>>, AllocError>
     requires { reports ≡ reports_by_shard (P.rules phases.now) }
     ensures { IfOk result (λ rows. AreRows (P.rules phases.now) rows.items) }
 {
@@ -55,17 +67,17 @@ pub(crate) fn rows_of<P: Phases>(
     Ok(rows)
 }
 
-fn cell_in<R>(row: &[Option<R>], below: u64) -> Option<&R>
+fn cell_in<R>(row: &[Option<Box<R>>], below: u64) -> Option<&R>
     ensures { (rows : _) → rows.items ≡ row.now → option_copied result ≡ cell_in (Some rows) below }
 {
     match row.get(below as usize) {
-        Some(Some(report)) => Some(report),
+        Some(Some(report)) => Some(&**report),
         _ => None,
     }
 }
 
 /// The report of a shard at the height above a number.
-pub fn cell<R>(rows: &[Vec<Option<R>>], shard: u32, below: u64) -> Option<&R>
+pub fn cell<R>(rows: &[Vec<Option<Box<R>>>], shard: u32, below: u64) -> Option<&R>
     ensures { option_copied result ≡ cell rows.now shard below }
 {
     match rows.get(shard as usize) {

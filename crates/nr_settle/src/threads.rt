@@ -3,6 +3,7 @@
 ghost use Rattle.std.specs.Prelude.{◌≡◌, ◌<◌, IfOk};
 ghost use Rattle.nr_workers.specs.Outcome.{last_worlds, lists_left, reports_by_shard};
 
+use nr_blocks::MOST_BLOCKS;
 use nr_exchange::{Serial, make_exchange};
 use nr_overlap::Phases;
 use nr_workers::{Finished, Gate, run_shards};
@@ -10,10 +11,7 @@ use std::alloc::{AllocError, Global};
 use std::sync::Wait;
 use std::thread::Threads;
 
-/// The most blocks of a run by threads.
-const MOST_BLOCKS: u64 = 100_000;
-
-/// Runs all shards to the end, each in a thread of its own. More than 100,000 blocks count as want of memory.
+/// Runs all shards to the end, each in a thread of its own. More blocks than a file may have count as want of memory.
 pub(crate) fn run_beside<R: Threads + Wait + Sync, P: Phases + Sync, G: Gate + Sync>(
     rt: &R,
     alloc: Global,
@@ -25,7 +23,7 @@ pub(crate) fn run_beside<R: Threads + Wait + Sync, P: Phases + Sync, G: Gate + S
     ensures reports { IfOk result (λ done. done.reports ≡ reports_by_shard (P.rules run.now.0)) }
     ensures left { IfOk result (λ done. done.left ≡ lists_left (P.rules run.now.0)) }
 {
-    if run.0.heights() > MOST_BLOCKS {
+    if run.0.heights() > MOST_BLOCKS as u64 {
         return Err(AllocError);
     }
     let (exchange, ports) = make_exchange(alloc, run)?;

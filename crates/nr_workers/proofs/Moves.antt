@@ -16,7 +16,7 @@ use Rattle.nr_exchange.specs.Ports.{IsPortOf}
 use Rattle.nr_exchange.specs.Laws.{lists_there}
 use Rattle.nr_workers.specs.Outcome.{report_at, reports_to}
 use Rattle.nr_workers.specs.Taking.{pairs_before, source_after, done_after, HasClaimed, Finds, IsInbox}
-use Rattle.nr_workers.specs.Left.{row_of}
+use Rattle.nr_workers.specs.Left.{slot_of}
 use Rattle.nr_workers.specs.declared.left.Left.{Left}
 use Rattle.nr_workers.specs.Stages.{IsBetween, IsStage, IsAt}
 use Rattle.nr_workers.specs.declared.inbox.Inbox.{Inbox}
@@ -25,7 +25,7 @@ use Rattle.nr_workers.specs.declared.worker.Stage.{Stage}
 use Rattle.nr_workers.specs.declared.worker.Stage.TheVariants.{Idle, Opened, Sealed, Ended}
 use Rattle.nr_workers.proofs.Orders.{flat_map_more}
 use Rattle.nr_workers.proofs.Takings.{last_small, last_there, last_missing, still_claimed}
-use Rattle.nr_workers.proofs.Rows.{no_row, row_after}
+use Rattle.nr_workers.proofs.Rows.{no_list_yet, not_yet, list_after}
 use Rattle.nr_workers.proofs.Pairs.{work_opened, work_takes, work_whole, may_take}
 
 module _ {W K L R : Type 0} (r : Rules W K L R) where
@@ -221,8 +221,8 @@ module _ {P W K L R : Type 0} (rules : P → Rules W K L R) (e : ExchangeView (S
 
   -- behind the last height
   pub ends : (s h : ℕ) (i : Inbox P W K L R) (world : W) (left : Left L) (reports : List R) → IsAt rules e s i h (Idle world) reports → h ≡ (rules e.run.0).heights
-      → left.first ≡ i.done + 1 → length left.rows.items ≡ (rules e.run.0).shards → ((t : ℕ) → row_of left.rows.items t ≡ []) → IsAt rules e s i h (Ended world left) reports
-  ends s h i world left reports at last first all none =
+      → length left.rows.items ≡ (rules e.run.0).shards → ((t h : ℕ) → slot_of left t h ≡ None) → IsAt rules e s i h (Ended world left) reports
+  ends s h i world left reports at last all none =
       let r = rules e.run.0 in
       let to : i.done ≤ h = (let f = at.stage_is.1 in let small = last_small r s h in omega arith) in
       record {
@@ -234,9 +234,8 @@ module _ {P W K L R : Type 0} (rules : P → Rules W K L R) (e : ExchangeView (S
           at.stage_is.0,
           last,
           record {
-            first_is = first ∙ at.stage_is.1;
             all = all;
-            rows_are = λ t inside. none t ∙ sym (no_row r t s (first_due r s h) i.done i.source at.stage_is.1 at.stage_is.2);
+            lists_are = λ t k inside. none t k ∙ sym (no_list_yet r s (first_due r s h) i.done i.source t k at.stage_is.1 at.stage_is.2);
           },
           record { from = (let f = at.stage_is.1 in omega arith); to = to; whole = λ l. at.stage_is.2 },
         );
@@ -245,9 +244,9 @@ module _ {P W K L R : Type 0} (rules : P → Rules W K L R) (e : ExchangeView (S
 
   -- a list that no chunk takes
   pub keeps_left : (s h : ℕ) (i i' : Inbox P W K L R) (world : W) (left left' : Left L) (list : Option L) (reports : List R) → IsAt rules e s i h (Ended world left) reports → IsInbox rules e i' → i'.port.note.shard ≡ i.port.note.shard → i'.port.note.number ≡ i.port.note.number
-      → Finds (rules e.run.0) i.port.note.shard h i.done i.source (Passed list) i'.done i'.source → left'.first ≡ left.first → length left'.rows.items ≡ length left.rows.items
-      → row_of left'.rows.items i.source ≡ row_of left.rows.items i.source ++ list ∷ [] → ((t : ℕ) → (t ≡ i.source → ⊥) → row_of left'.rows.items t ≡ row_of left.rows.items t) → IsAt rules e s i' h (Ended world left') reports
-  keeps_left s h i i' world left left' list reports at inbox shard number found first all row others =
+      → Finds (rules e.run.0) i.port.note.shard h i.done i.source (Passed list) i'.done i'.source → length left'.rows.items ≡ length left.rows.items
+      → slot_of left' i.source (i.done + 1) ≡ list → ((t k : ℕ) → (t ≡ i.source → k ≡ i.done + 1 → ⊥) → slot_of left' t k ≡ slot_of left t k) → IsAt rules e s i' h (Ended world left') reports
+  keeps_left s h i i' world left left' list reports at inbox shard number found all this others =
       let r = rules e.run.0 in
       let has = at.stage_is.2 in
       record {
@@ -259,15 +258,21 @@ module _ {P W K L R : Type 0} (rules : P → Rules W K L R) (e : ExchangeView (S
           at.stage_is.0,
           at.stage_is.1,
           record {
-            first_is = first ∙ has.first_is;
             all = all ∙ has.all;
-            rows_are = λ t inside. row_after r t s (first_due r s h) i.done i.source i'.done i'.source list (row_of left.rows.items t) (row_of left'.rows.items t) inside at.stage_is.3.from found.2 found.3 (found.1 ∙ ap (list_to r (sealing_at r i.source (i.done + 1))) at.shard_is) (has.rows_are t inside)
-                (λ same. subst (λ (u : ℕ). row_of left'.rows.items u ≡ row_of left.rows.items u ++ list ∷ []) (sym same) row) (others t);
+            lists_are = list_after r s (first_due r s h) i.done i.source i'.done i'.source list (slot_of left) (slot_of left') at.stage_is.3.from at.inbox.source_there found.2 found.3 (found.1 ∙ ap (list_to r (sealing_at r i.source (i.done + 1))) at.shard_is) has.lists_are this others;
           },
           between_after (first_due r s h) h i.done i.source i'.done i'.source at.stage_is.3 found.0 found.2 found.3,
         );
         reports_are = at.reports_are;
       }
+
+  -- a source without one
+  pub passes_left : (s h : ℕ) (i i' : Inbox P W K L R) (world : W) (left : Left L) (reports : List R) → IsAt rules e s i h (Ended world left) reports → IsInbox rules e i' → i'.port.note.shard ≡ i.port.note.shard → i'.port.note.number ≡ i.port.note.number
+      → Finds (rules e.run.0) i.port.note.shard h i.done i.source (Passed None) i'.done i'.source → IsAt rules e s i' h (Ended world left) reports
+  passes_left s h i i' world left reports at inbox shard number found =
+      let r = rules e.run.0 in
+      keeps_left s h i i' world left left None reports at inbox shard number found refl
+      (at.stage_is.2.lists_are i.source (i.done + 1) at.inbox.source_there ∙ not_yet r s (first_due r s h) i.done i.source) (λ t k apart. refl)
 
   -- nothing came behind the last height
   pub stays : (s h : ℕ) (i i' : Inbox P W K L R) (world : W) (left : Left L) (reports : List R) → IsAt rules e s i h (Ended world left) reports → IsInbox rules e i' → i'.port.note.shard ≡ i.port.note.shard → i'.port.note.number ≡ i.port.note.number

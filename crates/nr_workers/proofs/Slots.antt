@@ -1,89 +1,76 @@
 -- The lists that no chunk takes, one by one.
 use Rattle.std.proofs.Common.{◌≡◌, ◌≢◌, ℕ, zero, suc, ◌+◌, ◌-◌, ◌<◌, ◌≤◌, Bool, true, false, cond, List, [], ◌∷◌, ◌++◌, None, Option, length, get_or, set, refl, sym, ap, ◌∙◌, arith}
-use Rattle.std.specs.Prelude.{nat_lt, map, unwrap_or, slice_get}
-use Rattle.std.specs.Global.{Vec}
-use Rattle.std.proofs.lemmas.Option.{unwrap_or-slice_get}
-use Rattle.std.proofs.lemmas.List.FromFn.{get_or-map-range_with_len}
+use Rattle.std.specs.Prelude.{nat_lt}
+use Rattle.std.specs.BTreeMap.{BTreeMap, get, IsEmpty, is_at}
+use Rattle.std.specs.List.{flat_map}
+use Rattle.std.specs.Map.{lookup}
+use Rattle.std.specs.Option.{option_map, option_to_list}
+use Rattle.std.specs.Ordering.{nat_cmp}
 use Rattle.std.proofs.lemmas.Bool.Decides.{nat_tests}
 use mathlib.Core.Logic.{dite}
 use native.Mathlib.Decide.{ℕ_discrete}
+use Rattle.nr_ids.specs.declared.number.Height.{Height}
+use Rattle.nr_ids.specs.declared.number.ShardId.{ShardId}
 use Rattle.nr_overlap.specs.Rules.{Rules}
-use Rattle.nr_overlap.proofs.Basics.{not_lt, ge_of}
-use Rattle.nr_overlap.specs.Serial.{first_due, heights_between, list_to, sealing_at}
+use Rattle.nr_overlap.proofs.Basics.{not_lt}
+use Rattle.nr_overlap.specs.Serial.{first_due, list_to, sealing_at, shard_numbers}
+use Rattle.nr_overlap.proofs.SerialLemmas.{sealing_missing}
 use Rattle.nr_workers.specs.declared.left.Left.{Left}
-use Rattle.nr_workers.specs.Outcome.{left_list}
+use Rattle.nr_workers.specs.Outcome.{left_list, left_at, left_by_height}
 use Rattle.nr_workers.specs.Each.{EachFrom, Each}
-use Rattle.nr_workers.specs.Left.{cell_of, row_of, row_to, slot_of, slot_in, HasLeft}
+use Rattle.nr_workers.specs.Left.{list_in, list_among, slot_of, slot_in, HasLeft}
 use Rattle.nr_workers.proofs.Orders.{none_of}
 
+abbrev sent : {L : Type 0} → ℕ → ℕ → ℕ → Option L → List (ShardId × Height × ShardId × L)
+sent s h d list = option_to_list (option_map (λ l. (record { 0 = s }, record { 0 = h }, record { 0 = d }, l)) list)
+
+-- another number
+pub apart_at : (h g : ℕ) → (g ≡ h → ⊥) → is_at (nat_cmp h) g ≡ false
+apart_at h g ne = grind (arith, nat_tests)
+
 module _ {L : Type 0} where
-  pub row_here : (rows : List (Vec (Option L))) (t : ℕ) (d : Vec (Option L)) → t < length rows → row_of rows t ≡ (get_or rows t d).items
-  row_here [] t d lt = absurd (omega arith)
-  row_here (row ∷ rows) zero d lt = refl
-  row_here (row ∷ rows) (suc t) d lt = row_here rows t d (omega arith)
+  pub list_here : (rows : List (BTreeMap ℕ L)) (t h : ℕ) (d : BTreeMap ℕ L) → t < length rows → list_in rows t h ≡ get nat_cmp (get_or rows t d) h
+  list_here [] t h d lt = absurd (omega (arith, lt))
+  list_here (row ∷ rows) zero h d lt = refl
+  list_here (row ∷ rows) (suc t) h d lt = list_here rows t h d (omega (arith, lt))
 
-  pub row_set : (rows : List (Vec (Option L))) (t : ℕ) (row : Vec (Option L)) → t < length rows → row_of (set rows t row) t ≡ row.items
-  row_set [] t row lt = absurd (omega arith)
-  row_set (x ∷ rows) zero row lt = refl
-  row_set (x ∷ rows) (suc t) row lt = row_set rows t row (omega arith)
+  pub list_set : (rows : List (BTreeMap ℕ L)) (t h : ℕ) (row : BTreeMap ℕ L) → t < length rows → list_in (set rows t row) t h ≡ get nat_cmp row h
+  list_set [] t h row lt = absurd (omega (arith, lt))
+  list_set (x ∷ rows) zero h row lt = refl
+  list_set (x ∷ rows) (suc t) h row lt = list_set rows t h row (omega (arith, lt))
 
-  pub row_set_other : (rows : List (Vec (Option L))) (t u : ℕ) (row : Vec (Option L)) → u ≢ t → row_of (set rows t row) u ≡ row_of rows u
-  row_set_other [] t u row ne = refl
-  row_set_other (x ∷ rows) zero zero row ne = absurd (ne refl)
-  row_set_other (x ∷ rows) zero (suc u) row ne = refl
-  row_set_other (x ∷ rows) (suc t) zero row ne = refl
-  row_set_other (x ∷ rows) (suc t) (suc u) row ne = row_set_other rows t u row (λ same. ne (ap suc same))
+  list_set_other : (rows : List (BTreeMap ℕ L)) (t u h : ℕ) (row : BTreeMap ℕ L) → u ≢ t → list_in (set rows t row) u h ≡ list_in rows u h
+  list_set_other [] t u h row ne = refl
+  list_set_other (x ∷ rows) zero zero h row ne = absurd (ne refl)
+  list_set_other (x ∷ rows) zero (suc u) h row ne = refl
+  list_set_other (x ∷ rows) (suc t) zero h row ne = refl
+  list_set_other (x ∷ rows) (suc t) (suc u) h row ne = list_set_other rows t u h row (λ same. ne (ap suc same))
 
-  pub row_past : (rows : List (Vec (Option L))) (t : ℕ) → length rows ≤ t → row_of rows t ≡ []
-  row_past [] t le = refl
-  row_past (row ∷ rows) zero le = absurd (omega arith)
-  row_past (row ∷ rows) (suc t) le = row_past rows t (omega arith)
+  pub list_past : (rows : List (BTreeMap ℕ L)) (t h : ℕ) → length rows ≤ t → list_in rows t h ≡ None
+  list_past [] t h le = refl
+  list_past (row ∷ rows) zero h le = absurd (omega (arith, le))
+  list_past (row ∷ rows) (suc t) h le = list_past rows t h (omega (arith, le))
 
-  pub row_empty : (rows : List (Vec (Option L))) (row : Vec (Option L)) → ((t : ℕ) → row_of rows t ≡ []) → row.items ≡ [] → (t : ℕ) → row_of (rows ++ row ∷ []) t ≡ []
-  row_empty [] row none empty zero = empty
-  row_empty [] row none empty (suc t) = refl
-  row_empty (x ∷ rows) row none empty zero = none 0
-  row_empty (x ∷ rows) row none empty (suc t) = row_empty rows row (λ u. none (suc u)) empty t
+  -- a source more, without lists
+  pub none_more : (rows : List (BTreeMap ℕ L)) (row : BTreeMap ℕ L) → ((t h : ℕ) → list_in rows t h ≡ None) → IsEmpty row → (t h : ℕ) → list_in (rows ++ row ∷ []) t h ≡ None
+  none_more [] row none empty zero h = ap (lookup (is_at (nat_cmp h))) empty
+  none_more [] row none empty (suc t) h = refl
+  none_more (x ∷ rows) row none empty zero h = none 0 h
+  none_more (x ∷ rows) row none empty (suc t) h = none_more rows row (λ u. none (suc u)) empty t h
 
-  -- ---- the list of a source and a height
-  pub slot_before : (left : Left L) (t h : ℕ) → h < left.first → slot_of left t h ≡ None
-  slot_before left t h lt = by (nat_lt h left.first) refl
-    where
-      by : (b : Bool) → nat_lt h left.first ≡ b → cond b None (cell_of (row_of left.rows.items t) (h - left.first)) ≡ None
-      by true e = refl
-      by false e = absurd (lt_not h left.first lt e)
-        where
-          lt_not : (m n : ℕ) → m < n → nat_lt m n ≡ false → ⊥
-          lt_not m n l f = grind (arith, nat_tests)
-
-  pub slot_from : (left : Left L) (t h : ℕ) → left.first ≤ h → slot_of left t h ≡ cell_of (row_of left.rows.items t) (h - left.first)
-  slot_from left t h le = ap (λ b. cond b None (cell_of (row_of left.rows.items t) (h - left.first))) (not_lt h left.first le)
-
-  pub slot_past : (left : Left L) (t h : ℕ) → left.first ≤ h → length left.rows.items ≤ t → slot_of left t h ≡ None
-  slot_past left t h le past = slot_from left t h le ∙ ap (λ row. cell_of row (h - left.first)) (row_past left.rows.items t past)
-
-  pub slot_at : (left : Left L) (t h : ℕ) (row : Vec (Option L)) → left.first ≤ h → t < length left.rows.items → row ≡ get_or left.rows.items t row → slot_of left t h ≡ cell_of row.items (h - left.first)
-  slot_at left t h row le inside is = slot_from left t h le ∙ ap (λ xs. cell_of xs (h - left.first)) (row_here left.rows.items t row inside ∙ ap (λ v. v.items) (sym is))
-
-  -- one cell of a row is emptied
-  pub slots_stay : (old new : Left L) (t h : ℕ) (row row' : Vec (Option L)) → new.first ≡ old.first → new.rows.items ≡ set old.rows.items t row' → old.first ≤ h → t < length old.rows.items → row ≡ get_or old.rows.items t row
-      → ((k : ℕ) → (k ≡ h - old.first → ⊥) → cell_of row'.items k ≡ cell_of row.items k) → (u g : ℕ) → (u ≡ t → g ≡ h → ⊥) → slot_of new u g ≡ slot_of old u g
-  slots_stay old new t h row row' first rows le inside is same u g apart =
-      ap (λ (n : ℕ). cond (nat_lt g n) None (cell_of (row_of new.rows.items u) (g - n))) first ∙ by (nat_lt g old.first) refl
-    where
-      by : (b : Bool) → nat_lt g old.first ≡ b → cond b None (cell_of (row_of new.rows.items u) (g - old.first)) ≡ cond b None (cell_of (row_of old.rows.items u) (g - old.first))
-      by true e = refl
-      by false e =
-          let from : old.first ≤ g = ge_of g old.first e in
-          ap (λ xs. cell_of (row_of xs u) (g - old.first)) rows
-          ∙ dite (ℕ_discrete u t)
-          (λ here.
-          ap (λ (n : ℕ). cell_of (row_of (set old.rows.items t row') n) (g - old.first)) here
-          ∙ ap (λ xs. cell_of xs (g - old.first)) (row_set old.rows.items t row' inside)
-          ∙ same (g - old.first) (λ e. apart here (omega arith))
-          ∙ ap (λ xs. cell_of xs (g - old.first)) (ap (λ v. v.items) is ∙ sym (row_here old.rows.items t row inside))
-          ∙ ap (λ (n : ℕ). cell_of (row_of old.rows.items n) (g - old.first)) (sym here))
-          (λ other. ap (λ xs. cell_of xs (g - old.first)) (row_set_other old.rows.items t u row' other))
+  -- one height of a row is changed
+  pub lists_stay : (rows : List (BTreeMap ℕ L)) (t h : ℕ) (row row' : BTreeMap ℕ L) → t < length rows → row ≡ get_or rows t row → ((g : ℕ) → (g ≡ h → ⊥) → get nat_cmp row' g ≡ get nat_cmp row g)
+      → (u g : ℕ) → (u ≡ t → g ≡ h → ⊥) → list_in (set rows t row') u g ≡ list_in rows u g
+  lists_stay rows t h row row' inside is same u g apart =
+      dite (ℕ_discrete u t)
+      (λ here.
+      ap (λ (n : ℕ). list_in (set rows t row') n g) here
+      ∙ list_set rows t g row' inside
+      ∙ same g (apart here)
+      ∙ ap (λ m. get nat_cmp m g) is
+      ∙ sym (list_here rows t g row inside)
+      ∙ ap (λ (n : ℕ). list_in rows n g) (sym here))
+      (λ other. list_set_other rows t u g row' other)
 
   pub slot_here : (lefts : List (Left L)) (d t h : ℕ) (x : Left L) → d < length lefts → slot_in lefts d t h ≡ slot_of (get_or lefts d x) t h
   slot_here [] d t h x lt = absurd (omega arith)
@@ -114,22 +101,9 @@ module _ {W K L R : Type 0} (r : Rules W K L R) where
   -- a shard that has taken all lists has just those that are left
   pub slot_is : (s t h : ℕ) (left : Left L) → HasLeft r s (first_due r s r.heights) r.heights 0 left → t < r.shards → h ≤ r.heights → slot_of left t h ≡ left_list r t h s
   slot_is s t h left has inside within =
-      let first = first_due r s r.heights in
-      ap (λ (n : ℕ). cond (nat_lt h n) None (unwrap_or (slice_get (row_of left.rows.items t) (h - n)) None)) has.first_is ∙ by (nat_lt h first) refl
-    where
-      f : ℕ → Option L
-      f k = list_to r (sealing_at r t k) s
-
-      row : row_of left.rows.items t ≡ map f (heights_between r (first_due r s r.heights) r.heights)
-      row = has.rows_are t inside ∙ ap (row_to r t s (first_due r s r.heights)) (none_of t 0 (r.heights + 1) r.heights (omega arith))
-
-      by : (b : Bool) → nat_lt h (first_due r s r.heights) ≡ b → cond b None (unwrap_or (slice_get (row_of left.rows.items t) (h - first_due r s r.heights)) None) ≡ cond b None (f h)
-      by true e = refl
-      by false e =
-          let from : first_due r s r.heights ≤ h = grind (arith, nat_tests) in
-          ap (λ xs. unwrap_or (slice_get xs (h - first_due r s r.heights)) None) row
-          ∙ unwrap_or-slice_get (map f (heights_between r (first_due r s r.heights) r.heights)) (h - first_due r s r.heights) None
-          ∙ get_or-map-range_with_len f (first_due r s r.heights) ((r.heights + 1) - first_due r s r.heights) (h - first_due r s r.heights) h None (omega arith) (omega arith)
+      has.lists_are t h inside
+      ∙ ap (λ (n : ℕ). list_among r s (first_due r s r.heights) n t h) (none_of t 0 (r.heights + 1) r.heights (omega arith))
+      ∙ ap (λ b. cond (nat_lt h (first_due r s r.heights)) None (cond b None (list_to r (sealing_at r t h) s))) (not_lt r.heights h within)
 
   lefts_from : (n d t h : ℕ) (lefts : List (Left L)) → EachFrom (λ s left. HasLeft r s (first_due r s r.heights) r.heights 0 left) n lefts → d < length lefts → t < r.shards → h ≤ r.heights → slot_in lefts d t h ≡ left_list r t h (n + d)
   lefts_from n d t h [] each lt inside within = absurd (omega arith)
@@ -139,3 +113,24 @@ module _ {W K L R : Type 0} (r : Rules W K L R) where
   -- the same of all shards
   pub lefts_are : (lefts : List (Left L)) → Each (λ s left. HasLeft r s (first_due r s r.heights) r.heights 0 left) lefts → length lefts ≡ r.shards → (d t h : ℕ) → d < r.shards → t < r.shards → h ≤ r.heights → slot_in lefts d t h ≡ left_list r t h d
   lefts_are lefts each long d t h there inside within = lefts_from 0 d t h lefts each (omega arith) inside within ∙ ap (left_list r t h) (omega arith)
+
+  -- a height without a chunk has none
+  pub none_left : (s h : ℕ) → 1 ≤ h → r.present s h ≡ false → left_by_height r s h ≡ []
+  none_left s h from missing = over (shard_numbers r)
+    where
+      nothing : (b : Bool) → ◌≡◌ {A = Option L} (cond b None None) None
+      nothing true = refl
+      nothing false = refl
+
+      z : (h - 1) + 1 ≡ h
+      z = omega (arith, from)
+
+      unsealed : sealing_at r s h ≡ None
+      unsealed = ap (sealing_at r s) (sym z) ∙ sealing_missing r s (h - 1) (ap (r.present s) z ∙ missing)
+
+      here : (d : ℕ) → left_at r s h d ≡ []
+      here d = ap (λ o. sent s h d (cond (nat_lt h (first_due r d r.heights)) None (list_to r o d))) unsealed ∙ ap (sent s h d) (nothing (nat_lt h (first_due r d r.heights)))
+
+      over : (ds : List ℕ) → flat_map (left_at r s h) ds ≡ []
+      over [] = refl
+      over (d ∷ ds) = ap (λ xs. xs ++ flat_map (left_at r s h) ds) (here d) ∙ over ds

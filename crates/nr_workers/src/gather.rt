@@ -29,7 +29,7 @@ fn add<L: Drop>(
     Ok(())
 }
 
-/// Adds the lists of a source at a height, in order of destination.
+/// Adds the lists of a source at a height, in order of destination. Without a chunk there is none.
 fn gather_at<P: Phases>(
     phases: &P,
     source: u32,
@@ -38,11 +38,15 @@ fn gather_at<P: Phases>(
     all: &mut Vec<Sent<P::Parcel>>,
 ) -> Result<(), AllocError>
     requires count { vec_len lefts.old ≡ (P.rules phases.now).shards }
+    requires from { 1 ≤ height }
     requires lists { (d : ℕ) → d < (P.rules phases.now).shards → slot_in lefts.old.items d source height ≡ left_list (P.rules phases.now) source height d }
     ensures count { vec_len lefts.new ≡ vec_len lefts.old }
     ensures others { (d t h : ℕ) → (t ≡ source → h ≡ height → ⊥) → slot_in lefts.new.items d t h ≡ slot_in lefts.old.items d t h }
     ensures added { OnOk result (all.new.items ≡ all.old.items ++ left_by_height (P.rules phases.now) source height) }
 {
+    if !phases.present(ShardId(source), Height(height)) {
+        return Ok(());
+    }
     for dest in 0..phases.shards() {
         let list = lefts[dest as usize].take(source, height);
         add(all, ShardId(source), Height(height), ShardId(dest), list)?;

@@ -1,41 +1,38 @@
 //! The lists that no chunk of a shard takes.
 
-ghost use Rattle.std.specs.Prelude.{◌≡◌, ◌<◌, ◌++◌, ◌∷◌, [], ℕ, None, IfOk, OnOk, length};
-ghost use Rattle.nr_workers.specs.Left.{cell_of, row_of, slot_of};
+ghost use Rattle.std.specs.Prelude.{◌≡◌, ◌<◌, ℕ, None, Some, IfOk, OnOk, length};
+ghost use Rattle.nr_workers.specs.Left.{slot_of};
 
 use std::alloc::{AllocError, Global};
+use std::collections::BTreeMap;
 
-/// For each source the lists of its chunks from the height `first` on, in order of height, with a gap where it has no
-/// chunk.
+/// For each source the lists of its chunks, by height. A height without a chunk takes no memory.
 #[derive(Drop)]
 pub(crate) struct Left<L> {
-    pub first: u64,
-    pub rows: Vec<Vec<Option<L>>>,
+    pub rows: Vec<BTreeMap<u64, L>>,
 }
 
 impl<L: Drop> Left<L> {
     /// No list of any source.
-    pub(crate) fn new(alloc: Global, first: u64, shards: u32) -> Result<Left<L>, AllocError>
-        ensures first { IfOk result (λ left. left.first ≡ first) }
+    pub(crate) fn new(alloc: Global, shards: u32) -> Result<Left<L>, AllocError>
         ensures all { IfOk result (λ left. length left.rows.items ≡ shards) }
-        ensures rows { IfOk result (λ left. (t : ℕ) → row_of left.rows.items t ≡ []) }
+        ensures none { IfOk result (λ left. (t h : ℕ) → slot_of left t h ≡ None) }
     {
         let mut rows = Vec::new(alloc);
         for _source in 0..shards {
-            rows.push(Vec::new(alloc))?;
+            rows.push(BTreeMap::new(alloc))?;
         }
-        Ok(Left { first, rows })
+        Ok(Left { rows })
     }
 
-    /// Adds what a source has at its next height.
-    pub(crate) fn push(&mut self, source: u32, list: Option<L>) -> Result<(), AllocError>
+    /// Adds the list of a source and a height.
+    pub(crate) fn push(&mut self, source: u32, height: u64, list: L) -> Result<(), AllocError>
         requires { source < length self.old.rows.items }
-        ensures first { self.new.first ≡ self.old.first }
         ensures all { length self.new.rows.items ≡ length self.old.rows.items }
-        ensures row { OnOk result (row_of self.new.rows.items source ≡ row_of self.old.rows.items source ++ list ∷ []) }
-        ensures others { (t : ℕ) → (t ≡ source → ⊥) → row_of self.new.rows.items t ≡ row_of self.old.rows.items t }
+        ensures list { OnOk result (slot_of self.new source height ≡ Some list) }
+        ensures others { (t h : ℕ) → (t ≡ source → h ≡ height → ⊥) → slot_of self.new t h ≡ slot_of self.old t h }
     {
-        self.rows[source as usize].push(list)?;
+        self.rows[source as usize].insert(height, list)?;
         Ok(())
     }
 
@@ -44,24 +41,9 @@ impl<L: Drop> Left<L> {
         ensures list { result ≡ slot_of self.old source height }
         ensures others { (t h : ℕ) → (t ≡ source → h ≡ height → ⊥) → slot_of self.new t h ≡ slot_of self.old t h }
     {
-        if height < self.first {
-            return None;
-        }
         if source as usize >= self.rows.len() {
             return None;
         }
-        let place = (height - self.first) as usize;
-        take_cell(&mut self.rows[source as usize], place)
-    }
-}
-
-/// Takes the list out of a cell of a row.
-fn take_cell<L: Drop>(row: &mut Vec<Option<L>>, place: usize) -> Option<L>
-    ensures list { result ≡ cell_of row.old.items place }
-    ensures others { (k : ℕ) → (k ≡ place → ⊥) → cell_of row.new.items k ≡ cell_of row.old.items k }
-{
-    match row.get_mut(place) {
-        Some(list) => list.take(),
-        None => None,
+        self.rows[source as usize].remove(&height)
     }
 }

@@ -95,8 +95,7 @@ fn end_next<P: Phases>(
     ensures port { IsPortOf (serial_plan P.rules) exchange.now worker.new.inbox.port }
 {
     let _exchange = exchange;
-    let _heights = phases.heights();
-    let left = Left::new(alloc, worker.inbox.done + 1, phases.shards())?;
+    let left = Left::new(alloc, phases.shards())?;
     worker.stage = Stage::Ended(world, left);
     Ok(())
 }
@@ -252,9 +251,14 @@ fn ended_turn<P: Phases>(
     ensures port { IsPortOf (serial_plan P.rules) exchange.now worker.new.inbox.port }
 {
     let source = worker.inbox.source;
+    let done = worker.inbox.done;
     match worker.inbox.take_next(phases, exchange, worker.height)? {
-        Found::Passed(list) => {
-            left.push(source, list)?;
+        Found::Passed(Some(list)) => {
+            left.push(source, done + 1, list)?;
+            worker.stage = Stage::Ended(world, left);
+            Ok(Turn::Moved)
+        }
+        Found::Passed(None) => {
             worker.stage = Stage::Ended(world, left);
             Ok(Turn::Moved)
         }

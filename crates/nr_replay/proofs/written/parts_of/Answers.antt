@@ -3,7 +3,7 @@ use denote.Param.Send.{param_send, param_sync, arg_send, arg_sync}
 use Rattle.nr_contract.specs.contracts.caller.ContractCaller as C
 use Rattle.nr_replay.proofs.Crossing.{caller_send, caller_sync}
 use Rattle.std.proofs.Common.{List, Option, ap, ◌∙◌}
-use Rattle.std.specs.Global.{Vec}
+use Rattle.std.specs.Global.{Box, Vec}
 use Rattle.nr_overlap.specs.Balance.{sum_below}
 use Rattle.nr_records.specs.declared.chunk_result.ChunkResult.{ChunkResult}
 use Rattle.nr_settle.specs.Shown.{cell}
@@ -22,10 +22,10 @@ returns g c =
     let ended = c.in_ok-ended in
     let text =
     c.in_ok-text.ensures
-    ∙ ap (λ (rows : List (Vec (Option ChunkResult))). text_below heights.result (λ h. text_below shards.result (λ s. report_text (cell rows s h)))) c.deref.ensures.value in
+    ∙ ap (λ (rows : List (Vec (Option (Box ChunkResult)))). text_below heights.result (λ h. text_below shards.result (λ s. report_text (cell rows s h)))) c.deref.ensures.value in
     let chunks =
     c.in_ok-chunks.ensures
-    ∙ ap (λ (rows : List (Vec (Option ChunkResult))). sum_below heights.result (λ h. sum_below shards.result (λ s. one_if_there (cell rows s h)))) c.deref-2.ensures.value in
+    ∙ ap (λ (rows : List (Vec (Option (Box ChunkResult)))). sum_below heights.result (λ h. sum_below shards.result (λ s. one_if_there (cell rows s h)))) c.deref-2.ensures.value in
     is_written x (chain c.args.config c.args.genesis c.args.blocks) ended.ended.rows.items shards.result heights.result c.args.genesis.supply
     ended.ended.tally c.begin-run.ensures shards.ensures.count heights.ensures c.requires.tokens
     c.in_ok-text.text c.in_ok-end.end c.in_ok-chunks.chunks ended.ensures.rows ended.ensures.tally text c.in_ok-end.ensures chunks

@@ -1,7 +1,7 @@
 use Rattle.std.proofs.Common.{arith, ap, map, ◌∙◌}
 use Rattle.std.specs.Vec.Iter.{into_iter_items}
 use Rattle.nr_workers.specs.Outcome.{reports_to}
-use Rattle.nr_settle.specs.Shown.{row_of}
+use Rattle.nr_settle.specs.Shown.{reports_in, row_of}
 use Rattle.nr_settle.proofs.Lists.{first_is, map_longer, map_snoc, rest_is}
 use Rattle.nr_settle.proofs.rows.rows_of.Goals as goal
 
@@ -18,5 +18,5 @@ loop-shard-preserved g c =
       rest = rest_is (λ s. reports_to r s r.heights) c.loop-shard.shard r.shards (into_iter_items c.loop-shard.rest) (into_iter_items c.next.new.self) c.in-Some.reports
           (omega (arith, c.loop-shard-test.true, c.shards-shard-end.ensures.count)) c.loop-shard.invariant.rest c.in-Some.ensures.items;
       rows = map_longer (row_of r) 0 c.loop-shard.shard c.loop-shard.shard _ _ _ (omega arith) c.loop-shard.invariant.rows
-          (ap (λ rows. map (λ row. row.items) rows) c.in_ok-push-in-Some.ensures.items ∙ map_snoc (λ row. row.items) c.loop-shard.rows.items c.in_ok-row_of-in-Some.field-0) c.in_ok-row_of-in-Some.ensures;
+          (ap (λ rows. map (λ row. reports_in row.items) rows) c.in_ok-push-in-Some.ensures.items ∙ map_snoc (λ row. reports_in row.items) c.loop-shard.rows.items c.in_ok-row_of-in-Some.field-0) c.in_ok-row_of-in-Some.ensures;
     }

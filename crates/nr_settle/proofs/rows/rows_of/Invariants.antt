@@ -2,7 +2,7 @@ use Rattle.std.proofs.Common.{◌≡◌, ◌-◌, map}
 use Rattle.std.specs.List.{range_with_len}
 use Rattle.std.specs.Vec.Iter.{into_iter_items}
 use Rattle.nr_workers.specs.Outcome.{reports_to}
-use Rattle.nr_settle.specs.Shown.{row_of}
+use Rattle.nr_settle.specs.Shown.{reports_in, row_of}
 use Rattle.nr_settle.proofs.rows.rows_of.Given as goal
 
 abbrev pub invariant-loop-shard : goal.invariant-loop-shard
@@ -10,5 +10,5 @@ invariant-loop-shard g l =
     let r = g.P.Phases.rules l.phases in
     record {
       rest : into_iter_items l.rest ≡ map (λ s. reports_to r s r.heights) (range_with_len l.shard (r.shards - l.shard));
-      rows : map (λ row. row.items) l.rows.items ≡ map (row_of r) (range_with_len 0 l.shard);
+      rows : map (λ row. reports_in row.items) l.rows.items ≡ map (row_of r) (range_with_len 0 l.shard);
     }

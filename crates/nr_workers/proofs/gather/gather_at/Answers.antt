@@ -3,7 +3,8 @@ use Rattle.std.specs.Option.{option_map, option_to_list}
 use Rattle.nr_workers.specs.Outcome.{left_list, left_at}
 use Rattle.nr_workers.specs.Left.{slot_of}
 use Rattle.nr_workers.proofs.Orders.{flat_map_longer}
-use Rattle.nr_workers.proofs.Slots.{slot_here, slot_set_other, others_stay}
+use Rattle.nr_workers.proofs.Slots.{none_left, slot_here, slot_set_other, others_stay}
+use Rattle.std.proofs.lemmas.List.{append-nil}
 use Rattle.nr_workers.proofs.gather.gather_at.Goals as goal
 
 pub loop-dest-preserved : goal.loop-dest-preserved
@@ -32,3 +33,8 @@ returns-in_err-add-clause-others g c s t h apart =
     let below : d < r.shards = omega (arith, c.loop-dest-test.true, c.shards-dest-end.ensures.count) in
     let inside : d < length lefts = omega (arith, below, c.loop-dest.lefts.ok, c.loop-dest.invariant.long, c.requires.count) in
     others_stay lefts d c.args.source c.args.height c.index_mut.result.now c.take-list.new.self inside c.index_mut.ensures.value c.take-list.ensures.others s t h apart ∙ c.loop-dest.invariant.others s t h apart
+
+pub returns-then-not-present-clause-added : goal.returns-then-not-present-clause-added
+returns-then-not-present-clause-added g c =
+    let r = g.P.Phases.rules c.args.phases.now in
+    sym (ap (λ xs. c.args.all.now.items ++ xs) (none_left r c.args.source c.args.height c.requires.from (sym c.present.ensures ∙ c.if-not-present.true)) ∙ append-nil c.args.all.now.items)

@@ -1,14 +1,19 @@
-use Rattle.std.proofs.Common.{◌∷◌, ◌++◌, [], sym, ap, ◌∙◌}
-use Rattle.nr_workers.proofs.Slots.{row_here, row_set, row_set_other}
+use Rattle.std.proofs.Common.{ap, ◌∙◌}
+use Rattle.std.specs.Map.{lookup}
+use Rattle.std.specs.BTreeMap.{is_at}
+use Rattle.std.specs.Ordering.{nat_cmp}
+use Rattle.nr_workers.proofs.Slots.{apart_at, list_set, lists_stay}
 use Rattle.nr_workers.proofs.left.Left.push.Goals as goal
 
-pub returns-in_err-push-clause-others : goal.returns-in_err-push-clause-others
-returns-in_err-push-clause-others g c t apart = row_set_other c.args.self.now.rows.items c.args.source t c.push.new.self apart
+pub returns-in_err-insert-clause-others : goal.returns-in_err-insert-clause-others
+returns-in_err-insert-clause-others g c =
+    lists_stay c.args.self.now.rows.items c.args.source c.args.height c.index_mut.result.now c.insert.new.self c.requires c.index_mut.ensures.value
+    (λ k apart. ap (lookup (is_at (nat_cmp k))) c.in_err-insert.ensures.err)
 
-pub returns-clause-row : goal.returns-clause-row
-returns-clause-row g c =
-    row_set c.args.self.now.rows.items c.args.source c.push.new.self c.requires ∙ c.in_ok-push.ensures.items
-    ∙ ap (λ ys. ys ++ c.args.list ∷ []) (ap (λ v. v.items) c.index_mut.ensures.value ∙ sym (row_here c.args.self.now.rows.items c.args.source c.index_mut.result.now c.requires))
+pub returns-clause-list : goal.returns-clause-list
+returns-clause-list g c = list_set c.args.self.now.rows.items c.args.source c.args.height c.insert.new.self c.requires ∙ c.in_ok-insert.ensures.updates.1
 
 pub returns-clause-others : goal.returns-clause-others
-returns-clause-others g c t apart = row_set_other c.args.self.now.rows.items c.args.source t c.push.new.self apart
+returns-clause-others g c =
+    lists_stay c.args.self.now.rows.items c.args.source c.args.height c.index_mut.result.now c.insert.new.self c.requires c.index_mut.ensures.value
+    (λ k apart. c.in_ok-insert.ensures.updates.2 k (apart_at c.args.height k apart))
