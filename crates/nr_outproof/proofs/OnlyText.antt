@@ -161,9 +161,9 @@ pairs_only i (a ∷ b ∷ rest) bytes all e =
     let lower : pair.0 % 16 ≡ l.0 = omega (arith, byte, small) in
     ap (λ (w : List ℕ). encode_lower w) (sym whole)
     ∙ two_more (slice_index lower_digits (pair.0 / 16)) a (slice_index lower_digits (pair.0 % 16)) b (encode_lower more.0) rest
-        (ap (slice_index lower_digits) upper ∙ digit_only a h.0 first.0 high)
-        (ap (slice_index lower_digits) lower ∙ digit_only b l.0 second.0 low)
-        (pairs_only (i + 2) rest more.0 second.1 more.1)
+    (ap (slice_index lower_digits) upper ∙ digit_only a h.0 first.0 high)
+    (ap (slice_index lower_digits) lower ∙ digit_only b l.0 second.0 low)
+    (pairs_only (i + 2) rest more.0 second.1 more.1)
 
 hex_only : (word bytes : List ℕ) → hex_in word ≡ Some bytes → encode_lower bytes ≡ word
 unfolding hex_in
@@ -271,12 +271,12 @@ head_words (a ∷ b ∷ c ∷ d ∷ f ∷ g ∷ []) head e =
     let t = cond_some (bytes_eq a (codes "proof")) (head_by (kind_in b) (number_64 c) (number_32 d) (number_64 f) (number_64 g)) head e in
     let s = head_by_only (kind_in b) (number_64 c) (number_32 d) (number_64 f) (number_64 g) head t.1 in
     six_words a b c d f g (codes "proof") (kind_word head.kind) (decimal head.height) (decimal head.shard) (decimal head.place) (decimal head.count)
-      (same_bytes a (codes "proof") t.0)
-      (sym (kind_only b head.kind s.0))
-      (sym (number_only 18446744073709551615 head.height c (omega arith) s.1))
-      (sym (number_only 4294967295 head.shard d (omega arith) s.2))
-      (sym (number_only 18446744073709551615 head.place f (omega arith) s.3))
-      (sym (number_only 18446744073709551615 head.count g (omega arith) s.4))
+    (same_bytes a (codes "proof") t.0)
+    (sym (kind_only b head.kind s.0))
+    (sym (number_only 18446744073709551615 head.height c (omega arith) s.1))
+    (sym (number_only 4294967295 head.shard d (omega arith) s.2))
+    (sym (number_only 18446744073709551615 head.place f (omega arith) s.3))
+    (sym (number_only 18446744073709551615 head.count g (omega arith) s.4))
 head_words (a ∷ b ∷ c ∷ d ∷ f ∷ g ∷ h ∷ words) head e = absurd cc
 
 head_only : (piece : List ℕ) (head : Head) → head_in (pieces 32 piece) ≡ Some head → line (stated_words head) ≡ piece ++ 10 ∷ []
@@ -328,7 +328,7 @@ rest_only h (piece ∷ next ∷ more) p e =
     let lines = lines_only 3 (next ∷ more) w.0 w.1 in
     ap proof_text (sym w.2)
     ∙ ap (λ (t : List ℕ). line (stated_words h) ++ t)
-      (ap (λ (t : List ℕ). t ++ flat_map path_line w.0) (item_only piece i.0 i.1) ∙ append_assoc piece (10 ∷ []) (flat_map path_line w.0) ∙ ap (λ (t : List ℕ). piece ++ 10 ∷ t) lines)
+    (ap (λ (t : List ℕ). t ++ flat_map path_line w.0) (item_only piece i.0 i.1) ∙ append_assoc piece (10 ∷ []) (flat_map path_line w.0) ∙ ap (λ (t : List ℕ). piece ++ 10 ∷ t) lines)
 
 by_lines_only : (ps : Words) (p : Proof) → by_lines ps ≡ Ok p → proof_text p ≡ join_with_byte 10 ps
 by_lines_only [] p e = absurd cc
