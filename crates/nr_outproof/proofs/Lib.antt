@@ -11,3 +11,4 @@ pub mod ItemLaws
 pub mod TextLines
 pub mod Judging
 pub mod RoundTrip
+pub mod OnlyText

@@ -28,8 +28,10 @@ pub fn item_laws()
 {}
 
 /// What holds of the text of every proof. It does nothing when it runs.
-#[tactic(auto, using(crate::proofs::RoundTrip::proof_back))]
+#[tactic(auto, using(crate::proofs::RoundTrip::proof_back, crate::proofs::OnlyText::only_text))]
 pub fn text_laws()
     // It is read back as the proof.
-    ensures { (p : Proof) → FitsProof p → proof_read (proof_text p) ≡ Ok p }
+    ensures back { (p : Proof) → FitsProof p → proof_read (proof_text p) ≡ Ok p }
+    // Bytes that are read as a proof are its text.
+    ensures only { (bytes : List ℕ) (p : Proof) → proof_read bytes ≡ Ok p → bytes ≡ proof_text p }
 {}

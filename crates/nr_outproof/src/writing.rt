@@ -82,8 +82,11 @@ fn print_proof(alloc: Global, proof: &Proof) -> Result<String, AllocError>
 
 /// Adds the text of a proof to `out`: the line `proof KIND HEIGHT SHARD PLACE COUNT`, the line `item
 /// BYTES`, and a line `path HASH` for each top beside the way, the lowest first. Numbers are decimal,
-/// bytes and hashes lower-case hexadecimal, and no bytes a dash. After want of memory `out` is as
-/// before.
+/// bytes and hashes lower-case hexadecimal, and no bytes a dash.
+///
+/// # Errors
+///
+/// Where memory ran out; `out` is then as before.
 pub fn write_proof(alloc: Global, proof: &Proof, out: &mut Blob) -> Result<(), AllocError>
     ensures ok { OnOk result (out.new ≡ out.old ++ proof_text proof.now) }
     ensures err { OnErr result (out.new ≡ out.old) }
