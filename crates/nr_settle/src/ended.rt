@@ -57,8 +57,8 @@ fn settle<C: Caller<ChunkStore>>(
 }
 
 /// Runs all shards of a chain to its end, each in a thread of its own, and counts what they come to. Each shard passes
-/// the gate at three moments of each of its chunks, and whoever watches the chain is shown each report. Shards for which
-/// no thread can be started are run in turns by the caller. Nothing says that it comes back.
+/// the gate at three moments of each of its chunks, and whoever watches the chain is shown each report. Shards for
+/// which no thread can be started are run in turns by the caller. Nothing says that it comes back.
 ///
 /// # Errors
 ///

@@ -1,5 +1,5 @@
 -- The lists that no chunk takes, one by one.
-use Rattle.std.proofs.Common.{◌≡◌, ◌≢◌, ℕ, zero, suc, ◌+◌, ◌-◌, ◌<◌, ◌≤◌, Bool, true, false, cond, List, [], ◌∷◌, ◌++◌, None, Option, length, get_or, set, refl, sym, ap, ◌∙◌, arith}
+use Rattle.std.proofs.Common.{◌≡◌, ◌≢◌, ℕ, zero, suc, ◌+◌, ◌<◌, ◌≤◌, Bool, true, false, cond, List, [], ◌∷◌, ◌++◌, None, Option, length, get_or, set, refl, sym, ap, ◌∙◌, arith, add-one}
 use Rattle.std.specs.Prelude.{nat_lt}
 use Rattle.std.specs.BTreeMap.{BTreeMap, get, IsEmpty, is_at}
 use Rattle.std.specs.List.{flat_map}
@@ -13,7 +13,7 @@ use Rattle.nr_ids.specs.declared.number.Height.{Height}
 use Rattle.nr_ids.specs.declared.number.ShardId.{ShardId}
 use Rattle.nr_overlap.specs.Rules.{Rules}
 use Rattle.nr_overlap.proofs.Basics.{not_lt}
-use Rattle.nr_overlap.specs.Serial.{first_due, list_to, sealing_at, shard_numbers}
+use Rattle.nr_overlap.specs.Serial.{first_due, list_to, past_after, sealing_at, shard_numbers}
 use Rattle.nr_overlap.proofs.SerialLemmas.{sealing_missing}
 use Rattle.nr_workers.specs.declared.left.Left.{Left}
 use Rattle.nr_workers.specs.Outcome.{left_list, left_at, left_by_height}
@@ -115,21 +115,20 @@ module _ {W K L R : Type 0} (r : Rules W K L R) where
   lefts_are lefts each long d t h there inside within = lefts_from 0 d t h lefts each (omega arith) inside within ∙ ap (left_list r t h) (omega arith)
 
   -- a height without a chunk has none
-  pub none_left : (s h : ℕ) → 1 ≤ h → r.present s h ≡ false → left_by_height r s h ≡ []
-  none_left s h from missing = over (shard_numbers r)
+  unsealed : (s h : ℕ) → r.present s h ≡ false → sealing_at r s h ≡ None
+  unfolding past_after
+  unsealed s zero missing = refl
+  unsealed s (suc h) missing = ap (sealing_at r s) (sym (add-one h)) ∙ sealing_missing r s h (ap (r.present s) (add-one h) ∙ missing)
+
+  pub none_left : (s h : ℕ) → r.present s h ≡ false → left_by_height r s h ≡ []
+  none_left s h missing = over (shard_numbers r)
     where
       nothing : (b : Bool) → ◌≡◌ {A = Option L} (cond b None None) None
       nothing true = refl
       nothing false = refl
 
-      z : (h - 1) + 1 ≡ h
-      z = omega (arith, from)
-
-      unsealed : sealing_at r s h ≡ None
-      unsealed = ap (sealing_at r s) (sym z) ∙ sealing_missing r s (h - 1) (ap (r.present s) z ∙ missing)
-
       here : (d : ℕ) → left_at r s h d ≡ []
-      here d = ap (λ o. sent s h d (cond (nat_lt h (first_due r d r.heights)) None (list_to r o d))) unsealed ∙ ap (sent s h d) (nothing (nat_lt h (first_due r d r.heights)))
+      here d = ap (λ o. sent s h d (cond (nat_lt h (first_due r d r.heights)) None (list_to r o d))) (unsealed s h missing) ∙ ap (sent s h d) (nothing (nat_lt h (first_due r d r.heights)))
 
       over : (ds : List ℕ) → flat_map (left_at r s h) ds ≡ []
       over [] = refl

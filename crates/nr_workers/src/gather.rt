@@ -38,7 +38,6 @@ fn gather_at<P: Phases>(
     all: &mut Vec<Sent<P::Parcel>>,
 ) -> Result<(), AllocError>
     requires count { vec_len lefts.old ≡ (P.rules phases.now).shards }
-    requires from { 1 ≤ height }
     requires lists { (d : ℕ) → d < (P.rules phases.now).shards → slot_in lefts.old.items d source height ≡ left_list (P.rules phases.now) source height d }
     ensures count { vec_len lefts.new ≡ vec_len lefts.old }
     ensures others { (d t h : ℕ) → (t ≡ source → h ≡ height → ⊥) → slot_in lefts.new.items d t h ≡ slot_in lefts.old.items d t h }

@@ -37,4 +37,4 @@ returns-in_err-add-clause-others g c s t h apart =
 pub returns-then-not-present-clause-added : goal.returns-then-not-present-clause-added
 returns-then-not-present-clause-added g c =
     let r = g.P.Phases.rules c.args.phases.now in
-    sym (ap (λ xs. c.args.all.now.items ++ xs) (none_left r c.args.source c.args.height c.requires.from (sym c.present.ensures ∙ c.if-not-present.true)) ∙ append-nil c.args.all.now.items)
+    sym (ap (λ xs. c.args.all.now.items ++ xs) (none_left r c.args.source c.args.height (sym c.present.ensures ∙ c.if-not-present.true)) ∙ append-nil c.args.all.now.items)
