@@ -19,6 +19,9 @@ use std::sync::atomic::{AtomicBool, Ordering};
 use std::thread;
 use std::thread::{Promise, PromisedHandle, Scope, Threads};
 
+/// How many steps a thread's worker makes in one turn. What it has in hand is moved once a turn.
+const STEPS: u32 = 64;
+
 /// What the workers of a run need.
 #[derive(Drop)]
 pub(crate) struct Run<'r, R: Wait, P: Phases, G: Gate> {
@@ -39,7 +42,14 @@ fn work<R: Wait, P: Phases, G: Gate>(
     ensures { Keeps (IsWorkerOf P.rules run.now.exchange.now) (box_value worker) (box_value result) }
 {
     for _ in run.rt.forever() {
-        match make_turn(run.alloc, run.phases, run.exchange, run.gate, &mut worker) {
+        match make_turn(
+            run.alloc,
+            run.phases,
+            run.exchange,
+            run.gate,
+            STEPS,
+            &mut worker,
+        ) {
             Turn::Moved => {}
             Turn::Waits => thread::yield_now(),
             Turn::Done | Turn::Failed => break,
@@ -149,7 +159,7 @@ fn step_here<R: Wait, P: Phases, G: Gate>(run: &Run<R, P, G>, started: &mut Star
     match started {
         Started::Thread(_) => false,
         Started::Here(worker) => {
-            match make_turn(run.alloc, run.phases, run.exchange, run.gate, worker) {
+            match make_turn(run.alloc, run.phases, run.exchange, run.gate, 1, worker) {
                 Turn::Moved | Turn::Waits => true,
                 Turn::Done | Turn::Failed => false,
             }

@@ -7,6 +7,7 @@ ghost use Rattle.nr_exchange.specs.Notes.{link};
 ghost use Rattle.nr_exchange.specs.Ports.{IsPortOf};
 ghost use Rattle.nr_exchange.specs.SerialPlan.{serial_plan};
 ghost use Rattle.nr_workers.specs.Stages.{IsWorkerAt, IsWorker, number_after};
+ghost use Rattle.nr_workers.specs.declared.steps.Took.TheVariants.{All};
 ghost use Rattle.nr_workers.specs.declared.worker.Stage.TheVariants.{Idle, Opened, Sealed, Ended};
 
 use crate::gate::{Gate, Moment};
@@ -33,24 +34,35 @@ pub(crate) enum Turn {
     Failed,
 }
 
-/// Goes past a height without a chunk.
+/// What a try to take the next list came to.
+#[derive(Clone, Copy, Debug, PartialEq, Eq)]
+enum Took {
+    /// It is taken, or its source has no chunk.
+    One,
+    /// It isn't published yet.
+    Waits,
+    /// All are taken.
+    All,
+}
+
+/// Goes past a height without a chunk. The world stays in hand.
 fn skip_next<P: Phases>(
     phases: &P,
     exchange: &Exchange<Serial<P>>,
     worker: &mut Worker<P>,
-    world: P::World,
+    world: &P::World,
 )
     requires run { phases.now ≡ exchange.now.run.0 }
-    requires at { IsWorkerAt P.rules exchange.now worker.old (Idle world) }
+    requires at { IsWorkerAt P.rules exchange.now worker.old (Idle world.now) }
     requires below { worker.old.height < (P.rules exchange.now.run.0).heights }
     requires missing { (P.rules exchange.now.run.0).present worker.old.shard.0 (worker.old.height + 1) ≡ false }
     ensures shard { worker.new.shard ≡ worker.old.shard }
-    ensures at { IsWorkerAt P.rules exchange.now worker.new worker.new.stage }
+    ensures at { IsWorkerAt P.rules exchange.now worker.new (Idle world.now) }
 {
+    let _world = world;
     let _heights = phases.heights();
     worker.inbox.port.skip(exchange, Height(worker.height + 1));
     worker.height += 1;
-    worker.stage = Stage::Idle(world);
 }
 
 /// Opens the next chunk.
@@ -203,12 +215,39 @@ fn sealed_turn<P: Phases, G: Gate>(
     }
 }
 
-/// Tries to take the next list into the chunk, or else seals it.
+/// Tries to take the next list into the chunk.
+fn take_one<P: Phases>(
+    alloc: Global,
+    phases: &P,
+    exchange: &Exchange<Serial<P>>,
+    worker: &mut Worker<P>,
+    working: &mut P::Working,
+) -> Result<Took, AllocError>
+    requires run { phases.now ≡ exchange.now.run.0 }
+    requires at { IsWorkerAt P.rules exchange.now worker.old (Opened working.old) }
+    ensures shard { worker.new.shard ≡ worker.old.shard }
+    ensures at { OnOk result (IsWorkerAt P.rules exchange.now worker.new (Opened working.new)) }
+    ensures all { IfOk result (λ took. took ≡ All → worker.new.height ≤ worker.new.inbox.done) }
+    ensures port { IsPortOf (serial_plan P.rules) exchange.now worker.new.inbox.port }
+{
+    let _shards = phases.shards();
+    match worker.inbox.take_next(phases, exchange, worker.height)? {
+        Found::Passed(list) => {
+            give(alloc, phases, working, list)?;
+            Ok(Took::One)
+        }
+        Found::Waits => Ok(Took::Waits),
+        Found::All => Ok(Took::All),
+    }
+}
+
+/// Takes the next lists into the chunk, as far as they are there and up to so many, and seals it when all are taken.
 fn opened_turn<P: Phases, G: Gate>(
     alloc: Global,
     phases: &P,
     exchange: &Exchange<Serial<P>>,
     gate: &G,
+    steps: u32,
     worker: &mut Worker<P>,
     mut working: P::Working,
 ) -> Result<Turn, AllocError>
@@ -218,28 +257,56 @@ fn opened_turn<P: Phases, G: Gate>(
     ensures at { OnOk result (IsWorkerAt P.rules exchange.now worker.new worker.new.stage) }
     ensures port { IsPortOf (serial_plan P.rules) exchange.now worker.new.inbox.port }
 {
-    let _shards = phases.shards();
-    match worker.inbox.take_next(phases, exchange, worker.height)? {
-        Found::Passed(list) => {
-            give(alloc, phases, &mut working, list)?;
-            worker.stage = Stage::Opened(working);
-            Ok(Turn::Moved)
-        }
-        Found::Waits => {
-            worker.stage = Stage::Opened(working);
-            Ok(Turn::Waits)
-        }
-        Found::All => {
-            seal_next(alloc, phases, exchange, gate, worker, working)?;
-            Ok(Turn::Moved)
+    for _step in 0..steps {
+        match take_one(alloc, phases, exchange, worker, &mut working)? {
+            Took::One => {}
+            Took::Waits => {
+                worker.stage = Stage::Opened(working);
+                return Ok(Turn::Waits);
+            }
+            Took::All => {
+                seal_next(alloc, phases, exchange, gate, worker, working)?;
+                return Ok(Turn::Moved);
+            }
         }
     }
+    worker.stage = Stage::Opened(working);
+    Ok(Turn::Moved)
 }
 
 /// Tries to take the next list that no chunk takes.
+fn keep_one<P: Phases>(
+    phases: &P,
+    exchange: &Exchange<Serial<P>>,
+    worker: &mut Worker<P>,
+    world: &P::World,
+    left: &mut Left<P::Parcel>,
+) -> Result<Took, AllocError>
+    requires run { phases.now ≡ exchange.now.run.0 }
+    requires at { IsWorkerAt P.rules exchange.now worker.old (Ended world.now left.old) }
+    ensures shard { worker.new.shard ≡ worker.old.shard }
+    ensures at { OnOk result (IsWorkerAt P.rules exchange.now worker.new (Ended world.now left.new)) }
+    ensures port { IsPortOf (serial_plan P.rules) exchange.now worker.new.inbox.port }
+{
+    let _world = world;
+    let source = worker.inbox.source;
+    let done = worker.inbox.done;
+    match worker.inbox.take_next(phases, exchange, worker.height)? {
+        Found::Passed(Some(list)) => {
+            left.push(source, done + 1, list)?;
+            Ok(Took::One)
+        }
+        Found::Passed(None) => Ok(Took::One),
+        Found::Waits => Ok(Took::Waits),
+        Found::All => Ok(Took::All),
+    }
+}
+
+/// Takes the next lists that no chunk takes, as far as they are there and up to so many.
 fn ended_turn<P: Phases>(
     phases: &P,
     exchange: &Exchange<Serial<P>>,
+    steps: u32,
     worker: &mut Worker<P>,
     world: P::World,
     mut left: Left<P::Parcel>,
@@ -250,34 +317,30 @@ fn ended_turn<P: Phases>(
     ensures at { OnOk result (IsWorkerAt P.rules exchange.now worker.new worker.new.stage) }
     ensures port { IsPortOf (serial_plan P.rules) exchange.now worker.new.inbox.port }
 {
-    let source = worker.inbox.source;
-    let done = worker.inbox.done;
-    match worker.inbox.take_next(phases, exchange, worker.height)? {
-        Found::Passed(Some(list)) => {
-            left.push(source, done + 1, list)?;
-            worker.stage = Stage::Ended(world, left);
-            Ok(Turn::Moved)
-        }
-        Found::Passed(None) => {
-            worker.stage = Stage::Ended(world, left);
-            Ok(Turn::Moved)
-        }
-        Found::Waits => {
-            worker.stage = Stage::Ended(world, left);
-            Ok(Turn::Waits)
-        }
-        Found::All => {
-            worker.stage = Stage::Ended(world, left);
-            Ok(Turn::Done)
+    for _step in 0..steps {
+        match keep_one(phases, exchange, worker, &world, &mut left)? {
+            Took::One => {}
+            Took::Waits => {
+                worker.stage = Stage::Ended(world, left);
+                return Ok(Turn::Waits);
+            }
+            Took::All => {
+                worker.stage = Stage::Ended(world, left);
+                return Ok(Turn::Done);
+            }
         }
     }
+    worker.stage = Stage::Ended(world, left);
+    Ok(Turn::Moved)
 }
 
+/// Goes past heights without a chunk, up to so many, and opens the next chunk.
 fn idle_turn<P: Phases, G: Gate>(
     alloc: Global,
     phases: &P,
     exchange: &Exchange<Serial<P>>,
     gate: &G,
+    steps: u32,
     worker: &mut Worker<P>,
     world: P::World,
 ) -> Result<Turn, AllocError>
@@ -287,13 +350,18 @@ fn idle_turn<P: Phases, G: Gate>(
     ensures at { OnOk result (IsWorkerAt P.rules exchange.now worker.new worker.new.stage) }
     ensures port { IsPortOf (serial_plan P.rules) exchange.now worker.new.inbox.port }
 {
-    if worker.height >= phases.heights() {
-        end_next(alloc, phases, exchange, worker, world)?;
-    } else if phases.present(worker.shard, Height(worker.height + 1)) {
-        open_next(alloc, phases, exchange, gate, worker, world)?;
-    } else {
-        skip_next(phases, exchange, worker, world);
+    for _step in 0..steps {
+        if worker.height >= phases.heights() {
+            end_next(alloc, phases, exchange, worker, world)?;
+            return Ok(Turn::Moved);
+        }
+        if phases.present(worker.shard, Height(worker.height + 1)) {
+            open_next(alloc, phases, exchange, gate, worker, world)?;
+            return Ok(Turn::Moved);
+        }
+        skip_next(phases, exchange, worker, &world);
     }
+    worker.stage = Stage::Idle(world);
     Ok(Turn::Moved)
 }
 
@@ -302,6 +370,7 @@ fn try_turn<P: Phases, G: Gate>(
     phases: &P,
     exchange: &Exchange<Serial<P>>,
     gate: &G,
+    steps: u32,
     worker: &mut Worker<P>,
 ) -> Result<Turn, AllocError>
     requires run { phases.now ≡ exchange.now.run.0 }
@@ -311,21 +380,24 @@ fn try_turn<P: Phases, G: Gate>(
     ensures port { IsPortOf (serial_plan P.rules) exchange.now worker.new.inbox.port }
 {
     match mem::replace(&mut worker.stage, Stage::Lost) {
-        Stage::Idle(world) => idle_turn(alloc, phases, exchange, gate, worker, world),
-        Stage::Opened(working) => opened_turn(alloc, phases, exchange, gate, worker, working),
+        Stage::Idle(world) => idle_turn(alloc, phases, exchange, gate, steps, worker, world),
+        Stage::Opened(working) => {
+            opened_turn(alloc, phases, exchange, gate, steps, worker, working)
+        }
         Stage::Sealed(world, lists) => { sealed_turn(phases, exchange, gate, worker, world, lists) }
-        Stage::Ended(world, left) => ended_turn(phases, exchange, worker, world, left),
+        Stage::Ended(world, left) => ended_turn(phases, exchange, steps, worker, world, left),
         Stage::Lost => Err(AllocError),
     }
 }
 
-/// Makes the next step of a worker. Where memory is wanting, or a source of a list or the shard at the end of a link
+/// Makes the next steps of a worker, up to so many. Where memory is wanting, or a source of a list or the shard at the end of a link
 /// without room has abandoned the run, the worker abandons it too.
 pub(crate) fn make_turn<P: Phases, G: Gate>(
     alloc: Global,
     phases: &P,
     exchange: &Exchange<Serial<P>>,
     gate: &G,
+    steps: u32,
     worker: &mut Worker<P>,
 ) -> Turn
     requires run { phases.now ≡ exchange.now.run.0 }
@@ -333,7 +405,7 @@ pub(crate) fn make_turn<P: Phases, G: Gate>(
     ensures sound { IsWorker P.rules exchange.now worker.new }
     ensures shard { worker.new.shard ≡ worker.old.shard }
 {
-    match try_turn(alloc, phases, exchange, gate, worker) {
+    match try_turn(alloc, phases, exchange, gate, steps, worker) {
         Ok(turn) => turn,
         Err(_) => {
             worker.stage = Stage::Lost;

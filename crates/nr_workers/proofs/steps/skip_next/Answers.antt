@@ -4,4 +4,4 @@ use Rattle.nr_workers.proofs.steps.skip_next.Goals as goal
 
 pub returns-clause-at : goal.returns-clause-at
 returns-clause-at g c =
-    skips g.P.Phases.rules c.args.exchange.now c.args.worker.now.shard.0 c.args.worker.now.height c.args.worker.now.inbox _ c.args.world c.args.worker.now.reports.items c.requires.at c.requires.below c.requires.missing c.skip.ensures.port c.skip.ensures.passed refl refl
+    skips g.P.Phases.rules c.args.exchange.now c.args.worker.now.shard.0 c.args.worker.now.height c.args.worker.now.inbox _ c.args.world.now c.args.worker.now.reports.items c.requires.at c.requires.below c.requires.missing c.skip.ensures.port c.skip.ensures.passed refl refl
