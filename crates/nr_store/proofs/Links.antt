@@ -93,7 +93,7 @@ all_joined s t [] h g = tt
 all_joined s t (p ∷ ps) h g = (begins_joined s t p.0 h.0 g.0, all_joined s t ps h.1 g.1)
 
 -- behind the front not all go on with one nibble
-none_shared : (ps : Paths) (x : ℕ) → 1 ≤ length ps → AllBegin (x ∷ []) (behind (length (front ps)) ps) → ⊥
+pub none_shared : (ps : Paths) (x : ℕ) → 1 ≤ length ps → AllBegin (x ∷ []) (behind (length (front ps)) ps) → ⊥
 none_shared ps x some h = begins_longer (front ps) x (front_greatest (front ps ++ x ∷ []) ps some (all_joined (front ps) (x ∷ []) ps (front_begins ps) h))
 
 -- ---- what is left of the keys

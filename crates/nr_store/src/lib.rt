@@ -13,3 +13,4 @@ mod threads;
 mod trie;
 
 pub use plain::PlainStore;
+pub use span::{Entry, Span};

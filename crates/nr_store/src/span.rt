@@ -12,7 +12,7 @@ use std::marker::Model;
 
 /// A key with its value. Contracts see the key as nibbles.
 #[derive(Debug, Drop)]
-pub(crate) struct Entry<'a> {
+pub struct Entry<'a> {
     key: &'a [u8],
     value: &'a [u8],
 }
@@ -27,7 +27,7 @@ impl<'a> Model for Entry<'a> {
 }
 
 impl<'a> Entry<'a> {
-    pub(crate) fn of(key: &'a [u8], value: &'a [u8]) -> Entry<'a>
+    pub fn of(key: &'a [u8], value: &'a [u8]) -> Entry<'a>
         ensures value { result ≡ (nibbles key.now, value.now) }
         ensures small { IsNibbles result.0 }
     {
@@ -108,7 +108,7 @@ impl<'a> Entry<'a> {
 
 /// Entries in the order of their keys, without the first nibbles of each key.
 #[derive(Debug, Drop)]
-pub(crate) struct Span<'a> {
+pub struct Span<'a> {
     entries: &'a [Entry<'a>],
     offset: usize,
 }
@@ -126,14 +126,14 @@ impl<'a> Model for Span<'a> {
 
 impl<'a> Span<'a> {
     /// The entries with their whole keys.
-    pub(crate) fn of(entries: &'a [Entry<'a>]) -> Span<'a>
+    pub fn of(entries: &'a [Entry<'a>]) -> Span<'a>
         requires { CanWalk entries.now }
         ensures { result ≡ entries.now }
     {
         Span { entries, offset: 0 }
     }
 
-    pub(crate) fn len(&self) -> usize
+    pub fn len(&self) -> usize
         ensures count { result ≡ length self.now }
         ensures order { CanWalk self.now }
     {
@@ -152,7 +152,7 @@ impl<'a> Span<'a> {
     }
 
     /// Those that go on with the nibble, without it.
-    pub(crate) fn under(&self, nibble: u8) -> Span<'a>
+    pub fn under(&self, nibble: u8) -> Span<'a>
         requires { nibble < 16 }
         ensures { result ≡ under nibble self.now }
     {
@@ -167,7 +167,7 @@ impl<'a> Span<'a> {
     }
 
     /// The same without their longest front.
-    pub(crate) fn rest(&self) -> Span<'a>
+    pub fn rest(&self) -> Span<'a>
         requires { 2 ≤ length self.now }
         ensures { result ≡ behind (length (front self.now)) self.now }
     {
@@ -181,7 +181,7 @@ impl<'a> Span<'a> {
     }
 
     /// The longest front that all keys share.
-    pub(crate) fn front(&self, alloc: Global) -> Result<Blob, AllocError>
+    pub fn front(&self, alloc: Global) -> Result<Blob, AllocError>
         requires { 2 ≤ length self.now }
         ensures value { IfOk result (λ shared. shared ≡ front self.now) }
         ensures small { IfOk result IsNibbles }
@@ -194,7 +194,7 @@ impl<'a> Span<'a> {
     }
 
     /// The value of the key that ends here.
-    pub(crate) fn value_here(&self) -> Option<&'a [u8]>
+    pub fn value_here(&self) -> Option<&'a [u8]>
         ensures { MatchOption result (value_here self.now ≡ None) (λ value. value_here self.now ≡ Some value.now) }
     {
         if self.entries.is_empty() {
@@ -208,7 +208,7 @@ impl<'a> Span<'a> {
     }
 
     /// What is left of the first key.
-    pub(crate) fn first_key(&self, alloc: Global) -> Result<Blob, AllocError>
+    pub fn first_key(&self, alloc: Global) -> Result<Blob, AllocError>
         requires { 0 < length self.now }
         ensures value { IfOk result (λ key. key ≡ (first_path self.now).0) }
         ensures small { IfOk result IsNibbles }
@@ -219,7 +219,7 @@ impl<'a> Span<'a> {
     }
 
     /// The value of the first key.
-    pub(crate) fn first_value(&self) -> &'a [u8]
+    pub fn first_value(&self) -> &'a [u8]
         requires { 0 < length self.now }
         ensures { result.now ≡ (first_path self.now).1 }
     {

@@ -1,3 +1,3 @@
 pub mod Parts
-mod Each
-mod Laws
+pub mod Each
+pub mod Laws
