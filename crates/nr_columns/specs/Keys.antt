@@ -43,3 +43,11 @@ delayed_key n = 7 ∷ little 8 n
 -- by owner and key
 abbrev pub datum_key : List ℕ × List ℕ → List ℕ
 datum_key k = column_key 9 k.0 k.1
+
+-- what a column's keys of an owner begin with: the column, the id and a comma
+abbrev pub owner_prefix : ℕ → List ℕ → List ℕ
+owner_prefix column id = column_key column id []
+
+-- what the keys of all that an account owns begin with, but for the account and its code, which have one key each
+abbrev pub owner_prefixes : List ℕ → List (List ℕ)
+owner_prefixes id = (2 ∷ (id ++ 2 ∷ [])) ∷ owner_prefix 3 id ∷ owner_prefix 4 id ∷ owner_prefix 5 id ∷ owner_prefix 6 id ∷ owner_prefix 9 id ∷ []

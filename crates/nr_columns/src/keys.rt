@@ -4,10 +4,10 @@ ghost use Rattle.std.specs.Prelude.{◌≡◌, ◌∷◌, ◌++◌, IfOk, OnOk, 
 ghost use Rattle.nr_bytes.specs.Numbers.{little, number};
 ghost use Rattle.nr_ids.specs.Grammar.{id_fault};
 ghost use Rattle.nr_ids.specs.Keys.{key_bytes, IsKey};
-ghost use Rattle.nr_columns.specs.Keys.{account_key, code_key, access_key_key, datum_key, column_key, delayed_key};
+ghost use Rattle.nr_columns.specs.Keys.{account_key, code_key, access_key_key, datum_key, column_key, delayed_key, owner_prefixes};
 ghost use Rattle.nr_columns.specs.View.{at_first, key_of_rest};
 
-use nr_bytes::{Blob, Writer};
+use nr_bytes::{Blob, List, Writer};
 use nr_ids::{AccountId, PublicKey};
 use nr_records::Spelled;
 use std::alloc::{AllocError, Global};
@@ -139,6 +139,26 @@ pub(crate) fn front(alloc: Global, column: u8, id: &AccountId, mark: u8) -> Resu
     writer.put_raw(id.bytes())?;
     writer.put_u8(mark)?;
     Ok(writer.finish())
+}
+
+/// What the keys of all that an account owns begin with, but for the account and its code, which
+/// have one key each: of its access keys, of the data that it received and waits for, of its counts
+/// of missing inputs, of its postponed receipts, and of its own data.
+///
+/// # Errors
+///
+/// Where memory ran out.
+pub fn owner_prefixes(alloc: Global, id: &AccountId) -> Result<List<Blob>, AllocError>
+    ensures { IfOk result (λ prefixes. prefixes ≡ owner_prefixes id.now) }
+{
+    let mut prefixes = Vec::new(alloc);
+    prefixes.push(front(alloc, ACCESS, id, ACCESS)?)?;
+    prefixes.push(front(alloc, RECEIVED, id, b',')?)?;
+    prefixes.push(front(alloc, AWAITED, id, b',')?)?;
+    prefixes.push(front(alloc, MISSING, id, b',')?)?;
+    prefixes.push(front(alloc, POSTPONED, id, b',')?)?;
+    prefixes.push(front(alloc, DATUM, id, b',')?)?;
+    Ok(List::of(prefixes))
 }
 
 /// The key of a delayed receipt, from which its number can be told.
