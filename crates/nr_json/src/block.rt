@@ -108,12 +108,7 @@ fn price_in(alloc: Global, version: Version, price: Option<u64>) -> Result<(), J
     }
 }
 
-fn has_price(
-    alloc: Global,
-    version: Version,
-    number: usize,
-    block: &Block,
-) -> Result<(), JsonFault>
+fn has_price(alloc: Global, version: Version, number: usize, block: &Block) -> Result<(), JsonFault>
     ensures { Gives Memory result (has_price version number block.now) }
 {
     match price_in(alloc, version, block.price) {
@@ -138,11 +133,7 @@ fn all_have_price(alloc: Global, version: Version, blocks: &[Block]) -> Result<(
 }
 
 #[tactic(auto, unfolding(crate::specs::Blocks::file_in))]
-fn file_in(
-    alloc: Global,
-    version: Version,
-    blocks: List<Block>,
-) -> Result<BlocksFile, JsonFault>
+fn file_in(alloc: Global, version: Version, blocks: List<Block>) -> Result<BlocksFile, JsonFault>
     ensures { Gives Memory result (file_in version blocks) }
 {
     all_have_price(alloc, version, blocks.inner())?;
