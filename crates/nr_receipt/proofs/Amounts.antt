@@ -1,6 +1,6 @@
 -- The numbers of an execution: gas, rewards and what receipts hold.
 use Rattle.std.proofs.Common.{◌≡◌, ℕ, ◌+◌, ◌-◌, ◌*◌, ◌≤◌, min, Bool, true, false, cond, List, take, refl, sym, ap, ◌∙◌, arith}
-use Rattle.std.proofs.Math.Nat.{div-le_of_le-mul, min-le_left}
+use Rattle.std.proofs.Math.Nat.{div-le_of_le-mul, min-le_left, zero-min}
 use Rattle.std.proofs.lemmas.List.Sums.{sum_by-take-le}
 use Rattle.std.proofs.lemmas.Nat.{mul-le}
 use Rattle.nr_actions.specs.Calling.{price_of}
@@ -39,7 +39,9 @@ pub burns_less : (f : Frame) (gas : ℕ) → gas * burning_price f ≤ gas * pri
 burns_less f gas = mul-le gas (burning_price f) gas (price_of f) (omega arith) (min-le_left (price_of f) f.place.price)
 
 call_by : (executing call price block : ℕ) (b : Bool) → call * min (cond b 0 price) block ≤ cond b 0 (executing + call) * min (cond b 0 price) block
-call_by executing call price block true = omega arith
+call_by executing call price block true =
+    let free : call * min 0 block ≡ call * 0 = ap (λ n. call * n) (zero-min block) in
+    omega (arith, free)
 call_by executing call price block false = mul-le call (min price block) (executing + call) (min price block) (omega arith) (omega arith)
 
 -- what calls burnt is paid for with the burnt gas
