@@ -1,4 +1,4 @@
-use nr_blocks::{BlocksFile, GenesisFile, read_blocks, read_genesis};
+use nr_blocks::{BlocksFile, GenesisFile, Version, read_blocks, read_genesis};
 use nr_config::Config;
 use nr_gen::generate;
 use nr_ids::Hash32;
@@ -21,7 +21,8 @@ fn hashes(
         entries: genesis.entries,
     };
     let first = hash_of(alloc, &file)?;
-    let second = hash_of(alloc, &BlocksFile { blocks })?;
+    let version = Version::One;
+    let second = hash_of(alloc, &BlocksFile { version, blocks })?;
     Ok((first, second))
 }
 
@@ -93,7 +94,8 @@ fn is_read(alloc: Global, shards: u32) -> Result<bool, AllocError> {
         entries: genesis.entries,
     };
     let genesis = encode(alloc, &file)?;
-    let blocks = encode(alloc, &BlocksFile { blocks })?;
+    let version = Version::One;
+    let blocks = encode(alloc, &BlocksFile { version, blocks })?;
     let founded = read_genesis(alloc, genesis.inner(), &Config::generated());
     let ordered = read_blocks(alloc, blocks.inner(), shards);
     Ok(founded.is_ok() && ordered.is_ok())

@@ -4,4 +4,6 @@
 #[cfg(test)]
 mod generating;
 #[cfg(test)]
+mod prices;
+#[cfg(test)]
 mod reading;

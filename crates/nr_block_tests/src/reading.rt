@@ -81,7 +81,7 @@ fn blocks_are_judged(rt: HostRuntime) -> Result<(), Fail> {
     let alloc = rt.alloc();
     let rest = longer(alloc, TRANSFER.as_slice())?;
     assert!(rt; blocks_fault(alloc, &rest, 1) == Some(BlocksFault::Spelling { at: 168 }));
-    let word = changed(alloc, 3, b'2')?;
+    let word = changed(alloc, 3, b'0')?;
     assert!(rt; blocks_fault(alloc, &word, 1) == Some(BlocksFault::Spelling { at: 0 }));
     let stake = changed(alloc, 126, 4)?;
     assert!(rt; blocks_fault(alloc, &stake, 1) == Some(BlocksFault::Stake { at: 126 }));

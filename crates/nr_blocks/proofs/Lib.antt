@@ -1,4 +1,4 @@
-mod Turns
+pub mod Turns
 mod Entries
 mod Spellings
 pub mod Filling

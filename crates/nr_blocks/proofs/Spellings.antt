@@ -1,5 +1,6 @@
 -- What is read of a file is spelled so, and what is spelled so is read.
-use Rattle.std.proofs.Common.{◌≡◌, ℕ, List, Result, Ok, Err, refl, sym, ap, subst, ◌∙◌}
+use Rattle.std.proofs.Common.{◌≡◌, ℕ, ◌^◌, List, [], ◌∷◌, Option, Some, None, Result, Ok, Err, refl, sym, ap, subst, ◌∙◌, arith}
+use Rattle.std.specs.List.{AllByRecursion}
 use Rattle.std.specs.Prelude.{IfOk}
 use Rattle.nr_bytes.specs.Numbers.{IsBytes}
 use Rattle.nr_bytes.specs.Reading.{◌>>=◌}
@@ -7,9 +8,10 @@ use Rattle.nr_config.specs.Config.{Config}
 use Rattle.nr_bytes.proofs.Whole.{whole_taken, whole_again}
 use Rattle.nr_records.specs.Fault.{record_fault}
 use Rattle.nr_records.specs.Reading.{all_of}
-use Rattle.nr_bytes.specs.Spelling.{FitsList}
+use Rattle.nr_bytes.specs.Spelling.{Below, FitsList}
+use Rattle.nr_records.specs.Options.{IsOption}
 use Rattle.nr_records.specs.declared.fault.RecordFault.{RecordFault}
-use Rattle.nr_blocks.specs.BlocksFiles.{IsBlock}
+use Rattle.nr_blocks.specs.BlocksFiles.{IsBlock, IsPrice, FitsPrice}
 use Rattle.nr_blocks.specs.FileLaws.{genesis_law, blocks_law}
 use Rattle.nr_blocks.specs.Files.{genesis_at, genesis_bytes, IsGenesisFile, blocks_at, blocks_bytes, IsBlocksFile}
 use Rattle.nr_bytes.specs.Answers.{Gives}
@@ -23,6 +25,8 @@ use Rattle.nr_blocks.specs.declared.fault.GenesisFault.{GenesisFault}
 use Rattle.nr_blocks.specs.declared.fault.GenesisFault.TheVariants as genesis
 use Rattle.nr_blocks.specs.declared.genesis.Genesis.{Genesis}
 use Rattle.nr_blocks.specs.declared.genesis_file.GenesisFile.{GenesisFile}
+use Rattle.nr_blocks.specs.declared.version.Version.{Version}
+use Rattle.nr_blocks.specs.declared.version.Version.TheVariants.{One, Two}
 
 -- ---- the genesis
 pub genesis_read_back : (c : Config) (g : Genesis) → IsGenesis c g → genesis_read c (genesis_spelling g) ≡ Ok g
@@ -62,10 +66,10 @@ is_genesis c bytes (Ok g) fits given = genesis_taken c bytes g fits given
 is_genesis c bytes (Err f) fits given = tt
 
 -- ---- the blocks
-pub blocks_read_back : (shards : ℕ) (bs : List Block) → AreBlocks shards bs → blocks_read shards (blocks_spelling bs) ≡ Ok bs
+pub blocks_read_back : (version : Version) (shards : ℕ) (bs : List Block) → AreBlocks version shards bs → blocks_read shards (blocks_spelling version bs) ≡ Ok bs
 unfolding blocks_read
-blocks_read_back shards bs fits =
-    let file : BlocksFile = record { blocks = bs } in
+blocks_read_back version shards bs fits =
+    let file : BlocksFile = record { version = version; blocks = bs } in
     rw (whole_again record_fault blocks_at blocks_bytes IsBlocksFile blocks_law file fits.fits, fits.ordered) refl
 
 abbrev kept : List Block → Result (List Block) BlocksFault
@@ -75,18 +79,41 @@ judged_blocks : (shards : ℕ) (file bs : List Block) (r : Result (Unit {0}) Blo
 judged_blocks shards file bs (Ok u) is e = (cc, is)
 judged_blocks shards file bs (Err f) is e = absurd cc
 
-blocks_taken : (shards : ℕ) (bytes : List ℕ) (bs : List Block) → IsBytes bytes → blocks_read shards bytes ≡ Ok bs → AreBlocks shards bs × (bytes ≡ blocks_spelling bs)
+-- what the blocks of a file are, in the version that its bytes have
+abbrev pub AreSpelled : ℕ → List ℕ → List Block → Type 0
+AreSpelled shards bytes bs = (version : Version) × AreBlocks version shards bs × (bytes ≡ blocks_spelling version bs)
+
+blocks_taken : (shards : ℕ) (bytes : List ℕ) (bs : List Block) → IsBytes bytes → blocks_read shards bytes ≡ Ok bs → AreSpelled shards bytes bs
 unfolding blocks_read
 blocks_taken shards bytes bs fits e = go (all_of blocks_at bytes) refl e
   where
     go : (r : Result BlocksFile RecordFault) → all_of blocks_at bytes ≡ r → (with_fault blocks_fault r >>= λ file. ordered shards file.blocks >>= λ u. kept file.blocks) ≡ Ok bs
-        → AreBlocks shards bs × (bytes ≡ blocks_spelling bs)
+        → AreSpelled shards bytes bs
     go (Err f) is e = absurd cc
     go (Ok file) is e =
         let taken : IsBlocksFile file × (bytes ≡ blocks_bytes file) = whole_taken record_fault blocks_at blocks_bytes IsBlocksFile blocks_law bytes file fits is in
         let j = judged_blocks shards file.blocks bs (ordered shards file.blocks) refl e in
-        (record { fits = subst (FitsList IsBlock) (sym j.0) taken.0; ordered = ap (ordered shards) j.0 ∙ j.1 }, taken.1 ∙ ap blocks_spelling (sym j.0))
+        (file.version, record { fits = subst (FitsList (IsBlock file.version)) (sym j.0) taken.0; ordered = ap (ordered shards) j.0 ∙ j.1 }, taken.1 ∙ ap (blocks_spelling file.version) (sym j.0))
 
-pub are_blocks : (shards : ℕ) (bytes : List ℕ) (r : Result (List Block) BlocksFault) → IsBytes bytes → Gives blocks.Memory r (blocks_read shards bytes) → IfOk r (λ bs. AreBlocks shards bs × (bytes ≡ blocks_spelling bs))
+pub are_blocks : (shards : ℕ) (bytes : List ℕ) (r : Result (List Block) BlocksFault) → IsBytes bytes → Gives blocks.Memory r (blocks_read shards bytes) → IfOk r (AreSpelled shards bytes)
 are_blocks shards bytes (Ok bs) fits given = blocks_taken shards bytes bs fits given
 are_blocks shards bytes (Err f) fits given = tt
+
+-- ---- their prices
+price_fits : (version : Version) (b : Block) → IsBlock version b → FitsPrice b
+price_fits version b is = go version b.price is.1.1.0
+  where
+    go : (version : Version) (price : Option ℕ) → IsPrice version price → IsOption (Below (2 ^ 64)) price
+    go version None fits = tt
+    go One (Some price) fits = absurd fits
+    go Two (Some price) fits = omega arith
+
+prices_fit : (version : Version) (bs : List Block) → AllByRecursion (IsBlock version) bs → AllByRecursion FitsPrice bs
+prices_fit version [] all = tt
+prices_fit version (b ∷ bs) all = (price_fits version b all.0, prices_fit version bs all.1)
+
+pub are_priced : (shards : ℕ) (bytes : List ℕ) (r : Result (List Block) BlocksFault) → IsBytes bytes → Gives blocks.Memory r (blocks_read shards bytes) → IfOk r (AllByRecursion FitsPrice)
+are_priced shards bytes (Ok bs) fits given =
+    let spelled = blocks_taken shards bytes bs fits given in
+    prices_fit spelled.0 bs spelled.1.fits.1
+are_priced shards bytes (Err f) fits given = tt

@@ -1,7 +1,7 @@
--- Both files: a magic word of four bytes, and then fields by Borsh 1.0 (structs, dynamic arrays). The words are this project's own.
-use Rattle.std.specs.Prelude.{ℕ, List, ◌++◌, codes}
+-- Both files: a magic word of four bytes, and then fields by Borsh 1.0 (structs, dynamic arrays). The words and the versions are this project's own.
+use Rattle.std.specs.Prelude.{ℕ, List, ◌++◌, Option, Some, None, Ok, Err, if◌then◌else◌, codes}
 use Rattle.std.specs.Str.{bytes_eq}
-use Rattle.nr_bytes.specs.Reading.{Input}
+use Rattle.nr_bytes.specs.Reading.{Input, ◌>>=◌}
 use Rattle.nr_layout.specs.Reading.{layout_at, layout_bytes, FitsLayout}
 use Rattle.nr_bytes.specs.Fields.{tested, pair, mapped}
 use Rattle.nr_records.specs.Reading.{Read, raw_at, list_at}
@@ -9,17 +9,19 @@ use Rattle.nr_bytes.specs.Spelling.{list, FitsList}
 use Rattle.nr_records.specs.declared.fault.RecordFault.TheVariants.{BadOrdinal}
 use Rattle.nr_blocks.specs.BlocksFiles.{block_at, block_bytes, IsBlock}
 use Rattle.nr_blocks.specs.GenesisFiles.{entry_at, entry_bytes, IsEntry}
-use Rattle.nr_blocks.specs.declared.block.Block.{Block}
 use Rattle.nr_blocks.specs.declared.blocks_file.BlocksFile.{BlocksFile}
 use Rattle.nr_blocks.specs.declared.genesis_entry.GenesisEntry.{GenesisEntry}
 use Rattle.nr_blocks.specs.declared.genesis_file.GenesisFile.{GenesisFile}
+use Rattle.nr_blocks.specs.declared.version.Version.{Version}
+use Rattle.nr_blocks.specs.declared.version.Version.TheVariants.{One, Two}
 
 -- ---- the word at the front
 abbrev pub genesis_magic : List ℕ
 genesis_magic = codes "NRG1"
 
-abbrev pub blocks_magic : List ℕ
-blocks_magic = codes "NRB1"
+abbrev pub blocks_magic : Version → List ℕ
+blocks_magic One = codes "NRB1"
+blocks_magic Two = codes "NRB2"
 
 -- four bytes, which are this word
 abbrev pub magic_at : List ℕ → Input → Read (List ℕ)
@@ -42,15 +44,28 @@ genesis_file_of f = record { layout = f.0; entries = f.1 }
 unfoldable pub genesis_at : Input → Read GenesisFile
 genesis_at = headed genesis_magic (mapped genesis_file_of (pair layout_at (list_at entry_at)))
 
--- ---- the blocks file
+-- ---- the blocks file: its version, and its blocks
+-- the version of this word
+abbrev pub version_named : List ℕ → Option Version
+version_named word = if bytes_eq (blocks_magic One) word then Some One else if bytes_eq (blocks_magic Two) word then Some Two else None
+
+abbrev pub known_at : ℕ → Option Version → Input → Read Version
+known_at at None rest = Err (BadOrdinal at)
+known_at at (Some version) rest = Ok (version, rest)
+
+unfoldable pub version_at : Input → Read Version
+version_at s = do
+  word ← raw_at 4 s
+  known_at s.at (version_named word.0) word.1
+
 abbrev pub blocks_bytes : BlocksFile → List ℕ
-blocks_bytes b = blocks_magic ++ list block_bytes b.blocks
+blocks_bytes b = blocks_magic b.version ++ list block_bytes b.blocks
 
 abbrev pub IsBlocksFile : BlocksFile → Type 0
-IsBlocksFile b = FitsList IsBlock b.blocks
-
-abbrev pub blocks_file_of : List Block → BlocksFile
-blocks_file_of blocks = record { blocks = blocks }
+IsBlocksFile b = FitsList (IsBlock b.version) b.blocks
 
 unfoldable pub blocks_at : Input → Read BlocksFile
-blocks_at = headed blocks_magic (mapped blocks_file_of (list_at block_at))
+blocks_at s = do
+  version ← version_at s
+  blocks ← list_at (block_at version.0) version.1
+  Ok (record { version = version.0; blocks = blocks.0 }, blocks.1)

@@ -8,6 +8,7 @@ use Rattle.nr_blocks.specs.Judging.{founded, ordered}
 use Rattle.nr_blocks.specs.declared.block.Block.{Block}
 use Rattle.nr_blocks.specs.declared.genesis.Genesis.{Genesis}
 use Rattle.nr_blocks.specs.declared.genesis_file.GenesisFile.{GenesisFile}
+use Rattle.nr_blocks.specs.declared.version.Version.{Version}
 
 -- the file of a genesis
 abbrev pub file_of : Genesis → GenesisFile
@@ -21,10 +22,10 @@ pub record IsGenesis (c : Config) (g : Genesis) : Type 0 where
   pub fits : IsGenesisFile (file_of g)
   pub founded : founded c g.entries ≡ Ok g.supply
 
-abbrev pub blocks_spelling : List Block → List ℕ
-blocks_spelling bs = blocks_bytes (record { blocks = bs })
+abbrev pub blocks_spelling : Version → List Block → List ℕ
+blocks_spelling version bs = blocks_bytes (record { version = version; blocks = bs })
 
--- blocks that a file can hold for so many shards
-pub record AreBlocks (shards : ℕ) (bs : List Block) : Type 0 where
-  pub fits : FitsList IsBlock bs
+-- blocks that a file of this version can hold for so many shards
+pub record AreBlocks (version : Version) (shards : ℕ) (bs : List Block) : Type 0 where
+  pub fits : FitsList (IsBlock version) bs
   pub ordered : ordered shards bs ≡ Ok tt

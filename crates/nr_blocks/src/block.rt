@@ -1,7 +1,9 @@
-ghost use Rattle.std.specs.Prelude.{◌≡◌};
-ghost use Rattle.nr_blocks.specs.BlocksFiles.{block_at, block_bytes, IsBlock};
-ghost use Rattle.nr_blocks.specs.BlockLaws.{block_law};
+ghost use Rattle.std.specs.Prelude.{◌≡◌, ◌++◌, IfOk, OnOk};
+ghost use Rattle.nr_bytes.specs.Answers.{GivesRead};
+ghost use Rattle.nr_records.specs.declared.fault.RecordFault.TheVariants.{Memory};
+ghost use Rattle.nr_blocks.specs.BlocksFiles.{block_at, block_bytes, IsBlock, price_at, price_bytes, IsPrice};
 
+use crate::version::Version;
 use nr_bytes::{List, Reader, Writer};
 use nr_ids::Height;
 use nr_records::{RecordFault, Spelled, Transaction};
@@ -14,43 +16,81 @@ pub struct Block {
     pub height: Height,
     /// In nanoseconds.
     pub timestamp: u64,
+    /// What a unit of gas costs in it, in the smallest unit of the ledger. None in a file of
+    /// [`Version::One`] and for generated blocks; then it is the configuration's.
+    pub price: Option<u64>,
     pub chunks: List<Option<List<Transaction>>>,
 }
 
-impl Spelled for Block {
-    ghost spelling = { block_bytes };
-
-    ghost fits = { IsBlock };
-
-    ghost reading = { block_at };
-
-    ghost law = { block_law };
-
-    #[tactic(auto, unfolding(crate::specs::BlocksFiles::block_at))]
-    fn read(alloc: Global, reader: &mut Reader<'_>) -> Result<Block, RecordFault> {
-        let mut ahead = reader.fork();
-        let height = Height(u64::read(alloc, &mut ahead)?);
-        let timestamp = u64::read(alloc, &mut ahead)?;
-        let chunks = List::<Option<List<Transaction>>>::read(alloc, &mut ahead)?;
-        *reader = ahead;
-        Ok(Block {
-            height,
-            timestamp,
-            chunks,
-        })
+fn read_price(version: Version, reader: &mut Reader<'_>) -> Result<Option<u64>, RecordFault>
+    ensures { GivesRead Memory result reader.new (price_at version reader.old) }
+{
+    match version {
+        Version::One => Ok(None),
+        Version::Two => Ok(Some(reader.u64()?)),
     }
+}
 
-    fn write(&self, writer: &mut Writer) -> Result<(), AllocError> {
-        self.height.0.write(writer)?;
-        self.timestamp.write(writer)?;
-        self.chunks.write(writer)
+/// Writes a price where the version has one. A price that the version hasn't, or the lack of one
+/// that it has, has no spelling and is an error.
+fn write_price(
+    version: Version,
+    price: Option<u64>,
+    writer: &mut Writer,
+) -> Result<(), AllocError>
+    ensures appends { OnOk result (writer.new ≡ writer.old ++ price_bytes price) }
+    ensures in_range { OnOk result (IsPrice version price) }
+{
+    match (version, price) {
+        (Version::One, None) => Ok(()),
+        (Version::Two, Some(price)) => price.write(writer),
+        _ => Err(AllocError),
     }
+}
 
-    fn duplicate(&self, alloc: Global) -> Result<Block, AllocError> {
-        Ok(Block {
-            height: self.height,
-            timestamp: self.timestamp,
-            chunks: self.chunks.duplicate(alloc)?,
-        })
-    }
+/// Reads the block that stands next in a file of this version.
+#[tactic(auto, unfolding(crate::specs::BlocksFiles::block_at))]
+pub(crate) fn read_block(
+    alloc: Global,
+    version: Version,
+    reader: &mut Reader<'_>,
+) -> Result<Block, RecordFault>
+    ensures { GivesRead Memory result reader.new (block_at version reader.old) }
+{
+    let height = Height(u64::read(alloc, reader)?);
+    let timestamp = u64::read(alloc, reader)?;
+    let price = read_price(version, reader)?;
+    let chunks = List::<Option<List<Transaction>>>::read(alloc, reader)?;
+    Ok(Block {
+        height,
+        timestamp,
+        price,
+        chunks,
+    })
+}
+
+/// Writes a block of a file of this version.
+pub(crate) fn write_block(
+    version: Version,
+    block: &Block,
+    writer: &mut Writer,
+) -> Result<(), AllocError>
+    ensures appends { OnOk result (writer.new ≡ writer.old ++ block_bytes block.now) }
+    ensures in_range { OnOk result (IsBlock version block.now) }
+{
+    block.height.0.write(writer)?;
+    block.timestamp.write(writer)?;
+    write_price(version, block.price, writer)?;
+    block.chunks.write(writer)
+}
+
+pub(crate) fn duplicate_block(alloc: Global, block: &Block) -> Result<Block, AllocError>
+    ensures { IfOk result (λ other. other ≡ block.now) }
+{
+    Ok(Block {
+        height: block.height,
+        timestamp: block.timestamp,
+        price: block.price,
+        chunks: block.chunks.duplicate(alloc)?,
+    })
 }

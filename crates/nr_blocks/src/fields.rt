@@ -3,8 +3,9 @@
 ghost use Rattle.nr_records.specs.Reading.{nat_at};
 ghost use Rattle.nr_bytes.specs.Answers.{GivesRead};
 ghost use Rattle.nr_records.specs.declared.fault.RecordFault.TheVariants.{Memory};
-ghost use Rattle.nr_blocks.specs.Files.{magic_at};
+ghost use Rattle.nr_blocks.specs.Files.{magic_at, version_at};
 
+use crate::version::Version;
 use nr_bytes::Reader;
 use nr_records::RecordFault;
 
@@ -25,4 +26,20 @@ pub(crate) fn magic_of(reader: &mut Reader<'_>, magic: [u8; 4]) -> Result<[u8; 4
         return Err(RecordFault::BadOrdinal { at });
     }
     Ok(word)
+}
+
+/// The version of a blocks file, by the word that it begins with.
+#[tactic(auto, unfolding(crate::specs::Files::version_at))]
+pub(crate) fn version_of(reader: &mut Reader<'_>) -> Result<Version, RecordFault>
+    ensures { GivesRead Memory result reader.new (version_at reader.old) }
+{
+    let at = reader.at();
+    let word = reader.fixed::<4>()?;
+    if b"NRB1".as_slice() == word.as_slice() {
+        Ok(Version::One)
+    } else if b"NRB2".as_slice() == word.as_slice() {
+        Ok(Version::Two)
+    } else {
+        Err(RecordFault::BadOrdinal { at })
+    }
 }

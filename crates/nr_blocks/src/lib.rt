@@ -6,6 +6,7 @@
 
 mod block;
 mod block_checks;
+mod block_list;
 mod blocks_file;
 mod entry_checks;
 mod fault;
@@ -19,6 +20,7 @@ mod owners;
 mod reading;
 mod supply;
 mod threads;
+mod version;
 
 pub use block::Block;
 pub use block_checks::MOST_BLOCKS;
@@ -30,3 +32,4 @@ pub use genesis_entry::GenesisEntry;
 pub use genesis_file::GenesisFile;
 pub use laws::first_world_laws;
 pub use reading::{read_blocks, read_genesis};
+pub use version::Version;

@@ -1,6 +1,8 @@
 //! The two files, read whole.
 
 ghost use Rattle.std.specs.Prelude.{◌≡◌, List as Items, Ok, IfOk};
+ghost use Rattle.std.specs.List.{AllByRecursion};
+ghost use Rattle.nr_blocks.specs.BlocksFiles.{FitsPrice};
 ghost use Rattle.nr_blocks.specs.Genesis.{IsSoundGenesis};
 ghost use Rattle.nr_bytes.specs.Answers.{Gives};
 ghost use Rattle.nr_blocks.specs.Judging.{blocks_read, founded, genesis_read};
@@ -9,6 +11,7 @@ ghost use Rattle.nr_blocks.specs.declared.block.Block.{Block as Blocks};
 ghost use Rattle.nr_blocks.specs.declared.fault.BlocksFault.TheVariants as blocks;
 ghost use Rattle.nr_blocks.specs.declared.fault.GenesisFault.TheVariants as genesis;
 ghost use Rattle.nr_blocks.specs.declared.genesis.Genesis.{Genesis as Genesises};
+ghost use Rattle.nr_blocks.specs.declared.version.Version.{Version};
 
 use crate::block::Block;
 use crate::block_checks::check_blocks;
@@ -79,7 +82,8 @@ fn blocks_of(alloc: Global, bytes: &[u8], shards: u32) -> Result<List<Block>, Bl
     Ok(blocks)
 }
 
-/// Reads a blocks file for this many shards: the bytes `NRB1`, the blocks, and the end.
+/// Reads a blocks file for this many shards: the bytes `NRB1` or `NRB2`, the blocks, and the end.
+/// Behind `NRB2` each block has a gas price, and behind `NRB1` none has one.
 ///
 /// # Errors
 ///
@@ -89,10 +93,12 @@ fn blocks_of(alloc: Global, bytes: &[u8], shards: u32) -> Result<List<Block>, Bl
 /// `Memory`.
 pub fn read_blocks(alloc: Global, bytes: &[u8], shards: u32) -> Result<List<Block>, BlocksFault>
     ensures gives { Gives blocks.Memory result (blocks_read shards bytes.now) }
-    // What is read is spelled so.
-    ensures found { IfOk result (λ list. AreBlocks shards list × (bytes.now ≡ blocks_spelling list)) }
+    // What is read is spelled so, in one of the versions.
+    ensures found { IfOk result (λ list. (version : Version) × AreBlocks version shards list × (bytes.now ≡ blocks_spelling version list)) }
+    // The price of each block, where it has one, is below 2^64.
+    ensures priced { IfOk result (λ list. AllByRecursion FitsPrice list) }
     // What is spelled so is read, unless memory runs out.
-    ensures only { (list : Items Blocks) → AreBlocks shards list → bytes.now ≡ blocks_spelling list → Gives blocks.Memory result (Ok list) }
+    ensures only { (version : Version) (list : Items Blocks) → AreBlocks version shards list → bytes.now ≡ blocks_spelling version list → Gives blocks.Memory result (Ok list) }
 {
     blocks_of(alloc, bytes, shards)
 }

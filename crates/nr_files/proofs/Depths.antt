@@ -10,10 +10,15 @@ use Rattle.nr_records.specs.declared.access_key.Permission.TheVariants.{Call, Fu
 use Rattle.nr_records.specs.declared.action.Action.TheVariants.{CreateAccount, DeployContract, FunctionCall, Transfer, AddKey, DeleteKey, DeleteAccount}
 use Rattle.nr_json.specs.AccessKeys.{call_permission_json, permission_json, access_key_json}
 use Rattle.nr_json.specs.Actions.{action_json}
-use Rattle.nr_json.specs.Blocks.{chunk_json, block_json, blocks_json}
-use Rattle.nr_json.specs.Genesis.{with_optional, account_members, entry_json, genesis_json}
+use Rattle.nr_json.specs.Blocks.{chunk_json, block_json, version_json, stated_version, blocks_json}
+use Rattle.nr_blocks.specs.declared.block.Block.{Block}
+use Rattle.nr_blocks.specs.declared.blocks_file.BlocksFile.{BlocksFile}
+use Rattle.nr_blocks.specs.declared.version.Version.{Version}
+use Rattle.nr_blocks.specs.declared.version.Version.TheVariants.{One, Two}
+use Rattle.nr_json.specs.Genesis.{account_members, entry_json, genesis_json}
 use Rattle.nr_json.specs.Keys.{hash_json}
 use Rattle.nr_json.specs.Lists.{list_json, option_json}
+use Rattle.nr_json.specs.Members.{with_optional}
 use Rattle.nr_json.specs.Plain.{number_json, amount_json}
 use Rattle.nr_json.specs.Transactions.{transaction_json}
 use Rattle.nr_json.specs.declared.genesis.StatedAccount.{StatedAccount}
@@ -46,6 +51,10 @@ option_depth : {X : Type 0} (json : X → Data) (n : ℕ) → AreShallow json n 
 option_depth json n shallow None = omega arith
 option_depth json n shallow (Some x) = shallow x
 
+optional_depth : {X : Type 0} (name : List ℕ) (json : X → Data) (o : Option X) (ms : Members) (n : ℕ) → AreShallow json n → members_depth ms ≤ n → members_depth (with_optional name json o ms) ≤ n
+optional_depth name json None ms n shallow rest = rest
+optional_depth name json (Some x) ms n shallow rest = put_depth name (json x) ms n (shallow x) rest
+
 -- ---- records
 call_depth : AreShallow call_permission_json 2
 call_depth c = omega (arith, list_depth string 0 (λ x. omega arith) c.methods, option_depth amount_json 0 (λ x. omega arith) c.allowance)
@@ -73,17 +82,27 @@ transaction_depth t = omega (arith, list_depth action_json 6 action_depth t.acti
 chunk_depth : AreShallow chunk_json 9
 chunk_depth = option_depth (list_json transaction_json) 9 (list_depth transaction_json 8 transaction_depth)
 
+abbrev unpriced : Block → Members
+unpriced b = put (codes "chunks") (list_json chunk_json b.chunks) (put (codes "timestamp") (number_json b.timestamp) (put (codes "height") (number_json b.height.0) no_members))
+
 block_depth : AreShallow block_json 11
-block_depth b = omega (arith, list_depth chunk_json 9 chunk_depth b.chunks)
+block_depth b =
+    let rest : members_depth (unpriced b) ≤ 10 = omega (arith, list_depth chunk_json 9 chunk_depth b.chunks) in
+    omega (arith, optional_depth (codes "price") number_json b.price (unpriced b) 10 (λ x. omega arith) rest)
+
+abbrev unversioned : BlocksFile → Members
+unversioned file = put (codes "blocks") (list_json block_json file.blocks) no_members
+
+version_depth : AreShallow version_json 12
+version_depth One = omega arith
+version_depth Two = omega arith
 
 pub blocks_depth : AreShallow blocks_json max_depth
-blocks_depth file = omega (arith, list_depth block_json 11 block_depth file.blocks)
+blocks_depth file =
+    let rest : members_depth (unversioned file) ≤ 12 = omega (arith, list_depth block_json 11 block_depth file.blocks) in
+    omega (arith, optional_depth (codes "version") version_json (stated_version file.version) (unversioned file) 12 version_depth rest)
 
 -- ---- the first state
-optional_depth : {X : Type 0} (name : List ℕ) (json : X → Data) (o : Option X) (ms : Members) (n : ℕ) → AreShallow json n → members_depth ms ≤ n → members_depth (with_optional name json o ms) ≤ n
-optional_depth name json None ms n shallow rest = rest
-optional_depth name json (Some x) ms n shallow rest = put_depth name (json x) ms n (shallow x) rest
-
 abbrev tokens : StatedAccount → Members
 tokens a = put (codes "locked") (amount_json a.locked) (put (codes "amount") (amount_json a.amount) no_members)
 

@@ -18,11 +18,12 @@ use Rattle.nr_records.specs.declared.access_key.Permission.{Permission}
 use Rattle.nr_records.specs.declared.access_key.Permission.TheVariants.{Call, Full}
 use Rattle.nr_records.specs.declared.action.Action.TheVariants.{CreateAccount, DeployContract, FunctionCall, Transfer, AddKey, DeleteKey, DeleteAccount}
 use Rattle.nr_layout.specs.Reading.{layout_bytes}
-use Rattle.nr_blocks.specs.BlocksFiles.{chunk_bytes, IsChunk, block_bytes, IsBlock}
+use Rattle.nr_blocks.specs.BlocksFiles.{chunk_bytes, IsChunk, price_bytes, block_bytes, IsBlock}
 use Rattle.nr_blocks.specs.Files.{blocks_magic, blocks_bytes, IsBlocksFile, genesis_magic, genesis_bytes, IsGenesisFile}
 use Rattle.nr_blocks.specs.GenesisFiles.{entry_bytes, IsEntry}
 use Rattle.nr_blocks.specs.declared.genesis_entry.GenesisEntry.TheVariants as kind
 use Rattle.nr_blocks.specs.declared.genesis_file.GenesisFile.{GenesisFile}
+use Rattle.nr_blocks.specs.declared.version.Version.{Version}
 use Rattle.nr_json.specs.Fits.{FitsKey, FitsPermission, FitsAction, FitsTransaction}
 use Rattle.nr_json.specs.FitsFiles.{FitsBlock, FitsBlocks, FitsEntry, FitsGenesis}
 use Rattle.nr_files.specs.Filling.{stated_entry, stated}
@@ -100,13 +101,16 @@ transaction_held t is h =
 chunk_held : Held chunk_bytes IsChunk (IsOption (AllByRecursion FitsTransaction))
 chunk_held = option_held (list transaction_bytes) (FitsList IsTransaction) (AllByRecursion FitsTransaction) (list_held transaction_bytes IsTransaction FitsTransaction transaction_held)
 
-block_held : Held block_bytes IsBlock FitsBlock
-block_held b is h =
+block_held : (version : Version) → Held block_bytes (IsBlock version) (FitsBlock version)
+block_held version b is h =
     let chunks = list chunk_bytes b.chunks in
-    list_held chunk_bytes IsChunk (IsOption (AllByRecursion FitsTransaction)) chunk_held b.chunks is.1.1 (behind (little 8 b.timestamp) chunks (behind (little 8 b.height.0) (little 8 b.timestamp ++ chunks) h))
+    let priced = price_bytes b.price ++ chunks in
+    let rest : IsBytes priced = behind (little 8 b.timestamp) priced (behind (little 8 b.height.0) (little 8 b.timestamp ++ priced) h) in
+    (is.1.1.0, list_held chunk_bytes IsChunk (IsOption (AllByRecursion FitsTransaction)) chunk_held b.chunks is.1.1.1 (behind (price_bytes b.price) chunks rest))
 
 pub blocks_held : Held blocks_bytes IsBlocksFile FitsBlocks
-blocks_held file is h = list_held block_bytes IsBlock FitsBlock block_held file.blocks is (behind blocks_magic (list block_bytes file.blocks) h)
+blocks_held file is h =
+    list_held block_bytes (IsBlock file.version) (FitsBlock file.version) (block_held file.version) file.blocks is (behind (blocks_magic file.version) (list block_bytes file.blocks) h)
 
 -- ---- the first state
 entry_held : Held entry_bytes IsEntry (λ e. FitsEntry (stated_entry e))

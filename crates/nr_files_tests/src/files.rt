@@ -21,6 +21,22 @@ const BLOCKS_HEX: &str =
     000000000000000000000000000000000000000000000000000000000000000002000000030500000000000000\
     000000000000000000020000000000000007000000000000000100000000";
 
+/// The same transfer at price 5, and the block whose chunk is missing at the greatest price.
+const PRICED: &str = "{\"blocks\": [\
+    {\"height\": 1, \"timestamp\": 0, \"price\": 5, \"chunks\": [[{\"signer_id\": \"alice\",\
+    \"public_key\": \"ed25519:0101010101010101010101010101010101010101010101010101010101010101\",\
+    \"nonce\": 1, \"receiver_id\": \"bob\",\
+    \"block_hash\": \"0000000000000000000000000000000000000000000000000000000000000000\",\
+    \"actions\": [{\"Transfer\": {\"deposit\": \"5\"}}]}]]},\
+    {\"height\": 2, \"timestamp\": 7, \"price\": 18446744073709551615, \"chunks\": [null]}]}";
+
+/// The bytes of these blocks.
+const PRICED_HEX: &str =
+    "4e5242320200000001000000000000000000000000000000050000000000000001000000010100000005000000\
+    616c69636500010101010101010101010101010101010101010101010101010101010101010101000000000000\
+    0003000000626f6200000000000000000000000000000000000000000000000000000000000000000100000003\
+    0500000000000000000000000000000002000000000000000700000000000000ffffffffffffffff0100000000";
+
 /// A genesis with alice, who has a key, and bob. What may be left out is left out.
 const GENESIS: &str = "{\"boundaries\": [], \"entries\": [\
     {\"kind\": \"account\", \"account_id\": \"alice\", \"amount\": \"100\", \"locked\": \"0\"},\
@@ -70,6 +86,78 @@ fn blocks_are_made_and_shown(rt: HostRuntime) -> Result<(), Fail> {
     let (again, same) = ended(alloc, &["blocks", "F"], &text)?;
     assert_eq!(rt; again.exit_status(), 0);
     assert!(rt; same == bytes);
+    Ok(())
+}
+
+#[test]
+fn prices_are_made_and_shown(rt: HostRuntime) -> Result<(), Fail> {
+    let alloc = rt.alloc();
+    let (made, bytes) = ended(alloc, &["blocks", "F"], PRICED.as_bytes())?;
+    assert_eq!(rt; made.exit_status(), 0);
+    assert_eq!(rt; hex::encode(alloc, bytes.as_slice())?.as_str(), PRICED_HEX);
+    let (shown, text) = ended(alloc, &["show", "blocks", "F"], &bytes)?;
+    assert_eq!(rt; shown.exit_status(), 0);
+    let (again, same) = ended(alloc, &["blocks", "F"], &text)?;
+    assert_eq!(rt; again.exit_status(), 0);
+    assert!(rt; same == bytes);
+    Ok(())
+}
+
+#[test]
+fn a_version_stands_without_blocks(rt: HostRuntime) -> Result<(), Fail> {
+    let alloc = rt.alloc();
+    let rows: [(&str, &[u8]); 3] = [
+        ("{\"blocks\": []}", b"NRB1\0\0\0\0"),
+        ("{\"version\": 1, \"blocks\": []}", b"NRB1\0\0\0\0"),
+        ("{\"version\": 2, \"blocks\": []}", b"NRB2\0\0\0\0"),
+    ];
+    for (text, want) in rows {
+        let (made, bytes) = ended(alloc, &["blocks", "F"], text.as_bytes())?;
+        assert_eq!(rt; made.exit_status(), 0);
+        assert!(rt; bytes.as_slice() == want);
+        let (shown, told) = ended(alloc, &["show", "blocks", "F"], want)?;
+        assert_eq!(rt; shown.exit_status(), 0);
+        let (again, same) = ended(alloc, &["blocks", "F"], &told)?;
+        assert_eq!(rt; again.exit_status(), 0);
+        assert!(rt; same.as_slice() == want);
+    }
+    Ok(())
+}
+
+#[test]
+fn prices_stand_by_the_version(rt: HostRuntime) -> Result<(), Fail> {
+    let alloc = rt.alloc();
+    let rows: [(&str, &str); 6] = [
+        (
+            "{\"blocks\": [{\"height\": 1, \"timestamp\": 0, \"price\": 3, \"chunks\": []},\
+                {\"height\": 2, \"timestamp\": 0, \"chunks\": []}, {\"height\": 3, \"timestamp\": 0, \"chunks\": []}]}",
+            ".blocks[1].price is missing",
+        ),
+        (
+            "{\"blocks\": [{\"height\": 1, \"timestamp\": 0, \"chunks\": []},\
+                {\"height\": 2, \"timestamp\": 0, \"price\": 3, \"chunks\": []}]}",
+            ".blocks[1].price is in no block of version 1",
+        ),
+        (
+            "{\"version\": 2, \"blocks\": [{\"height\": 1, \"timestamp\": 0, \"chunks\": []}]}",
+            ".blocks[0].price is missing",
+        ),
+        (
+            "{\"version\": 1, \"blocks\": [{\"height\": 1, \"timestamp\": 0, \"price\": 3, \"chunks\": []}]}",
+            ".blocks[0].price is in no block of version 1",
+        ),
+        (
+            "{\"version\": 3, \"blocks\": []}",
+            ".version is no version: 1 or 2",
+        ),
+        (
+            "{\"blocks\": [{\"height\": 1, \"timestamp\": 0, \"price\": null, \"chunks\": []}]}",
+            ".blocks[0].price is no whole number from 0 to 18446744073709551615",
+        ),
+    ];
+    for (text, line) in rows {
+        assert!(rt; refuses(alloc, &["blocks", "F"], text, line)?, "{text}");
+    }
     Ok(())
 }
 

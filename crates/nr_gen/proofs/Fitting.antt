@@ -13,10 +13,11 @@ use Rattle.nr_records.specs.Transactions.{IsTransaction}
 use Rattle.nr_records.specs.declared.action.Action.{Action}
 use Rattle.nr_records.specs.declared.action.Action.TheVariants.{FunctionCall, Transfer}
 use Rattle.nr_records.specs.declared.transaction.Transaction.{Transaction}
-use Rattle.nr_blocks.specs.BlocksFiles.{IsBlock, IsChunk}
+use Rattle.nr_blocks.specs.BlocksFiles.{IsBlock, IsChunk, FitsPrice}
 use Rattle.nr_blocks.specs.Files.{IsGenesisFile}
 use Rattle.nr_blocks.specs.GenesisFiles.{IsEntry}
 use Rattle.nr_blocks.specs.Spellings.{AreBlocks, IsGenesis, file_of}
+use Rattle.nr_blocks.specs.declared.version.Version.TheVariants.{One}
 use Rattle.nr_gen.proofs.Apart.{all_both}
 use Rattle.nr_gen.proofs.Founded.{some, sound_is_founded}
 use Rattle.nr_gen.proofs.Founding.{counts_generated, sound_genesis}
@@ -149,12 +150,12 @@ chunk_fits n shard most s few inside early up =
     either true one two p q = p
     either false one two p q = q
 
-block_fits : (n below most : ℕ) (s : State) → n ≤ 16 → below < 256 → most ≤ 4096 → AreUpTo most s → IsBlock (block_of n below s).0 × AreUpTo (most + n) (block_of n below s).1
+block_fits : (n below most : ℕ) (s : State) → n ≤ 16 → below < 256 → most ≤ 4096 → AreUpTo most s → IsBlock One (block_of n below s).0 × AreUpTo (most + n) (block_of n below s).1
 unfolding block_of
 block_fits n below most s few early low up =
     let all = all_turns IsChunk (λ k. AreUpTo (most + k)) n (chunk_of n) s (λ k s lt up. next k s lt up) (λ i. omega (arith, up i)) in
     let long = length_turns n (chunk_of n) s in
-    ((omega arith, (omega arith, (omega (arith, long), all.0))), all.1)
+    ((omega arith, (omega arith, (tt, (omega (arith, long), all.0)))), all.1)
   where
     next : (k : ℕ) (s : State) → k < n → AreUpTo (most + k) s → IsChunk (chunk_of n k s).0 × AreUpTo (most + suc k) (chunk_of n k s).1
     next k s lt up = let one = chunk_fits n k (most + k) s few lt (omega arith) up in (one.0, λ i. omega (arith, one.1 i))
@@ -164,15 +165,15 @@ zeros zero i = omega arith
 zeros (suc n) zero = omega arith
 zeros (suc n) (suc i) = zeros n i
 
-pub blocks_fit : (start n b : ℕ) → n ≤ 16 → b ≤ 256 → FitsList IsBlock (generated_blocks start n b)
+pub blocks_fit : (start n b : ℕ) → n ≤ 16 → b ≤ 256 → FitsList (IsBlock One) (generated_blocks start n b)
 unfolding generated_blocks
 blocks_fit start n b few short =
     let s : State = (start, replicate n 0) in
-    let all = all_turns IsBlock (λ k. AreUpTo (16 * k)) b (block_of n) s next (λ i. omega (arith, zeros n i)) in
+    let all = all_turns (IsBlock One) (λ k. AreUpTo (16 * k)) b (block_of n) s next (λ i. omega (arith, zeros n i)) in
     let long = length_turns b (block_of n) s in
     (omega (arith, long), all.0)
   where
-    next : (k : ℕ) (s : State) → k < b → AreUpTo (16 * k) s → IsBlock (block_of n k s).0 × AreUpTo (16 * suc k) (block_of n k s).1
+    next : (k : ℕ) (s : State) → k < b → AreUpTo (16 * k) s → IsBlock One (block_of n k s).0 × AreUpTo (16 * suc k) (block_of n k s).1
     next k s lt up = let one = block_fits n k (16 * k) s few (omega arith) (omega arith) up in (one.0, λ i. omega (arith, one.1 i))
 
 -- ---- both files
@@ -184,5 +185,10 @@ genesis_filed shards few =
       founded = sound_is_founded generated (generated_genesis shards).entries sound.entries ∙ ap some (sym sound.tokens);
     }
 
-pub blocks_filed : (start shards n : ℕ) → shards ≤ 16 → n ≤ 256 → AreBlocks shards (generated_blocks start shards n)
+pub blocks_filed : (start shards n : ℕ) → shards ≤ 16 → n ≤ 256 → AreBlocks One shards (generated_blocks start shards n)
 blocks_filed start shards n few short = record { fits = blocks_fit start shards n few short; ordered = blocks_ordered start shards n short }
+
+-- ---- no block has a price
+pub prices_fit : (start shards n : ℕ) → AllByRecursion FitsPrice (generated_blocks start shards n)
+unfolding generated_blocks block_of
+prices_fit start shards n = (all_turns FitsPrice (λ k s. Unit {0}) n (block_of shards) (start, replicate shards 0) (λ k s lt u. (tt, tt)) tt).0

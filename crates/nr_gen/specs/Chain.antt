@@ -50,12 +50,12 @@ chunk_of shards shard s =
     let signed = in_turn 8 (transaction_of shards shard nonce) present.1 in
     if present.0 == 0 then (None, (present.1, s.1)) else (Some signed.0, (signed.1, slice_set s.1 shard nonce))
 
--- heights count from 1, and a block comes each second
+-- heights count from 1, a block comes each second, and none has a price
 unfoldable pub block_of : ℕ → ℕ → State → Block × State
 block_of shards below s =
     let height = below + 1 in
     let chunks = in_turn shards (chunk_of shards) s in
-    (record { height = record { 0 = height }; timestamp = height * 10 ^ 9; chunks = chunks.0 }, chunks.1)
+    (record { height = record { 0 = height }; timestamp = height * 10 ^ 9; price = None; chunks = chunks.0 }, chunks.1)
 
 unfoldable pub generated_blocks : ℕ → ℕ → ℕ → List Block
 generated_blocks start shards blocks = (in_turn blocks (block_of shards) (start, replicate shards 0)).0

@@ -200,6 +200,7 @@ fn block(
     Ok(Block {
         height: Height(height),
         timestamp: height * INTERVAL,
+        price: None,
         chunks,
     })
 }

@@ -1,7 +1,10 @@
 ghost use Rattle.std.specs.Prelude.{◌≡◌, ◌≤◌, IfOk};
+ghost use Rattle.std.specs.List.{AllByRecursion};
 ghost use Rattle.nr_config.specs.Config.{Config, generated};
+ghost use Rattle.nr_blocks.specs.BlocksFiles.{FitsPrice};
 ghost use Rattle.nr_blocks.specs.Genesis.{IsSoundGenesis};
 ghost use Rattle.nr_blocks.specs.Spellings.{AreBlocks, IsGenesis};
+ghost use Rattle.nr_blocks.specs.declared.version.Version.TheVariants.{One};
 ghost use Rattle.nr_gen.specs.Chain.{generated_blocks};
 ghost use Rattle.nr_gen.specs.Founding.{CountsStorage, generated_genesis};
 
@@ -37,9 +40,11 @@ pub fn generate(
     ensures sound { IfOk result (λ made. (c : Config) → CountsStorage c → IsSoundGenesis c made.0) }
     // and so under the one that is built in for generated chains.
     ensures built_in { IfOk result (λ made. IsSoundGenesis generated made.0) }
-    // A genesis file and a blocks file can hold it, and are read as what they hold.
+    // A genesis file and a blocks file of version 1 can hold it, and are read as what they hold.
     ensures genesis_file { IfOk result (λ made. IsGenesis generated made.0) }
-    ensures blocks_file { IfOk result (λ made. AreBlocks shards made.1) }
+    ensures blocks_file { IfOk result (λ made. AreBlocks One shards made.1) }
+    // The price of each block, where it has one, is below 2^64.
+    ensures priced { IfOk result (λ made. AllByRecursion FitsPrice made.1) }
 {
     let genesis = genesis_of(alloc, shards)?;
     let blocks = blocks_of(alloc, start, shards, blocks)?;

@@ -1,11 +1,17 @@
 -- What stands for a file is read as the file.
-use Rattle.std.proofs.Common.{◌≡◌, ℕ, List, Option, Some, None, Ok, refl}
+use Rattle.std.proofs.Common.{◌≡◌, ℕ, ◌+◌, List, [], ◌∷◌, Option, Some, None, Ok, refl}
 use Rattle.std.specs.List.{AllByRecursion}
 use Rattle.std.specs.Prelude.{codes}
 use Rattle.nr_ids.specs.declared.key.Hash32.{Hash32}
 use Rattle.nr_records.specs.Ids.{IsId}
 use Rattle.nr_records.specs.Options.{IsOption}
-use Rattle.serde_json.specs.Data.{Data, string, object, Members, no_members, put}
+use Rattle.nr_blocks.specs.BlocksFiles.{Chunk, IsPrice}
+use Rattle.nr_blocks.specs.Judging.{each_from}
+use Rattle.nr_blocks.specs.declared.block.Block.{Block}
+use Rattle.nr_blocks.specs.declared.blocks_file.BlocksFile.{BlocksFile}
+use Rattle.nr_blocks.specs.declared.version.Version.{Version}
+use Rattle.nr_blocks.specs.declared.version.Version.TheVariants.{One, Two}
+use Rattle.serde_json.specs.Data.{Data, string, object, Members}
 use Rattle.serde_json.specs.Find.{get_member}
 use Rattle.nr_json.specs.Faults.{Read}
 use Rattle.nr_json.specs.Fits.{FitsTransaction}
@@ -16,7 +22,7 @@ use Rattle.nr_json.specs.Keys.{id_of, hash_json, hash_of, key_json, key_of}
 use Rattle.nr_json.specs.Lists.{list_json, list_of}
 use Rattle.nr_json.specs.AccessKeys.{access_key_json, access_key_of}
 use Rattle.nr_json.specs.Transactions.{transaction_json, transaction_of}
-use Rattle.nr_json.specs.Blocks.{chunk_json, chunk_of, block_members, block_json, block_of, blocks_json, blocks_of}
+use Rattle.nr_json.specs.Blocks.{chunk_json, chunk_of, block_members, block_json, block_of, version_of_price, version_by, price_in, has_price, file_in, blocks_members, blocks_json, blocks_of}
 use Rattle.nr_json.specs.Genesis.{account_of, account_entry_of, code_entry_of, key_entry_of, datum_entry_of, entry_members, entry_json, entry_of, genesis_members, genesis_json, genesis_of}
 use Rattle.nr_json.specs.declared.genesis.StatedAccount.{StatedAccount}
 use Rattle.nr_json.specs.declared.genesis.StatedEntry.TheVariants.{Account, Code, Key, Datum}
@@ -27,15 +33,55 @@ use Rattle.nr_json.proofs.RecordLaws.{access_key_law, transaction_law}
 chunk_law : Law chunk_json chunk_of (IsOption (AllByRecursion FitsTransaction))
 chunk_law = option_law (list_json transaction_json) (list_of transaction_of) (AllByRecursion FitsTransaction) (λ x. refl) (list_law transaction_json transaction_of FitsTransaction transaction_law)
 
-block_law : Law block_json block_of FitsBlock
+abbrev block_with : ℕ → ℕ → Option ℕ → List Chunk → Block
+block_with height timestamp price chunks = record { height = record { 0 = height }; timestamp = timestamp; price = price; chunks = chunks }
+
+block_case : (height timestamp : ℕ) (price : Option ℕ) (chunks : List Chunk) → AllByRecursion (IsOption (AllByRecursion FitsTransaction)) chunks
+    → block_of (block_json (block_with height timestamp price chunks)) ≡ Ok (block_with height timestamp price chunks)
 unfolding block_of
-block_law b fits =
-    let chunks = member_is (codes "chunks") (list_of chunk_of) (block_members b) (list_json chunk_json b.chunks) b.chunks refl (list_law chunk_json chunk_of (IsOption (AllByRecursion FitsTransaction)) chunk_law b.chunks fits) in
-    rw chunks refl
+block_case height timestamp None chunks fits =
+    rw (member_is (codes "chunks") (list_of chunk_of) (block_members (block_with height timestamp None chunks)) (list_json chunk_json chunks) chunks refl (list_law chunk_json chunk_of (IsOption (AllByRecursion FitsTransaction)) chunk_law chunks fits)) refl
+block_case height timestamp (Some price) chunks fits =
+    rw (member_is (codes "chunks") (list_of chunk_of) (block_members (block_with height timestamp (Some price) chunks)) (list_json chunk_json chunks) chunks refl (list_law chunk_json chunk_of (IsOption (AllByRecursion FitsTransaction)) chunk_law chunks fits)) refl
+
+block_law : (version : Version) → Law block_json block_of (FitsBlock version)
+block_law version b fits = block_case b.height.0 b.timestamp b.price b.chunks fits.1
+
+price_passes : (version : Version) (price : Option ℕ) → IsPrice version price → price_in version price ≡ Ok tt
+price_passes One None fits = refl
+price_passes One (Some price) fits = absurd fits
+price_passes Two None fits = absurd fits
+price_passes Two (Some price) fits = refl
+
+prices_pass : (version : Version) (n : ℕ) (bs : List Block) → AllByRecursion (FitsBlock version) bs → each_from (has_price version) n bs ≡ Ok tt
+unfolding each_from
+prices_pass version n [] all = refl
+prices_pass version n (b ∷ bs) all = rw (price_passes version b.price all.0.0, prices_pass version (n + 1) bs all.1) refl
+
+file_is : (version : Version) (bs : List Block) → AllByRecursion (FitsBlock version) bs → file_in version bs ≡ Ok (record { version = version; blocks = bs })
+unfolding file_in
+file_is version bs all = rw (prices_pass version 0 bs all) refl
+
+version_of_none : (price : Option ℕ) → IsPrice One price → version_of_price price ≡ One
+version_of_none None fits = refl
+version_of_none (Some price) fits = absurd fits
+
+first_says : (bs : List Block) → AllByRecursion (FitsBlock One) bs → version_by None bs ≡ One
+first_says [] all = refl
+first_says (b ∷ bs) all = version_of_none b.price all.0.0
+
+abbrev file_with : Version → List Block → BlocksFile
+file_with version blocks = record { version = version; blocks = blocks }
+
+blocks_case : (version : Version) (bs : List Block) → AllByRecursion (FitsBlock version) bs → blocks_of (blocks_json (file_with version bs)) ≡ Ok (file_with version bs)
+unfolding blocks_of
+blocks_case One bs fits =
+    rw (member_is (codes "blocks") (list_of block_of) (blocks_members (file_with One bs)) (list_json block_json bs) bs refl (list_law block_json block_of (FitsBlock One) (block_law One) bs fits), first_says bs fits) (file_is One bs fits)
+blocks_case Two bs fits =
+    rw (member_is (codes "blocks") (list_of block_of) (blocks_members (file_with Two bs)) (list_json block_json bs) bs refl (list_law block_json block_of (FitsBlock Two) (block_law Two) bs fits)) (file_is Two bs fits)
 
 pub blocks_law : Law blocks_json blocks_of FitsBlocks
-unfolding blocks_of
-blocks_law file fits = rw (member_is (codes "blocks") (list_of block_of) (put (codes "blocks") (list_json block_json file.blocks) no_members) (list_json block_json file.blocks) file.blocks refl (list_law block_json block_of FitsBlock block_law file.blocks fits)) refl
+blocks_law file fits = blocks_case file.version file.blocks fits
 
 -- ---- the first state
 optional_is : {X : Type 0} (name : List ℕ) (reading : Data → Read X) (ms : Members) (d : Data) (x : X) → get_member name ms ≡ Some d → reading d ≡ Ok x → optional_of name reading (object ms) ≡ Ok (Some x)

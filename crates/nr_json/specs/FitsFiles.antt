@@ -2,8 +2,10 @@
 use Rattle.std.specs.Prelude.{◌^◌, ◌<◌}
 use Rattle.std.specs.List.{AllByRecursion}
 use Rattle.nr_bytes.specs.Numbers.{IsBytes}
+use Rattle.nr_blocks.specs.BlocksFiles.{IsPrice}
 use Rattle.nr_blocks.specs.declared.block.Block.{Block}
 use Rattle.nr_blocks.specs.declared.blocks_file.BlocksFile.{BlocksFile}
+use Rattle.nr_blocks.specs.declared.version.Version.{Version}
 use Rattle.nr_records.specs.Ids.{IsId}
 use Rattle.nr_records.specs.Options.{IsOption}
 use Rattle.nr_json.specs.Fits.{FitsHash, FitsKey, FitsPermission, FitsTransaction}
@@ -13,11 +15,11 @@ use Rattle.nr_json.specs.declared.genesis.StatedEntry.TheVariants.{Account, Code
 use Rattle.nr_json.specs.declared.genesis.StatedGenesis.{StatedGenesis}
 
 -- ---- blocks
-abbrev pub FitsBlock : Block → Type 0
-FitsBlock b = AllByRecursion (IsOption (AllByRecursion FitsTransaction)) b.chunks
+abbrev pub FitsBlock : Version → Block → Type 0
+FitsBlock version b = IsPrice version b.price × AllByRecursion (IsOption (AllByRecursion FitsTransaction)) b.chunks
 
 abbrev pub FitsBlocks : BlocksFile → Type 0
-FitsBlocks file = AllByRecursion FitsBlock file.blocks
+FitsBlocks file = AllByRecursion (FitsBlock file.version) file.blocks
 
 -- ---- the first state
 abbrev pub FitsAccount : StatedAccount → Type 0

@@ -1,10 +1,10 @@
 -- The first state of a chain as a JSON value. An account's usage and code hash may be left out. This project's own; names of members as in NEAR's JSON.
-use Rattle.std.specs.Prelude.{ℕ, List, Option, Some, None, Ok, Err, cond, codes}
+use Rattle.std.specs.Prelude.{ℕ, List, Ok, Err, cond, codes}
 use Rattle.std.specs.Str.{bytes_eq}
 use Rattle.nr_bytes.specs.Reading.{◌>>=◌}
 use Rattle.serde_json.specs.Data.{Data, string, object, Members, no_members, put}
 use Rattle.nr_json.specs.Faults.{Read, fault, member_step, under}
-use Rattle.nr_json.specs.Members.{member_of, optional_of}
+use Rattle.nr_json.specs.Members.{member_of, optional_of, with_optional}
 use Rattle.nr_json.specs.Plain.{number_json, number_of, amount_json, amount_of, text_of, bytes_json, bytes_of}
 use Rattle.nr_json.specs.Keys.{id_of, hash_json, hash_of, key_json, key_of}
 use Rattle.nr_json.specs.Lists.{list_json, list_of}
@@ -16,10 +16,6 @@ use Rattle.nr_json.specs.declared.genesis.StatedEntry.TheVariants.{Account, Code
 use Rattle.nr_json.specs.declared.genesis.StatedGenesis.{StatedGenesis}
 
 -- ---- members
-abbrev pub with_optional : {X : Type 0} → List ℕ → (X → Data) → Option X → Members → Members
-with_optional name json None ms = ms
-with_optional name json (Some x) ms = put name (json x) ms
-
 abbrev pub with_kind : List ℕ → Members → Members
 with_kind kind ms = put (codes "kind") (string kind) ms
 

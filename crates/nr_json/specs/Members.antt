@@ -1,7 +1,7 @@
 -- The members of a JSON object (RFC 8259). This project's own.
 use Rattle.std.specs.Prelude.{ℕ, List, Option, Some, None, is_some, Ok, Err, if◌then◌else◌}
 use Rattle.nr_bytes.specs.Reading.{◌>>=◌}
-use Rattle.serde_json.specs.Data.{Data}
+use Rattle.serde_json.specs.Data.{Data, Members, put}
 use Rattle.serde_json.specs.Find.{get, as_object}
 use Rattle.nr_json.specs.Faults.{Read, fault, member_step, under, within}
 use Rattle.nr_json.specs.declared.fault.Wrong.TheVariants.{Missing, NoObject}
@@ -25,3 +25,8 @@ found_or_none name reading (Some d) = do
 -- a member that may be left out
 abbrev pub optional_of : {X : Type 0} → List ℕ → (Data → Read X) → Data → Read (Option X)
 optional_of name reading d = if is_some (as_object d) then found_or_none name reading (get name d) else Err (fault NoObject)
+
+-- the members with one more, where there is something
+abbrev pub with_optional : {X : Type 0} → List ℕ → (X → Data) → Option X → Members → Members
+with_optional name json None ms = ms
+with_optional name json (Some x) ms = put name (json x) ms

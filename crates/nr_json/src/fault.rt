@@ -38,6 +38,10 @@ pub enum Wrong {
     NoPermission,
     /// It is no kind of entry: `account`, `code`, `key` or `datum`.
     NoKind,
+    /// It is no version of a blocks file: 1 or 2.
+    NoVersion,
+    /// It is the price of a block, and blocks of version 1 have none.
+    NoPrice,
 }
 
 impl Wrong {
@@ -63,6 +67,8 @@ impl Wrong {
             Wrong::NoAction => "is no action",
             Wrong::NoPermission => "is no permission",
             Wrong::NoKind => "is no kind of entry: `account`, `code`, `key` or `datum`",
+            Wrong::NoVersion => "is no version: 1 or 2",
+            Wrong::NoPrice => "is in no block of version 1",
         }
     }
 }

@@ -4,7 +4,7 @@ ghost use Rattle.std.specs.Prelude.{◌≡◌, IfOk, OnOk};
 ghost use Rattle.nr_bytes.specs.Answers.{Gives};
 ghost use Rattle.serde_json.specs.Data.{put as with_member};
 ghost use Rattle.serde_json.specs.View.{view, members_view};
-ghost use Rattle.nr_json.specs.Members.{member_of, optional_of};
+ghost use Rattle.nr_json.specs.Members.{member_of, optional_of, with_optional};
 ghost use Rattle.nr_json.specs.declared.fault.JsonFault.TheVariants.{Memory};
 
 use crate::fault::{JsonFault, Wrong};
@@ -86,4 +86,19 @@ pub(crate) fn put<T: Form>(
 {
     let value = field.to_json(alloc)?;
     serde_json::put(object, alloc, name, value)
+}
+
+/// Puts a member into an object, where there is something.
+pub(crate) fn put_optional<T: Form>(
+    object: &mut Map<String, Value>,
+    alloc: Global,
+    name: &str,
+    field: &Option<T>,
+) -> Result<(), AllocError>
+    ensures { OnOk result (members_view object.new.entries ≡ with_optional name.now T.json field.now (members_view object.old.entries)) }
+{
+    match field {
+        None => Ok(()),
+        Some(value) => put(object, alloc, name, value),
+    }
 }

@@ -3,12 +3,12 @@
 ghost use Rattle.std.specs.Prelude.{◌≡◌, IfOk, OnOk};
 ghost use Rattle.nr_bytes.specs.Answers.{Gives};
 ghost use Rattle.serde_json.specs.View.{view, members_view};
-ghost use Rattle.nr_json.specs.Genesis.{with_optional, with_kind, account_of, account_entry_of, code_entry_of, key_entry_of, datum_entry_of, entry_json, entry_under, entry_of, genesis_json, genesis_of};
+ghost use Rattle.nr_json.specs.Genesis.{with_kind, account_of, account_entry_of, code_entry_of, key_entry_of, datum_entry_of, entry_json, entry_under, entry_of, genesis_json, genesis_of};
 ghost use Rattle.nr_json.specs.declared.fault.JsonFault.TheVariants.{Memory};
 ghost use Rattle.nr_json.specs.declared.genesis.StatedEntry.TheVariants as entry;
 
 use crate::fault::{JsonFault, Wrong};
-use crate::form::{Form, member, optional, put};
+use crate::form::{Form, member, optional, put, put_optional};
 use nr_bytes::{Blob, List, Text};
 use nr_ids::{AccountId, Hash32, PublicKey};
 use nr_records::AccessKey;
@@ -115,20 +115,6 @@ fn entry_under(alloc: Global, kind: &str, value: &Value) -> Result<StatedEntry, 
         datum_entry_of(alloc, value)
     } else {
         Err(JsonFault::whole(alloc, Wrong::NoKind).in_member(alloc, "kind"))
-    }
-}
-
-fn put_optional<T: Form>(
-    object: &mut Map<String, Value>,
-    alloc: Global,
-    name: &str,
-    field: &Option<T>,
-) -> Result<(), AllocError>
-    ensures { OnOk result (members_view object.new.entries ≡ with_optional name.now T.json field.now (members_view object.old.entries)) }
-{
-    match field {
-        None => Ok(()),
-        Some(value) => put(object, alloc, name, value),
     }
 }
 
