@@ -420,15 +420,36 @@ fn gas_is_burnt_at_the_lesser_price(rt: HostRuntime) {
     let plain = to_con(b"alice", &[Ask::Call("go", 90, 0)], false);
     assert_eq!(rt;
         bought_at_5(alloc, plain, 3),
-        shown([0, 0, 0, 0], 16, 39, 1, [(2, 432), (0, 0), (0, 0)], Some(1009))
+        shown(
+            [0, 0, 0, 0],
+            16,
+            39,
+            1,
+            [(2, 432), (0, 0), (0, 0)],
+            Some(1009)
+        )
     );
     assert_eq!(rt;
         bought_at_5(alloc, plain, 9),
-        shown([0, 0, 0, 0], 16, 65, 1, [(2, 400), (0, 0), (0, 0)], Some(1015))
+        shown(
+            [0, 0, 0, 0],
+            16,
+            65,
+            1,
+            [(2, 400), (0, 0), (0, 0)],
+            Some(1015)
+        )
     );
     assert_eq!(rt;
         bought_at_5(alloc, plain, 0),
-        shown([0, 0, 0, 0], 16, 0, 1, [(2, 480), (0, 0), (0, 0)], Some(1000))
+        shown(
+            [0, 0, 0, 0],
+            16,
+            0,
+            1,
+            [(2, 480), (0, 0), (0, 0)],
+            Some(1000)
+        )
     );
     let from_system = to_con(b"system", &[Ask::Call("go", 90, 0)], false);
     assert_eq!(rt;
@@ -443,11 +464,25 @@ fn promised_gas_stays_at_the_price_of_its_receipt(rt: HostRuntime) {
     let asked = to_con(b"alice", &[Ask::Call("ask", 90, 0)], false);
     assert_eq!(rt;
         bought_at_5(alloc, asked, 3),
-        shown([1, 0, 0, 0], 16, 39, 0, [(5, 0), (2, 422), (0, 0)], Some(1009))
+        shown(
+            [1, 0, 0, 0],
+            16,
+            39,
+            0,
+            [(5, 0), (2, 422), (0, 0)],
+            Some(1009)
+        )
     );
     assert_eq!(rt;
         bought_at_5(alloc, asked, 9),
-        shown([1, 0, 0, 0], 16, 65, 0, [(5, 0), (2, 390), (0, 0)], Some(1015))
+        shown(
+            [1, 0, 0, 0],
+            16,
+            65,
+            0,
+            [(5, 0), (2, 390), (0, 0)],
+            Some(1015)
+        )
     );
 }
 
@@ -457,10 +492,24 @@ fn a_failure_gives_the_difference_back(rt: HostRuntime) {
     let trapped = to_con(b"alice", &[Ask::Call("trap", 90, 7)], false);
     assert_eq!(rt;
         bought_at_5(alloc, trapped, 3),
-        shown([2, 0, 15, 1], 16, 39, 0, [(1, 7), (2, 432), (0, 0)], Some(1009))
+        shown(
+            [2, 0, 15, 1],
+            16,
+            39,
+            0,
+            [(1, 7), (2, 432), (0, 0)],
+            Some(1009)
+        )
     );
     assert_eq!(rt;
         bought_at_5(alloc, trapped, 9),
-        shown([2, 0, 15, 1], 16, 65, 0, [(1, 7), (2, 400), (0, 0)], Some(1015))
+        shown(
+            [2, 0, 15, 1],
+            16,
+            65,
+            0,
+            [(1, 7), (2, 400), (0, 0)],
+            Some(1015)
+        )
     );
 }
