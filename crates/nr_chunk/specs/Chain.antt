@@ -4,6 +4,7 @@ use Rattle.std.specs.Prelude.{◌≡◌, ℕ, zero, suc, ◌+◌, ◌^◌, ◌�
 use Rattle.std.specs.Prelude.{unwrap_or, is_some}
 use Rattle.std.specs.List.{AllByRecursion}
 use Rattle.std.specs.Option.{option_and_then}
+use Rattle.nr_blocks.specs.BlocksFiles.{FitsPrice}
 use Rattle.nr_blocks.specs.Genesis.{AreSoundEntries, entries_of, genesis_world}
 use Rattle.nr_blocks.specs.declared.block.Block.{Block}
 use Rattle.nr_blocks.specs.declared.genesis.Genesis.{Genesis}
@@ -53,8 +54,19 @@ abbrev pub time_of : Option Block → ℕ
 time_of None = 0
 time_of (Some block) = block.timestamp
 
+-- a unit of gas costs the block's price, where it has one, and else the usual one
+abbrev pub price_in : ℕ → Option Block → ℕ
+price_in usual None = usual
+price_in usual (Some block) = unwrap_or block.price usual
+
+-- the usual price is the configuration's
 abbrev pub place_at : Chain → ℕ → Place
-place_at x h = record { height = record { 0 = h }; timestamp = time_of (block_at x h); price = gas_price x.config }
+place_at x h =
+    record {
+      height = record { 0 = h };
+      timestamp = time_of (block_at x h);
+      price = price_in (gas_price x.config) (block_at x h);
+    }
 
 -- ---- the phases
 abbrev pub first_world : Chain → ℕ → Kept
@@ -74,10 +86,12 @@ rules_of x = record {
   seals = seal_chunk x.boundaries (shards_of x);
 }
 
--- ---- a chain whose chunks can be worked on: a valid configuration, a sound genesis, a caller that keeps its promises
+-- ---- a chain whose chunks can be worked on: a valid configuration, a sound genesis, prices below 2^64, a caller that
+-- keeps its promises
 pub record IsChain (x : Chain) : Type 0 where
   pub config : IsValidConfig x.config
   pub entries : AreSoundEntries x.config x.entries
+  pub prices : AllByRecursion FitsPrice x.blocks
   pub caller : IsCaller x.config x.call
   pub shards : shards_of x ≤ 16
 

@@ -14,10 +14,10 @@ use Rattle.nr_chunk.specs.GenesisSums.{first_tokens, genesis_small}
 use Rattle.nr_chunk.specs.GoodOpening.{begun_holds, opened_holds}
 use Rattle.nr_chunk.specs.GoodReceipts.{are_bounded}
 use Rattle.nr_chunk.specs.GoodServing.{Holds, all_served}
+use Rattle.nr_chunk.specs.Prices.{place_fits}
 use Rattle.nr_chunk.specs.Promised.{promise_of, pays_of}
 use Rattle.nr_chunk.specs.Routed.{routed_all, each_routed}
 use Rattle.nr_config.specs.Config.{Config}
-use Rattle.nr_config.proofs.Bounds.{gas_price-fits}
 use Rattle.nr_fees.specs.Fees.{receipt_tokens}
 use Rattle.nr_ids.specs.declared.number.ShardId.{ShardId}
 use Rattle.nr_layout.specs.Layout.{parts}
@@ -79,7 +79,7 @@ module _ (x : Chain) (is : IsChain x) where
       let place : Place = place_at x h in
       let shard : ShardId = record { 0 = s } in
       opened_holds c pays x.call promise (world_tokens c w.world) (begun w shard place) (unwrap_or (chunk_at x s h) [])
-      (begun_holds c w shard place good (gas_price-fits c is.config)) good.valid.tokens
+      (begun_holds c w shard place good (place_fits x is h)) good.valid.tokens
 
   opens_at : (s h : ℕ) → IsGoodWorld c (world_after r s h)
       → Holds c (world_tokens c (world_after r s h).world) (work r s h 0)

@@ -16,6 +16,7 @@ pub mod GoodOpening
 pub mod Promised
 pub mod Routed
 pub mod GenesisSums
+pub mod Prices
 pub mod Lawful
 pub mod Lasting
 pub mod Locality

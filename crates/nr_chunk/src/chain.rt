@@ -1,4 +1,6 @@
 ghost use Rattle.std.specs.Prelude.{◌≡◌};
+ghost use Rattle.std.specs.List.{AllByRecursion};
+ghost use Rattle.nr_blocks.specs.BlocksFiles.{FitsPrice};
 ghost use Rattle.nr_blocks.specs.Genesis.{IsSoundGenesis};
 
 use crate::state::ChunkStore;
@@ -19,7 +21,26 @@ pub struct ChainRun<C: Caller<ChunkStore>> {
     pub(crate) blocks: List<Block>,
     pub(crate) caller: C,
     ghost sound: { IsSoundGenesis config genesis },
+    ghost prices: { AllByRecursion FitsPrice blocks },
     ghost same: { C.config caller ≡ config },
+}
+
+/// The price of a block fits in its number.
+fn know_price(block: &Block)
+    ensures { FitsPrice block.now }
+{
+    if let Some(price) = block.price {
+        let _ = price;
+    }
+}
+
+/// So do those of all blocks. It changes nothing.
+fn know_prices(blocks: &[Block])
+    ensures { AllByRecursion FitsPrice blocks.now }
+{
+    for block in blocks {
+        know_price(block);
+    }
 }
 
 impl<C: Caller<ChunkStore>> ChainRun<C> {
@@ -59,6 +80,7 @@ impl<C: Caller<ChunkStore>> ChainRun<C> {
         ensures blocks { result.blocks ≡ blocks }
         ensures caller { result.caller ≡ caller }
     {
+        know_prices(blocks.inner());
         ChainRun {
             config,
             genesis,

@@ -2,7 +2,7 @@
 
 ghost use Rattle.std.specs.Prelude.{◌≡◌, ◌+◌, ◌<◌, true, IfOk, OnOk, length};
 ghost use Rattle.std.specs.Option.{option_copied};
-ghost use Rattle.nr_chunk.specs.Chain.{Chain, chain_with, block_at, chunk_in, chunk_at, time_of, place_at};
+ghost use Rattle.nr_chunk.specs.Chain.{Chain, chain_with, block_at, chunk_in, chunk_at, time_of, price_in, place_at};
 
 use crate::chain::ChainRun;
 use crate::chunk_work::ChunkWork;
@@ -57,13 +57,24 @@ fn timestamp(blocks: &[Block], height: Height) -> u64
     }
 }
 
+/// What a unit of gas costs: the price of the block, where it has one, and else the usual one.
+fn price(blocks: &[Block], height: Height, usual: u64) -> u64
+    ensures { (x : Chain) → blocks.now ≡ x.blocks → result ≡ price_in usual (block_at x height.0) }
+{
+    match block_at(blocks, height) {
+        Some(block) => block.price.unwrap_or(usual),
+        None => usual,
+    }
+}
+
 fn place_at<C: Caller<ChunkStore>>(chain: &ChainRun<C>, height: Height) -> Place
     ensures { result ≡ place_at (chain_with chain.now.config chain.now.genesis chain.now.blocks (C.meaning chain.now.caller)) height.0 }
 {
+    let blocks = chain.blocks.inner();
     Place {
         height,
-        timestamp: timestamp(chain.blocks.inner(), height),
-        price: chain.config.entry(GAS_PRICE),
+        timestamp: timestamp(blocks, height),
+        price: price(blocks, height, chain.config.entry(GAS_PRICE)),
     }
 }
 

@@ -6,12 +6,12 @@ use Rattle.nr_chunk.proofs.Converted.{CanGo}
 use Rattle.nr_chunk.specs.Chain.{Chain, IsChain, CanOpen, CanTake, CanSeal, chunk_at, opened, place_at, rules_of}
 use Rattle.nr_chunk.specs.Chunk.{begun, serve_all, take_list}
 use Rattle.nr_chunk.specs.Lawful.{laws_of}
+use Rattle.nr_chunk.specs.Prices.{place_fits}
 use Rattle.nr_chunk.specs.Promised.{promise_of, pays_of}
 use Rattle.nr_chunk.specs.Routed.{routed_all}
 use Rattle.nr_chunk.specs.Serving.{CanServe, Pays, Promise}
 use Rattle.nr_chunk.specs.Views.{Kept, Working}
 use Rattle.nr_config.specs.Config.{Config}
-use Rattle.nr_config.proofs.Bounds.{gas_price-fits}
 use Rattle.nr_overlap.specs.Balance.{Amount, IsKeptBy, held_at, made_at, left_by}
 use Rattle.nr_overlap.specs.Lawful.{AreLawful}
 use Rattle.nr_overlap.specs.Rules.{Rules}
@@ -43,7 +43,7 @@ module _ (x : Chain) where
 
 -- a chunk that begins can convert its transactions
 pub begun_goes : (x : Chain) → IsChain x → (s h : ℕ) (w : Kept) → CanOpen x s h w → CanGo x.config (record { working = begun w (record { 0 = s }) (place_at x h); local = [] })
-begun_goes x is s h w can = (record { config = can.config; valid = can.valid; coming = tt; room = omega (arith, can.valid.tokens) }, gas_price-fits x.config is.config)
+begun_goes x is s h w can = (record { config = can.config; valid = can.valid; coming = tt; room = omega (arith, can.valid.tokens) }, place_fits x is h)
 
 module _ (x : Chain) (is : IsChain x) (f : Receipt → ℕ) where
   abbrev c : Config

@@ -11,12 +11,12 @@ use Rattle.nr_fees.specs.Fees.{attached_gas, deposits}
 use Rattle.nr_ids.specs.Grammar.{is_system}
 use Rattle.nr_receipt.specs.Drawing.{deposits_back, deposits_lost, with_gas_refund, with_result}
 use Rattle.nr_receipt.specs.Execution.{Execution, concluded, dropped, executed_as, status_of, succeeded}
-use Rattle.nr_receipt.specs.Frames.{burnt_gas, prepaid}
+use Rattle.nr_receipt.specs.Frames.{burning_price, burnt_gas, prepaid}
 use Rattle.nr_receipt.specs.Parts.{CanConclude, IsTried, IsMarked, IsReady, IsUndone}
 use Rattle.nr_receipt.specs.Rewards.{reward_of, reward_paid, with_reward}
 use Rattle.nr_receipt.specs.Running.{Done, Broken, run_actions}
 use Rattle.nr_receipt.specs.declared.executed.Executed.{Executed}
-use Rattle.nr_receipt.proofs.Amounts.{attached_less, attached_paid, burnt_within}
+use Rattle.nr_receipt.proofs.Amounts.{attached_less, attached_paid, burns_less, burnt_within}
 use Rattle.nr_receipt.proofs.Giving.{IsGiven, gas_given, result_given}
 use Rattle.nr_receipt.proofs.Lists.{distributes}
 use Rattle.nr_receipt.proofs.Underway.{AreActionLaws, IsRan, IsStopped, IsUnderway, ran}
@@ -34,6 +34,7 @@ pub record IsSameFor (f g : Frame) : Type 0 where
   pub receiver : g.receiver ≡ f.receiver
   pub act : g.act ≡ f.act
   pub burnt : g.call_burnt ≡ f.call_burnt
+  pub place : g.place ≡ f.place
 
 pub conclude_same : (c : Config) (w : World) (f g : Frame) (gas lost : ℕ) → IsSameFor f g → CanConclude c w f gas lost → CanConclude c w g gas lost
 conclude_same c w f g gas lost e h =
@@ -42,9 +43,9 @@ conclude_same c w f g gas lost e h =
       paid_for = rw (e.act, e.predecessor) h.paid_for;
       by_calls = λ k. rw e.burnt (h.by_calls (sym (ap is_system e.predecessor) ∙ k));
       in_all = h.in_all;
-      burnt = rw (e.act, e.predecessor) h.burnt;
+      burnt = rw (e.act, e.predecessor, e.place) h.burnt;
       deposited = rw e.act h.deposited;
-      room = rw (e.act, e.predecessor, e.receiver, e.burnt) h.room;
+      room = rw (e.act, e.predecessor, e.receiver, e.burnt, e.place) h.room;
     }
 
 pub same_given : (c : Config) (n : ℕ) (f g : Frame) → IsGiven c n f g → IsSameFor f g
@@ -54,13 +55,14 @@ same_given c n f g h =
       receiver = ap (λ (k : Frame). k.receiver) h.same;
       act = ap (λ (k : Frame). k.act) h.same;
       burnt = ap (λ (k : Frame). k.call_burnt) h.same;
+      place = ap (λ (k : Frame). k.place) h.same;
     }
 
 pub same_dropped : (f : Frame) → IsSameFor f (dropped f)
-same_dropped f = record { predecessor = refl; receiver = refl; act = refl; burnt = refl }
+same_dropped f = record { predecessor = refl; receiver = refl; act = refl; burnt = refl; place = refl }
 
 pub same_on : (f g h : Frame) → IsSameFor f g → IsSameFor g h → IsSameFor f h
-same_on f g h p q = record { predecessor = q.predecessor ∙ p.predecessor; receiver = q.receiver ∙ p.receiver; act = q.act ∙ p.act; burnt = q.burnt ∙ p.burnt }
+same_on f g h p q = record { predecessor = q.predecessor ∙ p.predecessor; receiver = q.receiver ∙ p.receiver; act = q.act ∙ p.act; burnt = q.burnt ∙ p.burnt; place = q.place ∙ p.place }
 
 -- ---- what has room for more has room for less
 pub room_less : (w : World) (id : List ℕ) (m n : ℕ) → n ≤ m → HasRoom w id m → HasRoom w id n
@@ -108,9 +110,9 @@ module _ (c : Config) where
         paid_for = paid;
         by_calls = λ e. omega (arith, calls, paid, attached_less c f e);
         in_all = omega (arith, paid, burnt_within c f n calls);
-        burnt = omega (arith, burnt, whole, less);
+        burnt = omega (arith, burns_less f (burnt_gas c f n), burnt, whole, less);
         deposited = omega (arith, whole);
-        room = room f.receiver (f.call_burnt * price_of f) fits;
+        room = room f.receiver (f.call_burnt * burning_price f) (omega (arith, burns_less f f.call_burnt, fits));
       }
 
   module _ (w0 : World) (f0 : Frame) (ready : IsReady c w0 f0) where
@@ -186,7 +188,7 @@ abbrev record_of : World → Executed → Execution
 record_of w done = record { world = w; executed = done }
 
 pub succeeds : (c : Config) (old new : StateView) (f g h : Frame) (gas burnt : ℕ) (done : Executed) → g ≡ with_result f.returned f → gas ≡ burnt_gas c f (length f.act.actions)
-    → burnt ≡ gas * price_of g - reward_paid old.world g.receiver (reward_of c g) + 0 → new ≡ with_world old (with_reward old.world g.receiver (reward_of c g)) → h ≡ with_gas_refund c gas g
+    → burnt ≡ gas * burning_price g - reward_paid old.world g.receiver (reward_of c g) + 0 → new ≡ with_world old (with_reward old.world g.receiver (reward_of c g)) → h ≡ with_gas_refund c gas g
     → done ≡ executed_as h (status_of h.returned) gas burnt → old.whole ≡ true → (succeeded c old.world f ≡ record { world = new.world; executed = done }) × Stands old new
 succeeds c old new f g h gas burnt done given counted pays world refunded tells whole =
     let last : Frame = with_gas_refund c gas g in

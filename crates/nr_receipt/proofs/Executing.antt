@@ -12,7 +12,7 @@ use Rattle.nr_fees.specs.Fees.{attached_gas, body_gas, body_price, body_tokens, 
 use Rattle.nr_ids.specs.Grammar.{is_system}
 use Rattle.nr_receipt.specs.Drawing.{deposits_back, deposits_lost, given_up, with_gas_refund, with_result}
 use Rattle.nr_receipt.specs.Execution.{Execution, concluded, dropped, ended, execute, failed, settle_clash, status_of, succeeded}
-use Rattle.nr_receipt.specs.Frames.{burnt_gas, first_frame, gas_left, prepaid}
+use Rattle.nr_receipt.specs.Frames.{burning_price, burnt_gas, first_frame, gas_back, prepaid}
 use Rattle.nr_receipt.specs.Keeping.{HasSmallCalls, IsExecuted, IsSettled}
 use Rattle.nr_receipt.specs.Parts.{IsReady}
 use Rattle.nr_receipt.specs.Rewards.{paid_to, reward_of, reward_paid, richer, with_reward}
@@ -20,7 +20,6 @@ use Rattle.nr_receipt.specs.Running.{Ran, Done, Broken, run_actions}
 use Rattle.nr_receipt.proofs.Amounts.{all_spent, burnt_within, call_paid, gas_tokens, reward_within}
 use Rattle.nr_receipt.proofs.Concluding.{back_or_lost, has_run}
 use Rattle.nr_receipt.proofs.Giving.{IsGiven, failure_given, gas_given, result_given}
-use Rattle.nr_receipt.proofs.Lists.{distributes}
 use Rattle.nr_receipt.proofs.Small.{small_body}
 use Rattle.nr_receipt.proofs.Underway.{AreActionLaws, AreSmall, IsRan, IsStopped, IsUnderway}
 use Rattle.nr_records.specs.declared.account.Account.{Account}
@@ -74,13 +73,13 @@ module _ (c : Config) (kept : (w : World) → IsValidWorld c w → IsKept c w) (
   rewarded w id reward = reward_by w id reward (reward == 0) refl
 
   -- ---- the conclusion, with the frame that has the outputs' receipts
-  module _ (config : IsValidConfig c) (w : World) (g : Frame) (gas lost : ℕ) (enough : g.call_burnt * price_of g ≤ gas * price_of g) where
-    reward_small : reward_paid w g.receiver (reward_of c g) ≤ gas * price_of g
+  module _ (config : IsValidConfig c) (w : World) (g : Frame) (gas lost : ℕ) (enough : g.call_burnt * burning_price g ≤ gas * burning_price g) where
+    reward_small : reward_paid w g.receiver (reward_of c g) ≤ gas * burning_price g
     reward_small = omega (arith, enough, reward_within c config.reward g, paid_less (get w.accounts g.receiver) (reward_of c g))
 
     record IsConcluded (e : Execution) : Type 0 where
-      valid : IsValidWorld c w → world_tokens c w + gas * price_of g ≤ 2 ^ 127 → IsValidWorld c e.world
-      tokens : world_tokens c e.world + list_tokens c e.executed.made + e.executed.outcome.burnt ≡ world_tokens c w + list_tokens c g.made + (gas * price_of g + gas_left c g gas * price_of g) + lost
+      valid : IsValidWorld c w → world_tokens c w + gas * burning_price g ≤ 2 ^ 127 → IsValidWorld c e.world
+      tokens : world_tokens c e.world + list_tokens c e.executed.made + e.executed.outcome.burnt ≡ world_tokens c w + list_tokens c g.made + (gas * burning_price g + gas_back c g gas) + lost
       rest : e.world ≡ record w { accounts = e.world.accounts; keys = e.world.keys; code = e.world.code; data_of = e.world.data_of }
       bounded : AllByRecursion (IsBounded c) g.made → AllByRecursion (IsBounded c) e.executed.made
       calls : AllByRecursion (λ r. HasSmallCalls r.body) g.made → AllByRecursion (λ r. HasSmallCalls r.body) e.executed.made
@@ -88,7 +87,7 @@ module _ (c : Config) (kept : (w : World) → IsValidWorld c w → IsKept c w) (
     conclusion : (status : RunStatus) → IsConcluded (concluded c w g status gas lost)
     conclusion status =
         let r : IsRewarded c w (reward_paid w g.receiver (reward_of c g)) (with_reward w g.receiver (reward_of c g)) = rewarded w g.receiver (reward_of c g) in
-        let refunded : IsGiven c (gas_left c g gas * price_of g) g (with_gas_refund c gas g) = gas_given c gas g in
+        let refunded : IsGiven c (gas_back c g gas) g (with_gas_refund c gas g) = gas_given c gas g in
         record {
           valid = λ valid within. r.valid valid (omega (arith, within, reward_small));
           tokens = omega (arith, r.tokens, refunded.tokens, reward_small);
@@ -116,16 +115,15 @@ module _ (c : Config) (kept : (w : World) → IsValidWorld c w → IsKept c w) (
         let own : attached_gas f.act.actions ≡ attached_gas f0.act.actions = ap (λ (k : Frame). attached_gas k.act.actions) u.receipt in
         let cost : prepaid c f * price_of f ≡ prepaid c f0 * price_of f0 = ap (λ (k : Frame). prepaid c k * price_of k) u.receipt in
         let paid : prepaid c f ≡ prepaid c f0 = ap (prepaid c) u.receipt in
-        let same_call : g.call_burnt * price_of g ≡ f.call_burnt * price_of f = ap (λ (k : Frame). k.call_burnt * price_of k) given.same in
-        let same_gas : gas * price_of g ≡ gas * price_of f = ap (λ (k : Frame). gas * price_of k) given.same in
-        let same_left : gas_left c g gas * price_of g ≡ gas_left c f gas * price_of f = ap (λ (k : Frame). gas_left c k gas * price_of k) given.same in
+        let same_call : g.call_burnt * burning_price g ≡ f.call_burnt * burning_price f = ap (λ (k : Frame). k.call_burnt * burning_price k) given.same in
+        let same_gas : gas * burning_price g ≡ gas * burning_price f = ap (λ (k : Frame). gas * burning_price k) given.same in
+        let same_left : gas_back c g gas ≡ gas_back c f gas = ap (λ (k : Frame). gas_back c k gas) given.same in
         let promised : f.promised * price_of f ≡ f.promised * price_of f0 = ap (λ p. f.promised * p) (ap price_of u.receipt) in
-        let spent : (gas + gas_left c f gas) * price_of f + f.promised * price_of f ≡ prepaid c f * price_of f = all_spent c f n (omega (arith, u.gas, own)) in
-        let apart : (gas + gas_left c f gas) * price_of f ≡ gas * price_of f + gas_left c f gas * price_of f = distributes gas (gas_left c f gas) (price_of f) in
+        let spent : gas * burning_price f + gas_back c f gas + f.promised * price_of f ≡ prepaid c f * price_of f = all_spent c f n (omega (arith, u.gas, own)) in
         let con : IsConcluded config after g gas 0 (omega (arith, same_call, same_gas, call_paid c f n)) (succeeded c after f) = conclusion config after g gas 0 (omega (arith, same_call, same_gas, call_paid c f n)) (status_of f.returned) in
         record {
-          valid = con.valid u.valid (omega (arith, u.tokens, spent, apart, cost, promised, same_gas, ready.room));
-          tokens = omega (arith, con.tokens, given.tokens, u.tokens, spent, apart, cost, promised, same_gas, same_left);
+          valid = con.valid u.valid (omega (arith, u.tokens, spent, cost, promised, same_gas, ready.room));
+          tokens = omega (arith, con.tokens, given.tokens, u.tokens, spent, cost, promised, same_gas, same_left);
           rest = con.rest ∙ ap (λ (v : World). record v { accounts = (succeeded c after f).world.accounts; keys = (succeeded c after f).world.keys; code = (succeeded c after f).world.code; data_of = (succeeded c after f).world.data_of }) u.rest;
           gas = omega (arith, paid, burnt_within c f n (omega (arith, u.gas, own)));
           bounded = λ most. con.bounded (given.bounded (u.bounded ready.price most));
@@ -144,15 +142,14 @@ module _ (c : Config) (kept : (w : World) → IsValidWorld c w → IsKept c w) (
         let brought : deposits f.act.actions ≡ deposits f0.act.actions = ap (λ (k : Frame). deposits k.act.actions) u.receipt in
         let cost : prepaid c f * price_of f ≡ prepaid c f0 * price_of f0 = ap (λ (k : Frame). prepaid c k * price_of k) u.receipt in
         let paid : prepaid c f ≡ prepaid c f0 = ap (prepaid c) u.receipt in
-        let same_call : g.call_burnt * price_of g ≡ d.call_burnt * price_of d = ap (λ (k : Frame). k.call_burnt * price_of k) given.same in
-        let same_gas : gas * price_of g ≡ gas * price_of d = ap (λ (k : Frame). gas * price_of k) given.same in
-        let same_left : gas_left c g gas * price_of g ≡ gas_left c d gas * price_of d = ap (λ (k : Frame). gas_left c k gas * price_of k) given.same in
-        let spent : (gas + gas_left c d gas) * price_of d + d.promised * price_of d ≡ prepaid c d * price_of d = all_spent c d n (omega (arith, u.burnt, own)) in
-        let apart : (gas + gas_left c d gas) * price_of d ≡ gas * price_of d + gas_left c d gas * price_of d = distributes gas (gas_left c d gas) (price_of d) in
+        let same_call : g.call_burnt * burning_price g ≡ d.call_burnt * burning_price d = ap (λ (k : Frame). k.call_burnt * burning_price k) given.same in
+        let same_gas : gas * burning_price g ≡ gas * burning_price d = ap (λ (k : Frame). gas * burning_price k) given.same in
+        let same_left : gas_back c g gas ≡ gas_back c d gas = ap (λ (k : Frame). gas_back c k gas) given.same in
+        let spent : gas * burning_price d + gas_back c d gas + d.promised * price_of d ≡ prepaid c d * price_of d = all_spent c d n (omega (arith, u.burnt, own)) in
         let con : IsConcluded config w0 g gas lost (omega (arith, same_call, same_gas, call_paid c d n)) (failed c w0 index kind part d) = conclusion config w0 g gas lost (omega (arith, same_call, same_gas, call_paid c d n)) (status.Failure index kind part) in
         record {
-          valid = con.valid ready.valid (omega (arith, spent, apart, cost, same_gas, ready.room));
-          tokens = omega (arith, con.tokens, given.tokens, spent, apart, cost, same_gas, same_left, brought, back_or_lost d);
+          valid = con.valid ready.valid (omega (arith, spent, cost, same_gas, ready.room));
+          tokens = omega (arith, con.tokens, given.tokens, spent, cost, same_gas, same_left, brought, back_or_lost d);
           rest = con.rest;
           gas = omega (arith, paid, burnt_within c d n (omega (arith, u.burnt, own)));
           bounded = λ most. con.bounded (given.bounded tt);
@@ -215,10 +212,9 @@ is_settled c r act place body h =
     let f : Frame = first_frame r act [] place in
     let g : Frame = given_up f in
     let given : IsGiven c (deposits_back f) f g = failure_given c f in
-    let refunded : IsGiven c (gas_left c g 0 * price_of g) g (with_gas_refund c 0 g) = gas_given c 0 g in
-    let same_left : gas_left c g 0 * price_of g ≡ gas_left c f 0 * price_of f = ap (λ (k : Frame). gas_left c k 0 * price_of k) given.same in
-    let all : gas_left c f 0 ≡ prepaid c f = omega arith in
-    let cost : gas_left c f 0 * price_of f ≡ prepaid c f * price_of f = ap (λ n. n * price_of f) all in
+    let refunded : IsGiven c (gas_back c g 0) g (with_gas_refund c 0 g) = gas_given c 0 g in
+    let same_left : gas_back c g 0 ≡ gas_back c f 0 = ap (λ (k : Frame). gas_back c k 0) given.same in
+    let cost : gas_back c f 0 ≡ prepaid c f * price_of f = omega arith in
     record {
       tokens = omega (arith, holds c r act [] place body, refunded.tokens, given.tokens, same_left, cost, back_or_lost f);
       gas = refl;

@@ -7,7 +7,6 @@ use Rattle.std.proofs.lemmas.Bool.{eqb-true}
 use Rattle.std.proofs.lemmas.List.{drop_more}
 use Rattle.std.proofs.lemmas.List.Sums.{sum_by-cons, sum_by-append}
 use Rattle.std.proofs.lemmas.Option.{slice_get-get_or}
-use Rattle.nr_actions.specs.Calling.{price_of}
 use Rattle.nr_actions.specs.Refunds.{deposit_refund, refund}
 use Rattle.nr_actions.specs.declared.frame.Frame.{Frame}
 use Rattle.nr_config.specs.Config.{Config}
@@ -18,7 +17,7 @@ use Rattle.nr_ids.specs.declared.key.PublicKey.{PublicKey}
 use Rattle.nr_ids.specs.declared.key.PublicKey.TheVariants.{Ed25519}
 use Rattle.nr_ids.proofs.System.{system_is}
 use Rattle.nr_receipt.specs.Drawing.{datum_for, deposits_back, given_up, handed_on, next_id, with_data, with_datum, with_deposits_back, with_drawn, with_gas_refund, with_outputs, with_result}
-use Rattle.nr_receipt.specs.Frames.{gas_left}
+use Rattle.nr_receipt.specs.Frames.{gas_back}
 use Rattle.nr_receipt.specs.Keeping.{HasSmallCalls}
 use Rattle.nr_receipt.proofs.Lists.{all_both}
 use Rattle.nr_records.specs.declared.receipt.Body.{Body}
@@ -137,8 +136,8 @@ module _ (c : Config) where
   gas_by f amount true e = record { same = refl; tokens = omega (arith, eqb-true amount 0 e); bounded = λ h. h; calls = λ h. h }
   gas_by f amount false e = drawn amount f _ (refund_holds f.act.signer (next_id f) f.act.signer f.act.signer_key amount) (refund_small f.act.signer (next_id f) f.act.signer f.act.signer_key amount) (omega arith, tt)
 
-  pub gas_given : (burnt : ℕ) (f : Frame) → IsGiven c (gas_left c f burnt * price_of f) f (with_gas_refund c burnt f)
-  gas_given burnt f = gas_by f (gas_left c f burnt * price_of f) ((gas_left c f burnt * price_of f) == 0) refl
+  pub gas_given : (burnt : ℕ) (f : Frame) → IsGiven c (gas_back c f burnt) f (with_gas_refund c burnt f)
+  gas_given burnt f = gas_by f (gas_back c f burnt) (gas_back c f burnt == 0) refl
 
   deposits_by : (f : Frame) (amount : ℕ) (b : Bool) → (amount == 0) ≡ b
       → IsGiven c amount f (cond b f (record f { made = f.made ++ deposit_refund f.predecessor (next_id f) amount ∷ []; next_ordinal = f.next_ordinal + 1 }))

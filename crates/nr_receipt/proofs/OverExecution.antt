@@ -5,7 +5,6 @@ use Rattle.std.specs.Prelude.{fold, not, ◌&&◌, ◌-◌}
 use Rattle.std.specs.FinMap.{get}
 use Rattle.nr_actions.specs.Accounts.{with_deposit}
 use Rattle.nr_actions.specs.Actions.{Acted, Acts, Fails, act}
-use Rattle.nr_actions.specs.Calling.{price_of}
 use Rattle.nr_actions.specs.Failures.{number}
 use Rattle.nr_actions.specs.declared.failure.Failure.TheVariants.{LackBalanceForState}
 use Rattle.nr_actions.specs.declared.frame.Frame.{Frame}
@@ -14,7 +13,7 @@ use Rattle.nr_receipt.specs.Drawing.{with_datum, with_data, with_result, with_ga
 use Rattle.nr_receipt.specs.Drawing.{given_up}
 use Rattle.nr_receipt.specs.Execution.{Execution, concluded, dropped, ended, execute, executed_as}
 use Rattle.nr_receipt.specs.Execution.{status_of}
-use Rattle.nr_receipt.specs.Frames.{first_frame, burnt_gas}
+use Rattle.nr_receipt.specs.Frames.{first_frame, burning_price, burnt_gas}
 use Rattle.nr_receipt.specs.Rewards.{reward_of, richer, with_reward, paid_to}
 use Rattle.nr_receipt.specs.Running.{Ran, Done, Broken, checked, fails_storage, receiver_lacks, go_on}
 use Rattle.nr_receipt.specs.Running.{is_last, run_from, run_actions}
@@ -136,7 +135,7 @@ module _ (p : Scope) (v : World) (c : Config) where
     world = reward_over w f.receiver (reward_of c f) own i;
     executed =
         executed_as (with_gas_refund c gas f) status gas
-        (gas * price_of f - paid_to (seen p v w f.receiver own i) (reward_of c f) + lost);
+        (gas * burning_price f - paid_to (seen p v w f.receiver own i) (reward_of c f) + lost);
   }
 
   ended_over : (w : World) (id : List ℕ) (ran : Ran) → p.own id ≡ true → RanAt id ran

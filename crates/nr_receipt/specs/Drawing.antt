@@ -1,8 +1,7 @@
 -- The receipts that an execution makes behind its actions, each under the next id: the result for those who wait for it, and refunds. After the Nomicon, Runtime Specification (Receipts, Refunds); the ids and their order are this project's.
-use Rattle.std.specs.Prelude.{ℕ, ◌+◌, ◌*◌, ◌==◌, cond, List, [], ◌∷◌, ◌++◌, Option, Some, None, fold}
+use Rattle.std.specs.Prelude.{ℕ, ◌+◌, ◌==◌, cond, List, [], ◌∷◌, ◌++◌, Option, Some, None, fold}
 use Rattle.std.specs.Str.{bytes_eq}
 use Rattle.nr_actions.specs.Actions.{with_refund}
-use Rattle.nr_actions.specs.Calling.{price_of}
 use Rattle.nr_actions.specs.Refunds.{refund}
 use Rattle.nr_actions.specs.declared.frame.Frame.{Frame}
 use Rattle.nr_config.specs.Config.{Config}
@@ -10,7 +9,7 @@ use Rattle.nr_fees.specs.Fees.{deposits}
 use Rattle.nr_ids.specs.Derive.{derived}
 use Rattle.nr_ids.specs.Grammar.{is_system}
 use Rattle.nr_ids.specs.declared.key.Hash32.{Hash32}
-use Rattle.nr_receipt.specs.Frames.{gas_left}
+use Rattle.nr_receipt.specs.Frames.{gas_back}
 use Rattle.nr_records.specs.declared.receipt.Body.{Body}
 use Rattle.nr_records.specs.declared.receipt.Body.TheVariants.{Act, Datum}
 use Rattle.nr_records.specs.declared.receipt.DataReceiver.{DataReceiver}
@@ -53,7 +52,7 @@ abbrev pub with_result : Returned → Frame → Frame
 with_result (Value bytes) f = with_data (Some bytes) f
 with_result (Promise id) f = record f { made = handed_on f.act.outputs id f.made }
 
--- ---- refunds: of the deposits to the predecessor, where that isn't the system, and of the gas that is left to the signer. A refund of nothing isn't made.
+-- ---- refunds: of the deposits to the predecessor, where that isn't the system, and of what is left of the gas to the signer. A refund of nothing isn't made.
 abbrev pub deposits_back : Frame → ℕ
 deposits_back f = cond (is_system f.predecessor) 0 (deposits f.act.actions)
 
@@ -68,7 +67,7 @@ with_gas_back f amount = cond (amount == 0) f (with_drawn f (refund f.act.signer
 
 -- where so much gas is burnt
 abbrev pub with_gas_refund : Config → ℕ → Frame → Frame
-with_gas_refund c burnt f = with_gas_back f (gas_left c f burnt * price_of f)
+with_gas_refund c burnt f = with_gas_back f (gas_back c f burnt)
 
 -- ---- a failure gives the outputs none, and the deposits back
 abbrev pub given_up : Frame → Frame

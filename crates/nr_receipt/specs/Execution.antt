@@ -1,10 +1,9 @@
 -- How a receipt of actions is executed, and how one is settled that clashes. After the Nomicon, Runtime Specification (Receipts, Refunds, Runtime Fees) and Economics (Gas, Contract rewards); clashes are this project's.
 use Rattle.std.specs.Prelude.{◌≡◌, ℕ, ◌+◌, ◌-◌, ◌*◌, List, [], length, Option, Result, Ok, Err}
-use Rattle.nr_actions.specs.Calling.{price_of}
 use Rattle.nr_actions.specs.declared.frame.Frame.{Frame}
 use Rattle.nr_config.specs.Config.{Config}
 use Rattle.nr_receipt.specs.Drawing.{with_result, with_gas_refund, deposits_lost, given_up}
-use Rattle.nr_receipt.specs.Frames.{first_frame, burnt_gas}
+use Rattle.nr_receipt.specs.Frames.{first_frame, burning_price, burnt_gas}
 use Rattle.nr_receipt.specs.Rewards.{reward_of, with_reward, reward_paid}
 use Rattle.nr_receipt.specs.Running.{Ran, Done, Broken, run_actions}
 use Rattle.nr_receipt.specs.declared.executed.Executed.{Executed}
@@ -38,13 +37,13 @@ executed_as f status gas burnt =
       made = f.made;
     }
 
--- the reward is paid, and the gas that is left goes back; what was paid for the burnt gas is burnt, but for the reward, and with it what is lost
+-- the reward is paid, and what is left of the gas goes back; the burnt gas is burnt at its price, but for the reward, and with it what is lost
 abbrev pub concluded : Config → World → Frame → RunStatus → ℕ → ℕ → Execution
 concluded c w f status gas lost =
     let reward = reward_of c f in
     record {
       world = with_reward w f.receiver reward;
-      executed = executed_as (with_gas_refund c gas f) status gas (gas * price_of f - reward_paid w f.receiver reward + lost);
+      executed = executed_as (with_gas_refund c gas f) status gas (gas * burning_price f - reward_paid w f.receiver reward + lost);
     }
 
 -- on success the changes stay, and the result goes to those who wait for it

@@ -1,5 +1,6 @@
--- The frame that a receipt begins with, and its gas. After the Nomicon, Runtime Specification (Receipts) and Economics (Gas); that a receipt of the system counts no gas is this project's.
-use Rattle.std.specs.Prelude.{ℕ, ◌+◌, ◌-◌, cond, List, [], Option, take}
+-- The frame that a receipt begins with, its gas, and what that costs. After the Nomicon, Runtime Specification (Receipts) and Economics (Gas); that a receipt of the system counts no gas and the price of burnt gas are this project's.
+use Rattle.std.specs.Prelude.{ℕ, ◌+◌, ◌-◌, ◌*◌, min, cond, List, [], Option, take}
+use Rattle.nr_actions.specs.Calling.{price_of}
 use Rattle.nr_actions.specs.declared.frame.Frame.{Frame}
 use Rattle.nr_config.specs.Config.{Config}
 use Rattle.nr_fees.specs.Fees.{exec_gas, act_gas}
@@ -37,6 +38,11 @@ prepaid c f = act_gas c (is_system f.predecessor) f.act.actions
 abbrev pub burnt_gas : Config → Frame → ℕ → ℕ
 burnt_gas c f begun = cond (is_system f.predecessor) 0 (exec_gas c (take begun f.act.actions) + f.call_burnt)
 
--- what is left where so much is burnt
-abbrev pub gas_left : Config → Frame → ℕ → ℕ
-gas_left c f burnt = (prepaid c f - burnt) - f.promised
+-- ---- tokens
+-- gas is bought at the receipt's price, and burnt at the lesser of that and the price of the block that runs the receipt
+abbrev pub burning_price : Frame → ℕ
+burning_price f = min (price_of f) f.place.price
+
+-- what was paid for gas that isn't promised goes back, less what is burnt
+abbrev pub gas_back : Config → Frame → ℕ → ℕ
+gas_back c f burnt = (prepaid c f - f.promised) * price_of f - burnt * burning_price f

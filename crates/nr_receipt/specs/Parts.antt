@@ -7,7 +7,7 @@ use Rattle.nr_config.specs.Config.{Config}
 use Rattle.nr_fees.specs.Fees.{attached_gas, deposits}
 use Rattle.nr_ids.specs.Grammar.{is_system}
 use Rattle.nr_receipt.specs.Drawing.{deposits_lost}
-use Rattle.nr_receipt.specs.Frames.{burnt_gas, prepaid}
+use Rattle.nr_receipt.specs.Frames.{burning_price, burnt_gas, prepaid}
 use Rattle.nr_receipt.specs.Running.{Ran, Done, Broken, checked}
 use Rattle.nr_receipt.specs.declared.running.Stop.{Stop}
 use Rattle.nr_receipt.specs.declared.running.Stop.TheVariants.{Failed, Memory}
@@ -58,9 +58,9 @@ pub record CanConclude (c : Config) (w : World) (f : Frame) (gas lost : ℕ) : T
   pub paid_for : prepaid c f < 2 ^ 64
   pub by_calls : is_system f.predecessor ≡ false → f.call_burnt < 2 ^ 64
   pub in_all : gas < 2 ^ 64
-  pub burnt : gas * price_of f + lost < 2 ^ 128
+  pub burnt : gas * burning_price f + lost < 2 ^ 128
   pub deposited : deposits f.act.actions < 2 ^ 128
-  pub room : HasRoom w f.receiver (f.call_burnt * price_of f)
+  pub room : HasRoom w f.receiver (f.call_burnt * burning_price f)
 
 -- ---- a checkpoint is made, and room for one more
 pub record IsMarked (old new : StateView) : Type 0 where

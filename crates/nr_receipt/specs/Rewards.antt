@@ -2,9 +2,9 @@
 use Rattle.std.specs.Prelude.{ℕ, ◌*◌, ◌/◌, ◌==◌, cond, List, Option, Some, None}
 use Rattle.std.specs.FinMap.{get}
 use Rattle.nr_actions.specs.Accounts.{with_deposit}
-use Rattle.nr_actions.specs.Calling.{price_of}
 use Rattle.nr_actions.specs.declared.frame.Frame.{Frame}
 use Rattle.nr_config.specs.Config.{Config, reward_numerator, reward_denominator}
+use Rattle.nr_receipt.specs.Frames.{burning_price}
 use Rattle.nr_records.specs.declared.account.Account.{Account}
 use Rattle.nr_state.specs.World.{World, with_account}
 
@@ -13,7 +13,7 @@ abbrev pub reward_gas : Config → ℕ → ℕ
 reward_gas c burnt = burnt * reward_numerator c / reward_denominator c
 
 abbrev pub reward_of : Config → Frame → ℕ
-reward_of c f = reward_gas c f.call_burnt * price_of f
+reward_of c f = reward_gas c f.call_burnt * burning_price f
 
 -- it goes to the receiver where that stands; else it is burnt
 abbrev pub paid_to : Option Account → ℕ → ℕ

@@ -1,11 +1,10 @@
 //! How a receipt of actions is executed.
 
 ghost use Rattle.std.specs.Prelude.{◌≡◌, ◌+◌, ◌*◌, ◌-◌, ◌<◌, ◌≤◌, ◌^◌, true, IfOk, OnOk, length};
-ghost use Rattle.nr_actions.specs.Calling.{price_of};
 ghost use Rattle.nr_fees.specs.Fees.{receipt_tokens};
 ghost use Rattle.nr_receipt.specs.Drawing.{with_gas_refund, deposits_lost};
 ghost use Rattle.nr_receipt.specs.Execution.{Executes, OfActions, executed_as, status_of, succeeded, failed, dropped, ended, execute};
-ghost use Rattle.nr_receipt.specs.Frames.{prepaid, burnt_gas};
+ghost use Rattle.nr_receipt.specs.Frames.{prepaid, burning_price, burnt_gas};
 ghost use Rattle.nr_receipt.specs.Parts.{CanConclude, IsMarked, IsReady, Tries};
 ghost use Rattle.nr_receipt.specs.Rewards.{reward_of, with_reward, reward_paid};
 ghost use Rattle.nr_receipt.specs.Running.{run_actions};
@@ -18,7 +17,7 @@ ghost use Rattle.nr_state.specs.View.{with_world};
 use crate::drawing::{deposits_lost, give_gas_back};
 use crate::executed::Executed;
 use crate::frames::{drop_made, first_frame};
-use crate::gas::{burnt_gas, gas_left, tokens_for};
+use crate::gas::{burnt_gas, gas_back, tokens_burnt};
 use crate::results::{give_result, give_up};
 use crate::reward::{pay_reward, reward_of};
 use crate::running::{Stop, run_actions};
@@ -31,7 +30,7 @@ use nr_state::{Caller, Place, Returned, ShardState};
 use nr_triedef::Store;
 use std::alloc::{AllocError, Global};
 
-/// Gives the signer back what was paid for the gas that is neither burnt nor promised.
+/// Gives the signer back what is left of the tokens for its gas, where so much is burnt.
 pub(crate) fn refund_gas(
     alloc: Global,
     config: &Config,
@@ -42,7 +41,7 @@ pub(crate) fn refund_gas(
     requires prepaid { prepaid config.now frame.old < 2 ^ 64 }
     ensures { OnOk result (frame.new ≡ with_gas_refund config.now gas frame.old) }
 {
-    let amount = tokens_for(frame, gas_left(config, frame, gas));
+    let amount = gas_back(config, frame, gas);
     give_gas_back(alloc, frame, amount)?;
     Ok(())
 }
@@ -59,13 +58,13 @@ fn conclude<S: Store>(
 ) -> Result<u128, AllocError>
     requires whole { state.old.whole ≡ true }
     requires can { CanConclude config.now state.old.world frame.old gas lost }
-    ensures burnt { IfOk result (λ burnt. burnt ≡ gas * price_of frame.old - reward_paid state.old.world frame.old.receiver (reward_of config.now frame.old) + lost) }
+    ensures burnt { IfOk result (λ burnt. burnt ≡ gas * burning_price frame.old - reward_paid state.old.world frame.old.receiver (reward_of config.now frame.old) + lost) }
     ensures world { OnOk result (state.new ≡ with_world state.old (with_reward state.old.world frame.old.receiver (reward_of config.now frame.old))) }
     ensures refunded { OnOk result (frame.new ≡ with_gas_refund config.now gas frame.old) }
 {
     let reward = reward_of(config, frame);
     let paid = pay_reward(state, &frame.receiver, reward)?;
-    let burnt = tokens_for(frame, gas).saturating_sub(paid) + lost;
+    let burnt = tokens_burnt(frame, gas).saturating_sub(paid) + lost;
     refund_gas(alloc, config, frame, gas)?;
     Ok(burnt)
 }

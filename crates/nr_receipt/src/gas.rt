@@ -1,10 +1,10 @@
-//! The gas of a receipt: what was paid for, what is burnt, and what is left. A receipt from the
+//! The gas of a receipt: what was paid for, what is burnt, and the tokens for it. A receipt from the
 //! system has none.
 
 ghost use Rattle.std.specs.Prelude.{◌≡◌, ◌*◌, ◌^◌, ◌<◌, sum_by};
 ghost use Rattle.nr_actions.specs.Calling.{price_of};
 ghost use Rattle.nr_fees.specs.Fees.{FitsIn, action_fee, exec_gas, prepaid_gas};
-ghost use Rattle.nr_receipt.specs.Frames.{prepaid, burnt_gas, gas_left};
+ghost use Rattle.nr_receipt.specs.Frames.{prepaid, burnt_gas, burning_price, gas_back};
 
 use nr_actions::Frame;
 use nr_bytes::List;
@@ -72,17 +72,8 @@ pub(crate) fn burnt_gas(config: &Config, frame: &Frame, begun: usize) -> u64
     }
 }
 
-/// The gas that is neither burnt nor promised.
-pub(crate) fn gas_left(config: &Config, frame: &Frame, burnt: u64) -> u64
-    requires { prepaid config.now frame.now < 2 ^ 64 }
-    ensures { result ≡ gas_left config.now frame.now burnt }
-{
-    let unburnt = prepaid(config, frame).saturating_sub(burnt);
-    u128::from(unburnt).saturating_sub(frame.promised) as u64
-}
-
-/// The tokens for gas, at the receipt's price.
-pub(crate) fn tokens_for(frame: &Frame, gas: u64) -> u128
+/// The tokens that gas was bought for, at the receipt's price.
+fn tokens_paid(frame: &Frame, gas: u64) -> u128
     requires { frame.now.act.gas_price < 2 ^ 64 }
     ensures { result ≡ gas * price_of frame.now }
 {
@@ -90,4 +81,32 @@ pub(crate) fn tokens_for(frame: &Frame, gas: u64) -> u128
         return 0;
     }
     u128::from(gas) * frame.act.gas_price
+}
+
+/// The tokens for a unit of burnt gas: the receipt's price, or the block's where that is less.
+fn burning_price(frame: &Frame) -> u64
+    ensures { result ≡ burning_price frame.now }
+{
+    if frame.predecessor.is_system() {
+        return 0;
+    }
+    frame.act.gas_price.min(u128::from(frame.place.price)) as u64
+}
+
+/// The tokens for burnt gas.
+pub(crate) fn tokens_burnt(frame: &Frame, gas: u64) -> u128
+    ensures { result ≡ gas * burning_price frame.now }
+{
+    u128::from(gas) * u128::from(burning_price(frame))
+}
+
+/// What goes back of the tokens for gas, where so much is burnt: what was paid for gas that isn't
+/// promised, less what is burnt.
+pub(crate) fn gas_back(config: &Config, frame: &Frame, burnt: u64) -> u128
+    requires price { frame.now.act.gas_price < 2 ^ 64 }
+    requires prepaid { prepaid config.now frame.now < 2 ^ 64 }
+    ensures { result ≡ gas_back config.now frame.now burnt }
+{
+    let unpromised = u128::from(prepaid(config, frame)).saturating_sub(frame.promised) as u64;
+    tokens_paid(frame, unpromised).saturating_sub(tokens_burnt(frame, burnt))
 }

@@ -2,12 +2,12 @@
 
 ghost use Rattle.std.specs.Prelude.{◌≡◌, ◌+◌, ◌*◌, ◌^◌, ◌<◌, ◌≤◌, true, false, IfOk, OnOk};
 ghost use Rattle.nr_actions.specs.Actions.{HasRoom};
-ghost use Rattle.nr_actions.specs.Calling.{price_of};
 ghost use Rattle.nr_ids.specs.Grammar.{is_system};
+ghost use Rattle.nr_receipt.specs.Frames.{burning_price};
 ghost use Rattle.nr_receipt.specs.Rewards.{reward_gas, reward_of, with_reward, reward_paid};
 ghost use Rattle.nr_state.specs.View.{with_world};
 
-use crate::gas::tokens_for;
+use crate::gas::tokens_burnt;
 use nr_actions::Frame;
 use nr_config::Config;
 use nr_config::entries::{REWARD_DENOMINATOR, REWARD_NUMERATOR};
@@ -29,15 +29,14 @@ fn reward_gas(config: &Config, burnt: u64) -> u64
 
 /// The reward, in tokens, for the gas that all calls of the receipt burnt.
 pub(crate) fn reward_of(config: &Config, frame: &Frame) -> u128
-    requires price { frame.now.act.gas_price < 2 ^ 64 }
     requires burnt { is_system frame.now.predecessor ≡ false → frame.now.call_burnt < 2 ^ 64 }
     ensures value { result ≡ reward_of config.now frame.now }
-    ensures less { result ≤ frame.now.call_burnt * price_of frame.now }
+    ensures less { result ≤ frame.now.call_burnt * burning_price frame.now }
 {
     if frame.predecessor.is_system() {
         return 0;
     }
-    tokens_for(frame, reward_gas(config, frame.call_burnt as u64))
+    tokens_burnt(frame, reward_gas(config, frame.call_burnt as u64))
 }
 
 /// Gives the account the reward, where it stands, and tells what was paid.

@@ -11,6 +11,7 @@ use nr_fees::receipt_tokens;
 use nr_ids::{AccountId, derive};
 use nr_receipt::{Executed, execute, settle_clash};
 use nr_records::{Action, ActionReceipt, Body, Receipt, RunStatus};
+use nr_state::Place;
 use std::alloc::{AllocError, Global};
 
 /// What is seen of a receipt.
@@ -122,6 +123,7 @@ fn execute_in(
     state: &mut State,
     caller: &Burner,
     sent: Sent,
+    price: u64,
 ) -> Result<Executed, AllocError>
     requires { IsSound caller.now.config state.old }
 {
@@ -135,7 +137,7 @@ fn execute_in(
         &caller.config,
         receipt,
         List::of(Vec::new(alloc)),
-        &PLACE,
+        &Place { price, ..PLACE },
         caller,
     )
 }
@@ -145,21 +147,23 @@ fn see_executed(
     state: &mut State,
     caller: &Burner,
     sent: Sent,
+    price: u64,
 ) -> Result<Seen, AllocError>
     requires { IsSound caller.now.config state.old }
 {
     let id = id_of(alloc, sent.receiver)?;
-    let done = execute_in(alloc, state, caller, sent)?;
+    let done = execute_in(alloc, state, caller, sent, price)?;
     Ok(look(&done, amount_of(state, &id)?))
 }
 
-/// Executes in a state where `con` has code and so much to spend.
+/// Executes in a state where `con` has code and so much to spend, in a block of this price.
 fn try_executed(
     alloc: Global,
     reward: &str,
     burnt: u64,
     amount: u64,
     sent: Sent,
+    price: u64,
 ) -> Result<Seen, AllocError> {
     let caller = Burner {
         config: config_of(alloc, reward)?,
@@ -167,13 +171,19 @@ fn try_executed(
     };
     let con = id_of(alloc, b"con")?;
     let mut state = state_with(alloc, &caller.config, &con, amount)?;
-    see_executed(alloc, &mut state, &caller, sent)
+    see_executed(alloc, &mut state, &caller, sent, price)
 }
 
 /// What is seen of a receipt that is executed with this reward, in hundredths, where each call burns
 /// so much gas and `con` has so much to spend.
 fn executed(alloc: Global, reward: &str, burnt: u64, amount: u64, sent: Sent) -> Seen {
-    try_executed(alloc, reward, burnt, amount, sent).unwrap_or(NO_MEMORY)
+    try_executed(alloc, reward, burnt, amount, sent, 1).unwrap_or(NO_MEMORY)
+}
+
+/// What is seen of a receipt whose gas was bought at 5, in a block of this price, where the reward is
+/// 30 hundredths, each call burns 10 and `con` has 1000 to spend.
+fn bought_at_5(alloc: Global, sent: Sent, price: u64) -> Seen {
+    try_executed(alloc, "30", 10, 1000, Sent { bought: 5, ..sent }, price).unwrap_or(NO_MEMORY)
 }
 
 /// Settles in a state where `con` has 1000 to spend.
@@ -208,6 +218,7 @@ fn to_nobody(predecessor: &'static [u8]) -> Sent {
     Sent {
         predecessor,
         receiver: b"nobody",
+        bought: 1,
         asks: &[Ask::Transfer(5)],
         awaited: false,
     }
@@ -218,6 +229,7 @@ fn to_con(predecessor: &'static [u8], asks: &'static [Ask], awaited: bool) -> Se
     Sent {
         predecessor,
         receiver: b"con",
+        bought: 1,
         asks,
         awaited,
     }
@@ -399,5 +411,105 @@ fn a_clash_gives_all_back(rt: HostRuntime) {
     assert_eq!(rt;
         settled(alloc, from_system),
         shown([3, 0, 0, 0], 0, 7, 0, [(4, 0), (0, 0), (0, 0)], Some(1000))
+    );
+}
+
+#[test]
+fn gas_is_burnt_at_the_lesser_price(rt: HostRuntime) {
+    let alloc = rt.alloc();
+    let plain = to_con(b"alice", &[Ask::Call("go", 90, 0)], false);
+    assert_eq!(rt;
+        bought_at_5(alloc, plain, 3),
+        shown(
+            [0, 0, 0, 0],
+            16,
+            39,
+            1,
+            [(2, 432), (0, 0), (0, 0)],
+            Some(1009)
+        )
+    );
+    assert_eq!(rt;
+        bought_at_5(alloc, plain, 9),
+        shown(
+            [0, 0, 0, 0],
+            16,
+            65,
+            1,
+            [(2, 400), (0, 0), (0, 0)],
+            Some(1015)
+        )
+    );
+    assert_eq!(rt;
+        bought_at_5(alloc, plain, 0),
+        shown(
+            [0, 0, 0, 0],
+            16,
+            0,
+            1,
+            [(2, 480), (0, 0), (0, 0)],
+            Some(1000)
+        )
+    );
+    let from_system = to_con(b"system", &[Ask::Call("go", 90, 0)], false);
+    assert_eq!(rt;
+        bought_at_5(alloc, from_system, 3),
+        shown([0, 0, 0, 0], 0, 0, 1, [(0, 0); 3], Some(1000))
+    );
+}
+
+#[test]
+fn promised_gas_stays_at_the_price_of_its_receipt(rt: HostRuntime) {
+    let alloc = rt.alloc();
+    let asked = to_con(b"alice", &[Ask::Call("ask", 90, 0)], false);
+    assert_eq!(rt;
+        bought_at_5(alloc, asked, 3),
+        shown(
+            [1, 0, 0, 0],
+            16,
+            39,
+            0,
+            [(5, 0), (2, 422), (0, 0)],
+            Some(1009)
+        )
+    );
+    assert_eq!(rt;
+        bought_at_5(alloc, asked, 9),
+        shown(
+            [1, 0, 0, 0],
+            16,
+            65,
+            0,
+            [(5, 0), (2, 390), (0, 0)],
+            Some(1015)
+        )
+    );
+}
+
+#[test]
+fn a_failure_gives_the_difference_back(rt: HostRuntime) {
+    let alloc = rt.alloc();
+    let trapped = to_con(b"alice", &[Ask::Call("trap", 90, 7)], false);
+    assert_eq!(rt;
+        bought_at_5(alloc, trapped, 3),
+        shown(
+            [2, 0, 15, 1],
+            16,
+            39,
+            0,
+            [(1, 7), (2, 432), (0, 0)],
+            Some(1009)
+        )
+    );
+    assert_eq!(rt;
+        bought_at_5(alloc, trapped, 9),
+        shown(
+            [2, 0, 15, 1],
+            16,
+            65,
+            0,
+            [(1, 7), (2, 400), (0, 0)],
+            Some(1015)
+        )
     );
 }

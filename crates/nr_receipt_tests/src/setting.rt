@@ -119,11 +119,12 @@ fn actions_of(alloc: Global, asks: &[Ask]) -> Result<List<Action>, AllocError> {
     Ok(List::of(actions))
 }
 
-/// Who sends what to whom, and whether `dave` waits for the result.
+/// Who sends what to whom, what a gas was bought for, and whether `dave` waits for the result.
 #[derive(Clone, Copy)]
 pub(crate) struct Sent {
     pub(crate) predecessor: &'static [u8],
     pub(crate) receiver: &'static [u8],
+    pub(crate) bought: u128,
     pub(crate) asks: &'static [Ask],
     pub(crate) awaited: bool,
 }
@@ -143,7 +144,7 @@ fn act_of(alloc: Global, sent: Sent) -> Result<ActionReceipt, AllocError> {
     Ok(ActionReceipt {
         signer: id_of(alloc, b"alice")?,
         signer_key: PublicKey::Ed25519([1; 32]),
-        gas_price: 1,
+        gas_price: sent.bought,
         outputs: outputs_of(alloc, sent.awaited)?,
         inputs: List::of(Vec::new(alloc)),
         actions: actions_of(alloc, sent.asks)?,

@@ -24,7 +24,7 @@ struct Row {
     report: &'static str,
 }
 
-const ROWS: [Row; 12] = [
+const ROWS: [Row; 14] = [
     Row {
         changes: &[&FEES],
         genesis: worked::GENESIS,
@@ -55,6 +55,18 @@ const ROWS: [Row; 12] = [
         genesis: worked::GENESIS,
         blocks: worked::GREATEST_TRANSFER,
         report: worked::OVERFLOW_REPORT,
+    },
+    Row {
+        changes: &[&FEES],
+        genesis: worked::PRICED_GENESIS,
+        blocks: worked::PRICE_FALLS,
+        report: worked::PRICE_FALLS_REPORT,
+    },
+    Row {
+        changes: &[&FEES],
+        genesis: worked::PRICED_GENESIS,
+        blocks: worked::PRICE_RISES,
+        report: worked::PRICE_RISES_REPORT,
     },
     Row {
         changes: &[&FEES],
