@@ -1,3 +1,4 @@
+use Rattle.std.proofs.Common.{refl}
 use Rattle.std.specs.Prelude.{codes}
 use Rattle.nr_json.specs.Faults.{item_step, member_step}
 use Rattle.nr_json.proofs.Loops.{told_in}
