@@ -33,11 +33,7 @@ fn read_price(version: Version, reader: &mut Reader<'_>) -> Result<Option<u64>, 
 
 /// Writes a price where the version has one. A price that the version hasn't, or the lack of one
 /// that it has, has no spelling and is an error.
-fn write_price(
-    version: Version,
-    price: Option<u64>,
-    writer: &mut Writer,
-) -> Result<(), AllocError>
+fn write_price(version: Version, price: Option<u64>, writer: &mut Writer) -> Result<(), AllocError>
     ensures appends { OnOk result (writer.new ≡ writer.old ++ price_bytes price) }
     ensures in_range { OnOk result (IsPrice version price) }
 {

@@ -1,6 +1,7 @@
 -- Reading the items of a list one after the other, as a loop does.
 use Rattle.std.proofs.Common.{◌≡◌, ℕ, ◌+◌, ◌≤◌, ◌<◌, List, [], ◌∷◌, ◌++◌, length, drop, get_or, Ok, Err, refl, sym, ap, ◌∙◌, append_assoc}
 use Rattle.std.proofs.lemmas.List.{append-nil, drop_more, drop_all}
+use Rattle.std.specs.Prelude.{◌≢◌}
 use Rattle.nr_bytes.specs.Reading.{◌>>=◌}
 use Rattle.serde_json.specs.Data.{Data}
 use Rattle.serde_json.specs.View.{view, items_view}
@@ -51,3 +52,12 @@ is_done {X} reading i found values l so_far =
 pub below : (step : List ℕ) (e told : JsonFault) → told ≡ under step e → (told ≡ Memory → ⊥) → e ≡ Memory → ⊥
 below step (At path wrong) told is other want = cc
 below step Memory told is other want = other is
+
+-- a fault three steps down
+pub told_in : (one two three : List ℕ) (fault a b told : JsonFault) → (a ≢ Memory → a ≡ under one fault) → (b ≢ Memory → b ≡ under two a) → (told ≢ Memory → told ≡ under three b)
+    → told ≢ Memory → told ≡ under three (under two (under one fault))
+told_in one two three fault a b told first second third other =
+    let last = third other in
+    let kept : b ≢ Memory = below three b told last other in
+    let middle = second kept in
+    last ∙ ap (under three) (middle ∙ ap (under two) (first (below two a b middle kept)))

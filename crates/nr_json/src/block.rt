@@ -3,7 +3,7 @@
 ghost use Rattle.std.specs.Prelude.{◌≡◌};
 ghost use Rattle.nr_bytes.specs.Answers.{Gives};
 ghost use Rattle.nr_blocks.specs.Judging.{each};
-ghost use Rattle.nr_json.specs.Blocks.{block_json, block_of, version_json, version_numbered, version_of, stated_version, version_by, price_in, has_price, file_in, blocks_json, blocks_of};
+ghost use Rattle.nr_json.specs.Blocks.{block_json, block_of, version_json, version_numbered, version_of, stated_version, version_of_price, version_by, price_in, has_price, file_in, blocks_json, blocks_of};
 ghost use Rattle.nr_json.specs.declared.fault.JsonFault.TheVariants.{Memory};
 
 use crate::fault::{JsonFault, Wrong};
@@ -84,6 +84,15 @@ fn stated_version(version: Version) -> Option<Version>
     }
 }
 
+fn version_of_price(price: Option<u64>) -> Version
+    ensures { result ≡ version_of_price price }
+{
+    match price {
+        Some(_) => Version::Two,
+        None => Version::One,
+    }
+}
+
 /// The version that is stated, or that the first block shows.
 fn version_by(stated: Option<Version>, blocks: &[Block]) -> Version
     ensures { result ≡ version_by stated blocks.now }
@@ -91,8 +100,8 @@ fn version_by(stated: Option<Version>, blocks: &[Block]) -> Version
     match stated {
         Some(version) => version,
         None => match blocks.first() {
-            Some(block) if block.price.is_some() => Version::Two,
-            _ => Version::One,
+            Some(block) => version_of_price(block.price),
+            None => Version::One,
         },
     }
 }
@@ -108,12 +117,7 @@ fn price_in(alloc: Global, version: Version, price: Option<u64>) -> Result<(), J
     }
 }
 
-fn has_price(
-    alloc: Global,
-    version: Version,
-    number: usize,
-    block: &Block,
-) -> Result<(), JsonFault>
+fn has_price(alloc: Global, version: Version, number: usize, block: &Block) -> Result<(), JsonFault>
     ensures { Gives Memory result (has_price version number block.now) }
 {
     match price_in(alloc, version, block.price) {
@@ -138,11 +142,7 @@ fn all_have_price(alloc: Global, version: Version, blocks: &[Block]) -> Result<(
 }
 
 #[tactic(auto, unfolding(crate::specs::Blocks::file_in))]
-fn file_in(
-    alloc: Global,
-    version: Version,
-    blocks: List<Block>,
-) -> Result<BlocksFile, JsonFault>
+fn file_in(alloc: Global, version: Version, blocks: List<Block>) -> Result<BlocksFile, JsonFault>
     ensures { Gives Memory result (file_in version blocks) }
 {
     all_have_price(alloc, version, blocks.inner())?;

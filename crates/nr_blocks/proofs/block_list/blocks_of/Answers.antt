@@ -4,10 +4,10 @@ use Rattle.nr_bytes.proofs.Items.{goes_on, ends, is_done}
 use Rattle.nr_blocks.specs.BlocksFiles.{block_at}
 use Rattle.nr_blocks.proofs.block_list.blocks_of.Goals as goal
 
-pub returns-in_err-read_block : goal.returns-in_err-read_block
-returns-in_err-read_block c =
+pub returns-in_err-block : goal.returns-in_err-block
+returns-in_err-block c =
     let p = err_from_is_err_and c.from_residual.result c.from_residual.ensures.1 in
-    rw (p.1, p.2) (λ other. ends (block_at c.args.version) c.loop.blocks.items c.args.count c.loop.counter c.loop.reader c.in_err-read_block.field-0.0 (items_at (block_at c.args.version) c.args.count c.args.reader.now) c.loop-test.true (c.in_err-read_block.ensures other) c.loop.invariant)
+    rw (p.1, p.2) (λ other. ends (block_at c.args.version) c.loop.blocks.items c.args.count c.loop.counter c.loop.reader c.in_err-block.field-0.0 (items_at (block_at c.args.version) c.args.count c.args.reader.now) c.loop-test.true (c.in_err-block.ensures other) c.loop.invariant)
 
 pub loop-preserved : goal.loop-preserved
 loop-preserved c =
