@@ -1,6 +1,6 @@
 -- What executions and settlements keep.
 use Rattle.std.proofs.Common.{◌≡◌, ℕ, ◌+◌, ◌*◌, ◌^◌, ◌<◌, ◌≤◌, Bool, true, false, cond, List, [], length, Option, Some, None, refl, sym, ap, ◌∙◌, arith}
-use Rattle.std.specs.Prelude.{◌==◌}
+use Rattle.std.specs.Prelude.{◌==◌, ◌-◌}
 use Rattle.std.specs.FinMap.{get}
 use Rattle.std.specs.List.{AllByRecursion}
 use Rattle.std.proofs.lemmas.Bool.{eqb-true}
@@ -214,7 +214,11 @@ is_settled c r act place body h =
     let given : IsGiven c (deposits_back f) f g = failure_given c f in
     let refunded : IsGiven c (gas_back c g 0) g (with_gas_refund c 0 g) = gas_given c 0 g in
     let same_left : gas_back c g 0 ≡ gas_back c f 0 = ap (λ (k : Frame). gas_back c k 0) given.same in
-    let cost : gas_back c f 0 ≡ prepaid c f * price_of f = omega arith in
+    let none : f.promised ≡ 0 = refl in
+    let all : prepaid c f - f.promised ≡ prepaid c f = omega (arith, none) in
+    let paid : (prepaid c f - f.promised) * price_of f ≡ prepaid c f * price_of f = ap (λ n. n * price_of f) all in
+    let free : 0 * burning_price f ≡ 0 = omega arith in
+    let cost : gas_back c f 0 ≡ prepaid c f * price_of f = omega (arith, paid, free) in
     record {
       tokens = omega (arith, holds c r act [] place body, refunded.tokens, given.tokens, same_left, cost, back_or_lost f);
       gas = refl;
