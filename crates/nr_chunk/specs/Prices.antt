@@ -1,6 +1,8 @@
 -- What a unit of gas costs in a chunk fits in 64 bits.
-use Rattle.std.proofs.Common.{◌≡◌, ℕ, zero, suc, ◌^◌, ◌<◌, Option, Some, None, refl}
+use Rattle.std.proofs.Common.{◌≡◌, ℕ, zero, suc, ◌^◌, ◌<◌, List, Option, Some, None, refl}
 use Rattle.std.specs.Prelude.{slice_get, unwrap_or}
+use Rattle.std.specs.Coded.{le_prop}
+use Rattle.std.specs.List.{AllByRecursion, AllByRecursion-prop}
 use Rattle.nr_blocks.specs.BlocksFiles.{FitsPrice}
 use Rattle.nr_blocks.specs.declared.block.Block.{Block}
 use Rattle.nr_bytes.specs.Spelling.{Below}
@@ -9,6 +11,14 @@ use Rattle.nr_config.specs.Config.{gas_price}
 use Rattle.nr_config.proofs.Bounds.{gas_price-fits}
 use Rattle.nr_overlap.proofs.Basics.{each_at}
 use Rattle.nr_records.specs.Options.{IsOption}
+
+-- that prices fit has one proof at most
+stated_prop : (price : Option ℕ) → IsProp (IsOption (Below (2 ^ 64)) price)
+stated_prop None = λ p q. refl
+stated_prop (Some price) = le_prop
+
+pub prices_prop : (blocks : List Block) → IsProp (AllByRecursion FitsPrice blocks)
+prices_prop blocks = AllByRecursion-prop FitsPrice (λ block. stated_prop block.price) blocks
 
 module _ (usual : ℕ) (small : usual < 2 ^ 64) where
   stated_fits : (price : Option ℕ) → IsOption (Below (2 ^ 64)) price → unwrap_or price usual < 2 ^ 64

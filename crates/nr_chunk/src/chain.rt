@@ -1,7 +1,8 @@
-ghost use Rattle.std.specs.Prelude.{◌≡◌};
+ghost use Rattle.std.specs.Prelude.{◌≡◌, ◌^◌, ◌<◌};
 ghost use Rattle.std.specs.List.{AllByRecursion};
 ghost use Rattle.nr_blocks.specs.BlocksFiles.{FitsPrice};
 ghost use Rattle.nr_blocks.specs.Genesis.{IsSoundGenesis};
+ghost use Rattle.nr_chunk.specs.Prices.{prices_prop};
 
 use crate::state::ChunkStore;
 use nr_blocks::{Block, Genesis};
@@ -21,8 +22,15 @@ pub struct ChainRun<C: Caller<ChunkStore>> {
     pub(crate) blocks: List<Block>,
     pub(crate) caller: C,
     ghost sound: { IsSoundGenesis config genesis },
-    ghost prices: { AllByRecursion FitsPrice blocks },
+    ghost prices: { AllByRecursion FitsPrice blocks } by { prices_prop blocks },
     ghost same: { C.config caller ≡ config },
+}
+
+/// A number of the program has 64 bits.
+fn know_number(number: u64)
+    ensures { number < 2 ^ 64 }
+{
+    let _ = number;
 }
 
 /// The price of a block fits in its number.
@@ -30,7 +38,7 @@ fn know_price(block: &Block)
     ensures { FitsPrice block.now }
 {
     if let Some(price) = block.price {
-        let _ = price;
+        know_number(price);
     }
 }
 
