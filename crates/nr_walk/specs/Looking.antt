@@ -1,0 +1,76 @@
+-- Looking at one node: its text, and what it must be beside the held texts of its children. This project's own.
+use Rattle.std.specs.Prelude.{ℕ, ◌+◌, ◌%◌, ◌==◌, Bool, true, false, cond, ◌&&◌, ◌||◌, not, nat_le, fold, List, [], ◌∷◌, length, Option, Some, None, Result, Ok, Err}
+use Rattle.nr_bytes.specs.Reading.{◌>>=◌}
+use Rattle.nr_ids.specs.declared.key.Hash32.{Hash32}
+use Rattle.nr_triedef.specs.Root.{Contents}
+use Rattle.nr_triedef.specs.Node.{usage_of}
+use Rattle.nr_triedef.specs.Reading.{node_at}
+use Rattle.nr_triedef.specs.declared.node.Node.{Node}
+use Rattle.nr_triedef.specs.declared.node.Node.TheVariants.{Leaf, Extension, Branch}
+use Rattle.nr_walk.specs.declared.fault.WalkFault.{WalkFault}
+use Rattle.nr_walk.specs.declared.fault.WalkFault.TheVariants.{BadText}
+use Rattle.nr_walk.specs.declared.looking.Tally.{Tally}
+use Rattle.nr_walk.specs.declared.told.Spot.{Spot}
+use Rattle.nr_walk.specs.declared.told.Ending.{Ending}
+use Rattle.nr_walk.specs.Texts.{text_at, node_or_bad, known}
+use Rattle.nr_walk.specs.Told.{ending_of, children_of, own_usage, is_branch}
+
+-- the node of a hash
+abbrev pub node_in : Contents → Hash32 → Result Node WalkFault
+node_in texts hash = do
+  text ← text_at texts hash
+  node_or_bad hash (node_at text)
+
+-- ---- what is known of the children: whether all are, and their usages
+abbrev pub added : Tally → Option Node → Tally
+added tally None = record { whole = false; usage = tally.usage }
+added tally (Some node) = record { whole = tally.whole; usage = tally.usage + usage_of node }
+
+abbrev pub tally_of : Contents → List Hash32 → Tally
+tally_of texts hashes = fold (λ tally hash. added tally (known texts hash)) (record { whole = true; usage = 0 }) hashes
+
+-- the usage told is at least the sum, and exactly that where all of it is known
+abbrev pub is_sum : ℕ → ℕ → Tally → Bool
+is_sum told own tally = nat_le (own + tally.usage) told && (not tally.whole || (told == own + tally.usage))
+
+unfoldable pub is_summed : Contents → Node → Bool
+is_summed texts node = is_sum (usage_of node) (own_usage node) (tally_of texts (children_of node))
+
+-- known, and no branch
+abbrev pub is_no_branch : Option Node → Bool
+is_no_branch None = false
+is_no_branch (Some node) = not (is_branch node)
+
+-- an extension's child is a branch, where it is known
+abbrev pub is_joined : Contents → Node → Bool
+is_joined texts (Leaf part length hash usage) = true
+is_joined texts (Extension part child usage) = not (is_no_branch (known texts child))
+is_joined texts (Branch value children usage) = true
+
+abbrev pub most_nibbles : ℕ
+most_nibbles = 140000000
+
+-- so many nibbles are a key's
+abbrev pub is_end : ℕ → Bool
+is_end n = nat_le n most_nibbles && (n % 2 == 0)
+
+-- a value's key has whole bytes, and isn't too long
+abbrev pub is_ended : List ℕ → Option Ending → Bool
+is_ended place None = true
+is_ended place (Some ending) = is_end (length place + length ending.step)
+
+-- the node can stand at the place over what is held
+abbrev pub is_right : Contents → List ℕ → Node → Bool
+is_right texts place node = is_ended place (ending_of node) && is_joined texts node && is_summed texts node
+
+-- the node of a spot, or the first fault there
+unfoldable pub looked_at : Contents → Spot → Result Node WalkFault
+looked_at texts spot = do
+  node ← node_in texts spot.hash
+  cond (is_right texts spot.place node) (Ok node) (Err (BadText spot.hash))
+
+-- the text of a value
+unfoldable pub value_text : Contents → ℕ → Hash32 → Result (List ℕ) WalkFault
+value_text texts size hash = do
+  text ← text_at texts hash
+  cond (length text == size) (Ok text) (Err (BadText hash))
