@@ -13,11 +13,11 @@ use Rattle.nr_triedef.proofs.Parts.{nibbles_small}
 use Rattle.nr_store.specs.Tries.{CanWalk, whole}
 use Rattle.nr_store.proofs.Levels.{root_is}
 use Rattle.nr_store.proofs.Listed.{walk_whole}
-use Rattle.nr_walk.specs.declared.entry.Entry.{Entry}
+use Rattle.nr_columns.specs.declared.entry.Entry.{Entry}
 use Rattle.nr_walk.specs.declared.searched.Searched.{Searched}
 use Rattle.nr_walk.specs.declared.walking.Kept.{Kept}
 use Rattle.nr_remake.specs.Marks.{marked_whole, Spreads}
-use Rattle.nr_remake.specs.Merging.{IsKept, IsChanged, marks_of, marked, merge, pairs_of, searched_of}
+use Rattle.nr_remake.specs.Merging.{IsKept, IsChanged, marks_of, marked, merge, pairs_of, searched_in}
 use Rattle.nr_remake.proofs.MarkedLevels.{marked_is}
 use Rattle.nr_remake.proofs.MergedMarks.{kept_merged}
 
@@ -30,7 +30,7 @@ one_root : (ks : List Kept) (es : List Entry) (searched : List Searched) (m new 
 one_root ks es searched m new h c =
     let ps = paths (entries new) in
     let order : CanWalk ps = walk_whole new ps refl (all_nibbles (entries new) c.bytes) in
-    let spread : Spreads ps (merge (marks_of ks) (marked (searched_of searched ps))) ps = kept_merged searched ks (paths (entries m)) ps h order c.others in
+    let spread : Spreads ps (merge (marks_of ks) (marked (searched_in searched ps))) ps = kept_merged searched ks (paths (entries m)) ps h order c.others in
     let spread_new : Spreads ps (merge (marks_of ks) (marked (paths (pairs_of es)))) ps = subst (λ (qs : Paths). Spreads ps (merge (marks_of ks) (marked qs)) ps) c.searched_are spread in
     ap (λ (o : Option Summary). (summary_of o).hash) (marked_is (merge (marks_of ks) (marked (paths (pairs_of es)))) ps order spread_new)
     ∙ ap (λ (s : Summary). s.hash) (root_is new ps (whole ps) refl refl)

@@ -17,7 +17,7 @@ use Rattle.nr_walk.specs.Searched.{looks, finds}
 use Rattle.nr_walk.specs.Shown.{placed, behind_all, IsTrieKnown, StandsFor, IsFound, IsBeside, IsSplit, Adds, Shows}
 use Rattle.nr_walk.proofs.Searches.{not_found}
 use Rattle.nr_remake.specs.Marks.{mark, told, IsGroup, Spreads}
-use Rattle.nr_remake.specs.Merging.{searched_of, others_of, AreReplaced, kept_of, kept_in, marks_of, marked, is_before, lower, upper, merge, AllBeside, IsKept, IsChanged, pairs_of, found_of, found_in, searched_entries}
+use Rattle.nr_remake.specs.Merging.{searched_in, others_of, AreReplaced, kept_of, kept_in, marks_of, marked, is_before, lower, upper, merge, AllBeside, IsKept, IsChanged, pairs_of, found_of, found_in, searched_entries}
 use Rattle.nr_remake.proofs.Spreading.{first_front, length_placed}
 
 abbrev Path : Type 0
@@ -170,7 +170,7 @@ record IsRest (searched : List Searched) (first others ps : Paths) : Type 0 wher
   post : Paths
   is : ps ≡ first ++ post
   rest : others_of searched post ≡ others
-  same : searched_of searched post ≡ searched_of searched ps
+  same : searched_in searched post ≡ searched_in searched ps
   order : Rise post
 
 -- once a group has begun nothing stands in it
@@ -180,7 +180,7 @@ rest_of searched path h a is [] others bare ps order behind at e = record { post
 rest_of searched path h a is (f ∷ fs) others bare [] order behind at e = absurd cc
 rest_of searched path h a is (f ∷ fs) others bare (g ∷ ps) order behind at e =
     let r = elim (finds searched g.0) as (λ b. finds searched g.0 ≡ b → cond (not b) (g ∷ others_of searched ps) (others_of searched ps) ≡ f ∷ (fs ++ others)
-    → (post : Paths) × ((g ∷ ps ≡ f ∷ (fs ++ post)) × ((others_of searched post ≡ others) × ((searched_of searched post ≡ cond b (g ∷ searched_of searched ps) (searched_of searched ps)) × Rise post)))) [
+    → (post : Paths) × ((g ∷ ps ≡ f ∷ (fs ++ post)) × ((others_of searched post ≡ others) × ((searched_in searched post ≡ cond b (g ∷ searched_in searched ps) (searched_in searched ps)) × Rise post)))) [
       | true ↦ λ t w.
           let all : AllByRecursion (λ (q : Path). Before g.0 q.0) (f ∷ (fs ++ others)) = subst (λ (qs : Paths). AllByRecursion (λ (q : Path). Before g.0 q.0) qs) w (all_filter (λ (q : Path). Before g.0 q.0) (λ (p : Path). not (finds searched p.0)) ps order.0) in
           let b = between path a at.0.0 g.0 (subst (λ (x : List ℕ). Before x g.0) is behind.0) (subst (λ (x : List ℕ). Before g.0 x) at.0.1 all.0) in
@@ -242,11 +242,11 @@ record IsCut (searched : List Searched) (path : List ℕ) (first others new ps :
   post : Paths
   is : ps ≡ lower path new ++ (first ++ post)
   rest : others_of searched post ≡ others
-  next : searched_of searched post ≡ upper path new
+  next : searched_in searched post ≡ upper path new
   order : Rise post
 
 cut_here : (searched : List Searched) (top : Paths) (k : Kept) (first others : Paths) (h : Path) (ps : Paths) → IsBeside searched top k first → 1 ≤ length first → AllPlaced k.path first → Rise (h ∷ ps)
-    → h ∷ others_of searched ps ≡ first ++ others → IsCut searched k.path first others (searched_of searched ps) (h ∷ ps)
+    → h ∷ others_of searched ps ≡ first ++ others → IsCut searched k.path first others (searched_in searched ps) (h ∷ ps)
 cut_here searched top k [] others h ps g some at order e = absurd (omega arith)
 cut_here searched top k (f ∷ fs) others h ps g some at order e =
     let first : h ≡ f = cc in
@@ -261,7 +261,7 @@ cut_here searched top k (f ∷ fs) others h ps g some at order e =
           absurd cc
     ] in
     let r = rest_of searched k.path h.0 at.0.0 place fs others bare ps order.1 order.0 at.1 tail in
-    let n = none_lower k.path h.0 at.0.0 place (searched_of searched ps) (all_filter (λ (q : Path). Before h.0 q.0) (λ (p : Path). finds searched p.0) ps order.0) in
+    let n = none_lower k.path h.0 at.0.0 place (searched_in searched ps) (all_filter (λ (q : Path). Before h.0 q.0) (λ (p : Path). finds searched p.0) ps order.0) in
     record {
       post = r.post;
       is = (λ i. first i ∷ r.is i) ∙ ap (λ (qs : Paths). qs ++ (f ∷ (fs ++ r.post))) (sym n.0);
@@ -271,11 +271,11 @@ cut_here searched top k (f ∷ fs) others h ps g some at order e =
     }
 
 cut_at : (searched : List Searched) (top : Paths) (k : Kept) (first others : Paths) → IsBeside searched top k first → (ps : Paths) → Rise ps → others_of searched ps ≡ first ++ others
-    → IsCut searched k.path first others (searched_of searched ps) ps
+    → IsCut searched k.path first others (searched_in searched ps) ps
 cut_at searched top k first others g [] order e = absurd (omega (arith, ap length e, length-append first others, group_length searched top k first g))
 cut_at searched top k first others g (h ∷ ps) order e =
     elim (finds searched h.0) as (λ b. finds searched h.0 ≡ b → cond (not b) (h ∷ others_of searched ps) (others_of searched ps) ≡ first ++ others
-    → IsCut searched k.path first others (cond b (h ∷ searched_of searched ps) (searched_of searched ps)) (h ∷ ps)) [
+    → IsCut searched k.path first others (cond b (h ∷ searched_in searched ps) (searched_in searched ps)) (h ∷ ps)) [
       | true ↦ λ t w.
           let c = cut_at searched top k first others g ps order.1 w in
           let less : is_before h.0 k.path ≡ true = stands_before searched top k first others ps h g t order.0 w in
@@ -283,9 +283,9 @@ cut_at searched top k first others g (h ∷ ps) order e =
             post = c.post;
             is =
                 ap (λ (qs : Paths). h ∷ qs) c.is
-                ∙ ap (λ u. cond u (h ∷ lower k.path (searched_of searched ps)) [] ++ (first ++ c.post)) (sym less);
+                ∙ ap (λ u. cond u (h ∷ lower k.path (searched_in searched ps)) [] ++ (first ++ c.post)) (sym less);
             rest = c.rest;
-            next = c.next ∙ ap (λ u. cond u (upper k.path (searched_of searched ps)) (h ∷ searched_of searched ps)) (sym less);
+            next = c.next ∙ ap (λ u. cond u (upper k.path (searched_in searched ps)) (h ∷ searched_in searched ps)) (sym less);
             order = c.order;
           }
       | false ↦ λ t w. cut_here searched top k first others h ps g (group_length searched top k first g) (group_placed searched top k first g) order w
@@ -330,10 +330,10 @@ upper-marked path [] = refl
 upper-marked path (p ∷ ps) =
     elim (is_before p.0 path) as (λ b. cond b (upper path (marked ps)) (marked (p ∷ ps)) ≡ marked (cond b (upper path ps) (p ∷ ps))) [ true ↦ upper-marked path ps | false ↦ refl ]
 
-all_searched : (searched : List Searched) (ps : Paths) → others_of searched ps ≡ [] → searched_of searched ps ≡ ps
+all_searched : (searched : List Searched) (ps : Paths) → others_of searched ps ≡ [] → searched_in searched ps ≡ ps
 all_searched searched [] h = refl
 all_searched searched (p ∷ ps) h =
-    elim (finds searched p.0) as (λ b. cond (not b) (p ∷ others_of searched ps) (others_of searched ps) ≡ [] → cond b (p ∷ searched_of searched ps) (searched_of searched ps) ≡ p ∷ ps) [
+    elim (finds searched p.0) as (λ b. cond (not b) (p ∷ others_of searched ps) (others_of searched ps) ≡ [] → cond b (p ∷ searched_in searched ps) (searched_in searched ps) ≡ p ∷ ps) [
       | true ↦ λ e. ap (λ (qs : Paths). p ∷ qs) (all_searched searched ps e)
       | false ↦ λ e. absurd cc
     ] h
@@ -352,12 +352,12 @@ group_is searched top all k first same g =
     }
 
 merged_all : (searched : List Searched) (top all : Paths) → ((place : List ℕ) → looks searched place ≡ false → behind_all place all ≡ behind_all place top) → (ks : List Kept) (others ps : Paths) → Rise ps
-    → others_of searched ps ≡ others → AllBeside searched top ks others → Spreads all (merge (marks_of ks) (marked (searched_of searched ps))) ps
+    → others_of searched ps ≡ others → AllBeside searched top ks others → Spreads all (merge (marks_of ks) (marked (searched_in searched ps))) ps
 merged_all searched top all same [] others ps order e h =
     let whole = all_searched searched ps (e ∙ h) in
     subst (λ (qs : Paths). Spreads all (marked qs) ps) (sym whole) (spread_values all ps)
 merged_all searched top all same (k ∷ ks) others ps order e h =
-    let new = searched_of searched ps in
+    let new = searched_in searched ps in
     let c = cut_at searched top k h.first h.others h.adds ps order (e ∙ h.is) in
     let more : Spreads all (merge (marks_of ks) (marked (upper k.path new))) c.post =
     subst (λ (qs : Paths). Spreads all (merge (marks_of ks) (marked qs)) c.post) c.next (merged_all searched top all same ks h.others c.post c.order c.rest h.more) in
@@ -378,9 +378,9 @@ same_below searched ps new r place h =
     let none : (k : List ℕ) → not (finds searched (place ++ k)) ≡ true = λ k. ap not (not_found searched place k h) in
     sym (same_place place (λ k. not (finds searched k)) new none) ∙ ap (behind_all place) r ∙ same_place place (λ k. not (finds searched k)) ps none
 
-pub kept_merged : (searched : List Searched) (ks : List Kept) (ps new : Paths) → IsKept searched ps ks → CanWalk new → AreReplaced searched ps new → Spreads new (merge (marks_of ks) (marked (searched_of searched new))) new
+pub kept_merged : (searched : List Searched) (ks : List Kept) (ps new : Paths) → IsKept searched ps ks → CanWalk new → AreReplaced searched ps new → Spreads new (merge (marks_of ks) (marked (searched_in searched new))) new
 kept_merged searched ks ps new h w r = merged_all searched ps new (same_below searched ps new r) ks (others_of searched ps) new w.order r h
 
 pub merged : (searched : List Searched) (gains : List Gain) (ps new : Paths) → Shows searched ps gains ps → CanWalk new → AreReplaced searched ps new
-    → Spreads new (merge (marks_of (kept_in gains)) (marked (searched_of searched new))) new
+    → Spreads new (merge (marks_of (kept_in gains)) (marked (searched_in searched new))) new
 merged searched gains ps new h w r = merged_all searched ps new (same_below searched ps new r) (kept_in gains) (others_of searched ps) new w.order r (shows_beside searched ps gains ps h)

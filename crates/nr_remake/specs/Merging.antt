@@ -5,7 +5,7 @@ use Rattle.std.specs.FinMap.{entries}
 use Rattle.nr_bytes.specs.Numbers.{IsBytes}
 use Rattle.nr_triedef.specs.Node.{nibbles, digest}
 use Rattle.nr_triedef.specs.Root.{Contents, Paths, paths}
-use Rattle.nr_walk.specs.declared.entry.Entry.{Entry}
+use Rattle.nr_columns.specs.declared.entry.Entry.{Entry}
 use Rattle.nr_walk.specs.declared.fault.WalkFault.{WalkFault}
 use Rattle.nr_walk.specs.Shown.{IsSplit, IsBeside}
 use Rattle.nr_walk.specs.declared.searched.Searched.{Searched}
@@ -17,8 +17,8 @@ use Rattle.nr_walk.specs.Searched.{finds}
 use Rattle.nr_remake.specs.Marks.{mark}
 
 -- the paths whose keys are searched, and the others
-abbrev pub searched_of : List Searched → Paths → Paths
-searched_of searched ps = filter (λ p. finds searched p.0) ps
+abbrev pub searched_in : List Searched → Paths → Paths
+searched_in searched ps = filter (λ p. finds searched p.0) ps
 
 abbrev pub others_of : List Searched → Paths → Paths
 others_of searched ps = filter (λ p. not (finds searched p.0)) ps
@@ -77,7 +77,7 @@ pairs_of es = map (λ e. (e.key, e.value)) es
 -- a map whose entries are those of another one, but for those that are searched, which are these
 pub record IsChanged (searched : List Searched) (m new : Contents) (es : List Entry) : Type 0 where
   pub others : AreReplaced searched (paths (entries m)) (paths (entries new))
-  pub searched_are : searched_of searched (paths (entries new)) ≡ paths (pairs_of es)
+  pub searched_are : searched_in searched (paths (entries new)) ≡ paths (pairs_of es)
   pub bytes : AllByRecursion (λ (e : List ℕ × List ℕ). IsBytes e.0) (entries new)
 
 abbrev pub found_of : Gain → List Entry

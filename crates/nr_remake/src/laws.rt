@@ -17,11 +17,11 @@ ghost use Rattle.nr_store.specs.Tries.{Rise};
 ghost use Rattle.nr_walk.specs.declared.searched.Searched.{Searched as OneSearched};
 ghost use Rattle.nr_walk.specs.declared.walking.Gain.{Gain};
 ghost use Rattle.nr_walk.specs.Shown.{Shows};
-ghost use Rattle.nr_remake.specs.Merging.{AreReplaced, merge, marks_of, kept_in, marked, searched_of};
+ghost use Rattle.nr_remake.specs.Merging.{AreReplaced, merge, marks_of, kept_in, marked, searched_in};
 
 /// Does nothing. What a walk kept of some paths, merged with new ones, stands for the paths with
 /// those that are searched replaced by the new ones.
 pub fn merged_law()
     ensures { (searched : List OneSearched) (gains : List Gain) (ps new : Paths) → Shows searched ps gains ps → CanWalk new → AreReplaced searched ps new
-        → Spreads new (merge (marks_of (kept_in gains)) (marked (searched_of searched new))) new }
+        → Spreads new (merge (marks_of (kept_in gains)) (marked (searched_in searched new))) new }
 {}

@@ -12,7 +12,8 @@ use crate::trie::trie;
 use nr_bytes::List;
 use nr_ids::Hash32;
 use nr_triedef::{nibbles, value_hash};
-use nr_walk::{Entry, Kept, Known};
+use nr_columns::Entry;
+use nr_walk::{Kept, Known};
 use std::alloc::{AllocError, Global};
 
 // An entry, as what is known of it. A value of 2^32 bytes or more counts as want of memory.

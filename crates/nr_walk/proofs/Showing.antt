@@ -11,7 +11,7 @@ use Rattle.nr_triedef.specs.Root.{Contents, Paths}
 use Rattle.nr_triedef.specs.declared.fault.NodeFault.{NodeFault}
 use Rattle.nr_triedef.specs.declared.node.Node.{Node}
 use Rattle.nr_triedef.proofs.Laws.{node_again}
-use Rattle.nr_walk.specs.declared.entry.Entry.{Entry}
+use Rattle.nr_columns.specs.declared.entry.Entry.{Entry}
 use Rattle.nr_walk.specs.declared.fault.WalkFault.{WalkFault}
 use Rattle.nr_walk.specs.declared.fault.WalkFault.TheVariants.{Missing, BadText}
 use Rattle.nr_walk.specs.declared.searched.Searched.{Searched}

@@ -9,7 +9,7 @@ use Rattle.nr_triedef.specs.Node.{digest}
 use Rattle.nr_triedef.specs.Root.{Contents, Paths, front, under, paths, root_of, no_root}
 use Rattle.nr_triedef.specs.declared.hash.Summary.{Summary}
 use Rattle.nr_store.specs.Tries.{CanWalk, whole}
-use Rattle.nr_walk.specs.declared.entry.Entry.{Entry}
+use Rattle.nr_columns.specs.declared.entry.Entry.{Entry}
 use Rattle.nr_walk.specs.declared.fault.WalkFault.{WalkFault}
 use Rattle.nr_walk.specs.declared.searched.Searched.{Searched}
 use Rattle.nr_walk.specs.declared.walking.Known.{Known}

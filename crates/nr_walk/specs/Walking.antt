@@ -6,7 +6,7 @@ use Rattle.nr_ids.specs.declared.key.Hash32.{Hash32}
 use Rattle.nr_triedef.specs.Root.{Contents}
 use Rattle.nr_triedef.specs.declared.node.Node.{Node}
 use Rattle.nr_triedef.specs.declared.node.Node.TheVariants.{Leaf, Extension, Branch}
-use Rattle.nr_walk.specs.declared.entry.Entry.{Entry}
+use Rattle.nr_columns.specs.declared.entry.Entry.{Entry}
 use Rattle.nr_walk.specs.declared.fault.WalkFault.{WalkFault}
 use Rattle.nr_walk.specs.declared.fault.WalkFault.TheVariants.{TooMany}
 use Rattle.nr_walk.specs.declared.searched.Searched.{Searched}

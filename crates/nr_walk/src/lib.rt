@@ -2,7 +2,6 @@
 //! at, in which order, what is found, and what stands beside it.
 #![tactic(auto)]
 
-mod entry;
 mod fault;
 mod laws;
 mod looking;
@@ -12,12 +11,15 @@ mod told;
 mod walking;
 mod whole;
 
-pub use entry::Entry;
 pub use fault::WalkFault;
 pub use laws::{completing_law, passing_law};
-pub use looking::Tally;
+pub use looking::{Tally, look_at, value_text};
+pub use nr_columns::Entry;
 pub use searched::{Searched, finds, looks};
 pub use texts::Texts;
-pub use told::{Ending, Spot};
+pub use told::{
+    Ending, Spot, children_of, ending_of, further, is_branch, is_extension, own_usage,
+    part_nibbles, spots_of, usage_of,
+};
 pub use walking::{Gain, Kept, Known, Visit};
 pub use whole::walk;

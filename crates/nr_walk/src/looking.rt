@@ -164,10 +164,18 @@ fn is_ended(place: &[u8], ending: &Option<Ending>) -> bool
     }
 }
 
-/// The node of a spot, unless its text is missing, is none of a node's, or doesn't go with its place
-/// and with what is held of its children.
+/// The node of a spot, whose text is held and goes with its place and with what is held of its
+/// children.
+///
+/// # Errors
+///
+/// `Missing` where no text with its hash is held. `BadText` with its hash where the text is none of a
+/// node's, where a value's key would have an odd count of nibbles or more than 140,000,000, where
+/// the child of an extension is held and is no branch, or where the usage isn't the node's own and
+/// that of its children: less than what is known of them, or another one where all are known.
+/// `Memory` where memory ran out.
 #[tactic(auto, unfolding(crate::specs::Looking::looked_at))]
-pub(crate) fn look_at(alloc: Global, texts: &Texts, spot: &Spot) -> Result<Node, WalkFault>
+pub fn look_at(alloc: Global, texts: &Texts, spot: &Spot) -> Result<Node, WalkFault>
     ensures { Gives memory_fault result (looked_at texts.now spot.now) }
 {
     let node = find_node(alloc, texts, &spot.hash)?;
@@ -184,13 +192,14 @@ pub(crate) fn look_at(alloc: Global, texts: &Texts, spot: &Spot) -> Result<Node,
     Ok(node)
 }
 
-/// The text of a value.
+/// The text of a value, by its length and SHA-256.
+///
+/// # Errors
+///
+/// `Missing` where no text with this hash is held, and `BadText` with it where the text has another
+/// length.
 #[tactic(auto, unfolding(crate::specs::Looking::value_text))]
-pub(crate) fn value_text<'a>(
-    texts: &'a Texts,
-    length: u32,
-    hash: &Hash32,
-) -> Result<&'a [u8], WalkFault>
+pub fn value_text<'a>(texts: &'a Texts, length: u32, hash: &Hash32) -> Result<&'a [u8], WalkFault>
     ensures { MatchResult result (λ text. value_text texts.now length hash.now ≡ Ok text.now) (λ fault. value_text texts.now length hash.now ≡ Err fault) }
 {
     let text = text_at(texts, hash)?;

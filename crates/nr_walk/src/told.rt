@@ -25,7 +25,11 @@ pub struct Ending {
 }
 
 /// The nibbles of a leaf's or an extension's part.
-pub(crate) fn part_nibbles(alloc: Global, part: &[u8]) -> Result<Blob, AllocError>
+///
+/// # Errors
+///
+/// Where memory ran out.
+pub fn part_nibbles(alloc: Global, part: &[u8]) -> Result<Blob, AllocError>
     ensures { IfOk result (λ all. all ≡ part_nibbles part.now) }
 {
     match part {
@@ -44,7 +48,11 @@ pub(crate) fn part_nibbles(alloc: Global, part: &[u8]) -> Result<Blob, AllocErro
 }
 
 /// The value of a node, where it has one.
-pub(crate) fn ending_of(alloc: Global, node: &Node) -> Result<Option<Ending>, AllocError>
+///
+/// # Errors
+///
+/// Where memory ran out.
+pub fn ending_of(alloc: Global, node: &Node) -> Result<Option<Ending>, AllocError>
     ensures { IfOk result (λ ending. ending ≡ ending_of node.now) }
 {
     match node {
@@ -96,7 +104,11 @@ fn hashes_in(alloc: Global, children: &[Option<Hash32>]) -> Result<List<Hash32>,
 }
 
 /// The hashes of a node's children, the lowest nibble's first.
-pub(crate) fn children_of(alloc: Global, node: &Node) -> Result<List<Hash32>, AllocError>
+///
+/// # Errors
+///
+/// Where memory ran out.
+pub fn children_of(alloc: Global, node: &Node) -> Result<List<Hash32>, AllocError>
     ensures { IfOk result (λ list. list ≡ children_of node.now) }
 {
     match node {
@@ -110,19 +122,17 @@ pub(crate) fn children_of(alloc: Global, node: &Node) -> Result<List<Hash32>, Al
     }
 }
 
-fn joined(alloc: Global, place: &[u8], step: &[u8]) -> Result<Blob, AllocError>
+/// A place with more nibbles behind it.
+///
+/// # Errors
+///
+/// Where memory ran out.
+pub fn further(alloc: Global, place: &[u8], step: &[u8]) -> Result<Blob, AllocError>
     ensures { IfOk result (λ all. all ≡ place.now ++ step.now) }
 {
     let mut all = Vec::from_slice(alloc, place)?;
     all.extend_from_slice(step)?;
     Ok(Blob::of(all))
-}
-
-/// A place with more nibbles behind it.
-pub(crate) fn further(alloc: Global, place: &[u8], step: &[u8]) -> Result<Blob, AllocError>
-    ensures { IfOk result (λ all. all ≡ place.now ++ step.now) }
-{
-    joined(alloc, place, step)
 }
 
 fn push_spot(
@@ -135,7 +145,7 @@ fn push_spot(
     ensures { OnOk result (list.new.items ≡ list.old.items ++ spot_at place.now nibble child.now) }
 {
     if let Some(hash) = child {
-        let place = joined(alloc, place, &[nibble])?;
+        let place = further(alloc, place, &[nibble])?;
         list.push(Spot { place, hash: *hash })?;
     }
     Ok(())
@@ -156,14 +166,18 @@ fn spots_in(
 }
 
 /// The children of the node at a place, the lowest nibble's first.
-pub(crate) fn spots_of(alloc: Global, place: &[u8], node: &Node) -> Result<Vec<Spot>, AllocError>
+///
+/// # Errors
+///
+/// Where memory ran out.
+pub fn spots_of(alloc: Global, place: &[u8], node: &Node) -> Result<Vec<Spot>, AllocError>
     ensures { IfOk result (λ list. list.items ≡ spots_of place.now node.now) }
 {
     match node {
         Node::Leaf { .. } => Ok(Vec::new(alloc)),
         Node::Extension { part, child, .. } => {
             let step = part_nibbles(alloc, part.inner())?;
-            let place = joined(alloc, place, step.inner())?;
+            let place = further(alloc, place, step.inner())?;
             let mut list = Vec::new(alloc);
             list.push(Spot {
                 place,
@@ -176,7 +190,7 @@ pub(crate) fn spots_of(alloc: Global, place: &[u8], node: &Node) -> Result<Vec<S
 }
 
 /// The memory usage of a node, without what is below it.
-pub(crate) fn own_usage(node: &Node) -> u128
+pub fn own_usage(node: &Node) -> u128
     ensures value { result ≡ own_usage node.now }
     ensures small { result < 2 ^ 66 }
 {
@@ -198,7 +212,7 @@ pub(crate) fn own_usage(node: &Node) -> u128
 }
 
 /// The memory usage that a node's text tells.
-pub(crate) fn usage_of(node: &Node) -> u64
+pub fn usage_of(node: &Node) -> u64
     ensures { result ≡ usage_of node.now }
 {
     match node {
@@ -211,7 +225,7 @@ pub(crate) fn usage_of(node: &Node) -> u64
 ghost use Rattle.nr_triedef.specs.Node.{usage_of};
 
 /// Whether a node is an extension.
-pub(crate) fn is_extension(node: &Node) -> bool
+pub fn is_extension(node: &Node) -> bool
     ensures { result ≡ is_extension node.now }
 {
     match node {
@@ -224,7 +238,7 @@ pub(crate) fn is_extension(node: &Node) -> bool
 ghost use Rattle.nr_walk.specs.Told.{is_extension};
 
 /// Whether a node is a branch.
-pub(crate) fn is_branch(node: &Node) -> bool
+pub fn is_branch(node: &Node) -> bool
     ensures { result ≡ is_branch node.now }
 {
     match node {

@@ -6,13 +6,13 @@ ghost use Rattle.nr_walk.specs.Texts.{memory_fault};
 ghost use Rattle.nr_walk.specs.Told.{option_list};
 ghost use Rattle.nr_walk.specs.Walking.{stub_of, ended, entered, visited, walk_from, most_nodes, packed};
 
-use crate::entry::Entry;
 use crate::fault::WalkFault;
 use crate::looking::{look_at, value_text};
 use crate::searched::{Searched, finds, looks};
 use crate::texts::Texts;
-use crate::told::{Ending, Spot, ending_of, further, own_usage, part_nibbles, spots_of};
+use crate::told::{Ending, Spot, ending_of, further, part_nibbles, spots_of};
 use nr_bytes::{Blob, List};
+use nr_columns::Entry;
 use nr_ids::Hash32;
 use nr_triedef::Node;
 use std::alloc::{AllocError, Global};
