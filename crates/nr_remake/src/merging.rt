@@ -10,9 +10,9 @@ ghost use Rattle.nr_remake.specs.Merging.{IsChanged, IsKept, merge, marked, mark
 use crate::rests::merged;
 use crate::trie::trie;
 use nr_bytes::List;
+use nr_columns::Entry;
 use nr_ids::Hash32;
 use nr_triedef::{nibbles, value_hash};
-use nr_columns::Entry;
 use nr_walk::{Kept, Known};
 use std::alloc::{AllocError, Global};
 

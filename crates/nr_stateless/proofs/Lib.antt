@@ -1,1 +1,3 @@
+pub mod ByKeys
 pub mod FoundEntries
+pub mod Replacing

@@ -1,9 +1,9 @@
 pub mod Completing
+pub mod Couples
 pub mod Entering
 pub mod Fitting
-pub mod Packed
-pub mod Passing
 pub mod Pairs
+pub mod Passing
 pub mod Placing
 pub mod Rows
 pub mod Searches

@@ -1,6 +1,6 @@
 -- The nodes of a map's trie pass the checks of a walk over texts that agree with the map.
 use Rattle.std.proofs.Common.{◌≡◌, ◌==◌, ◌<◌, ◌≤◌, ◌+◌, ◌*◌, ℕ, zero, suc, Bool, true, false, cond, List, [], ◌∷◌, ◌++◌, length, map, ◌%◌, length-append, Option, Some, None, Result, Ok, Err, refl, sym, ap, subst, ◌∙◌, arith, inl, inr, eq-eqb}
-use Rattle.std.specs.Prelude.{◌⊎◌, ◌&&◌, ◌||◌, not, nat_le, fold, sum_by}
+use Rattle.std.specs.Prelude.{◌⊎◌, ◌&&◌, ◌||◌, not, nat_le, is_some, sum_by}
 use Rattle.std.specs.List.{AllByRecursion, flat_map}
 use Rattle.std.specs.FinMap.{get, entries}
 use Rattle.nr_bytes.specs.Reading.{◌>>=◌}
@@ -22,13 +22,12 @@ use Rattle.nr_store.proofs.Nibbles.{length-nibbles}
 use Rattle.nr_store.specs.Tries.{CanWalk, cut, whole}
 use Rattle.nr_store.proofs.Levels.{whole_none}
 use Rattle.nr_store.proofs.Orders.{walk_cut, walk_under, front_small}
-use Rattle.nr_walk.specs.declared.looking.Tally.{Tally}
 use Rattle.nr_walk.specs.declared.told.Ending.{Ending}
 use Rattle.nr_walk.specs.declared.fault.WalkFault.{WalkFault}
 use Rattle.nr_walk.specs.declared.fault.WalkFault.TheVariants.{BadText}
 use Rattle.nr_walk.specs.Texts.{text_at, text_or_missing, node_or_bad, known, read_held, readable}
 use Rattle.nr_walk.specs.Told.{spot, ending_of, hashes_in, option_list, children_of, own_usage, part_nibbles, is_branch}
-use Rattle.nr_walk.specs.Looking.{added, tally_of, is_sum, is_summed, is_joined, is_no_branch, is_end, is_ended, is_right, looked_at}
+use Rattle.nr_walk.specs.Looking.{known_usage, sum_known, are_known, is_sum, is_summed, is_branch_read, is_branch_held, is_joined, is_end, is_ended, is_right, looked_at}
 use Rattle.nr_walk.specs.Tries.{children, branch_of, top_over, top_of, IsBelow, IsOwn, Agrees, AreFitting}
 use Rattle.nr_walk.specs.Tries.IsBelow.{Top, Behind, Under}
 use Rattle.nr_walk.specs.Shown.{behind_all, IsOf}
@@ -36,6 +35,7 @@ use Rattle.nr_walk.proofs.Fitting.{fitting}
 use Rattle.nr_walk.proofs.ShownMaps.{all_nibbles}
 use Rattle.nr_walk.proofs.Pairs.{part_back}
 use Rattle.nr_walk.proofs.Rows.{Path}
+use Rattle.nr_walk.proofs.Searches.{left_true, right_true}
 use Rattle.nr_walk.proofs.Tops.{whole_is, top_node, many_cut, front_cut, top_leaf, top_parted, top_shared}
 
 -- ---- a child that is held
@@ -49,68 +49,57 @@ unfolding known
 known_own texts top agrees fits qs b some h = read_own (get texts (digest (node_text (top_of qs))).0) (top_of qs) (top_node qs some h) (fits qs b some) (agrees.nodes qs b some)
 
 -- ---- what is known of the children
-record IsTallied (before after : Tally) (sum : ℕ) : Type 0 where
-  most : after.usage ≤ before.usage + sum
-  exact : after.whole ≡ true → (before.whole ≡ true) × (after.usage ≡ before.usage + sum)
+record IsTallied (known : ℕ) (whole : Bool) (sum : ℕ) : Type 0 where
+  most : known ≤ sum
+  exact : whole ≡ true → known ≡ sum
 
-abbrev tallied : Contents → Tally → List Hash32 → Tally
-tallied texts t hashes = fold (λ tally hash. added tally (known texts hash)) t hashes
+one_known : (o : Option Node) (node : Node) → (o ≡ None) ⊎ (o ≡ Some node) → IsTallied (known_usage o) (is_some o) (usage_of node)
+one_known o node (inl e) = subst (λ (x : Option Node). IsTallied (known_usage x) (is_some x) (usage_of node)) (sym e) (record { most = omega arith; exact = λ w. absurd cc })
+one_known o node (inr e) = subst (λ (x : Option Node). IsTallied (known_usage x) (is_some x) (usage_of node)) (sym e) (record { most = omega arith; exact = λ w. refl })
 
-added_own : (t : Tally) (o : Option Node) (node : Node) → (o ≡ None) ⊎ (o ≡ Some node) → IsTallied t (added t o) (usage_of node)
-added_own t o node (inl e) = subst (λ (x : Option Node). IsTallied t (added t x) (usage_of node)) (sym e) (record { most = omega arith; exact = λ w. absurd cc })
-added_own t o node (inr e) = subst (λ (x : Option Node). IsTallied t (added t x) (usage_of node)) (sym e) (record { most = omega arith; exact = λ w. (w, refl) })
-
-joined : (a b c : Tally) (n m k : ℕ) → IsTallied a b n → IsTallied b c m → k ≡ n + m → IsTallied a c k
-joined a b c n m k h g e =
-    record { most = omega (arith, h.most, g.most); exact = λ w. let two = g.exact w in let one = h.exact two.0 in (one.0, omega (arith, one.1, two.1)) }
+joined : (a b c : ℕ) (u v : Bool) (n m k : ℕ) → IsTallied a u n → IsTallied b v m → c ≡ a + b → k ≡ n + m → IsTallied c (u && v) k
+joined a b c u v n m k h g e f =
+    record { most = omega (arith, h.most, g.most); exact = λ w. omega (arith, h.exact (left_true u v w), g.exact (right_true u v w)) }
 
 abbrev row : Paths → ℕ → ℕ → List (Option Summary)
 row ps n zero = []
 row ps n (suc c) = whole (under n ps) ∷ row ps (suc n) c
 
-one_tally : (texts : Contents) (top : Paths) → Agrees texts top → AreFitting top → (t : Tally) (qs : Paths) (rest : List Hash32) → IsBelow top qs → CanWalk qs
-    → (mid : Tally) × ((tallied texts t (option_list (hash_below (whole qs)) ++ rest) ≡ tallied texts mid rest) × IsTallied t mid (usage_below (whole qs)))
-one_tally texts top agrees fits t [] rest b h =
-    let none = whole_none [] refl in (
-      t,
-      (
-        ap (λ (o : Option Summary). tallied texts t (option_list (hash_below o) ++ rest)) none,
-        subst (λ (o : Option Summary). IsTallied t t (usage_below o)) (sym none) (record { most = omega arith; exact = λ w. (w, omega arith) }),
-      ),
-    )
-one_tally texts top agrees fits t (p ∷ qs) rest b h =
+-- the hash of a child that is there stands before the others
+abbrev AreTallied : Contents → List Hash32 → ℕ → Type 0
+AreTallied texts hashes sum = IsTallied (sum_known texts hashes) (are_known texts hashes) sum
+
+one_tally : (texts : Contents) (top : Paths) → Agrees texts top → AreFitting top → (qs : Paths) (rest : List Hash32) (sum : ℕ) → IsBelow top qs → CanWalk qs → AreTallied texts rest sum
+    → AreTallied texts (option_list (hash_below (whole qs)) ++ rest) (usage_below (whole qs) + sum)
+one_tally texts top agrees fits [] rest sum b h t = subst (λ (o : Option Summary). AreTallied texts (option_list (hash_below o) ++ rest) (usage_below o + sum)) (sym (whole_none [] refl)) t
+one_tally texts top agrees fits (p ∷ qs) rest sum b h t =
     let all = p ∷ qs in
-    let w = whole_is all (omega arith) h in
-    let hash = digest (node_text (top_of all)) in (
-      added t (known texts hash),
-      (
-        ap (λ (o : Option Summary). tallied texts t (option_list (hash_below o) ++ rest)) w,
-        subst (λ (o : Option Summary). IsTallied t (added t (known texts hash)) (usage_below o)) (sym w) (added_own t (known texts hash) (top_of all) (known_own texts top agrees fits all b (omega arith) h)),
-      ),
-    )
+    let hash = digest (node_text (top_of all)) in
+    let o = known texts hash in
+    let one = one_known o (top_of all) (known_own texts top agrees fits all b (omega arith) h) in
+    let more : AreTallied texts (hash ∷ rest) (usage_of (top_of all) + sum) =
+    joined (known_usage o) (sum_known texts rest) (sum_known texts (hash ∷ rest)) (is_some o) (are_known texts rest) (usage_of (top_of all)) sum (usage_of (top_of all) + sum) one t
+    (sum_by-cons (λ (x : Hash32). known_usage (known texts x)) hash rest) refl in
+    subst (λ (s : Option Summary). AreTallied texts (option_list (hash_below s) ++ rest) (usage_below s + sum)) (sym (whole_is all (omega arith) h)) more
 
-row_tally : (texts : Contents) (top : Paths) → Agrees texts top → AreFitting top → (ps : Paths) (n c : ℕ) → n + c ≡ 16 → IsBelow top ps → 2 ≤ length ps → front ps ≡ [] → CanWalk ps → (t : Tally)
-    → IsTallied t (tallied texts t (hashes_in (map hash_below (row ps n c)))) (sum_by usage_below (row ps n c))
-row_tally texts top agrees fits ps n zero s b many e h t = record { most = omega arith; exact = λ w. (w, omega arith) }
-row_tally texts top agrees fits ps n (suc c) s b many e h t =
+row_tally : (texts : Contents) (top : Paths) → Agrees texts top → AreFitting top → (ps : Paths) (n c : ℕ) → n + c ≡ 16 → IsBelow top ps → 2 ≤ length ps → front ps ≡ [] → CanWalk ps
+    → AreTallied texts (hashes_in (map hash_below (row ps n c))) (sum_by usage_below (row ps n c))
+row_tally texts top agrees fits ps n zero s b many e h = record { most = omega arith; exact = λ w. refl }
+row_tally texts top agrees fits ps n (suc c) s b many e h =
     let behind = hashes_in (map hash_below (row ps (suc n) c)) in
-    let one = one_tally texts top agrees fits t (under n ps) behind (Under ps n b many e (omega arith)) (walk_under n ps h) in
-    let rest = row_tally texts top agrees fits ps (suc n) c (omega arith) b many e h one.0 in
-    subst (λ (x : Tally). IsTallied t x (sum_by usage_below (row ps n (suc c)))) (sym one.1.0)
-    (joined t one.0 (tallied texts one.0 behind) (usage_below (whole (under n ps))) (sum_by usage_below (row ps (suc n) c)) (sum_by usage_below (row ps n (suc c))) one.1.1 rest (sum_by-cons usage_below (whole (under n ps)) (row ps (suc n) c)))
+    let rest = row_tally texts top agrees fits ps (suc n) c (omega arith) b many e h in
+    subst (λ (k : ℕ). AreTallied texts (option_list (hash_below (whole (under n ps))) ++ behind) k) (sym (sum_by-cons usage_below (whole (under n ps)) (row ps (suc n) c)))
+    (one_tally texts top agrees fits (under n ps) behind (sum_by usage_below (row ps (suc n) c)) (Under ps n b many e (omega arith)) (walk_under n ps h) rest)
 
-abbrev begun : Tally
-begun = record { whole = true; usage = 0 }
-
-pub sum_passes : (told own : ℕ) (t : Tally) (sum : ℕ) → told ≡ own + sum → t.usage ≤ sum → (t.whole ≡ true → t.usage ≡ sum) → is_sum told own t ≡ true
-sum_passes told own t sum e most exact =
-    let first : nat_le (own + t.usage) told ≡ true = le-leb (own + t.usage) told (omega arith) in
-    let second : (not t.whole || (told == own + t.usage)) ≡ true =
-    elim (t.whole) as (λ w. t.whole ≡ w → (not w || (told == own + t.usage)) ≡ true) [
-      | true ↦ λ w. eq-eqb told (own + t.usage) (omega (arith, exact w))
+sum_passes : (told own known sum : ℕ) (whole : Bool) → told ≡ own + sum → IsTallied known whole sum → is_sum told (own + known) whole ≡ true
+sum_passes told own known sum whole e t =
+    let first : nat_le (own + known) told ≡ true = le-leb (own + known) told (omega (arith, t.most)) in
+    let second : (not whole || (told == own + known)) ≡ true =
+    elim whole as (λ w. whole ≡ w → (not w || (told == own + known)) ≡ true) [
+      | true ↦ λ w. eq-eqb told (own + known) (omega (arith, t.exact w))
       | false ↦ λ w. refl
     ] refl in
-    ap (λ b. b && (not t.whole || (told == own + t.usage))) first ∙ second
+    ap (λ b. b && (not whole || (told == own + known))) first ∙ second
 
 -- ---- usages
 own_branch : (value : Option (List ℕ)) (hashes : List (Option Hash32)) (usage : ℕ) → own_usage (Branch (value_field value) hashes usage) ≡ 50 + value_usage value
@@ -120,10 +109,10 @@ own_branch (Some v) hashes usage = omega arith
 summed_branch : (texts : Contents) (top : Paths) → Agrees texts top → AreFitting top → (ps : Paths) → IsBelow top ps → 2 ≤ length ps → front ps ≡ [] → CanWalk ps → is_summed texts (branch_of ps) ≡ true
 unfolding is_summed
 summed_branch texts top agrees fits ps b many e h =
-    let t = row_tally texts top agrees fits ps 0 16 refl b many e h begun in
+    let hashes = children_of (branch_of ps) in
     let own = own_branch (value_here ps) (map hash_below (children ps)) (usage_of (branch_of ps)) in
-    sum_passes (usage_of (branch_of ps)) (own_usage (branch_of ps)) (tally_of texts (children_of (branch_of ps))) (sum_by usage_below (children ps))
-    (omega (arith, own)) (omega (arith, t.most)) (λ w. omega (arith, (t.exact w).1))
+    sum_passes (usage_of (branch_of ps)) (own_usage (branch_of ps)) (sum_known texts hashes) (sum_by usage_below (children ps)) (are_known texts hashes)
+    (omega (arith, own)) (row_tally texts top agrees fits ps 0 16 refl b many e h)
 
 known_branch : (texts : Contents) (top : Paths) → Agrees texts top → AreFitting top → (ps : Paths) → IsBelow top ps → 2 ≤ length ps → CanWalk ps
     → (known texts (digest (node_text (branch_of (cut ps)))) ≡ None) ⊎ (known texts (digest (node_text (branch_of (cut ps)))) ≡ Some (branch_of (cut ps)))
@@ -136,17 +125,28 @@ summed_over : (texts : Contents) (top : Paths) → Agrees texts top → AreFitti
 unfolding is_summed
 summed_over texts top agrees fits ps x xs b many h =
     let hash = digest (node_text (branch_of (cut ps))) in
-    let t = added_own begun (known texts hash) (branch_of (cut ps)) (known_branch texts top agrees fits ps b many h) in
-    sum_passes (usage_of (top_over (x ∷ xs) (cut ps))) (own_usage (top_over (x ∷ xs) (cut ps))) (tally_of texts (hash ∷ [])) (usage_of (branch_of (cut ps)))
-    refl (omega (arith, t.most)) (λ w. omega (arith, (t.exact w).1))
+    let o = known texts hash in
+    let usage = usage_of (branch_of (cut ps)) in
+    let one = one_known o (branch_of (cut ps)) (known_branch texts top agrees fits ps b many h) in
+    let none : IsTallied (sum_known texts []) (are_known texts []) 0 = record { most = omega arith; exact = λ w. refl } in
+    let t = joined (known_usage o) (sum_known texts []) (sum_known texts (hash ∷ [])) (is_some o) (are_known texts []) usage 0 usage one none (sum_by-cons (λ (y : Hash32). known_usage (known texts y)) hash []) (omega arith) in
+    sum_passes (usage_of (top_over (x ∷ xs) (cut ps))) (own_usage (top_over (x ∷ xs) (cut ps))) (sum_known texts (hash ∷ [])) usage (are_known texts (hash ∷ [])) refl t
 
 summed_leaf : (texts : Contents) (p : Path) → is_summed texts (leaf p) ≡ true
 unfolding is_summed
-summed_leaf texts p = sum_passes (usage_of (leaf p)) (own_usage (leaf p)) begun 0 (omega arith) (omega arith) (λ w. refl)
+summed_leaf texts p = sum_passes (usage_of (leaf p)) (own_usage (leaf p)) (sum_known texts []) 0 (are_known texts []) (omega arith) (record { most = omega arith; exact = λ w. refl })
 
-joined_over : (o : Option Node) (rest : Paths) → (o ≡ None) ⊎ (o ≡ Some (branch_of rest)) → not (is_no_branch o) ≡ true
-joined_over o rest (inl e) = ap (λ (x : Option Node). not (is_no_branch x)) e
-joined_over o rest (inr e) = ap (λ (x : Option Node). not (is_no_branch x)) e
+joined_held : (held : Option (List ℕ)) (top : Node) → IsNode top → Fits top → is_branch top ≡ true → ((text : List ℕ) → held ≡ Some text → text ≡ node_text top) → is_branch_held held ≡ true
+joined_held None top is fits e own = refl
+joined_held (Some text) top is fits e own = ap is_branch_read (ap node_at (own text refl) ∙ node_again top is fits) ∙ e
+
+joined_over : (texts : Contents) (top : Paths) → Agrees texts top → AreFitting top → (ps : Paths) → IsBelow top ps → 2 ≤ length ps → CanWalk ps → is_branch_held (get texts (digest (node_text (branch_of (cut ps)))).0) ≡ true
+joined_over texts top agrees fits ps b many h =
+    let long = many_cut ps many in
+    let below = Behind ps b many in
+    let parted = top_parted (cut ps) long (front_cut ps (omega arith)) in
+    subst (λ (n : Node). is_branch_held (get texts (digest (node_text n)).0) ≡ true) parted
+    (joined_held (get texts (digest (node_text (top_of (cut ps)))).0) (top_of (cut ps)) (top_node (cut ps) (omega arith) (walk_cut ps h)) (fits (cut ps) below (omega arith)) (ap is_branch parted) (agrees.nodes (cut ps) below (omega arith)))
 
 -- ---- keys
 abbrev AllEnd : List ℕ → Paths → Type 0
@@ -169,7 +169,7 @@ right_several texts top agrees fits place ps [] b many h a e =
 right_several texts top agrees fits place ps (x ∷ xs) b many h a e =
     let node = top_over (x ∷ xs) (cut ps) in
     ap (is_right texts place) (top_shared ps x xs many e)
-    ∙ three true (is_joined texts node) (is_summed texts node) refl (joined_over (known texts (digest (node_text (branch_of (cut ps))))) (cut ps) (known_branch texts top agrees fits ps b many h)) (summed_over texts top agrees fits ps x xs b many h)
+    ∙ three true (is_joined texts node) (is_summed texts node) refl (joined_over texts top agrees fits ps b many h) (summed_over texts top agrees fits ps x xs b many h)
 
 pub right_top : (texts : Contents) (top : Paths) → Agrees texts top → AreFitting top → (place : List ℕ) (ps : Paths) → IsBelow top ps → 1 ≤ length ps → CanWalk ps → AllEnd place ps → is_right texts place (top_of ps) ≡ true
 right_top texts top agrees fits place [] b some h a = absurd (omega arith)

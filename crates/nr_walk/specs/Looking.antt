@@ -1,15 +1,17 @@
 -- Looking at one node: its text, and what it must be beside the held texts of its children. This project's own.
-use Rattle.std.specs.Prelude.{ℕ, ◌+◌, ◌%◌, ◌==◌, Bool, true, false, cond, ◌&&◌, ◌||◌, not, nat_le, fold, List, [], ◌∷◌, length, Option, Some, None, Result, Ok, Err}
+use Rattle.std.specs.Prelude.{ℕ, ◌+◌, ◌%◌, ◌==◌, Bool, true, false, cond, ◌&&◌, ◌||◌, not, nat_le, List, [], ◌∷◌, length, Option, Some, None, is_some, Result, Ok, Err, sum_by}
+use Rattle.std.specs.List.{list_all}
+use Rattle.std.specs.FinMap.{get}
 use Rattle.nr_bytes.specs.Reading.{◌>>=◌}
 use Rattle.nr_ids.specs.declared.key.Hash32.{Hash32}
 use Rattle.nr_triedef.specs.Root.{Contents}
 use Rattle.nr_triedef.specs.Node.{usage_of}
 use Rattle.nr_triedef.specs.Reading.{node_at}
+use Rattle.nr_triedef.specs.declared.fault.NodeFault.{NodeFault}
 use Rattle.nr_triedef.specs.declared.node.Node.{Node}
 use Rattle.nr_triedef.specs.declared.node.Node.TheVariants.{Leaf, Extension, Branch}
 use Rattle.nr_walk.specs.declared.fault.WalkFault.{WalkFault}
 use Rattle.nr_walk.specs.declared.fault.WalkFault.TheVariants.{BadText}
-use Rattle.nr_walk.specs.declared.looking.Tally.{Tally}
 use Rattle.nr_walk.specs.declared.told.Spot.{Spot}
 use Rattle.nr_walk.specs.declared.told.Ending.{Ending}
 use Rattle.nr_walk.specs.Texts.{text_at, node_or_bad, known}
@@ -21,30 +23,39 @@ node_in texts hash = do
   text ← text_at texts hash
   node_or_bad hash (node_at text)
 
--- ---- what is known of the children: whether all are, and their usages
-abbrev pub added : Tally → Option Node → Tally
-added tally None = record { whole = false; usage = tally.usage }
-added tally (Some node) = record { whole = tally.whole; usage = tally.usage + usage_of node }
+-- ---- the usages of the children that are known
+abbrev pub known_usage : Option Node → ℕ
+known_usage None = 0
+known_usage (Some node) = usage_of node
 
-abbrev pub tally_of : Contents → List Hash32 → Tally
-tally_of texts hashes = fold (λ tally hash. added tally (known texts hash)) (record { whole = true; usage = 0 }) hashes
+abbrev pub sum_known : Contents → List Hash32 → ℕ
+sum_known texts hashes = sum_by (λ hash. known_usage (known texts hash)) hashes
 
--- the usage told is at least the sum, and exactly that where all of it is known
-abbrev pub is_sum : ℕ → ℕ → Tally → Bool
-is_sum told own tally = nat_le (own + tally.usage) told && (not tally.whole || (told == own + tally.usage))
+abbrev pub are_known : Contents → List Hash32 → Bool
+are_known texts hashes = list_all (λ hash. is_some (known texts hash)) hashes
 
+-- what is told is at least the sum, and exactly that where it is the whole
+abbrev pub is_sum : ℕ → ℕ → Bool → Bool
+is_sum told sum whole = nat_le sum told && (not whole || (told == sum))
+
+-- the usage told is that of the node alone and of its children
 unfoldable pub is_summed : Contents → Node → Bool
-is_summed texts node = is_sum (usage_of node) (own_usage node) (tally_of texts (children_of node))
+is_summed texts node = is_sum (usage_of node) (own_usage node + sum_known texts (children_of node)) (are_known texts (children_of node))
 
--- known, and no branch
-abbrev pub is_no_branch : Option Node → Bool
-is_no_branch None = false
-is_no_branch (Some node) = not (is_branch node)
+-- ---- what an extension stands over
+abbrev pub is_branch_read : Result Node NodeFault → Bool
+is_branch_read (Ok node) = is_branch node
+is_branch_read (Err fault) = false
 
--- an extension's child is a branch, where it is known
+-- no text is held, or a branch's
+abbrev pub is_branch_held : Option (List ℕ) → Bool
+is_branch_held None = true
+is_branch_held (Some text) = is_branch_read (node_at text)
+
+-- an extension's child is a branch, where its text is held
 abbrev pub is_joined : Contents → Node → Bool
 is_joined texts (Leaf part length hash usage) = true
-is_joined texts (Extension part child usage) = not (is_no_branch (known texts child))
+is_joined texts (Extension part child usage) = is_branch_held (get texts child.0)
 is_joined texts (Branch value children usage) = true
 
 abbrev pub most_nibbles : ℕ

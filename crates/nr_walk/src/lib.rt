@@ -13,7 +13,7 @@ mod whole;
 
 pub use fault::WalkFault;
 pub use laws::{completing_law, passing_law};
-pub use looking::{Tally, look_at, value_text};
+pub use looking::{look_at, value_text};
 pub use nr_columns::Entry;
 pub use searched::{Searched, finds, looks};
 pub use texts::Texts;
@@ -21,5 +21,5 @@ pub use told::{
     Ending, Spot, children_of, ending_of, further, is_branch, is_extension, own_usage,
     part_nibbles, spots_of, usage_of,
 };
-pub use walking::{Gain, Kept, Known, Visit};
+pub use walking::{Gain, Kept, Known, Visit, packed};
 pub use whole::walk;

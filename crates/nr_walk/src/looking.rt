@@ -1,10 +1,11 @@
 //! Looking at one node: finding its text, and checking it against the held texts of its children.
 
-ghost use Rattle.std.specs.Prelude.{◌≡◌, ◌≤◌, ◌+◌, length, IfOk};
+ghost use Rattle.std.specs.Prelude.{◌≡◌, ◌≤◌, ◌+◌, ◌&&◌, is_some, length, IfOk};
+ghost use Rattle.std.specs.FinMap as map;
 ghost use Rattle.nr_bytes.specs.Answers.{Gives};
 ghost use Rattle.nr_triedef.specs.declared.node.Node.{Node as Nodes};
 ghost use Rattle.nr_walk.specs.Texts.{memory_fault, text_at, known};
-ghost use Rattle.nr_walk.specs.Looking.{node_in, is_ended, is_joined, is_summed, looked_at, value_text, tally_of, added};
+ghost use Rattle.nr_walk.specs.Looking.{node_in, is_branch_held, is_ended, is_joined, is_sum, is_summed, known_usage, sum_known, are_known, looked_at, value_text};
 
 use crate::fault::WalkFault;
 use crate::texts::Texts;
@@ -18,15 +19,15 @@ use std::alloc::{AllocError, Global};
 // The most nibbles of a key.
 const MOST_NIBBLES: usize = 140_000_000;
 
-/// What is known of a node's children: whether each is held and can be read, and the memory usages
-/// of those that are, added up.
+// What is known of a node's children: whether all are held and can be read, and the memory usages of
+// those that are, added up.
 #[derive(Clone, Copy)]
-pub struct Tally {
-    pub whole: bool,
-    pub usage: u128,
+struct Tally {
+    whole: bool,
+    usage: u128,
 }
 
-/// The text that is held under a hash.
+// The text that is held under a hash.
 #[tactic(auto, unfolding(crate::specs::Texts::text_at))]
 fn text_at<'a>(texts: &'a Texts, hash: &Hash32) -> Result<&'a [u8], WalkFault>
     ensures { MatchResult result (λ text. text_at texts.now hash.now ≡ Ok text.now) (λ fault. text_at texts.now hash.now ≡ Err fault) }
@@ -66,30 +67,34 @@ fn known(alloc: Global, texts: &Texts, hash: &Hash32) -> Result<Option<Node>, Al
     }
 }
 
-// One child more. A sum that passes u128 counts as want of memory.
-fn added(tally: Tally, child: &Option<Node>) -> Result<Tally, AllocError>
-    ensures { IfOk result (λ more. more ≡ added tally child.now) }
+fn known_usage(child: &Option<Node>) -> u64
+    ensures { result ≡ known_usage child.now }
 {
     match child {
-        None => Ok(Tally {
-            whole: false,
-            usage: tally.usage,
-        }),
-        Some(node) => {
-            let usage = tally
-                .usage
-                .checked_add(usage_of(node) as u128)
-                .ok_or(AllocError)?;
-            Ok(Tally {
-                whole: tally.whole,
-                usage,
-            })
-        }
+        None => 0,
+        Some(node) => usage_of(node),
     }
 }
 
+// One child more. A sum that passes u128, which that of sixteen children doesn't, counts as want of
+// memory.
+fn added(tally: Tally, child: &Option<Node>) -> Result<Tally, AllocError>
+    ensures usage { IfOk result (λ more. more.usage ≡ tally.usage + known_usage child.now) }
+    ensures whole { IfOk result (λ more. more.whole ≡ (tally.whole && is_some child.now)) }
+{
+    let usage = tally
+        .usage
+        .checked_add(known_usage(child) as u128)
+        .ok_or(AllocError)?;
+    Ok(Tally {
+        whole: tally.whole && child.is_some(),
+        usage,
+    })
+}
+
 fn tally_of(alloc: Global, texts: &Texts, children: &[Hash32]) -> Result<Tally, AllocError>
-    ensures { IfOk result (λ tally. tally ≡ tally_of texts.now children.now) }
+    ensures usage { IfOk result (λ tally. tally.usage ≡ sum_known texts.now children.now) }
+    ensures whole { IfOk result (λ tally. tally.whole ≡ are_known texts.now children.now) }
 {
     let mut tally = Tally {
         whole: true,
@@ -102,6 +107,16 @@ fn tally_of(alloc: Global, texts: &Texts, children: &[Hash32]) -> Result<Tally, 
     Ok(tally)
 }
 
+// Whether what is told is at least the sum, and exactly that where it is the whole.
+fn is_sum(told: u128, own: u128, tally: &Tally) -> bool
+    ensures { result ≡ is_sum told (own + tally.now.usage) tally.now.whole }
+{
+    if told < own || told - own < tally.usage {
+        return false;
+    }
+    !tally.whole || told - own == tally.usage
+}
+
 // Whether the usage of a node is that of its own and its children: at least what is known of it, and
 // exactly that where all of it is known.
 #[tactic(auto, unfolding(crate::specs::Looking::is_summed))]
@@ -110,35 +125,30 @@ fn is_summed(alloc: Global, texts: &Texts, node: &Node) -> Result<bool, AllocErr
 {
     let children = children_of(alloc, node)?;
     let tally = tally_of(alloc, texts, children.inner())?;
-    let own = own_usage(node);
-    let told = usage_of(node) as u128;
-    if told < own || told - own < tally.usage {
-        return Ok(false);
-    }
-    Ok(!tally.whole || told - own == tally.usage)
+    Ok(is_sum(usage_of(node) as u128, own_usage(node), &tally))
 }
 
-fn is_no_branch(child: &Option<Node>) -> bool
-    ensures { result ≡ is_no_branch child.now }
+// Whether the text that is held under a hash, if any is, is a branch's.
+fn is_branch_held(alloc: Global, texts: &Texts, hash: &Hash32) -> Result<bool, AllocError>
+    ensures { IfOk result (λ holds. holds ≡ is_branch_held (map.get texts.now hash.now.0)) }
 {
-    match child {
-        None => false,
-        Some(node) => !is_branch(node),
+    match texts.get(hash) {
+        None => Ok(true),
+        Some(text) => match read_node(alloc, text) {
+            Ok(node) => Ok(is_branch(&node)),
+            Err(NodeFault::Memory) => Err(AllocError),
+            Err(NodeFault::BadNode { at: _ }) => Ok(false),
+        },
     }
 }
 
-ghost use Rattle.nr_walk.specs.Looking.{is_no_branch};
-
-// Whether the child of an extension is a branch, where it is known.
+// Whether the child of an extension is a branch, where its text is held.
 fn is_joined(alloc: Global, texts: &Texts, node: &Node) -> Result<bool, AllocError>
     ensures { IfOk result (λ holds. holds ≡ is_joined texts.now node.now) }
 {
     match node {
         Node::Leaf { .. } => Ok(true),
-        Node::Extension { child, .. } => {
-            let child = known(alloc, texts, child)?;
-            Ok(!is_no_branch(&child))
-        }
+        Node::Extension { child, .. } => is_branch_held(alloc, texts, child),
         Node::Branch { .. } => Ok(true),
     }
 }

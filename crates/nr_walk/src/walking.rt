@@ -50,8 +50,12 @@ pub struct Visit {
     pub below: List<Spot>,
 }
 
-// The bytes of nibbles, two for each byte.
-fn packed(alloc: Global, nibbles: &[u8]) -> Result<Blob, AllocError>
+/// The bytes of nibbles, two for each byte: the first one is the high one.
+///
+/// # Errors
+///
+/// Where memory ran out.
+pub fn packed(alloc: Global, nibbles: &[u8]) -> Result<Blob, AllocError>
     ensures { IfOk result (λ bytes. bytes ≡ packed nibbles.now) }
 {
     let mut bytes = Vec::new(alloc);

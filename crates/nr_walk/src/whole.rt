@@ -38,11 +38,14 @@ fn walk_exactly(
     walk_from(alloc, texts, searched, Spot { place, hash: *root })
 }
 
-/// Walks over the texts from a root, depth first, and gives what each node adds.
+/// Walks over the texts from a root, depth first, and gives what each node adds. A root of 32 zeros is
+/// that of the empty map: nothing is looked at, and nothing is gained.
 ///
 /// # Errors
 ///
-/// The first fault in depth-first order, as `WalkFault` says. `Memory` where memory ran out.
+/// The first fault in depth-first order, as `WalkFault` says: at one node its own text comes first,
+/// then the text of its value where that is searched, then its children, the lowest nibble's first.
+/// `Memory` where memory ran out.
 pub fn walk(
     alloc: Global,
     texts: &Texts,
@@ -51,7 +54,7 @@ pub fn walk(
 ) -> Result<List<Gain>, WalkFault>
     // Which answer it is.
     ensures exact { Gives memory_fault result (walk_of texts.now searched.now root.now) }
-    // What it shows of each map that agrees with the texts.
+    // What it shows of each map that a store can hold, has this root and agrees with the texts.
     ensures whole { IfOk result (λ gains. (m : Contents) → IsOf texts.now root.now m → Shows searched.now (paths (map.entries m)) gains (paths (map.entries m))) }
 {
     walk_exactly(alloc, texts, root, searched)

@@ -1,5 +1,5 @@
 use Rattle.std.proofs.Common.{◌∙◌, arith}
-use Rattle.nr_walk.proofs.Packed.{packed_more, packed_all}
+use Rattle.nr_walk.proofs.Couples.{packed_more, packed_all}
 use Rattle.nr_walk.proofs.walking.packed.Goals as goal
 
 pub loop-i-preserved : goal.loop-i-preserved
