@@ -71,7 +71,9 @@ AreTallied texts hashes sum = IsTallied (sum_known texts hashes) (are_known text
 
 one_tally : (texts : Contents) (top : Paths) → Agrees texts top → AreFitting top → (qs : Paths) (rest : List Hash32) (sum : ℕ) → IsBelow top qs → CanWalk qs → AreTallied texts rest sum
     → AreTallied texts (option_list (hash_below (whole qs)) ++ rest) (usage_below (whole qs) + sum)
-one_tally texts top agrees fits [] rest sum b h t = subst (λ (o : Option Summary). AreTallied texts (option_list (hash_below o) ++ rest) (usage_below o + sum)) (sym (whole_none [] refl)) t
+one_tally texts top agrees fits [] rest sum b h t =
+    let same : sum ≡ 0 + sum = omega arith in
+    subst (λ (o : Option Summary). AreTallied texts (option_list (hash_below o) ++ rest) (usage_below o + sum)) (sym (whole_none [] refl)) (subst (λ (k : ℕ). AreTallied texts rest k) same t)
 one_tally texts top agrees fits (p ∷ qs) rest sum b h t =
     let all = p ∷ qs in
     let hash = digest (node_text (top_of all)) in
