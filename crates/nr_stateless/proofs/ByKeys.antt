@@ -9,13 +9,17 @@ use Rattle.std.proofs.lemmas.Bool.{eqb-true}
 use Rattle.std.proofs.lemmas.List.Folds.{list_any-append}
 use Rattle.nr_columns.specs.Keys.{account_key, code_key, owner_prefixes, queue_key}
 use Rattle.nr_columns.specs.declared.entry.Entry.{Entry}
+use Rattle.nr_columns.proofs.Tables.{same_test}
+use Rattle.nr_ids.specs.declared.key.Hash32.{Hash32}
 use Rattle.nr_triedef.specs.Node.{nibbles}
 use Rattle.nr_triedef.specs.Root.{Contents, Paths, paths}
 use Rattle.nr_walk.specs.declared.searched.Searched.{Searched}
+use Rattle.nr_walk.specs.declared.walking.Kept.{Kept}
 use Rattle.nr_walk.specs.Searched.{is_found, finds}
-use Rattle.nr_remake.specs.Merging.{others_of, searched_in, searched_entries, pairs_of, IsChanged}
+use Rattle.nr_walk.specs.Shown.{IsOf}
+use Rattle.nr_remake.specs.Merging.{others_of, searched_in, searched_entries, pairs_of, IsChanged, IsKept}
 use Rattle.nr_stateless.specs.Accounts.{one_key, all_below, of_account, searched_of, is_owned, is_searched, found_of, rest_of}
-use Rattle.nr_stateless.specs.Changing.{IsReplaced}
+use Rattle.nr_stateless.specs.Changing.{IsPart, IsReplaced}
 
 -- ---- a byte by its two nibbles
 halves : (x b : ℕ) (r s t : Bool) → (x == b) ≡ false → (x / 16 == b / 16) ≡ s → (x % 16 == b % 16) ≡ t → (s && (t && r)) ≡ false
@@ -37,15 +41,13 @@ same_byte x b r =
     ] refl
 
 turned : (x b : ℕ) → (x == b) ≡ (b == x)
-turned x b =
-    elim (x == b) as (λ t. (x == b) ≡ t → t ≡ (b == x)) [
-      | true ↦ λ e. sym (eq-eqb b x (sym (eqb-true x b e)))
-      | false ↦ λ e.
-          elim (b == x) as (λ t. (b == x) ≡ t → false ≡ t) [
-            | true ↦ λ f. absurd (true≢false (sym (eq-eqb x b (sym (eqb-true b x f))) ∙ e))
-            | false ↦ λ f. refl
-          ] refl
-    ] refl
+turned x b = same_test (x == b) (b == x) (λ e. eq-eqb b x (sym (eqb-true x b e))) (λ e. eq-eqb x b (sym (eqb-true b x e)))
+
+two_more : (l m : ℕ) → (suc (suc l) == suc (suc m)) ≡ (l == m)
+two_more l m = same_test (suc (suc l) == suc (suc m)) (l == m) (λ e. eq-eqb l m (omega (arith, eqb-true (suc (suc l)) (suc (suc m)) e))) (λ e. eq-eqb (suc (suc l)) (suc (suc m)) (omega (arith, eqb-true l m e)))
+
+not_none : (l : ℕ) → (suc (suc l) == 0) ≡ false
+not_none l = same_test (suc (suc l) == 0) false (λ e. absurd (omega (arith, eqb-true (suc (suc l)) 0 e))) (λ e. absurd (true≢false (sym e)))
 
 -- ---- a key by its nibbles
 begins_nibbles : (key prefix : List ℕ) → starts_with ◌==◌ (nibbles key) (nibbles prefix) ≡ starts_with ◌==◌ key prefix
@@ -60,12 +62,13 @@ and_and false b c = refl
 
 equal_nibbles : (key other : List ℕ) → (starts_with ◌==◌ (nibbles key) (nibbles other) && (length (nibbles key) == length (nibbles other))) ≡ bytes_eq key other
 equal_nibbles [] [] = refl
-equal_nibbles (b ∷ key) [] = refl
+equal_nibbles (b ∷ key) [] = not_none (length (nibbles key))
 equal_nibbles [] (x ∷ other) = refl
 equal_nibbles (b ∷ key) (x ∷ other) =
     let begins = starts_with ◌==◌ (nibbles key) (nibbles other) in
-    let long = length (nibbles key) == length (nibbles other) in
-    ap (λ t. t && long) (same_byte x b begins) ∙ and_and (x == b) begins long ∙ ap (λ r. (x == b) && r) (equal_nibbles key other) ∙ ap (λ t. t && bytes_eq key other) (turned x b)
+    let long = length (nibbles (b ∷ key)) == length (nibbles (x ∷ other)) in
+    ap (λ t. t && long) (same_byte x b begins) ∙ and_and (x == b) begins long ∙ ap (λ r. (x == b) && (begins && r)) (two_more (length (nibbles key)) (length (nibbles other)))
+    ∙ ap (λ r. (x == b) && r) (equal_nibbles key other) ∙ ap (λ t. t && bytes_eq key other) (turned x b)
 
 and_true : (a : Bool) → (a && true) ≡ a
 and_true true = refl
@@ -123,3 +126,14 @@ replaced_changed accounts m n es h =
       searched_are = searched_paths accounts n ∙ ap paths h.searched;
       bytes = h.bytes;
     }
+
+-- what a walk gives of each map, by accounts
+pub accounts_shown : (accounts : List (List ℕ)) (searched : List Searched) (texts : Contents) (root : Hash32) (r : List Kept × List Entry) → searched ≡ searched_of accounts
+    → ((m : Contents) → IsOf texts root m → IsKept searched (paths (entries m)) r.0 × (pairs_of r.1 ≡ searched_entries searched m))
+    → (m : Contents) → IsOf texts root m → IsPart accounts m r.0 × (pairs_of r.1 ≡ found_of accounts m)
+accounts_shown accounts searched texts root r e h m is =
+    let both = h m is in
+    (
+      subst (λ (s : List Searched). IsKept s (paths (entries m)) r.0) e both.0,
+      both.1 ∙ ap (λ (s : List Searched). searched_entries s m) e ∙ entries_by_key accounts m,
+    )

@@ -4,9 +4,10 @@ ghost use Rattle.std.specs.Prelude.{◌≡◌, ℕ, IfOk, List as Items};
 ghost use Rattle.std.specs.FinMap as map;
 ghost use Rattle.nr_bytes.specs.Answers.{Gives};
 ghost use Rattle.nr_triedef.specs.Root.{Contents, paths, root_of};
+ghost use Rattle.nr_walk.specs.declared.searched.Searched.{Searched as OneSearched};
 ghost use Rattle.nr_walk.specs.Shown.{IsOf, walk_of};
 ghost use Rattle.nr_walk.specs.Texts.{memory_fault};
-ghost use Rattle.nr_remake.specs.Merging.{IsKept, found_in, kept_in, pairs_of, parts_of, searched_entries};
+ghost use Rattle.nr_remake.specs.Merging.{IsChanged, IsKept, found_in, kept_in, pairs_of, parts_of, searched_entries};
 ghost use Rattle.nr_stateless.specs.Accounts.{found_of, searched_of};
 ghost use Rattle.nr_stateless.specs.Changing.{AreNew, HasBytes, IsPart, IsReplaced, replaced};
 
@@ -105,6 +106,14 @@ impl Partial {
         ensures replaced { IfOk result (λ hash. (accounts : Items (Items ℕ)) (m : Contents) → HasBytes m → IsPart accounts m self → AreNew accounts new.now → hash ≡ (root_of (replaced accounts m new.now)).hash) }
         // It is that of each map that differs from such a one in the searched entries alone, which are the new ones.
         ensures changed { IfOk result (λ hash. (accounts : Items (Items ℕ)) (m n : Contents) → IsPart accounts m self → IsReplaced accounts m n new.now → hash ≡ (root_of n).hash) }
+    {
+        let hash = self.root_with(new)?;
+        Ok(hash)
+    }
+
+    // The root of what is kept together with new entries.
+    fn root_with(self, new: &List<Entry>) -> Result<Hash32, AllocError>
+        ensures { IfOk result (λ hash. (searched : Items OneSearched) (m n : Contents) → IsKept searched (paths (map.entries m)) self → IsChanged searched m n new.now → hash ≡ (root_of n).hash) }
     {
         let hash = remade_root(self.alloc, &self.kept, new)?;
         Ok(hash)

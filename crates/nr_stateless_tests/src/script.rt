@@ -11,6 +11,7 @@ use std::alloc::{AllocError, Global};
 use std::test::Fail;
 
 /// What a table has told so far.
+#[derive(Drop)]
 struct Told {
     root: Hash32,
     texts: Vec<Vec<u8>>,
