@@ -1,11 +1,10 @@
 -- The trie of marks at every depth above their paths, and what a branch of marks is made of.
-use Rattle.std.proofs.Common.{◌≡◌, ◌≤◌, ◌<◌, ◌+◌, ◌-◌, ℕ, zero, suc, List, [], ◌∷◌, ◌++◌, length, map, drop, Option, Some, None, refl, ap, sym, subst, ◌∙◌, arith, length-append, Bool, true, false, cond, get_or, eq-eqb}
-use Rattle.std.specs.List.{AllByRecursion, range_with_len}
+use Rattle.std.proofs.Common.{◌≡◌, ◌≤◌, ◌<◌, ◌+◌, ◌-◌, ℕ, zero, suc, List, [], ◌∷◌, ◌++◌, length, map, drop, Option, Some, None, refl, ap, sym, subst, ◌∙◌, arith, Bool, false, cond, get_or, eq-eqb}
+use Rattle.std.specs.List.{range_with_len}
 use Rattle.std.proofs.lemmas.List.{drop_all}
 use Rattle.std.proofs.lemmas.List.FromFn.{map-range_with_len_more}
-use Rattle.nr_ids.specs.declared.key.Hash32.{Hash32}
 use Rattle.nr_triedef.specs.Node.{summary}
-use Rattle.nr_triedef.specs.Root.{Paths, common, front, value_here, under, hash_below, with_front, sixteen, depth}
+use Rattle.nr_triedef.specs.Root.{Paths, common, front, value_here, under, with_front, sixteen, depth}
 use Rattle.nr_triedef.specs.declared.hash.Summary.{Summary}
 use Rattle.nr_store.specs.Tries.{CanWalk, cut, whole}
 use Rattle.nr_remake.specs.Marks.{alone, told, IsShort, marked_field, branch_with, marked_trie, marked_whole, mark, folded, Spreads}

@@ -1,7 +1,7 @@
 -- What is kept, merged with the new paths, stands for the paths after the change.
-use Rattle.std.proofs.Common.{◌≡◌, ◌==◌, ◌<◌, ◌≤◌, ◌+◌, ℕ, zero, suc, Bool, true, false, cond, List, [], ◌∷◌, ◌++◌, length, map, refl, sym, ap, subst, ◌∙◌, append_assoc, arith, length-append, inl, inr, eq-eqb}
+use Rattle.std.proofs.Common.{◌≡◌, ◌==◌, ◌≤◌, ℕ, Bool, true, false, cond, List, [], ◌∷◌, ◌++◌, length, refl, sym, ap, subst, ◌∙◌, append_assoc, arith, length-append, inl, inr}
 use Rattle.std.specs.Prelude.{◌⊎◌, ◌||◌, ◌&&◌, not, nat_lt}
-use Rattle.std.specs.List.{AllByRecursion, filter, flat_map}
+use Rattle.std.specs.List.{AllByRecursion, filter}
 use Rattle.std.proofs.lemmas.Bool.{eqb-true, eqb-false, ltb-true, ltb-false}
 use Rattle.std.proofs.lemmas.List.{append-nil}
 use Rattle.nr_triedef.specs.Node.{digest}
@@ -14,10 +14,10 @@ use Rattle.nr_walk.specs.declared.walking.Kept.{Kept}
 use Rattle.nr_walk.specs.declared.walking.Gain.{Gain}
 use Rattle.nr_walk.specs.declared.walking.Gain.TheVariants.{Found, Beside}
 use Rattle.nr_walk.specs.Searched.{looks, finds}
-use Rattle.nr_walk.specs.Shown.{placed, behind_all, IsTrieKnown, StandsFor, IsFound, IsBeside, IsSplit, Adds, Shows}
+use Rattle.nr_walk.specs.Shown.{placed, behind_all, IsTrieKnown, StandsFor, IsBeside, Shows}
 use Rattle.nr_walk.proofs.Searches.{not_found}
 use Rattle.nr_remake.specs.Marks.{mark, told, IsGroup, Spreads}
-use Rattle.nr_remake.specs.Merging.{searched_in, others_of, AreReplaced, kept_of, kept_in, marks_of, marked, is_before, lower, upper, merge, AllBeside, IsKept, IsChanged, pairs_of, found_of, found_in, searched_entries}
+use Rattle.nr_remake.specs.Merging.{searched_in, others_of, AreReplaced, kept_in, marks_of, marked, is_before, lower, upper, merge, AllBeside, IsKept}
 use Rattle.nr_remake.proofs.Spreading.{first_front, length_placed}
 
 abbrev Path : Type 0

@@ -1,12 +1,12 @@
 -- The trie of marks is that of the paths for which they stand.
-use Rattle.std.proofs.Common.{◌≡◌, ◌==◌, ◌<◌, ◌≤◌, ◌+◌, ◌-◌, ℕ, zero, suc, Bool, true, false, cond, List, [], ◌∷◌, ◌++◌, length, map, drop, Option, Some, None, refl, sym, ap, subst, ◌∙◌, append_assoc, arith, add-one, length-append, length-drop, inl, inr, eq-eqb}
-use Rattle.std.specs.Prelude.{◌⊎◌, sum_by}
+use Rattle.std.proofs.Common.{◌≡◌, ◌==◌, ◌<◌, ◌≤◌, ◌+◌, ℕ, zero, suc, true, false, cond, List, [], ◌∷◌, ◌++◌, length, map, drop, Option, Some, None, refl, sym, ap, subst, ◌∙◌, arith, length-append, length-drop, eq-eqb}
+use Rattle.std.specs.Prelude.{sum_by}
 use Rattle.std.specs.List.{AllByRecursion}
 use Rattle.std.proofs.lemmas.Bool.{eqb-true, eqb-false}
 use Rattle.std.proofs.lemmas.List.{append-nil}
 use Rattle.nr_ids.specs.declared.key.Hash32.{Hash32}
-use Rattle.nr_triedef.specs.Node.{key_part, summary, digest}
-use Rattle.nr_triedef.specs.Root.{Paths, common, front, behind, value_here, under, leaf, branch, value_field, value_usage, hash_below, usage_below, part_usage, with_front, sixteen}
+use Rattle.nr_triedef.specs.Node.{summary, digest}
+use Rattle.nr_triedef.specs.Root.{Paths, common, front, behind, value_here, under, branch, value_field, value_usage, hash_below, usage_below, with_front, sixteen}
 use Rattle.nr_triedef.specs.declared.hash.Summary.{Summary}
 use Rattle.nr_triedef.specs.declared.node.Node.{Node}
 use Rattle.nr_triedef.specs.declared.node.Node.TheVariants.{Branch}
@@ -17,9 +17,9 @@ use Rattle.nr_store.proofs.Orders.{walk_cut, walk_under, behind_none, behind_beh
 use Rattle.nr_walk.specs.declared.walking.Known.{Known}
 use Rattle.nr_walk.specs.declared.walking.Known.TheVariants.{Value, Trie}
 use Rattle.nr_walk.specs.Tries.{children, branch_of}
-use Rattle.nr_walk.specs.Shown.{placed, behind_all, IsValue, IsTrie, IsTrieKnown, StandsFor, IsSplit}
+use Rattle.nr_walk.specs.Shown.{placed, behind_all, IsTrieKnown, StandsFor}
 use Rattle.nr_walk.proofs.Placing.{tails}
-use Rattle.nr_remake.specs.Marks.{mark, told, leaf_of, alone, field, IsShort, marked_field, field_usage, branch_with, marked_trie, IsGroup, Spreads}
+use Rattle.nr_remake.specs.Marks.{told, leaf_of, alone, field, IsShort, marked_field, field_usage, branch_with, marked_trie, IsGroup, Spreads}
 
 abbrev Path : Type 0
 Path = List ℕ × List ℕ

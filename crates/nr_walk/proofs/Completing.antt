@@ -1,6 +1,6 @@
 -- A walk over texts that agree with a map, among which are all that it looks at, has no fault.
-use Rattle.std.proofs.Common.{◌≡◌, ◌==◌, ◌<◌, ◌≤◌, ◌+◌, ◌*◌, ℕ, zero, suc, Bool, true, false, cond, List, [], ◌∷◌, ◌++◌, length, map, Option, Some, None, Result, Ok, Err, refl, sym, ap, subst, ◌∙◌, arith, inl, inr, eq-eqb}
-use Rattle.std.specs.Prelude.{◌⊎◌, sum_by}
+use Rattle.std.proofs.Common.{◌≡◌, ◌==◌, ◌≤◌, ℕ, zero, suc, Bool, true, false, cond, List, [], ◌∷◌, ◌++◌, length, map, Option, Some, None, Result, Ok, Err, refl, sym, ap, subst, ◌∙◌, arith, inl, inr, eq-eqb}
+use Rattle.std.specs.Prelude.{sum_by}
 use Rattle.std.specs.List.{AllByRecursion}
 use Rattle.std.specs.FinMap.{get, entries}
 use Rattle.std.proofs.lemmas.Bool.{eqb-true}
@@ -8,7 +8,7 @@ use Rattle.std.proofs.lemmas.List.Sums.{sum_by-cons, sum_by-append}
 use Rattle.nr_bytes.specs.Reading.{◌>>=◌}
 use Rattle.nr_ids.specs.declared.key.Hash32.{Hash32}
 use Rattle.nr_triedef.specs.Node.{digest, node_text, key_part, usage_of}
-use Rattle.nr_triedef.specs.Root.{Contents, Paths, paths, front, under, value_here, value_field, hash_below, summary_of, no_root, leaf}
+use Rattle.nr_triedef.specs.Root.{Contents, Paths, paths, front, under, value_here, value_field, hash_below, summary_of, no_root}
 use Rattle.nr_triedef.specs.declared.hash.Summary.{Summary}
 use Rattle.nr_triedef.specs.declared.node.Node.{Node}
 use Rattle.nr_triedef.specs.declared.node.Node.TheVariants.{Branch}
@@ -26,11 +26,11 @@ use Rattle.nr_walk.specs.declared.walking.Visit.{Visit}
 use Rattle.nr_walk.specs.Searched.{looks, finds}
 use Rattle.nr_walk.specs.Texts.{text_at, text_or_missing}
 use Rattle.nr_walk.specs.Told.{spot, spots_of, ending_of, ending_with, part_nibbles, option_list}
-use Rattle.nr_walk.specs.Looking.{looked_at, value_text}
+use Rattle.nr_walk.specs.Looking.{value_text}
 use Rattle.nr_walk.specs.Looked.{IsLooked, Holds}
 use Rattle.nr_walk.specs.Looked.IsLooked.{First, Next, Child}
 use Rattle.nr_walk.specs.Walking.{kept, entry, packed, found_at, ended, entered, passed, visited, walk_from, most_nodes}
-use Rattle.nr_walk.specs.Tries.{children, branch_of, top_over, top_of, IsBelow}
+use Rattle.nr_walk.specs.Tries.{children, branch_of, top_of}
 use Rattle.nr_walk.specs.Tries.IsBelow.{Top}
 use Rattle.nr_walk.specs.Shown.{behind_all, IsOf, is_empty_root, walk_of}
 use Rattle.nr_walk.proofs.Fitting.{fitting}
@@ -39,7 +39,7 @@ use Rattle.nr_walk.proofs.Passing.{passes}
 use Rattle.nr_walk.proofs.Placing.{map-append, all-append}
 use Rattle.nr_walk.proofs.Rows.{Path}
 use Rattle.nr_walk.proofs.ShownMaps.{all_nibbles, stepped}
-use Rattle.nr_walk.proofs.Stepping.{Job, spot_of, IsJob, IsStep, IsNext, IsBehind, IsUnder, job_weight, weight, spared_most}
+use Rattle.nr_walk.proofs.Stepping.{Job, spot_of, IsJob, IsNext, job_weight, spared_most}
 use Rattle.nr_walk.proofs.Tops.{whole_is, top_leaf, top_parted, top_shared}
 use Rattle.nr_walk.proofs.Walks.{after, one_more, none_waits}
 

@@ -1,6 +1,6 @@
 -- A node that is looked at for itself: its value, and all its children.
-use Rattle.std.proofs.Common.{◌≡◌, ◌==◌, ◌<◌, ◌≤◌, ◌+◌, ◌*◌, ◌-◌, ℕ, zero, suc, Bool, true, false, cond, List, [], ◌∷◌, ◌++◌, length, map, Option, Some, None, Result, Ok, Err, refl, sym, ap, subst, ◌∙◌, append_assoc, arith, inl, inr, length-append}
-use Rattle.std.specs.Prelude.{◌⊎◌, is_some, count_by, sum_by}
+use Rattle.std.proofs.Common.{◌≡◌, ◌==◌, ◌<◌, ◌≤◌, ◌+◌, ◌*◌, ℕ, zero, suc, true, false, cond, List, [], ◌∷◌, ◌++◌, length, map, Option, Some, None, Result, Ok, Err, refl, sym, ap, subst, ◌∙◌, arith, inl, inr, length-append}
+use Rattle.std.specs.Prelude.{is_some, count_by, sum_by}
 use Rattle.std.specs.List.{AllByRecursion, flat_map}
 use Rattle.std.proofs.lemmas.List.Sums.{sum_by-cons, sum_by-append}
 use Rattle.std.proofs.lemmas.List.{append-nil}
@@ -22,18 +22,17 @@ use Rattle.nr_walk.specs.declared.walking.Gain.{Gain}
 use Rattle.nr_walk.specs.declared.walking.Visit.{Visit}
 use Rattle.nr_walk.specs.Searched.{looks}
 use Rattle.nr_walk.specs.Told.{spot, spot_at, spots_from, spots_of, ending_of, ending_with, part_nibbles, option_list}
-use Rattle.nr_walk.specs.Looking.{looked_at}
-use Rattle.nr_walk.specs.Walking.{ended, entered, passed, visited, walk_from}
-use Rattle.nr_walk.specs.Tries.{children, branch_of, top_over, top_of, IsBelow, IsOwn, Agrees, AreFitting}
+use Rattle.nr_walk.specs.Walking.{ended, entered}
+use Rattle.nr_walk.specs.Tries.{children, branch_of, top_over, top_of, IsBelow, IsOwn}
 use Rattle.nr_walk.specs.Tries.IsBelow.{Behind, Under}
 use Rattle.nr_walk.specs.Shown.{placed, behind_all, Shows}
 use Rattle.nr_walk.proofs.Pairs.{part_back}
 use Rattle.nr_walk.proofs.Placing.{placed_placed, placed-append, placed_cut, map-append, flat-append, all-append, values_behind, exact_cut, exact_under}
 use Rattle.nr_walk.proofs.Rows.{Path, rows, own_value, rows_all}
-use Rattle.nr_walk.proofs.Showing.{looked, gains_none, value_shown, Shows-append}
-use Rattle.nr_walk.proofs.Stepping.{Job, spot_of, all_of, IsJob, IsStep, IsNext, job_weight, weight, spared_most, spared_parted, spared_shared, step_beside}
+use Rattle.nr_walk.proofs.Showing.{gains_none, value_shown}
+use Rattle.nr_walk.proofs.Stepping.{Job, spot_of, all_of, IsJob, IsStep, IsNext, job_weight, weight, spared_most, spared_parted, spared_shared}
 use Rattle.nr_walk.proofs.Fitting.{counted_hashes, length_placed}
-use Rattle.nr_walk.proofs.Tops.{whole_is, top_node, many_cut, front_cut, top_parted, top_shared, top_leaf}
+use Rattle.nr_walk.proofs.Tops.{whole_is, many_cut, front_cut, top_parted, top_shared, top_leaf}
 
 -- ---- the children of a branch
 abbrev job_at : List ℕ → ℕ → Paths → List Job

@@ -1,15 +1,14 @@
 -- The nodes of the trie of a map that keeps within the sizes of a store keep to their types.
-use Rattle.std.proofs.Common.{◌≡◌, ◌==◌, ◌<◌, ◌≤◌, ◌+◌, ◌-◌, ◌*◌, ◌/◌, ◌%◌, ◌^◌, ℕ, zero, suc, Bool, true, false, cond, List, [], ◌∷◌, ◌++◌, length, map, drop, Option, Some, None, refl, sym, ap, subst, ◌∙◌, arith, length-drop, length-append}
+use Rattle.std.proofs.Common.{◌≡◌, ◌==◌, ◌<◌, ◌≤◌, ◌+◌, ◌*◌, ◌%◌, ℕ, zero, suc, Bool, true, false, cond, List, [], ◌∷◌, ◌++◌, length, map, Option, Some, None, refl, sym, ap, subst, ◌∙◌, arith, length-drop, length-append}
 use Rattle.std.specs.Prelude.{is_some, count_by, sum_by}
 use Rattle.std.specs.List.{AllByRecursion}
-use Rattle.std.specs.FinMap.{entries}
 use Rattle.std.proofs.lemmas.List.Sums.{sum_by-cons}
 use Rattle.sha2.proofs.Facts256.{length-sha256}
 use Rattle.nr_ids.specs.Keys.{IsHash}
 use Rattle.nr_ids.specs.declared.key.Hash32.{Hash32}
-use Rattle.nr_triedef.specs.Node.{nibbles, paired, part_flag, key_part, digest, summary, node_text, usage_of, links}
+use Rattle.nr_triedef.specs.Node.{paired, part_flag, key_part, digest, node_text, usage_of, links}
 use Rattle.nr_triedef.specs.Reading.{Fits, IsChild, IsValue}
-use Rattle.nr_triedef.specs.Root.{Contents, Paths, paths, common, depth, front, behind, under, value_here, value_field, value_usage, usage_below, hash_below, part_usage, leaf, sixteen}
+use Rattle.nr_triedef.specs.Root.{Paths, paths, common, depth, front, behind, under, value_here, value_field, value_usage, usage_below, hash_below, leaf, sixteen}
 use Rattle.nr_triedef.specs.Stores.{IsSizedEntry, most_entries}
 use Rattle.nr_triedef.specs.declared.hash.Summary.{Summary}
 use Rattle.nr_triedef.specs.declared.node.Node.{Node}
@@ -22,7 +21,7 @@ use Rattle.nr_walk.specs.Tries.{children, branch_of, top_over, top_of, IsBelow, 
 use Rattle.nr_walk.specs.Tries.IsBelow.{Top, Behind, Under}
 use Rattle.nr_walk.specs.Shown.{placed}
 use Rattle.nr_walk.proofs.Rows.{Path, rows, own_value, rows_all}
-use Rattle.nr_walk.proofs.Tops.{whole_is, top_leaf, top_parted, top_shared}
+use Rattle.nr_walk.proofs.Tops.{whole_is, top_leaf}
 
 abbrev IsSmallPath : Path → Type 0
 IsSmallPath p = (length p.0 ≤ 140000000) × (length p.1 < 4294967296)

@@ -1,10 +1,9 @@
 -- Parts of nodes, read back as nibbles.
-use Rattle.std.proofs.Common.{◌≡◌, ◌<◌, ◌≤◌, ◌+◌, ◌*◌, ◌/◌, ◌%◌, ℕ, suc, Bool, true, false, cond, eqb, List, [], ◌∷◌, ◌++◌, length, drop, get_or, slice_index, refl, sym, ap, ◌∙◌, arith, inl, inr, eq-eqb}
+use Rattle.std.proofs.Common.{◌≡◌, ◌<◌, ◌+◌, ◌*◌, ◌/◌, ◌%◌, ℕ, suc, Bool, true, false, cond, eqb, List, [], ◌∷◌, length, drop, slice_index, refl, ap, ◌∙◌, arith, inl, inr, eq-eqb}
 use Rattle.std.proofs.lemmas.Bool.{cases_lt}
 use Rattle.nr_triedef.specs.Node.{nibbles, IsNibbles, paired, key_part}
 use Rattle.nr_triedef.proofs.Parts.{part_odd, part_even}
 use Rattle.nr_walk.specs.Told.{part_nibbles}
-use Rattle.nr_walk.specs.Walking.{packed}
 
 nibbles_paired : (key : List ℕ) → IsNibbles key → length key % 2 ≡ 0 → nibbles (paired key) ≡ key
 nibbles_paired [] small even = refl

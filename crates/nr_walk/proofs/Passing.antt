@@ -1,15 +1,15 @@
 -- The nodes of a map's trie pass the checks of a walk over texts that agree with the map.
-use Rattle.std.proofs.Common.{◌≡◌, ◌==◌, ◌<◌, ◌≤◌, ◌+◌, ◌*◌, ℕ, zero, suc, Bool, true, false, cond, List, [], ◌∷◌, ◌++◌, length, map, ◌%◌, length-append, Option, Some, None, Result, Ok, Err, refl, sym, ap, subst, ◌∙◌, arith, inl, inr, eq-eqb}
+use Rattle.std.proofs.Common.{◌≡◌, ◌==◌, ◌≤◌, ◌+◌, ℕ, zero, suc, Bool, true, false, cond, List, [], ◌∷◌, ◌++◌, length, map, ◌%◌, length-append, Option, Some, None, Result, Ok, Err, refl, sym, ap, subst, ◌∙◌, arith, inl, inr, eq-eqb}
 use Rattle.std.specs.Prelude.{◌⊎◌, ◌&&◌, ◌||◌, not, nat_le, is_some, sum_by}
-use Rattle.std.specs.List.{AllByRecursion, flat_map}
+use Rattle.std.specs.List.{AllByRecursion}
 use Rattle.std.specs.FinMap.{get, entries}
 use Rattle.nr_bytes.specs.Reading.{◌>>=◌}
 use Rattle.std.proofs.lemmas.Bool.{le-leb}
 use Rattle.std.proofs.lemmas.List.Sums.{sum_by-cons}
 use Rattle.nr_ids.specs.declared.key.Hash32.{Hash32}
-use Rattle.nr_triedef.specs.Node.{IsNode, IsNibbles, nibbles, key_part, digest, summary, node_text, usage_of}
+use Rattle.nr_triedef.specs.Node.{IsNode, nibbles, digest, node_text, usage_of}
 use Rattle.nr_triedef.specs.Reading.{Fits, node_at}
-use Rattle.nr_triedef.specs.Root.{Contents, Paths, paths, front, under, value_here, value_field, value_usage, usage_below, hash_below, part_usage, leaf, branch}
+use Rattle.nr_triedef.specs.Root.{Contents, Paths, paths, front, under, value_here, value_field, value_usage, usage_below, hash_below, leaf}
 use Rattle.nr_triedef.specs.declared.hash.Summary.{Summary}
 use Rattle.nr_triedef.specs.declared.node.Node.{Node}
 use Rattle.nr_triedef.specs.declared.node.Node.TheVariants.{Branch}
@@ -21,14 +21,13 @@ use Rattle.nr_store.proofs.Listed.{walk_whole}
 use Rattle.nr_store.proofs.Nibbles.{length-nibbles}
 use Rattle.nr_store.specs.Tries.{CanWalk, cut, whole}
 use Rattle.nr_store.proofs.Levels.{whole_none}
-use Rattle.nr_store.proofs.Orders.{walk_cut, walk_under, front_small}
-use Rattle.nr_walk.specs.declared.told.Ending.{Ending}
+use Rattle.nr_store.proofs.Orders.{walk_cut, walk_under}
 use Rattle.nr_walk.specs.declared.fault.WalkFault.{WalkFault}
 use Rattle.nr_walk.specs.declared.fault.WalkFault.TheVariants.{BadText}
 use Rattle.nr_walk.specs.Texts.{text_at, text_or_missing, node_or_bad, known, read_held, readable}
-use Rattle.nr_walk.specs.Told.{spot, ending_of, hashes_in, option_list, children_of, own_usage, part_nibbles, is_branch}
+use Rattle.nr_walk.specs.Told.{spot, ending_of, hashes_in, option_list, children_of, own_usage, is_branch}
 use Rattle.nr_walk.specs.Looking.{known_usage, sum_known, are_known, is_sum, is_summed, is_branch_read, is_branch_held, is_joined, is_end, is_ended, is_right, looked_at}
-use Rattle.nr_walk.specs.Tries.{children, branch_of, top_over, top_of, IsBelow, IsOwn, Agrees, AreFitting}
+use Rattle.nr_walk.specs.Tries.{children, branch_of, top_over, top_of, IsBelow, Agrees, AreFitting}
 use Rattle.nr_walk.specs.Tries.IsBelow.{Top, Behind, Under}
 use Rattle.nr_walk.specs.Shown.{behind_all, IsOf}
 use Rattle.nr_walk.proofs.Fitting.{fitting}

@@ -1,6 +1,5 @@
 -- What looking at one node shows of the paths that the node stands over.
-use Rattle.std.proofs.Common.{◌≡◌, ◌==◌, ◌<◌, ◌≤◌, ◌+◌, ◌*◌, ◌-◌, ℕ, zero, suc, Bool, true, false, cond, List, [], ◌∷◌, ◌++◌, length, map, Option, Some, None, Result, Ok, Err, refl, sym, ap, subst, ◌∙◌, append_assoc, arith}
-use Rattle.std.specs.List.{AllByRecursion, flat_map}
+use Rattle.std.proofs.Common.{◌≡◌, ◌==◌, ℕ, Bool, true, false, cond, List, [], ◌∷◌, ◌++◌, length, Option, Some, None, Result, Ok, Err, refl, sym, ap, subst, ◌∙◌, append_assoc}
 use Rattle.std.specs.FinMap.{get}
 use Rattle.std.proofs.lemmas.List.{append-nil}
 use Rattle.nr_bytes.specs.Reading.{◌>>=◌}
@@ -11,21 +10,19 @@ use Rattle.nr_triedef.specs.Root.{Contents, Paths}
 use Rattle.nr_triedef.specs.declared.fault.NodeFault.{NodeFault}
 use Rattle.nr_triedef.specs.declared.node.Node.{Node}
 use Rattle.nr_triedef.proofs.Laws.{node_again}
-use Rattle.nr_columns.specs.declared.entry.Entry.{Entry}
 use Rattle.nr_walk.specs.declared.fault.WalkFault.{WalkFault}
-use Rattle.nr_walk.specs.declared.fault.WalkFault.TheVariants.{Missing, BadText}
+use Rattle.nr_walk.specs.declared.fault.WalkFault.TheVariants.{BadText}
 use Rattle.nr_walk.specs.declared.searched.Searched.{Searched}
-use Rattle.nr_walk.specs.declared.walking.Known.TheVariants.{Value, Trie}
-use Rattle.nr_walk.specs.declared.walking.Kept.{Kept}
+use Rattle.nr_walk.specs.declared.walking.Known.TheVariants.{Value}
 use Rattle.nr_walk.specs.declared.walking.Gain.{Gain}
 use Rattle.nr_walk.specs.declared.walking.Gain.TheVariants.{Found, Beside}
 use Rattle.nr_walk.specs.Searched.{finds}
 use Rattle.nr_walk.specs.Texts.{text_at, text_or_missing, node_or_bad}
 use Rattle.nr_walk.specs.Told.{spot, ending_with, option_list}
-use Rattle.nr_walk.specs.Looking.{node_in, is_right, looked_at, value_text}
+use Rattle.nr_walk.specs.Looking.{is_right, looked_at, value_text}
 use Rattle.nr_walk.specs.Walking.{kept, entry, packed, found_at, ended}
 use Rattle.nr_walk.specs.Tries.{IsOwn}
-use Rattle.nr_walk.specs.Shown.{placed, IsValue, StandsFor, IsFound, IsBeside, Adds, IsSplit, Shows}
+use Rattle.nr_walk.specs.Shown.{Adds, Shows}
 
 -- ---- the node of a text that is held
 taken : (b : Bool) (top node : Node) (fault : WalkFault) → cond b (Ok top) (Err fault) ≡ Ok node → node ≡ top

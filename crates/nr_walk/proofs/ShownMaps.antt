@@ -1,5 +1,5 @@
 -- What a walk without a fault shows of each map that agrees with the texts.
-use Rattle.std.proofs.Common.{◌≡◌, ◌==◌, ◌<◌, ◌≤◌, ◌+◌, ℕ, zero, suc, Bool, true, false, cond, List, [], ◌∷◌, ◌++◌, length, map, Option, Some, None, Result, Ok, Err, refl, sym, ap, subst, ◌∙◌, append_assoc, arith}
+use Rattle.std.proofs.Common.{◌≡◌, ◌==◌, ℕ, zero, suc, true, false, cond, List, [], ◌∷◌, ◌++◌, map, Option, Result, Ok, Err, refl, sym, ap, subst, ◌∙◌, append_assoc, arith}
 use Rattle.std.specs.Prelude.{replicate, IfOk}
 use Rattle.std.specs.List.{AllByRecursion, flat_map}
 use Rattle.std.specs.FinMap.{entries}
@@ -10,8 +10,8 @@ use Rattle.nr_bytes.specs.Answers.{Gives}
 use Rattle.nr_bytes.specs.Numbers.{IsBytes}
 use Rattle.nr_bytes.specs.Reading.{◌>>=◌}
 use Rattle.nr_ids.specs.declared.key.Hash32.{Hash32}
-use Rattle.nr_triedef.specs.Node.{nibbles, IsNibbles, node_text, digest, summary}
-use Rattle.nr_triedef.specs.Root.{Contents, Paths, paths, root_of, no_root, summary_of}
+use Rattle.nr_triedef.specs.Node.{IsNibbles, node_text, digest}
+use Rattle.nr_triedef.specs.Root.{Contents, Paths, paths, no_root, summary_of}
 use Rattle.nr_triedef.specs.declared.hash.Summary.{Summary}
 use Rattle.nr_triedef.specs.declared.node.Node.{Node}
 use Rattle.nr_triedef.proofs.Parts.{nibbles_small}
@@ -28,7 +28,7 @@ use Rattle.nr_walk.specs.Texts.{memory_fault}
 use Rattle.nr_walk.specs.Told.{spot, option_list}
 use Rattle.nr_walk.specs.Looking.{looked_at}
 use Rattle.nr_walk.specs.Walking.{entered, passed, visited, walk_from, most_nodes}
-use Rattle.nr_walk.specs.Tries.{top_of, IsBelow, IsOwn, Agrees, AreFitting}
+use Rattle.nr_walk.specs.Tries.{top_of, IsOwn, Agrees, AreFitting}
 use Rattle.nr_walk.specs.Tries.IsBelow.{Top}
 use Rattle.nr_walk.specs.Shown.{placed, Shows, IsOf, is_empty_root, walk_of}
 use Rattle.nr_walk.proofs.Placing.{placed_none, map-append, flat-append, all-append}

@@ -1,41 +1,32 @@
 -- What looking at one node shows, with the nodes below it that are to be looked at.
-use Rattle.std.proofs.Common.{◌≡◌, ◌==◌, ◌<◌, ◌≤◌, ◌+◌, ◌*◌, ◌-◌, ℕ, zero, suc, Bool, true, false, cond, List, [], ◌∷◌, ◌++◌, length, map, Option, Some, None, Result, Ok, Err, refl, sym, ap, subst, ◌∙◌, append_assoc, arith}
+use Rattle.std.proofs.Common.{◌≡◌, ◌==◌, ◌<◌, ◌≤◌, ◌+◌, ◌*◌, ◌-◌, ℕ, true, false, cond, List, [], ◌∷◌, ◌++◌, length, map, refl, sym, ap, subst, ◌∙◌, arith}
 use Rattle.std.specs.Prelude.{◌⊎◌, ◌&&◌, nat_le, sum_by}
 use Rattle.std.specs.List.{AllByRecursion, flat_map}
 use Rattle.std.proofs.lemmas.Bool.{le-leb, ne_eqb}
 use Rattle.std.proofs.lemmas.List.{append-nil}
-use Rattle.nr_bytes.specs.Reading.{◌>>=◌}
 use Rattle.nr_ids.specs.declared.key.Hash32.{Hash32}
-use Rattle.nr_triedef.specs.Node.{IsNode, IsNibbles, key_part, node_text, digest, summary, usage_of}
-use Rattle.nr_triedef.specs.Root.{Contents, Paths, front, under, value_here, leaf, branch, hash_below, part_usage}
-use Rattle.nr_triedef.specs.declared.hash.Summary.{Summary}
+use Rattle.nr_triedef.specs.Node.{IsNibbles, key_part, node_text, digest, summary, usage_of}
+use Rattle.nr_triedef.specs.Root.{Contents, Paths, front, under, leaf, part_usage}
 use Rattle.nr_triedef.specs.declared.node.Node.{Node}
-use Rattle.nr_store.specs.Tries.{CanWalk, cut, whole}
-use Rattle.nr_store.proofs.Levels.{whole_none}
-use Rattle.nr_store.proofs.Links.{all_under}
-use Rattle.nr_store.proofs.Orders.{walk_cut, walk_under, front_small}
-use Rattle.nr_walk.specs.declared.fault.WalkFault.{WalkFault}
+use Rattle.nr_store.specs.Tries.{CanWalk, cut}
+use Rattle.nr_store.proofs.Orders.{walk_cut, front_small}
 use Rattle.nr_walk.specs.declared.searched.Searched.{Searched}
 use Rattle.nr_walk.specs.declared.told.Spot.{Spot}
-use Rattle.nr_walk.specs.declared.told.Ending.{Ending}
 use Rattle.nr_walk.specs.declared.walking.Known.TheVariants.{Value, Trie}
 use Rattle.nr_walk.specs.declared.walking.Kept.{Kept}
-use Rattle.nr_walk.specs.declared.walking.Gain.{Gain}
 use Rattle.nr_walk.specs.declared.walking.Gain.TheVariants.{Beside}
 use Rattle.nr_walk.specs.declared.walking.Visit.{Visit}
-use Rattle.nr_walk.specs.Searched.{looks, finds}
-use Rattle.nr_walk.specs.Told.{spot, spot_at, spots_from, spots_of, ending_of, ending_with, part_nibbles, option_list}
-use Rattle.nr_walk.specs.Looking.{looked_at}
-use Rattle.nr_walk.specs.Walking.{kept, stub_of, ended, entered, passed, visited}
-use Rattle.nr_walk.specs.Tries.{children, branch_of, top_over, top_of, IsBelow, IsOwn, Agrees, AreFitting}
-use Rattle.nr_walk.specs.Tries.IsBelow.{Behind, Under}
-use Rattle.nr_walk.specs.Shown.{placed, behind_all, StandsFor, IsTrie, IsBeside, Adds, Shows}
+use Rattle.nr_walk.specs.Searched.{looks}
+use Rattle.nr_walk.specs.Told.{spot, option_list}
+use Rattle.nr_walk.specs.Walking.{kept, stub_of, passed}
+use Rattle.nr_walk.specs.Tries.{branch_of, top_over, top_of, IsBelow, IsOwn}
+use Rattle.nr_walk.specs.Shown.{placed, behind_all, IsTrie, Adds, Shows}
 use Rattle.nr_walk.proofs.Pairs.{part_back}
-use Rattle.nr_walk.proofs.Placing.{placed_placed, placed-append, placed_cut, apart_all, map-append, flat-append, all-append, values_behind, exact_cut}
-use Rattle.nr_walk.proofs.Rows.{Path, rows, own_value, rows_all}
+use Rattle.nr_walk.proofs.Placing.{placed_cut, apart_all, exact_cut}
+use Rattle.nr_walk.proofs.Rows.{Path}
 use Rattle.nr_walk.proofs.Searches.{not_found, not_looked}
-use Rattle.nr_walk.proofs.Showing.{looked, gains_one, gains_none, beside_value, value_shown}
-use Rattle.nr_walk.proofs.Tops.{whole_is, top_node, many_cut, front_cut, top_parted, top_shared, top_leaf}
+use Rattle.nr_walk.proofs.Showing.{gains_one, beside_value}
+use Rattle.nr_walk.proofs.Tops.{whole_is, many_cut, front_cut, top_parted, top_shared, top_leaf}
 
 -- a place, and the paths of the trie there
 pub record Job : Type 0 where

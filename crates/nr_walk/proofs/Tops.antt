@@ -1,13 +1,11 @@
 -- The top node of some paths is a node, and its summary is that of their trie.
-use Rattle.std.proofs.Common.{◌≡◌, ◌<◌, ◌≤◌, ◌+◌, ◌*◌, ◌-◌, ℕ, zero, suc, true, false, List, [], ◌∷◌, ◌++◌, length, map, Option, Some, None, Result, Ok, Err, refl, sym, ap, subst, ◌∙◌, arith}
-use Rattle.std.specs.Prelude.{is_some}
-use Rattle.std.specs.List.{AllByRecursion}
-use Rattle.nr_triedef.specs.Node.{IsNode, IsNibbles, key_part, digest, summary, links}
-use Rattle.nr_triedef.specs.Root.{Paths, front, behind, value_here, value_field, hash_below, under, leaf, branch, with_front, part_usage, value_usage}
+use Rattle.std.proofs.Common.{◌≡◌, ◌≤◌, ◌+◌, ℕ, true, false, List, [], ◌∷◌, length, Some, refl, sym, ap, subst, ◌∙◌, arith}
+use Rattle.nr_triedef.specs.Node.{IsNode, IsNibbles, key_part, digest, summary}
+use Rattle.nr_triedef.specs.Root.{Paths, front, behind, leaf, with_front, part_usage, value_usage}
 use Rattle.nr_triedef.specs.declared.hash.Summary.{Summary}
 use Rattle.nr_triedef.proofs.Parts.{leaf_is_node, extension_is_node}
 use Rattle.nr_store.specs.Tries.{CanWalk, cut, whole}
-use Rattle.nr_store.proofs.Levels.{whole_none, whole_one, whole_several, links_of_two}
+use Rattle.nr_store.proofs.Levels.{whole_one, whole_several, links_of_two}
 use Rattle.nr_store.proofs.Links.{AllBegin, front_begins, none_shared, length_behind}
 use Rattle.nr_store.proofs.Orders.{front_small, behind_none}
 use Rattle.nr_walk.specs.Tries.{children, branch_of, top_over, top_of}

@@ -1,5 +1,5 @@
 -- Looking at one node: its text, and what it must be beside the held texts of its children. This project's own.
-use Rattle.std.specs.Prelude.{ℕ, ◌+◌, ◌%◌, ◌==◌, Bool, true, false, cond, ◌&&◌, ◌||◌, not, nat_le, List, [], ◌∷◌, length, Option, Some, None, is_some, Result, Ok, Err, sum_by}
+use Rattle.std.specs.Prelude.{ℕ, ◌+◌, ◌%◌, ◌==◌, Bool, true, false, cond, ◌&&◌, ◌||◌, not, nat_le, List, length, Option, Some, None, is_some, Result, Ok, Err, sum_by}
 use Rattle.std.specs.List.{list_all}
 use Rattle.std.specs.FinMap.{get}
 use Rattle.nr_bytes.specs.Reading.{◌>>=◌}

@@ -1,5 +1,5 @@
 -- What a walk shows of the paths of a trie: those that are searched, with their values, and what stands for the others, in their order. This project's own.
-use Rattle.std.specs.Prelude.{◌≡◌, ℕ, ◌≤◌, true, false, cond, List, [], ◌∷◌, ◌++◌, length, map, replicate, ◌==◌, Bool, Option, Some, Result, Ok}
+use Rattle.std.specs.Prelude.{◌≡◌, ℕ, ◌≤◌, true, false, cond, List, [], ◌∷◌, ◌++◌, length, map, replicate, ◌==◌, Bool, Some, Result, Ok}
 use Rattle.std.specs.List.{AllByRecursion}
 use Rattle.std.specs.Cmp.Lexicographic.{pointwise}
 use Rattle.std.specs.FinMap.{entries}
@@ -7,7 +7,6 @@ use Rattle.nr_bytes.specs.Numbers.{IsBytes}
 use Rattle.nr_ids.specs.declared.key.Hash32.{Hash32}
 use Rattle.nr_triedef.specs.Node.{digest}
 use Rattle.nr_triedef.specs.Root.{Contents, Paths, front, under, paths, root_of, no_root}
-use Rattle.nr_triedef.specs.declared.hash.Summary.{Summary}
 use Rattle.nr_store.specs.Tries.{CanWalk, whole}
 use Rattle.nr_columns.specs.declared.entry.Entry.{Entry}
 use Rattle.nr_walk.specs.declared.fault.WalkFault.{WalkFault}

@@ -1,5 +1,5 @@
 -- Texts by their SHA-256, and the nodes among them. This project's own.
-use Rattle.std.specs.Prelude.{◌≡◌, ℕ, cond, fold, List, [], ◌∷◌, Option, Some, None, is_some, Result, Ok, Err}
+use Rattle.std.specs.Prelude.{ℕ, cond, fold, List, Option, Some, None, is_some, Result, Ok, Err}
 use Rattle.std.specs.FinMap.{empty, get, insert}
 use Rattle.nr_triedef.specs.Node.{digest}
 use Rattle.nr_ids.specs.declared.key.Hash32.{Hash32}

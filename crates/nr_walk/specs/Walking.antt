@@ -1,8 +1,6 @@
 -- The walk over a trie whose texts are held: which nodes are looked at, in which order, and what each adds. This project's own.
-use Rattle.std.specs.Prelude.{◌≡◌, ℕ, zero, suc, ◌+◌, ◌-◌, ◌*◌, ◌%◌, ◌^◌, ◌==◌, Bool, cond, List, [], ◌∷◌, ◌++◌, length, Option, Some, None, Result, Ok, Err}
-use Rattle.std.specs.List.{flat_map}
+use Rattle.std.specs.Prelude.{ℕ, zero, suc, ◌+◌, ◌-◌, ◌*◌, ◌%◌, ◌^◌, cond, List, [], ◌∷◌, ◌++◌, length, Option, Some, None, Result, Ok, Err}
 use Rattle.nr_bytes.specs.Reading.{◌>>=◌}
-use Rattle.nr_ids.specs.declared.key.Hash32.{Hash32}
 use Rattle.nr_triedef.specs.Root.{Contents}
 use Rattle.nr_triedef.specs.declared.node.Node.{Node}
 use Rattle.nr_triedef.specs.declared.node.Node.TheVariants.{Leaf, Extension, Branch}

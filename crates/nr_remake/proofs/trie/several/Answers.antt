@@ -1,4 +1,4 @@
-use Rattle.std.proofs.Common.{◌<◌, ◌∷◌, length, subst, sym, ap, ◌∙◌, List, arith, rules}
+use Rattle.std.proofs.Common.{◌<◌, ◌∷◌, length, subst, sym, ap, ◌∙◌, List, rules}
 use Rattle.nr_triedef.specs.Root.{Paths}
 use Rattle.nr_store.specs.Tries.{Branching}
 use Rattle.nr_remake.specs.Marks.{marked_whole}

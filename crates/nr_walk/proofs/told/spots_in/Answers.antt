@@ -1,4 +1,4 @@
-use Rattle.std.proofs.Common.{◌≡◌, length, refl, arith}
+use Rattle.std.proofs.Common.{arith}
 use Rattle.nr_walk.proofs.Spots.{spots_more, spots_all}
 use Rattle.nr_walk.proofs.told.spots_in.Goals as goal
 

@@ -1,4 +1,3 @@
-use Rattle.std.proofs.Common.{sym, ◌∙◌}
 use Rattle.nr_walk.proofs.Walks.{waits_more, emptied, waits_all}
 use Rattle.nr_walk.proofs.walking.push_spots.Goals as goal
 
