@@ -1,5 +1,5 @@
 -- A key is searched by its bytes where it is by its nibbles.
-use Rattle.std.proofs.Common.{◌≡◌, ◌==◌, ◌+◌, ◌*◌, ◌/◌, ◌%◌, ℕ, suc, Bool, true, false, cond, List, [], ◌∷◌, ◌++◌, length, map, refl, sym, ap, subst, ◌∙◌, arith, eq-eqb}
+use Rattle.std.proofs.Common.{◌≡◌, ◌==◌, ◌/◌, ◌%◌, ℕ, suc, Bool, true, false, cond, List, [], ◌∷◌, length, map, refl, sym, ap, subst, ◌∙◌, arith, eq-eqb}
 use Rattle.std.specs.Prelude.{◌||◌, ◌&&◌, not}
 use Rattle.std.specs.List.{filter, flat_map, list_any, starts_with}
 use Rattle.std.specs.Str.{bytes_eq}
@@ -18,7 +18,7 @@ use Rattle.nr_walk.specs.declared.walking.Kept.{Kept}
 use Rattle.nr_walk.specs.Searched.{is_found, finds}
 use Rattle.nr_walk.specs.Shown.{IsOf}
 use Rattle.nr_remake.specs.Merging.{others_of, searched_in, searched_entries, pairs_of, IsChanged, IsKept}
-use Rattle.nr_stateless.specs.Accounts.{one_key, all_below, of_account, searched_of, is_owned, is_searched, found_of, rest_of}
+use Rattle.nr_stateless.specs.Accounts.{all_below, of_account, searched_of, is_owned, is_searched, found_of, rest_of}
 use Rattle.nr_stateless.specs.Changing.{IsPart, IsReplaced}
 
 -- ---- a byte by its two nibbles
@@ -132,8 +132,7 @@ pub accounts_shown : (accounts : List (List ℕ)) (searched : List Searched) (te
     → ((m : Contents) → IsOf texts root m → IsKept searched (paths (entries m)) r.0 × (pairs_of r.1 ≡ searched_entries searched m))
     → (m : Contents) → IsOf texts root m → IsPart accounts m r.0 × (pairs_of r.1 ≡ found_of accounts m)
 accounts_shown accounts searched texts root r e h m is =
-    let both = h m is in
-    (
+    let both = h m is in (
       subst (λ (s : List Searched). IsKept s (paths (entries m)) r.0) e both.0,
       both.1 ∙ ap (λ (s : List Searched). searched_entries s m) e ∙ entries_by_key accounts m,
     )

@@ -1,6 +1,5 @@
 -- The entries that a walk finds are those of the map that are searched.
-use Rattle.std.proofs.Common.{◌≡◌, ◌<◌, ◌+◌, ◌*◌, ◌/◌, ◌%◌, ℕ, suc, Bool, true, false, cond, List, [], ◌∷◌, ◌++◌, map, Result, Ok, Err, refl, sym, ap, subst, ◌∙◌, arith}
-use Rattle.std.specs.Prelude.{IfOk}
+use Rattle.std.proofs.Common.{◌≡◌, ◌+◌, ◌*◌, ◌/◌, ◌%◌, ℕ, suc, true, false, cond, List, [], ◌∷◌, ◌++◌, map, refl, sym, ap, subst, ◌∙◌, arith}
 use Rattle.std.specs.List.{AllByRecursion, filter}
 use Rattle.std.specs.FinMap.{entries}
 use Rattle.nr_bytes.specs.Numbers.{IsBytes}
@@ -8,7 +7,6 @@ use Rattle.nr_ids.specs.declared.key.Hash32.{Hash32}
 use Rattle.nr_triedef.specs.Node.{nibbles}
 use Rattle.nr_triedef.specs.Root.{Contents, Paths, paths}
 use Rattle.nr_columns.specs.declared.entry.Entry.{Entry}
-use Rattle.nr_walk.specs.declared.fault.WalkFault.{WalkFault}
 use Rattle.nr_walk.specs.declared.searched.Searched.{Searched}
 use Rattle.nr_walk.specs.declared.walking.Kept.{Kept}
 use Rattle.nr_walk.specs.declared.walking.Gain.{Gain}

@@ -1,8 +1,8 @@
 -- A map with its searched entries replaced by others has the other entries as they were, and these.
-use Rattle.std.proofs.Common.{◌≡◌, ℕ, Bool, true, false, cond, List, [], ◌∷◌, ◌++◌, Option, Some, None, refl, sym, ap, subst, ◌∙◌}
+use Rattle.std.proofs.Common.{◌≡◌, ℕ, Bool, true, false, cond, List, [], ◌∷◌, Option, Some, None, refl, sym, ap, subst, ◌∙◌}
 use Rattle.std.specs.Prelude.{not, T}
 use Rattle.std.specs.List.{AllByRecursion, filter}
-use Rattle.std.specs.FinMap.{entries, find, from_sorted, get, insert, is_sorted, retain_keys, same_map, get-insert, get-retain_keys, get-from_sorted, entries-from_sorted, entries_sorted, get-entries, slice_cmp-IsAntisymmetric, nat_cmp-IsAntisymmetric}
+use Rattle.std.specs.FinMap.{entries, find, from_sorted, get, is_sorted, retain_keys, same_map, get-insert, get-retain_keys, get-from_sorted, entries-from_sorted, entries_sorted, get-entries, slice_cmp-IsAntisymmetric, nat_cmp-IsAntisymmetric}
 use Rattle.std.specs.FinMap.Entries.{where_key, is_sorted-where_key, find-where_key}
 use Rattle.std.specs.Ordering.{eq_by_cmp}
 use Rattle.std.specs.declared.cmp.Ordering.TheVariants.{Equal}
@@ -88,8 +88,8 @@ kept_sorted : (test : List ℕ → Bool) (m : Contents) → retain_keys m test �
 kept_sorted test m =
     let es = where_key bytes_cmp test (entries m) in
     same_map nat_list_cmp_total (slice_cmp-IsAntisymmetric nat_cmp-IsAntisymmetric) (retain_keys m test) (from_sorted es) (λ q.
-      get_kept test m q ∙ ap (λ (o : Option (List ℕ)). cond (test q) o None) (get-entries m q)
-      ∙ sym (find-where_key bytes_cmp test q (λ x t. alike test q x t) (entries m)) ∙ sym (get-from_sorted bytes_cmp es q (is_sorted-where_key bytes_cmp test (entries m) (entries_sorted m))))
+    get_kept test m q ∙ ap (λ (o : Option (List ℕ)). cond (test q) o None) (get-entries m q)
+    ∙ sym (find-where_key bytes_cmp test q (λ x t. alike test q x t) (entries m)) ∙ sym (get-from_sorted bytes_cmp es q (is_sorted-where_key bytes_cmp test (entries m) (entries_sorted m))))
 
 filtered : (test : List ℕ → Bool) (m : Contents) → filter (λ (e : Pair). test e.0) (entries m) ≡ entries (retain_keys m test)
 filtered test m =

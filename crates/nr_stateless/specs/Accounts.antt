@@ -1,5 +1,5 @@
 -- What a walk for some accounts searches: the keys of each account and of its code, what the keys of all that it owns begin with, and always the delayed queue. This project's own.
-use Rattle.std.specs.Prelude.{◌==◌, ℕ, Bool, true, false, ◌||◌, not, List, [], ◌∷◌, ◌++◌, map}
+use Rattle.std.specs.Prelude.{◌==◌, ℕ, Bool, true, false, ◌||◌, not, List, ◌∷◌, map}
 use Rattle.std.specs.List.{filter, flat_map, list_any, starts_with}
 use Rattle.std.specs.Str.{bytes_eq}
 use Rattle.std.specs.FinMap.{entries}

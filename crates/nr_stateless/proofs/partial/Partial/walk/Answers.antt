@@ -1,4 +1,4 @@
-use Rattle.std.proofs.Common.{◌≡◌, ap, ◌∙◌}
+use Rattle.std.proofs.Common.{ap, ◌∙◌}
 use Rattle.nr_stateless.specs.Accounts.{searched_of}
 use Rattle.nr_stateless.proofs.ByKeys.{accounts_shown}
 use Rattle.nr_stateless.proofs.partial.Partial.walk.Goals as goal
