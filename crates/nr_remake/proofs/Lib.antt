@@ -1,0 +1,4 @@
+pub mod Changed
+pub mod MarkedLevels
+pub mod MergedMarks
+pub mod Spreading

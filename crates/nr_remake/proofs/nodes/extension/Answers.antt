@@ -1,0 +1,5 @@
+use Rattle.nr_triedef.proofs.Parts.{extension_is_node}
+use Rattle.nr_remake.proofs.nodes.extension.Goals as goal
+
+pub summarize-requires-clause-form : goal.summarize-requires-clause-form
+summarize-requires-clause-form c = rw c.in_ok-part.ensures (extension_is_node c.args.shared.now c.args.below.hash c.in_ok-usage.usage c.requires.small c.requires.some)

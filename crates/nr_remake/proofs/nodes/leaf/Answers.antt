@@ -1,0 +1,6 @@
+use Rattle.std.proofs.Common.{true}
+use Rattle.nr_triedef.proofs.Parts.{part_of_nibbles}
+use Rattle.nr_remake.proofs.nodes.leaf.Goals as goal
+
+pub summarize-requires-clause-form : goal.summarize-requires-clause-form
+summarize-requires-clause-form c = rw c.in_ok-part.ensures (part_of_nibbles true c.args.path.now c.requires)

@@ -1,0 +1,9 @@
+use Rattle.std.proofs.Common.{◌+◌, length}
+use Rattle.nr_store.proofs.Waiting.{Wait, work, works}
+use Rattle.nr_remake.proofs.trie.several.Given as goal
+
+abbrev pub invariant-made : goal.invariant-made
+invariant-made l = Wait l.above l.fork.keys l.fn.marks.items
+
+abbrev pub decreases-made : goal.decreases-made
+decreases-made l = works l.above + work (length l.fork.made) (length l.fork.made) l.fork.keys

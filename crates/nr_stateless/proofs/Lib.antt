@@ -1,0 +1,3 @@
+pub mod ByKeys
+pub mod FoundEntries
+pub mod Replacing

@@ -1,0 +1,5 @@
+use Rattle.nr_walk.proofs.Completing.{completes}
+use Rattle.nr_walk.proofs.laws.completing_law.Goals as goal
+
+pub returns : goal.returns
+returns c = completes

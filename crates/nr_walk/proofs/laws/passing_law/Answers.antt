@@ -1,0 +1,5 @@
+use Rattle.nr_walk.proofs.Passing.{passes}
+use Rattle.nr_walk.proofs.laws.passing_law.Goals as goal
+
+pub returns : goal.returns
+returns c = passes

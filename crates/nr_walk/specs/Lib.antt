@@ -1,0 +1,8 @@
+pub mod Looked
+pub mod Looking
+pub mod Searched
+pub mod Shown
+pub mod Texts
+pub mod Told
+pub mod Tries
+pub mod Walking

@@ -1,0 +1,25 @@
+//! The walk over a trie of which the texts of some nodes and values are held: which nodes are looked
+//! at, in which order, what is found, and what stands beside it.
+#![tactic(auto)]
+
+mod fault;
+mod laws;
+mod looking;
+mod searched;
+mod texts;
+mod told;
+mod walking;
+mod whole;
+
+pub use fault::WalkFault;
+pub use laws::{completing_law, passing_law};
+pub use looking::{look_at, value_text};
+pub use nr_columns::Entry;
+pub use searched::{Searched, finds, looks};
+pub use texts::Texts;
+pub use told::{
+    Ending, Spot, children_of, ending_of, further, is_branch, is_extension, own_usage,
+    part_nibbles, spots_of, usage_of,
+};
+pub use walking::{Gain, Kept, Known, Visit, packed};
+pub use whole::walk;
