@@ -1,0 +1,6 @@
+mod Orders
+mod Levels
+mod Sweeps
+mod Held
+mod Looked
+mod Results

@@ -1,0 +1,11 @@
+//! The texts that a walk over the trie of some entries looks at, each once, in the walk's order.
+#![tactic(auto)]
+
+mod gathering;
+mod keys;
+mod sweeping;
+#[cfg(test)]
+mod tests;
+mod waiting;
+
+pub use gathering::gather;

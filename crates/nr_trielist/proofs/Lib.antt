@@ -1,0 +1,3 @@
+-- Lemmas behind the answers.
+pub mod Branches
+pub mod Listing
