@@ -19,6 +19,7 @@ fn a_file_that_is_cut_is_told_by_its_first_faulty_field(rt: HostRuntime) -> Resu
     let end = file.len() as u64;
     file.push(0)?;
     assert_eq!(rt; unread(alloc, &file), Some(end));
+    assert!(rt; 3 < file.len());
     file[3] = b'2';
     assert_eq!(rt; unread(alloc, &file), Some(0));
     Ok(())
