@@ -10,7 +10,7 @@ module _ {A : Type 0} where
   value_or d None = d
   value_or d (Some x) = x
 
-  same : (x y : A) → Some x ≡ Some y → x ≡ y
+  pub same : (x y : A) → Some x ≡ Some y → x ≡ y
   unfolding value_or
   same x y e = ap (value_or x) e
 
