@@ -4,7 +4,7 @@ pub mod Numerals
 pub mod Plain
 pub mod Places
 pub mod Tables
-pub mod Reading
+pub mod Parsed
 pub mod Fits
 pub mod Steps
 pub mod Subcommands

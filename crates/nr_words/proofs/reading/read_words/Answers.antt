@@ -6,7 +6,7 @@ use Rattle.clap.specs.Words.{app_of, subcommand_of, subcommand_rows_of}
 use Rattle.nr_words.specs.Forms.{FitsForm, is_plain, read}
 use Rattle.nr_words.specs.Words.{found_in, table_in, texts}
 use Rattle.nr_words.proofs.Fits.{read_fits}
-use Rattle.nr_words.proofs.Reading.{all-texts, none_read, not_plain, parsed, simple, simple_and_free}
+use Rattle.nr_words.proofs.Parsed.{all-texts, none_read, not_plain, parsed, simple, simple_and_free}
 use Rattle.nr_words.proofs.reading.read_words.Goals as goal
 
 pub returns-then-not-are_plain-clause-found : goal.returns-then-not-are_plain-clause-found
