@@ -1,12 +1,12 @@
 -- Numbers that are read are within the bounds of their places.
-use Rattle.std.proofs.Common.{◌≡◌, ◌≤◌, ◌&&◌, ℕ, Bool, true, false, cond, leb, List, [], ◌∷◌, Option, Some, None, IfSome, codes, option_and_then, option_map, position, refl, sym, ap, subst, ◌∙◌}
+use Rattle.std.proofs.Common.{◌≡◌, ◌&&◌, ℕ, Bool, true, false, cond, leb, List, [], ◌∷◌, Option, Some, None, IfSome, option_and_then, option_map, position, refl, sym, ap, subst, ◌∙◌}
 use Rattle.std.specs.List.{list_all}
 use Rattle.std.specs.Str.{bytes_eq}
 use Rattle.std.specs.Str.Parse.{digits_value}
 use Rattle.std.proofs.lemmas.Bool.{leb-true}
 use Rattle.nr_words.specs.Command.{GeneratesWithin, replay_forms, serial_forms}
 use Rattle.nr_words.specs.Forms.{AllFit, Choice, Digits, Fits, FitsForm, Form, Number, Place, Value, before, digits, file, form_of, formed, is_digest, is_plain, number, one_of, place_value, read, values, with_verb}
-use Rattle.nr_words.specs.Numbers.{is_numeral, number_in}
+use Rattle.nr_words.specs.Numbers.{is_numeral}
 use Rattle.nr_words.proofs.Both.{both_left, both_right}
 use Rattle.nr_words.proofs.Tables.{verb_is}
 

@@ -1,5 +1,5 @@
 -- What the reading by a parser comes to.
-use Rattle.std.proofs.Common.{◌≡◌, ◌≢◌, ◌⊎◌, ◌&&◌, Bool, true, false, cond, List, [], ◌∷◌, Option, None, option_and_then, refl, sym, ap, subst, ◌∙◌, inl, inr, string_bytes}
+use Rattle.std.proofs.Common.{◌≡◌, ◌≢◌, ◌⊎◌, ◌&&◌, true, false, cond, List, [], ◌∷◌, Option, None, option_and_then, refl, sym, ap, subst, ◌∙◌, inl, inr, string_bytes}
 use Rattle.std.specs.List.{list_all}
 use Rattle.std.specs.Global.{Global}
 use Rattle.std.specs.declared.string.String.{String}
@@ -8,7 +8,7 @@ use Rattle.clap.specs.Faults.{fault_of, is_free_app, is_simple_and_free}
 use Rattle.clap.specs.Simple.{App, built, is_simple, subcommand_of}
 use Rattle.clap.specs.Walk.{Row, Text}
 use Rattle.clap.specs.declared.error.kind.ErrorKind.{ErrorKind}
-use Rattle.nr_words.specs.Forms.{Form, Value, formed, is_plain, is_table, read}
+use Rattle.nr_words.specs.Forms.{Form, formed, is_plain, is_table, read}
 use Rattle.nr_words.specs.Parsing.{found_by, table_app}
 use Rattle.nr_words.specs.Words.{texts}
 use Rattle.nr_words.proofs.Both.{both_left}

@@ -1,5 +1,5 @@
 -- What clap makes of plain words at the places of one form.
-use Rattle.std.proofs.Common.{◌≡◌, ◌≢◌, ◌⊎◌, ◌<◌, ◌≤◌, ◌+◌, ◌&&◌, ◌||◌, ◌==◌, ℕ, Bool, true, false, cond, not, List, [], ◌∷◌, ◌++◌, Option, Some, None, find, fold, length, map, min, option_and_then, option_map, slice_get, refl, sym, ap, ap₂, subst, ◌∙◌, append_assoc, append-nil, true≢false, arith, inl, inr, leb, suc}
+use Rattle.std.proofs.Common.{◌≡◌, ◌≢◌, ◌⊎◌, ◌<◌, ◌≤◌, ◌+◌, ◌&&◌, ◌||◌, ◌==◌, ℕ, Bool, true, false, cond, not, List, [], ◌∷◌, ◌++◌, Option, Some, None, find, fold, length, map, min, option_and_then, slice_get, refl, sym, ap, ap₂, subst, ◌∙◌, append_assoc, append-nil, true≢false, arith, inl, inr, leb, suc}
 use Rattle.std.specs.List.{list_all, list_any}
 use Rattle.std.specs.Option.{option_map_or}
 use Rattle.std.specs.Str.{bytes_eq}
@@ -10,7 +10,7 @@ use Rattle.std.proofs.lemmas.Slice.Eq.{bytes_eq-Decides}
 use Rattle.clap.specs.Lexer.{usize_max}
 use Rattle.clap.specs.Kinds.{Kinds, or_else}
 use Rattle.clap.specs.Faults.{check_fault, default_fault, defaults_fault, positional_fault, settle_fault, step_fault, stray_fault, use_fault}
-use Rattle.clap.specs.Simple.{Shape, built_leaf, filled, filled_from, inherited, new_shape, with_index}
+use Rattle.clap.specs.Simple.{Shape, built_leaf, filled, filled_from, inherited, with_index}
 use Rattle.clap.specs.Facts.{explicit_source}
 use Rattle.clap.specs.Takes.{is_given}
 use Rattle.clap.specs.Walk.{Held, Row, Rule, Text, Walk, arg_by_id, arg_by_index, finished, has_row, idle, is_pending, nothing_held, pushed, reading_by, rows_after, settled, settled_rows, to_positional, used, used_by_id, value, walk_from, with_default, with_values, without}
@@ -18,9 +18,9 @@ use Rattle.clap.specs.declared.error.kind.ErrorKind.{ErrorKind}
 use Rattle.clap.specs.declared.error.kind.ErrorKind.TheVariants.{InvalidSubcommand, MissingRequiredArgument, UnknownArgument}
 use Rattle.clap.specs.declared.parser.matches.ValueSource.TheVariants.{CommandLine}
 use Rattle.nr_words.specs.Forms.{Form, Place, Value, are_distinct, before, is_form, is_plain, name_of, place_value, values}
-use Rattle.nr_words.specs.Parsing.{form_app, forms_app, rules_of, values_by, word_rule}
+use Rattle.nr_words.specs.Parsing.{form_app, forms_app, values_by, word_rule}
 use Rattle.nr_words.proofs.Both.{and-false, both_left, both_right, cond-same, either_left, either_right, not_so, or-true}
-use Rattle.nr_words.proofs.Plain.{fault_by, form_fails, form_fault, form_rows, placed, placed_fault}
+use Rattle.nr_words.proofs.Plain.{form_fails, form_fault, form_rows, placed, placed_fault}
 
 -- ---- the rules of names from position i on, as they are built
 abbrev rule : ℕ → Text → Rule

@@ -1,11 +1,11 @@
 -- One step over the places of a form, over a table and over the words of a place.
-use Rattle.std.proofs.Common.{◌≡◌, ◌<◌, ◌≤◌, ◌+◌, ℕ, Bool, true, false, not, cond, List, [], ◌∷◌, ◌++◌, Option, Some, None, drop, fold, get_or, length, ltb, map, option_and_then, option_map, position, take, refl, sym, ap, ap₂, ◌∙◌, append_assoc, append-nil}
+use Rattle.std.proofs.Common.{◌≡◌, ◌<◌, ◌≤◌, ◌+◌, ℕ, true, false, not, cond, List, [], ◌∷◌, ◌++◌, Option, Some, None, drop, get_or, length, ltb, map, option_and_then, option_map, position, take, refl, sym, ap, ap₂, ◌∙◌, append_assoc, append-nil}
 use Rattle.std.specs.Borrow.{Bor}
 use Rattle.std.specs.List.{prefix_len}
 use Rattle.std.specs.Str.{bytes_eq}
-use Rattle.std.proofs.lemmas.List.{at_drop_all, at_drop_more, length-map, map_more, map_push, take_all}
-use Rattle.clap.specs.Words.{Row, Rule, first_of}
-use Rattle.nr_words.specs.Forms.{Form, Place, Value, before, form_of, name_of, place_value}
+use Rattle.std.proofs.lemmas.List.{at_drop_all, at_drop_more, length-map, map_more, map_push}
+use Rattle.clap.specs.Words.{Row, first_of}
+use Rattle.nr_words.specs.Forms.{Value, before, form_of, name_of, place_value}
 use Rattle.nr_words.specs.Parsing.{rules_of, values_by, word_rule}
 use Rattle.nr_words.specs.Words.{form_in, place_in, places_in, table_in, value_in}
 use Rattle.nr_words.specs.declared.forms.Form.{Form as LentForm}

@@ -1,17 +1,17 @@
 -- What clap makes of plain words by a table of forms.
-use Rattle.std.proofs.Common.{◌≡◌, ◌⊎◌, ◌&&◌, ◌||◌, ℕ, Bool, true, false, cond, List, [], ◌∷◌, ◌++◌, Option, Some, None, count_by, find, fold, is_some, map, not, option_and_then, option_map, refl, sym, ap, ap₂, subst, ◌∙◌, append_assoc, append-nil, true≢false, inl, inr}
+use Rattle.std.proofs.Common.{◌≡◌, ◌⊎◌, ◌&&◌, ℕ, Bool, true, false, cond, List, [], ◌∷◌, ◌++◌, Option, Some, None, count_by, find, fold, is_some, map, not, option_and_then, option_map, refl, sym, ap, ap₂, subst, ◌∙◌, append_assoc, append-nil, true≢false, inl, inr}
 use Rattle.std.specs.List.{list_all, list_any}
 use Rattle.std.specs.Option.{option_map_or}
 use Rattle.std.specs.Str.{bytes_eq}
 use Rattle.std.proofs.lemmas.Slice.Eq.{bytes_eq-Decides}
 use Rattle.clap.specs.Kinds.{Kinds, or_else}
-use Rattle.clap.specs.Faults.{built_fault, check_fault, defaults_fault, entered_fault, fault_of, has_free_rules, is_simple_and_free, level_fault, stray_fault, walk_fault}
+use Rattle.clap.specs.Faults.{built_fault, check_fault, defaults_fault, entered_fault, fault_of, has_free_rules, is_simple_and_free, level_fault, walk_fault}
 use Rattle.clap.specs.Simple.{App, Shape, built, built_leaf, entered, inherited, is_buildable, is_in_order, is_ready, is_ready_leaf, is_simple_leaf, label_of, names_of, rows_at, subcommand_of}
 use Rattle.clap.specs.Walk.{Row, Rule, Text, answers_to, idle, is_early_multiple, nothing_held, rows_after, stop_after, subcommand_met}
 use Rattle.clap.specs.declared.error.kind.ErrorKind.TheVariants.{InvalidSubcommand, MissingSubcommand, UnknownArgument}
 use Rattle.nr_words.specs.Forms.{Form, Value, form_of, formed, is_form, is_plain, is_table, name_of, read, values, with_verb}
 use Rattle.nr_words.specs.Parsing.{form_app, forms_app, found_by, table_app, values_by, with_form, word_rule}
-use Rattle.nr_words.proofs.Both.{both_left, both_right, or-false}
+use Rattle.nr_words.proofs.Both.{both_left, both_right}
 use Rattle.nr_words.proofs.Places.{Reads, after, fails, form_reads, leaf, rules}
 use Rattle.nr_words.proofs.Plain.{entered_fails, entered_matches, form_fault, stray_fails}
 use Rattle.nr_words.proofs.Subcommands.{same}

@@ -1,5 +1,5 @@
 -- The commands of both programs. They are this project's own.
-use Rattle.std.specs.Prelude.{◌≡◌, ℕ, List, [], ◌∷◌, ◌++◌, Bool, cond, ◌||◌, Option, Some, None, codes, option_and_then}
+use Rattle.std.specs.Prelude.{◌≡◌, ℕ, List, [], ◌∷◌, Bool, cond, ◌||◌, Option, Some, None, codes, option_and_then}
 use Rattle.std.specs.Str.{bytes_eq}
 use Rattle.nr_words.specs.Forms.{AllFit, Form, Place, Value, Text, Number, file, number, read}
 pub use Rattle.nr_words.specs.Numbers.{has_no_leading_zero, is_digit, is_numeral, number_in}

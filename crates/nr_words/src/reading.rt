@@ -80,6 +80,7 @@ fn form_of<'t>(table: &'t [Form], verb: &str) -> Option<&'t Form>
     None
 }
 
+/// What a form and the words at its places are together.
 fn with_verb<'a>(form: &Form, values: Option<Vec<Value<'a>>>) -> Option<Found<'a>>
     ensures { option_map found_in result ≡ with_verb (form_in form.now) (option_map values_in values.entry) }
 {
@@ -125,7 +126,9 @@ fn matched<'a>(
 }
 
 /// Reads words by a table of forms: which form they have, and what the word at each of its places is. Words that have
-/// none of the forms give nothing, nor do words of which one is empty or begins with a dash.
+/// none of the forms give nothing, nor do words of which one is empty or begins with a dash. The first form of a verb
+/// counts. The places of a form have names of their own, and there are at most 100. `program` is the name of the program
+/// that reads.
 ///
 /// # Errors
 ///

@@ -1,4 +1,4 @@
-use Rattle.std.proofs.Common.{◌≡◌, ◌∙◌, ap, option_map, sym}
+use Rattle.std.proofs.Common.{◌∙◌, ap, option_map, sym}
 use Rattle.nr_words.specs.Forms.{Choice, place_value}
 use Rattle.nr_words.specs.Words.{place_in}
 use Rattle.nr_words.specs.declared.forms.Place.{Place}

@@ -1,4 +1,4 @@
-use Rattle.std.proofs.Common.{◌≡◌, ◌∙◌, ◌+◌, List, ap, drop, fold, sym}
+use Rattle.std.proofs.Common.{◌∙◌, ◌+◌, List, ap, drop, fold, sym}
 use Rattle.std.proofs.lemmas.List.{at_drop_more}
 use Rattle.clap.specs.Words.{App, app_of, with_subcommand}
 use Rattle.nr_words.specs.Parsing.{with_form}

@@ -1,4 +1,4 @@
-use Rattle.std.proofs.Common.{◌≡◌, ◌∙◌, ap, option_and_then}
+use Rattle.std.proofs.Common.{◌∙◌, ap, option_and_then}
 use Rattle.clap.specs.Words.{found_of, rows_of}
 use Rattle.nr_words.specs.Forms.{Form, with_verb}
 use Rattle.nr_words.specs.Parsing.{values_by}

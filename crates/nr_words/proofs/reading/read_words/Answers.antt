@@ -1,9 +1,9 @@
-use Rattle.std.proofs.Common.{◌≡◌, ◌∙◌, ap, sym, true, false, option_map, subst, rules, [], IfSome, None, Option}
+use Rattle.std.proofs.Common.{◌≡◌, ◌∙◌, ap, sym, true, false, option_map, subst, rules, [], IfSome}
 use Rattle.std.specs.List.{list_all}
 use Rattle.std.proofs.lemmas.Result.{IfOk-weaker}
 use Rattle.clap.specs.Faults.{fault_of}
 use Rattle.clap.specs.Words.{app_of, subcommand_of, subcommand_rows_of}
-use Rattle.nr_words.specs.Forms.{FitsForm, is_plain, read}
+use Rattle.nr_words.specs.Forms.{FitsForm, is_plain}
 use Rattle.nr_words.specs.Words.{found_in, table_in, texts}
 use Rattle.nr_words.proofs.Fits.{read_fits}
 use Rattle.nr_words.proofs.Parsed.{all-texts, none_read, not_plain, parsed, simple, simple_and_free}

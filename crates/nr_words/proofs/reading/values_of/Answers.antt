@@ -1,4 +1,4 @@
-use Rattle.std.proofs.Common.{◌≡◌, ◌∙◌, ◌+◌, ◌++◌, List, [], ◌∷◌, Option, ap, drop, map, option_map, sym}
+use Rattle.std.proofs.Common.{◌≡◌, ◌∙◌, ◌+◌, ◌++◌, List, [], ◌∷◌, ap, drop, map, option_map, sym}
 use Rattle.std.proofs.lemmas.List.{map_push}
 use Rattle.clap.specs.Words.{found_of, rows_of}
 use Rattle.nr_words.specs.Forms.{Value}

@@ -1,5 +1,5 @@
 use Rattle.std.proofs.Common.{◌≡◌, ◌∙◌, None, Some, ap, option_and_then, option_map, sym}
-use Rattle.nr_words.specs.Command.{command_of, command, serial_forms}
+use Rattle.nr_words.specs.Command.{command_of, command}
 use Rattle.nr_words.specs.Forms.{read}
 use Rattle.nr_words.specs.Words.{found_in, table_in, texts}
 use Rattle.nr_words.proofs.words.serial_command.Goals as goal
