@@ -1,10 +1,9 @@
--- Numbers that are read are within the bounds of their places.
-use Rattle.std.proofs.Common.{◌≡◌, ◌&&◌, ℕ, Bool, true, false, cond, leb, List, [], ◌∷◌, Option, Some, None, IfSome, option_and_then, option_map, position, refl, sym, ap, subst, ◌∙◌}
-use Rattle.std.specs.List.{list_all}
+-- What is read may stand at its places.
+use Rattle.std.proofs.Common.{◌≡◌, ◌&&◌, ℕ, Bool, true, false, cond, leb, length, ltb, List, [], ◌∷◌, Option, Some, None, IfSome, option_and_then, option_map, refl, sym, ap, subst, ◌∙◌}
+use Rattle.std.specs.List.{list_all, position_or_len}
 use Rattle.std.specs.Str.{bytes_eq}
 use Rattle.std.specs.Str.Parse.{digits_value}
-use Rattle.std.proofs.lemmas.Bool.{leb-true}
-use Rattle.nr_words.specs.Command.{GeneratesWithin, replay_forms, serial_forms}
+use Rattle.std.proofs.lemmas.Bool.{leb-true, ltb-true}
 use Rattle.nr_words.specs.Forms.{AllFit, Choice, Digits, Fits, FitsForm, Form, Number, Place, Value, before, digits, file, form_of, formed, is_digest, is_plain, number, one_of, place_value, read, values, with_verb}
 use Rattle.nr_words.specs.Numbers.{is_numeral}
 use Rattle.nr_words.proofs.Both.{both_left, both_right}
@@ -19,16 +18,16 @@ place_fits (number name least most) word = go (is_numeral word && (leb least (di
         let within : (leb least (digits_value 10 word) && leb (digits_value 10 word) most) ≡ true = both_right (is_numeral word) _ is in
         (leb-true least (digits_value 10 word) (both_left (leb least (digits_value 10 word)) _ within), leb-true (digits_value 10 word) most (both_right (leb least (digits_value 10 word)) _ within))
     go false is = tt
-place_fits (digits name) word = go (is_digest word)
+place_fits (digits name) word = go (is_digest word) refl
   where
-    go : (t : Bool) → IfSome (cond t (Some (Digits word)) None) (Fits (digits name))
-    go true = tt
-    go false = tt
-place_fits (one_of name words) word = go (position (λ known. bytes_eq known word) words)
+    go : (t : Bool) → is_digest word ≡ t → IfSome (cond t (Some (Digits word)) None) (Fits (digits name))
+    go true is = is
+    go false is = tt
+place_fits (one_of name words) word = go (ltb (position_or_len (λ known. bytes_eq known word) words) (length words)) refl
   where
-    go : (o : Option ℕ) → IfSome (option_map Choice o) (Fits (one_of name words))
-    go None = tt
-    go (Some k) = tt
+    go : (t : Bool) → ltb (position_or_len (λ known. bytes_eq known word) words) (length words) ≡ t → IfSome (option_map Choice (cond t (Some (position_or_len (λ known. bytes_eq known word) words)) None)) (Fits (one_of name words))
+    go true is = ltb-true (position_or_len (λ known. bytes_eq known word) words) (length words) is
+    go false is = tt
 
 all_fit : (places : List Place) (words : List (List ℕ)) → IfSome (values places words) (AllFit places)
 all_fit [] [] = tt
@@ -64,9 +63,3 @@ read_fits table words = go (list_all is_plain words)
     go : (t : Bool) → IfSome (cond t (formed table words) None) (FitsForm table)
     go true = formed_fits table words
     go false = tt
-
-pub serial_fits : (found : List ℕ × List Value) → FitsForm serial_forms found → GeneratesWithin found
-serial_fits found fits gen = subst (λ (verb : List ℕ). IfSome (form_of serial_forms verb) (λ (form : Form). AllFit form.places found.1)) gen fits
-
-pub replay_fits : (found : List ℕ × List Value) → FitsForm replay_forms found → GeneratesWithin found
-replay_fits found fits gen = subst (λ (verb : List ℕ). IfSome (form_of replay_forms verb) (λ (form : Form). AllFit form.places found.1)) gen fits

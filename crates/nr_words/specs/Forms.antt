@@ -1,5 +1,5 @@
 -- Commands by a table of forms: for each its verb and its places. This project's own.
-use Rattle.std.specs.Prelude.{ℕ, ◌≤◌, List, [], ◌∷◌, Bool, true, false, cond, not, ◌&&◌, ◌||◌, Option, Some, None, IfSome, length, map, find, nat_le, ◌==◌, option_and_then, option_map, position}
+use Rattle.std.specs.Prelude.{◌≡◌, ℕ, ◌<◌, ◌≤◌, List, [], ◌∷◌, Bool, true, false, cond, not, ◌&&◌, ◌||◌, Option, Some, None, IfSome, length, map, find, nat_le, ◌==◌, option_and_then, option_map, position}
 use Rattle.std.specs.List.{list_all, list_any}
 use Rattle.std.specs.Str.{bytes_eq}
 use Rattle.nr_words.specs.Numbers.{is_digit, number_in}
@@ -88,15 +88,19 @@ is_form form = are_distinct (map name_of form.places) && nat_le (length form.pla
 abbrev pub is_table : List Form → Bool
 is_table table = list_all is_form table
 
--- ---- bounds
--- a number at its place is within the bounds of that place
+-- ---- what stands at the places of a form
+-- a text, a number within its bounds, 64 digits, or the number of one of the words
 abbrev pub Fits : Place → Value → Type 0
+Fits (file name) (Text word) = Unit {0}
 Fits (number name least most) (Number n) = (least ≤ n) × (n ≤ most)
-Fits p value = Unit {0}
+Fits (digits name) (Digits word) = is_digest word ≡ true
+Fits (one_of name words) (Choice k) = k < length words
+Fits p value = ⊥
 
 abbrev pub AllFit : List Place → List Value → Type 0
-AllFit [] values = Unit {0}
-AllFit (p ∷ places) [] = Unit {0}
+AllFit [] [] = Unit {0}
+AllFit [] (value ∷ values) = ⊥
+AllFit (p ∷ places) [] = ⊥
 AllFit (p ∷ places) (value ∷ values) = Fits p value × AllFit places values
 
 abbrev pub FitsForm : List Form → List ℕ × List Value → Type 0
