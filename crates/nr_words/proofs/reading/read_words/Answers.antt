@@ -31,16 +31,8 @@ returns-in-Ok-clause-found c =
 
 pub returns-in-Ok-clause-fits : goal.returns-in-Ok-clause-fits
 returns-in-Ok-clause-fits c =
-    let words = c.args.words.now in
     let table = table_in c.args.table.now in
-    let app = app_of c.in_ok-parser.parser in
-    let is = c.in_ok-parser.ensures in
-    let told : c.are_plain.result ≡ true = first_of (cc, search rules) in
-    let plain : list_all is_plain (texts words) ≡ true = sym (all-texts words) ∙ sym c.are_plain.ensures ∙ told in
-    let none : fault_of app (texts words) ≡ [] = c.in-Ok.ensures.kinds (simple_and_free c.args.program.now table (texts words) app is) in
-    let rows : subcommand_rows_of c.in-Ok.matches ≡ subcommand_of app (texts words) = (c.in-Ok.ensures.matches (simple c.args.program.now table (texts words) app is)).1 in
-    let meant = parsed c.args.program.now table (texts words) app is (subcommand_rows_of c.in-Ok.matches) c.requires plain rows none in
-    IfOk-weaker c.matched.result _ _ (λ found h. subst (λ o. IfSome o (FitsForm table)) (sym (h ∙ meant)) (read_fits table (texts words))) c.matched.ensures
+    IfOk-weaker c.matched.result _ _ (λ found h. subst (λ o. IfSome o (FitsForm table)) (sym h) (read_fits table (texts c.args.words.now))) (returns-in-Ok-clause-found c)
 
 pub returns-in-Err-clause-found : goal.returns-in-Err-clause-found
 returns-in-Err-clause-found c =
