@@ -2,8 +2,9 @@
 pub mod Both
 pub mod Numerals
 pub mod Plain
-pub mod Commands
-pub mod Serial
-pub mod Replay
-pub mod Found
-pub mod Dashes
+pub mod Places
+pub mod Tables
+pub mod Parsed
+pub mod Fits
+pub mod Steps
+pub mod Subcommands

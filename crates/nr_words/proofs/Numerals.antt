@@ -6,7 +6,7 @@ use Rattle.std.specs.Char.{digit_value}
 use Rattle.std.proofs.lemmas.Bool.{leb-true, lt-leb, ltb-true, ltb-false, eqb-true}
 use Rattle.std.specs.Str.{IsAscii, IsUtf8}
 use Rattle.std.proofs.lemmas.Str.{IsUtf8-from_ascii, digit_value_digit}
-use Rattle.nr_words.specs.Command.{is_digit, has_no_leading_zero, is_numeral, number_in}
+use Rattle.nr_words.specs.Numbers.{is_digit, has_no_leading_zero, is_numeral, number_in}
 use Rattle.nr_words.proofs.Both.{both_left, both_right}
 
 digit_low : (b : ℕ) → is_digit b ≡ true → 48 ≤ b

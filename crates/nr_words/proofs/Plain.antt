@@ -1,18 +1,14 @@
 -- How clap reads words that are plain.
-use Rattle.std.proofs.Common.{◌≡◌, ◌==◌, ℕ, Bool, true, false, not, cond, List, [], ◌∷◌, ◌++◌, Option, Some, None, codes, fold, refl, sym, ap, ap₂, ◌∙◌, append_assoc, append-nil, true≢false, is_some}
+use Rattle.std.proofs.Common.{◌≡◌, ◌==◌, ℕ, Bool, true, false, not, cond, ◌&&◌, List, [], ◌∷◌, ◌++◌, Option, Some, None, codes, fold, refl, sym, ap, ap₂, ◌∙◌, append_assoc, append-nil, true≢false, is_some}
 use Rattle.std.specs.List.{list_all}
 use Rattle.std.specs.Str.{bytes_eq}
 use Rattle.clap.specs.Kinds.{Kinds, or_else}
 use Rattle.clap.specs.Faults.{built_fault, check_fault, defaults_fault, entered_fault, level_fault, settle_fault, step_fault, stray_fault, turn_fault, walk_fault, word_fault}
 use Rattle.clap.specs.Simple.{App, Shape, entered, names_of}
 use Rattle.clap.specs.Walk.{Held, Names, Rule, Step, Text, Waiting, Walk, after_step, arg_by_index, finished, idle, is_multiple, nothing_held, option, positional, rows_after, settled, subcommand_met, to_positional, value, walk, walk_from, walked, walked_from, word_met}
-use Rattle.clap.specs.declared.error.kind.ErrorKind.TheVariants.{InvalidSubcommand, UnknownArgument}
-use Rattle.nr_words.specs.Command.{is_plain}
-use Rattle.nr_words.proofs.Both.{both_left, both_right}
-
-no_dash : (b : Bool) → not b ≡ true → b ≡ false
-no_dash true e = sym e
-no_dash false e = refl
+use Rattle.clap.specs.declared.error.kind.ErrorKind.{ErrorKind}
+use Rattle.nr_words.specs.Forms.{is_plain}
+use Rattle.nr_words.proofs.Both.{and-false, both_left, both_right, not_so}
 
 -- ---- one word, where nothing but a positional may take it
 abbrev is_option : Waiting → Bool
@@ -23,15 +19,15 @@ is_option positional = false
 goes_on : (c : List Rule) (is_trailing : Bool) (waiting : Waiting) (i : ℕ) (word : Text) (h : Held) → is_option waiting ≡ false → is_plain word ≡ true → word_met c [] is_trailing waiting i word h ≡ (h, value)
 goes_on c t w i [] h ready e = absurd (true≢false (sym e))
 goes_on c true w i (x ∷ xs) h ready e = refl
-goes_on c false idle i (x ∷ xs) h ready e = rw (no_dash (x == 45) e, no_dash (x == 45) e) refl
-goes_on c false positional i (x ∷ xs) h ready e = rw (no_dash (x == 45) e, no_dash (x == 45) e) refl
+goes_on c false idle i (x ∷ xs) h ready e = rw (not_so (x == 45) e, not_so (x == 45) e) refl
+goes_on c false positional i (x ∷ xs) h ready e = rw (not_so (x == 45) e, not_so (x == 45) e) refl
 goes_on c false (option id) i (x ∷ xs) h ready e = absurd (true≢false ready)
 
 has_no_fault : (s : Shape) (is_trailing : Bool) (waiting : Waiting) (word : Text) (h : Held) → is_option waiting ≡ false → is_plain word ≡ true → word_fault s [] is_trailing waiting word h ≡ []
 has_no_fault s t w [] h ready e = absurd (true≢false (sym e))
 has_no_fault s true w (x ∷ xs) h ready e = refl
-has_no_fault s false idle (x ∷ xs) h ready e = rw (no_dash (x == 45) e, no_dash (x == 45) e) refl
-has_no_fault s false positional (x ∷ xs) h ready e = rw (no_dash (x == 45) e, no_dash (x == 45) e) refl
+has_no_fault s false idle (x ∷ xs) h ready e = rw (not_so (x == 45) e, not_so (x == 45) e) refl
+has_no_fault s false positional (x ∷ xs) h ready e = rw (not_so (x == 45) e, not_so (x == 45) e) refl
 has_no_fault s false (option id) (x ∷ xs) h ready e = absurd (true≢false ready)
 
 abbrev IsReady : Walk → Type 0
@@ -129,14 +125,15 @@ module _ (a : App) (word name : Text) (rest : List Text) (met : subcommand_met (
   enters : walk a.top.rules (names_of a) nothing_held (word ∷ rest) ≡ entered_at nothing_held (name, rest)
   enters = ap (λ w. fold (walked a.top.rules (names_of a)) w rest) enters_once ∙ stays_in a.top.rules (names_of a) nothing_held name [] rest
 
-  passes : bytes_eq name (codes "help") ≡ false → walk_fault a.top (names_of a) (walk_from nothing_held) (word ∷ rest) ≡ []
+  passes : a.top.disable_help_subcommand ≡ true → walk_fault a.top (names_of a) (walk_from nothing_held) (word ∷ rest) ≡ []
   unfolding walk_fault
-  passes other =
-      let here : turn_fault a.top (names_of a) (walk_from nothing_held) word ≡ [] = rw (met, other) refl in
+  passes no_help =
+      let quiet : (bytes_eq name (codes "help") && not a.top.disable_help_subcommand) ≡ false = ap (λ b. bytes_eq name (codes "help") && not b) no_help ∙ and-false (bytes_eq name (codes "help")) in
+      let here : turn_fault a.top (names_of a) (walk_from nothing_held) word ≡ [] = rw (met, quiet) refl in
       ap₂ or_else here (ap (λ w. walk_fault a.top (names_of a) w rest) enters_once ∙ passes_in a.top (names_of a) nothing_held (name, []) rest)
 
-  pub entered_fails : bytes_eq name (codes "help") ≡ false → built_fault a nothing_held (word ∷ rest) ≡ level_by a (entered_at nothing_held (name, rest)) []
-  entered_fails other = ap₂ (level_by a) enters (passes other)
+  pub entered_fails : a.top.disable_help_subcommand ≡ true → built_fault a nothing_held (word ∷ rest) ≡ level_by a (entered_at nothing_held (name, rest)) []
+  entered_fails no_help = ap₂ (level_by a) enters (passes no_help)
 
   pub entered_matches : entered a (walk a.top.rules (names_of a) nothing_held (word ∷ rest)).stopped ≡ entered a (Some (name, rest))
   entered_matches = ap (λ (w : Walk). entered a w.stopped) enters
@@ -144,12 +141,12 @@ module _ (a : App) (word name : Text) (rest : List Text) (met : subcommand_met (
 -- ---- a word that names no form, where the program has no words of its own
 strays : (a : App) (word : Text) → arg_by_index a.top.rules 1 ≡ None → subcommand_met (names_of a) idle word ≡ None → is_plain word ≡ true → turn_fault a.top (names_of a) (walk_from nothing_held) word ≡ stray_fault a.top
 strays a [] none met e = absurd (true≢false (sym e))
-strays a (x ∷ xs) none met e = rw (met, no_dash (x == 45) e, no_dash (x == 45) e, none) refl
+strays a (x ∷ xs) none met e = rw (met, not_so (x == 45) e, not_so (x == 45) e, none) refl
 
-pub stray_fails : (a : App) (word : Text) (rest : List Text) → arg_by_index a.top.rules 1 ≡ None → subcommand_met (names_of a) idle word ≡ None → is_plain word ≡ true → a.top.is_leaf ≡ false
-    → built_fault a nothing_held (word ∷ rest) ≡ UnknownArgument ∷ InvalidSubcommand ∷ []
+pub stray_fails : (a : App) (word : Text) (rest : List Text) (k : ErrorKind) (ks : Kinds) → arg_by_index a.top.rules 1 ≡ None → subcommand_met (names_of a) idle word ≡ None → is_plain word ≡ true → stray_fault a.top ≡ k ∷ ks
+    → built_fault a nothing_held (word ∷ rest) ≡ k ∷ ks
 unfolding walk_fault
-stray_fails a word rest none met e leaf =
+stray_fails a word rest k ks none met e stray =
     let w = walk a.top.rules (names_of a) nothing_held (word ∷ rest) in
-    let here : turn_fault a.top (names_of a) (walk_from nothing_held) word ≡ UnknownArgument ∷ InvalidSubcommand ∷ [] = strays a word none met e ∙ ap (λ b. cond b (UnknownArgument ∷ []) (UnknownArgument ∷ InvalidSubcommand ∷ [])) leaf in
-    ap (λ k. level_by a w (or_else k (walk_fault a.top (names_of a) (walked a.top.rules (names_of a) (walk_from nothing_held) word) rest))) here
+    let here : turn_fault a.top (names_of a) (walk_from nothing_held) word ≡ k ∷ ks = strays a word none met e ∙ stray in
+    ap (λ front. level_by a w (or_else front (walk_fault a.top (names_of a) (walked a.top.rules (names_of a) (walk_from nothing_held) word) rest))) here

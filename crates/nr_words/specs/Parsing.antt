@@ -1,67 +1,42 @@
--- The parsers of the command line, as `clap` reads them, and what their matches give. This project's own.
-use Rattle.std.specs.Prelude.{◌≡◌, ℕ, List, true, cond, Option, Some, None, codes}
-use Rattle.std.specs.Str.{bytes_eq}
-use Rattle.clap.specs.Words.{AddsSubcommand, App, Row, Rule, app_of, first_of, new_app, new_rule, with_rule, with_subcommand}
+-- The parser of a table of forms, as `clap` reads it, and what its matches give. This project's own.
+use Rattle.std.specs.Prelude.{◌≡◌, ℕ, List, [], ◌∷◌, true, fold, map, Option, Some, option_and_then}
+use Rattle.clap.specs.Words.{AddsSubcommand, App, Row, Rule, app_of, first_of, new_app, new_rule, with_subcommand}
 use Rattle.clap.specs.declared.builder.command.Command.{Command as Parser}
-use Rattle.nr_words.specs.Command.{Command, run_of, check_of, generate_of}
+use Rattle.nr_words.specs.Forms.{Form, Place, Value, before, form_of, name_of, place_value, with_verb}
 
 -- ---- parsers
 -- a word that has to stand
 abbrev pub word_rule : List ℕ → Rule
 word_rule id = record (new_rule id) { required = true }
 
--- a form of three words behind its name, and one of four
-abbrev pub three_app : List ℕ → List ℕ → List ℕ → List ℕ → App
-three_app name a b c = with_rule (with_rule (with_rule (new_app name) (word_rule a)) (word_rule b)) (word_rule c)
+abbrev pub rules_of : List Place → List Rule
+rules_of places = map word_rule (map name_of places)
 
-abbrev pub four_app : List ℕ → List ℕ → List ℕ → List ℕ → List ℕ → App
-four_app name a b c d = with_rule (three_app name a b c) (word_rule d)
+-- a form: words behind its name that have to stand
+abbrev pub words_app : List ℕ → List Rule → App
+words_app name rules = let a = new_app name in record a { top = record a.top { rules = rules } }
 
-abbrev pub files_app : List ℕ → App
-files_app name = three_app name (codes "CONFIG") (codes "GENESIS") (codes "BLOCKS")
-
-abbrev pub scheduled_app : App
-scheduled_app = four_app (codes "check") (codes "CONFIG") (codes "GENESIS") (codes "BLOCKS") (codes "SCHEDULE")
-
-abbrev pub generated_app : App
-generated_app = three_app (codes "gen") (codes "NUMBER") (codes "SHARDS") (codes "BLOCKS")
+abbrev pub form_app : Form → App
+form_app form = words_app form.verb (rules_of form.places)
 
 -- one of some forms has to stand, and nothing else may
 abbrev pub forms_app : List ℕ → App
 forms_app name = let a = new_app name in record a { top = record a.top { no_binary_name = true; disable_help_flag = true; disable_help_subcommand = true; subcommand_required = true } }
 
-abbrev pub serial_app : App
-serial_app = with_subcommand (with_subcommand (with_subcommand (forms_app (codes "near_serial")) (files_app (codes "run")).top) scheduled_app.top) generated_app.top
+abbrev pub with_form : App → Form → App
+with_form a form = with_subcommand a (form_app form).top
 
-abbrev pub replay_app : App
-replay_app = with_subcommand (with_subcommand (forms_app (codes "near_replay")) (files_app (codes "replay")).top) generated_app.top
-
--- ---- matches
-abbrev pub by_three : (List ℕ → List ℕ → List ℕ → Option Command) → Option (List ℕ) → Option (List ℕ) → Option (List ℕ) → Option Command
-by_three f None b c = None
-by_three f (Some a) None c = None
-by_three f (Some a) (Some b) None = None
-by_three f (Some a) (Some b) (Some c) = f a b c
-
-abbrev pub by_four : (List ℕ → List ℕ → List ℕ → List ℕ → Option Command) → Option (List ℕ) → Option (List ℕ) → Option (List ℕ) → Option (List ℕ) → Option Command
-by_four f None b c d = None
-by_four f (Some a) b c d = by_three (f a) b c d
-
-abbrev pub files_by : List Row → Option Command
-files_by rows = by_three run_of (first_of (codes "CONFIG") rows) (first_of (codes "GENESIS") rows) (first_of (codes "BLOCKS") rows)
-
-abbrev pub scheduled_by : List Row → Option Command
-scheduled_by rows = by_four check_of (first_of (codes "CONFIG") rows) (first_of (codes "GENESIS") rows) (first_of (codes "BLOCKS") rows) (first_of (codes "SCHEDULE") rows)
-
-abbrev pub generated_by : List Row → Option Command
-generated_by rows = by_three generate_of (first_of (codes "NUMBER") rows) (first_of (codes "SHARDS") rows) (first_of (codes "BLOCKS") rows)
-
-abbrev pub serial_by : List ℕ × List Row → Option Command
-serial_by p = cond (bytes_eq p.0 (codes "run")) (files_by p.1) (cond (bytes_eq p.0 (codes "check")) (scheduled_by p.1) (cond (bytes_eq p.0 (codes "gen")) (generated_by p.1) None))
-
-abbrev pub replay_by : List ℕ × List Row → Option Command
-replay_by p = cond (bytes_eq p.0 (codes "replay")) (files_by p.1) (cond (bytes_eq p.0 (codes "gen")) (generated_by p.1) None)
+abbrev pub table_app : List ℕ → List Form → App
+table_app program table = fold with_form (forms_app program) table
 
 -- a form that a program takes as it stands
 abbrev pub IsForm : Parser → Type 0
 IsForm form = (old new : Parser) → AddsSubcommand old form new → app_of new ≡ with_subcommand (app_of old) (app_of form).top
+
+-- ---- matches
+abbrev pub values_by : List Place → List Row → Option (List Value)
+values_by [] rows = Some []
+values_by (p ∷ places) rows = before (option_and_then (place_value p) (first_of (name_of p) rows)) (values_by places rows)
+
+abbrev pub found_by : List Form → List ℕ × List Row → Option (List ℕ × List Value)
+found_by table p = option_and_then (λ form. with_verb form (values_by form.places p.1)) (form_of table p.0)

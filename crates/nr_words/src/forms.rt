@@ -1,125 +1,114 @@
-//! What the matches of a form give.
+//! Commands by a table of forms, and what their words are.
 
-ghost use Rattle.std.specs.Prelude.{◌≡◌, IfSome, option_and_then, option_map};
-ghost use Rattle.clap.specs.Words.{found_of, rows_of, subcommand_rows_of};
-ghost use Rattle.nr_words.specs.Command.{check_of, generate_of, run_of};
-ghost use Rattle.nr_words.specs.Parsing.{by_four, by_three, files_by, generated_by, replay_by, scheduled_by, serial_by};
-ghost use Rattle.nr_words.specs.Words.{CanRun, command_in};
+ghost use Rattle.std.specs.Prelude.{◌≡◌, option_map, position};
+ghost use Rattle.std.specs.List.{list_all};
+ghost use Rattle.std.specs.Str.{bytes_eq};
+ghost use Rattle.nr_words.specs.Forms.{is_digest, is_hex_digit, name_of, place_value};
+ghost use Rattle.nr_words.specs.Words.{place_in, value_in};
 
-use crate::words::{Words, check_of, generate_of, run_of};
-use clap::ArgMatches;
+use crate::numbers::{is_digit, number_of};
 
-fn files<'a>(
-    config: Option<&'a str>,
-    genesis: Option<&'a str>,
-    blocks: Option<&'a str>,
-) -> Option<Words<'a>>
-    ensures command { option_map command_in result ≡ by_three run_of (option_map (λ s. s.now) config.entry) (option_map (λ s. s.now) genesis.entry) (option_map (λ s. s.now) blocks.entry) }
-    ensures can_run { IfSome result CanRun }
-{
-    run_of(config?, genesis?, blocks?)
+/// A place of a form: what its word has to be, and the name by which it is known.
+#[derive(Clone, Copy, Debug)]
+pub enum Place {
+    /// the name of a file, or another word without a rule of its own
+    File(&'static str),
+    /// a number in decimal digits without leading zeros, from `least` to `most`
+    Number {
+        name: &'static str,
+        least: u64,
+        most: u64,
+    },
+    /// 64 digits of base 16, in lower case
+    Digits(&'static str),
+    /// one of these words
+    OneOf {
+        name: &'static str,
+        words: &'static [&'static str],
+    },
 }
 
-fn files_of<'a>(found: &ArgMatches<'a>) -> Option<Words<'a>>
-    ensures command { option_map command_in result ≡ files_by (rows_of (found_of found.now)) }
-    ensures can_run { IfSome result CanRun }
-{
-    let config = found.get_str("CONFIG");
-    let genesis = found.get_str("GENESIS");
-    let blocks = found.get_str("BLOCKS");
-    files(config, genesis, blocks)
+/// The form of a command: its verb, and the places behind it.
+#[derive(Clone, Copy, Debug)]
+pub struct Form {
+    pub verb: &'static str,
+    pub places: &'static [Place],
 }
 
-fn scheduled<'a>(
-    config: Option<&'a str>,
-    genesis: Option<&'a str>,
-    blocks: Option<&'a str>,
-    schedule: Option<&'a str>,
-) -> Option<Words<'a>>
-    ensures command { option_map command_in result ≡ by_four check_of (option_map (λ s. s.now) config.entry) (option_map (λ s. s.now) genesis.entry) (option_map (λ s. s.now) blocks.entry) (option_map (λ s. s.now) schedule.entry) }
-    ensures can_run { IfSome result CanRun }
-{
-    check_of(config?, genesis?, blocks?, schedule?)
+/// What a word is at its place.
+#[derive(Clone, Copy, Debug)]
+pub enum Value<'a> {
+    Text(&'a str),
+    Number(u64),
+    Digits(&'a str),
+    /// the number of the word among the words of its place, from 0
+    Choice(usize),
 }
 
-fn scheduled_of<'a>(found: &ArgMatches<'a>) -> Option<Words<'a>>
-    ensures command { option_map command_in result ≡ scheduled_by (rows_of (found_of found.now)) }
-    ensures can_run { IfSome result CanRun }
-{
-    let config = found.get_str("CONFIG");
-    let genesis = found.get_str("GENESIS");
-    let blocks = found.get_str("BLOCKS");
-    let schedule = found.get_str("SCHEDULE");
-    scheduled(config, genesis, blocks, schedule)
+/// The verb of a form, and what the words at its places are.
+#[derive(Debug, Drop)]
+pub struct Found<'a> {
+    pub verb: &'static str,
+    pub values: Vec<Value<'a>>,
 }
 
-fn generated<'a>(
-    start: Option<&str>,
-    shards: Option<&str>,
-    blocks: Option<&str>,
-) -> Option<Words<'a>>
-    ensures command { option_map command_in result ≡ by_three generate_of (option_map (λ s. s.now) start.entry) (option_map (λ s. s.now) shards.entry) (option_map (λ s. s.now) blocks.entry) }
-    ensures can_run { IfSome result CanRun }
+/// The name of a place.
+pub(crate) fn name_of(place: &Place) -> &'static str
+    ensures { result.now ≡ name_of (place_in place.now) }
 {
-    generate_of(start?, shards?, blocks?)
-}
-
-fn generated_of<'a>(found: &ArgMatches<'a>) -> Option<Words<'a>>
-    ensures command { option_map command_in result ≡ generated_by (rows_of (found_of found.now)) }
-    ensures can_run { IfSome result CanRun }
-{
-    let start = found.get_str("NUMBER");
-    let shards = found.get_str("SHARDS");
-    let blocks = found.get_str("BLOCKS");
-    generated(start, shards, blocks)
-}
-
-fn serial_words<'a>(name: &str, found: &ArgMatches<'a>) -> Option<Words<'a>>
-    ensures command { option_map command_in result ≡ serial_by (name.now, rows_of (found_of found.now)) }
-    ensures can_run { IfSome result CanRun }
-{
-    if name == "run" {
-        files_of(found)
-    } else if name == "check" {
-        scheduled_of(found)
-    } else if name == "gen" {
-        generated_of(found)
-    } else {
-        None
+    match place {
+        Place::File(name) => name,
+        Place::Number { name, .. } => name,
+        Place::Digits(name) => name,
+        Place::OneOf { name, .. } => name,
     }
 }
 
-/// What the matches of `run`, `check` or `gen` give.
-pub(crate) fn serial_form<'a>(matches: &ArgMatches<'a>) -> Option<Words<'a>>
-    ensures command { option_map command_in result ≡ option_and_then serial_by (subcommand_rows_of matches.now) }
-    ensures can_run { IfSome result CanRun }
+fn is_hex_digit(byte: u8) -> bool
+    ensures { result ≡ is_hex_digit byte }
 {
-    match matches.subcommand() {
-        Some((name, found)) => serial_words(name, found),
-        None => None,
-    }
+    is_digit(byte) || (97 <= byte && byte <= 102)
 }
 
-fn replay_words<'a>(name: &str, found: &ArgMatches<'a>) -> Option<Words<'a>>
-    ensures command { option_map command_in result ≡ replay_by (name.now, rows_of (found_of found.now)) }
-    ensures can_run { IfSome result CanRun }
+fn all_hex_digits(word: &[u8]) -> bool
+    ensures { result ≡ list_all is_hex_digit word.now }
 {
-    if name == "replay" {
-        files_of(found)
-    } else if name == "gen" {
-        generated_of(found)
-    } else {
-        None
-    }
+    word.iter().all(|byte| is_hex_digit(*byte))
 }
 
-/// What the matches of `replay` or `gen` give.
-pub(crate) fn replay_form<'a>(matches: &ArgMatches<'a>) -> Option<Words<'a>>
-    ensures command { option_map command_in result ≡ option_and_then replay_by (subcommand_rows_of matches.now) }
-    ensures can_run { IfSome result CanRun }
+fn is_digest(word: &[u8]) -> bool
+    ensures { result ≡ is_digest word.now }
 {
-    match matches.subcommand() {
-        Some((name, found)) => replay_words(name, found),
-        None => None,
+    word.len() == 64 && all_hex_digits(word)
+}
+
+/// The number of a word among some words.
+fn chosen(words: &[&str], word: &str) -> Option<usize>
+    ensures { result ≡ position (λ known. bytes_eq known.now word.now) words.now }
+{
+    words.iter().position(|known| *known == word)
+}
+
+/// What a word is at a place, where it may stand there.
+pub(crate) fn value_at<'a>(place: &Place, word: &'a str) -> Option<Value<'a>>
+    ensures { option_map value_in result ≡ place_value (place_in place.now) word.now }
+{
+    match place {
+        Place::File(_) => Some(Value::Text(word)),
+        Place::Number { least, most, .. } => match number_of(*least, *most, word) {
+            Some(number) => Some(Value::Number(number)),
+            None => None,
+        },
+        Place::Digits(_) => {
+            if is_digest(word.as_bytes()) {
+                Some(Value::Digits(word))
+            } else {
+                None
+            }
+        }
+        Place::OneOf { words, .. } => match chosen(words, word) {
+            Some(number) => Some(Value::Choice(number)),
+            None => None,
+        },
     }
 }

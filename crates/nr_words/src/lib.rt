@@ -7,6 +7,10 @@ mod parsers;
 mod reading;
 mod words;
 
+pub use forms::{Form, Found, Place, Value};
 pub use numbers::number_in;
-pub use reading::{replay_command, serial_command};
-pub use words::{FileNames, Words, is_free};
+pub use reading::read_words;
+pub use words::{FileNames, Words, is_free, replay_command, serial_command};
+
+#[cfg(test)]
+mod tests;

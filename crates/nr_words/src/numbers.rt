@@ -2,9 +2,9 @@
 
 ghost use Rattle.std.specs.Prelude.{◌≡◌, ◌≤◌, IfSome};
 ghost use Rattle.std.specs.List.{list_all};
-ghost use Rattle.nr_words.specs.Command.{has_no_leading_zero, is_digit, is_numeral, number_in};
+ghost use Rattle.nr_words.specs.Numbers.{has_no_leading_zero, is_digit, is_numeral, number_in};
 
-fn is_digit(byte: u8) -> bool
+pub(crate) fn is_digit(byte: u8) -> bool
     ensures { result ≡ is_digit byte }
 {
     48 <= byte && byte <= 57

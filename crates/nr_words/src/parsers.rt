@@ -1,9 +1,11 @@
-//! The parsers of the command line: a subcommand for each form, with a word for each of its places.
+//! The parser of a table of forms: a subcommand for each form, with a word for each of its places.
 
 ghost use Rattle.std.specs.Prelude.{◌≡◌, IfOk, false};
 ghost use Rattle.clap.specs.Words.{app_of, rule_of};
-ghost use Rattle.nr_words.specs.Parsing.{IsForm, files_app, forms_app, generated_app, replay_app, scheduled_app, serial_app, three_app, word_rule};
+ghost use Rattle.nr_words.specs.Words.{form_in, table_in};
+ghost use Rattle.nr_words.specs.Parsing.{IsForm, form_app, forms_app, table_app, word_rule};
 
+use crate::forms::{Form, name_of};
 use clap::{Arg, Command};
 use std::alloc::{AllocError, Global};
 
@@ -15,48 +17,16 @@ fn word<'a>(alloc: Global, id: &'a str) -> Arg<'a>
     Arg::new(alloc, id).required(true)
 }
 
-/// A form of three words behind its name.
-fn three_words<'a>(
-    alloc: Global,
-    name: &'a str,
-    a: &'a str,
-    b: &'a str,
-    c: &'a str,
-) -> Result<Command<'a>, AllocError>
-    ensures app { IfOk result (λ form. app_of form ≡ three_app name.now a.now b.now c.now) }
+/// The parser of one form.
+fn form_parser<'a>(alloc: Global, form: &Form) -> Result<Command<'a>, AllocError>
+    ensures app { IfOk result (λ parser. app_of parser ≡ form_app (form_in form.now)) }
     ensures form { IfOk result IsForm }
 {
-    let form = Command::new(alloc, name)
-        .arg(word(alloc, a))?
-        .arg(word(alloc, b))?
-        .arg(word(alloc, c))?;
-    Ok(form)
-}
-
-fn files_form<'a>(alloc: Global, name: &'a str) -> Result<Command<'a>, AllocError>
-    ensures app { IfOk result (λ form. app_of form ≡ files_app name.now) }
-    ensures form { IfOk result IsForm }
-{
-    three_words(alloc, name, "CONFIG", "GENESIS", "BLOCKS")
-}
-
-fn scheduled_form<'a>(alloc: Global) -> Result<Command<'a>, AllocError>
-    ensures app { IfOk result (λ form. app_of form ≡ scheduled_app) }
-    ensures form { IfOk result IsForm }
-{
-    let form = Command::new(alloc, "check")
-        .arg(word(alloc, "CONFIG"))?
-        .arg(word(alloc, "GENESIS"))?
-        .arg(word(alloc, "BLOCKS"))?
-        .arg(word(alloc, "SCHEDULE"))?;
-    Ok(form)
-}
-
-fn generated_form<'a>(alloc: Global) -> Result<Command<'a>, AllocError>
-    ensures app { IfOk result (λ form. app_of form ≡ generated_app) }
-    ensures form { IfOk result IsForm }
-{
-    three_words(alloc, "gen", "NUMBER", "SHARDS", "BLOCKS")
+    let mut parser = Command::new(alloc, form.verb);
+    for place in form.places {
+        parser = parser.arg(word(alloc, name_of(place)))?;
+    }
+    Ok(parser)
 }
 
 /// A program without forms yet: one has to stand, and there is no help among them.
@@ -70,28 +40,18 @@ fn forms<'a>(alloc: Global, name: &'a str) -> Command<'a>
         .subcommand_required(true)
 }
 
-/// The parser of `run`, `check` and `gen`.
-pub(crate) fn serial_parser<'a>(alloc: Global) -> Result<Command<'a>, AllocError>
-    ensures { IfOk result (λ parser. app_of parser ≡ serial_app) }
+/// The parser of a program's forms.
+pub(crate) fn table_parser<'a>(
+    alloc: Global,
+    program: &'a str,
+    table: &[Form],
+) -> Result<Command<'a>, AllocError>
+    ensures { IfOk result (λ parser. app_of parser ≡ table_app program.now (table_in table.now)) }
 {
-    let run = files_form(alloc, "run")?;
-    let check = scheduled_form(alloc)?;
-    let generated = generated_form(alloc)?;
-    let parser = forms(alloc, "near_serial")
-        .subcommand(run)?
-        .subcommand(check)?
-        .subcommand(generated)?;
-    Ok(parser)
-}
-
-/// The parser of `replay` and `gen`.
-pub(crate) fn replay_parser<'a>(alloc: Global) -> Result<Command<'a>, AllocError>
-    ensures { IfOk result (λ parser. app_of parser ≡ replay_app) }
-{
-    let replay = files_form(alloc, "replay")?;
-    let generated = generated_form(alloc)?;
-    let parser = forms(alloc, "near_replay")
-        .subcommand(replay)?
-        .subcommand(generated)?;
+    let mut parser = forms(alloc, program);
+    for form in table {
+        let command = form_parser(alloc, form)?;
+        parser = parser.subcommand(command)?;
+    }
     Ok(parser)
 }

@@ -1,5 +1,5 @@
 use Rattle.std.proofs.Common.{◌≡◌, true, arith}
-use Rattle.nr_words.specs.Command.{is_numeral}
+use Rattle.nr_words.specs.Numbers.{is_numeral}
 use Rattle.nr_words.proofs.Numerals.{too_large}
 use Rattle.nr_words.proofs.numbers.number_of.Goals as goal
 
