@@ -81,10 +81,11 @@ abbrev pub are_distinct : List (List ℕ) → Bool
 are_distinct [] = true
 are_distinct (name ∷ names) = not (list_any (bytes_eq name) names) && are_distinct names
 
--- the names of a form's places differ, and they are at most 100
+-- the names of a form's places differ, since a word is found by its place's name; they are at most 100, so that positions can be counted
 abbrev pub is_form : Form → Bool
 is_form form = are_distinct (map name_of form.places) && nat_le (length form.places) 100
 
+-- words can be read by a table; of two forms with one verb the first counts
 abbrev pub is_table : List Form → Bool
 is_table table = list_all is_form table
 

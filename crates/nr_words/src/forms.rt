@@ -15,15 +15,20 @@ pub enum Place {
     File(&'static str),
     /// a number in decimal digits without leading zeros, from `least` to `most`
     Number {
+        /// the name of the place
         name: &'static str,
+        /// the least number that may stand there
         least: u64,
+        /// the greatest
         most: u64,
     },
     /// 64 digits of base 16, in lower case
     Digits(&'static str),
     /// one of these words
     OneOf {
+        /// the name of the place
         name: &'static str,
+        /// the words that may stand there
         words: &'static [&'static str],
     },
 }
@@ -31,15 +36,20 @@ pub enum Place {
 /// The form of a command: its verb, and the places behind it.
 #[derive(Clone, Copy, Debug)]
 pub struct Form {
+    /// The word that the form begins with.
     pub verb: &'static str,
+    /// What has to stand behind it, in order.
     pub places: &'static [Place],
 }
 
 /// What a word is at its place.
 #[derive(Clone, Copy, Debug)]
 pub enum Value<'a> {
+    /// the word of a file
     Text(&'a str),
+    /// a number within the bounds of its place
     Number(u64),
+    /// 64 digits of base 16, in lower case
     Digits(&'a str),
     /// the number of the word among the words of its place, from 0
     Choice(usize),
@@ -48,7 +58,9 @@ pub enum Value<'a> {
 /// The verb of a form, and what the words at its places are.
 #[derive(Debug, Drop)]
 pub struct Found<'a> {
+    /// The verb of the form.
     pub verb: &'static str,
+    /// What stands at its places, in order.
     pub values: Vec<Value<'a>>,
 }
 

@@ -1,6 +1,7 @@
 //! The reading of words by a table of forms.
 
-ghost use Rattle.std.specs.Prelude.{◌≡◌, ◌≢◌, IfOk, IfSome, IsTrue, None, option_and_then, option_map, string_bytes};
+ghost use Rattle.std.specs.Prelude.{◌≡◌, ◌≢◌, IfOk, IfSome, IsTrue, None};
+ghost use Rattle.std.specs.Prelude.{option_and_then, option_map, string_bytes};
 ghost use Rattle.std.specs.List.{list_all};
 ghost use Rattle.clap.specs.Words.{first_of, found_of, kind_of, rows_of, subcommand_rows_of};
 ghost use Rattle.clap.specs.declared.error.kind.ErrorKind.TheVariants.{OutOfMemory};
@@ -42,7 +43,8 @@ fn refused<'a>(error: &Error) -> Result<Option<Found<'a>>, AllocError>
 
 /// What the match at a place is there.
 fn value_of<'a>(place: &Place, found: &ArgMatches<'a>) -> Option<Value<'a>>
-    ensures { option_map value_in result ≡ option_and_then (place_value (place_in place.now)) (first_of (name_of (place_in place.now)) (rows_of (found_of found.now))) }
+    ensures { option_map value_in result ≡ option_and_then (place_value (place_in place.now))
+        (first_of (name_of (place_in place.now)) (rows_of (found_of found.now))) }
 {
     match found.get_str(name_of(place)) {
         Some(word) => value_at(place, word),
@@ -56,7 +58,8 @@ fn values_of<'a>(
     places: &[Place],
     found: &ArgMatches<'a>,
 ) -> Result<Option<Vec<Value<'a>>>, AllocError>
-    ensures { IfOk result (λ read. option_map values_in read ≡ values_by (places_in places.now) (rows_of (found_of found.now))) }
+    ensures { IfOk result (λ read.
+        option_map values_in read ≡ values_by (places_in places.now) (rows_of (found_of found.now))) }
 {
     let mut values = Vec::new(alloc);
     for place in places {
@@ -100,7 +103,8 @@ fn named<'a>(
     name: &str,
     found: &ArgMatches<'a>,
 ) -> Result<Option<Found<'a>>, AllocError>
-    ensures { IfOk result (λ read. option_map found_in read ≡ found_by (table_in table.now) (name.now, rows_of (found_of found.now))) }
+    ensures { IfOk result (λ read.
+        option_map found_in read ≡ found_by (table_in table.now) (name.now, rows_of (found_of found.now))) }
 {
     match form_of(table, name) {
         Some(form) => {
@@ -117,7 +121,8 @@ fn matched<'a>(
     table: &[Form],
     matches: &ArgMatches<'a>,
 ) -> Result<Option<Found<'a>>, AllocError>
-    ensures { IfOk result (λ read. option_map found_in read ≡ option_and_then (found_by (table_in table.now)) (subcommand_rows_of matches.now)) }
+    ensures { IfOk result (λ read.
+        option_map found_in read ≡ option_and_then (found_by (table_in table.now)) (subcommand_rows_of matches.now)) }
 {
     match matches.subcommand() {
         Some((name, found)) => named(alloc, table, name, found),

@@ -1,7 +1,8 @@
 //! The commands of both programs, and what their words are.
 
 ghost use Rattle.std.specs.Prelude.{◌≡◌, IfOk, IfSome, map, option_map};
-ghost use Rattle.nr_words.specs.Command.{GeneratesWithin, check_of, command, command_of, generate_of, is_free, numbers, replay_command, replay_forms, run_of, serial_forms};
+ghost use Rattle.nr_words.specs.Command.{GeneratesWithin, command, command_of, is_free, replay_command};
+ghost use Rattle.nr_words.specs.Command.{check_of, generate_of, numbers, replay_forms, run_of, serial_forms};
 ghost use Rattle.nr_words.specs.Forms.{AllFit};
 ghost use Rattle.nr_words.specs.Words.{CanRun, command_in, found_in, table_in, texts, value_in};
 
@@ -16,8 +17,11 @@ pub enum Words<'a> {
     ReplayFiles(FileNames<'a>),
     /// `gen NUMBER SHARDS BLOCKS`
     GenerateInput {
+        /// the number that the chain is made from
         start: u64,
+        /// 1 to 16
         shards: u32,
+        /// 1 to 256
         blocks: u64,
     },
 }
@@ -25,8 +29,11 @@ pub enum Words<'a> {
 /// The names of a replay's files; `free` names the built-in configuration.
 #[derive(Clone, Copy, Debug)]
 pub struct FileNames<'a> {
+    /// The configuration, or `free`.
     pub config: &'a str,
+    /// The genesis.
     pub genesis: &'a str,
+    /// The blocks.
     pub blocks: &'a str,
     /// The schedule that drives it, where it doesn't just go to its end.
     pub schedule: Option<&'a str>,
