@@ -1,4 +1,3 @@
 pub mod Chains
-pub mod Input
 pub mod Stretches
 pub mod Written

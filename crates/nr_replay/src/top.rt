@@ -2,13 +2,12 @@
 
 ghost use Rattle.std.specs.Prelude.{◌≡◌, ◌≢◌, IfOk};
 ghost use Rattle.nr_bytes.specs.Outside.{Rose};
-ghost use Rattle.nr_top.specs.Answers.{AsksFront, Serves};
-ghost use Rattle.nr_top.specs.Input.{files_of};
+ghost use Rattle.nr_top.specs.Answers.{Serves};
+ghost use Rattle.nr_top.specs.Plans.{plan};
 ghost use Rattle.nr_top.specs.Works.{CanWork, work_text};
 ghost use Rattle.nr_top.specs.declared.status.Status.TheVariants.{Done, ReadFault, WriteFault};
 ghost use Rattle.nr_words.specs.Command.{replay_command};
 ghost use Rattle.nr_words.specs.Words.{texts};
-ghost use Rattle.nr_replay.specs.Input.{replay_input};
 
 use crate::written::text_of;
 use nr_bytes::{Blob, Shelf, Sink};
@@ -40,15 +39,15 @@ pub fn replay<R: Threads + Wait + Sync, S: Shelf, K: Sink, G: Gate + Sync>(
     sink: &mut K,
     gate: &G,
 ) -> Status
-    // The answer is right for the words and files, and the sink took what belongs to it.
-    ensures serves { Serves result (replay_input (texts words.now) (S.held shelf.old)) (K.taken sink.old) (K.taken sink.new) }
+    // The answer is right for the words and files, only files of the command were asked for, in their order, and the
+    // sink took what belongs to it.
+    ensures serves { Serves result (plan (replay_command (texts words.now))) (S.held shelf.old)
+        (S.asked shelf.old) (S.asked shelf.new) (K.taken sink.old) (K.taken sink.new) }
     // Before the writing the sink stays as it is, whatever it tells.
     ensures untouched { result ≢ Done → result ≢ WriteFault → sink.new ≡ sink.old }
     // A fault comes only where a count rose.
     ensures read_fault { result ≡ ReadFault → Rose (S.faults shelf.old) (S.faults shelf.new) }
     ensures write_fault { result ≡ WriteFault → Rose (K.faults sink.old) (K.faults sink.new) }
-    // Only the files of the command were asked for, in their order.
-    ensures asked { AsksFront (S.asked shelf.old) (S.asked shelf.new) (files_of (replay_command (texts words.now))) }
 {
     let run = |work: Work| -> Result<Blob, AllocError>
         requires { CanWork work }

@@ -3,28 +3,17 @@ use Rattle.std.specs.Prelude.{ℕ, List, [], ◌∷◌, ◌++◌, decimal}
 use Rattle.nr_top.specs.declared.status.Status.{Status}
 use Rattle.nr_top.specs.declared.status.Status.TheVariants.{Done, Usage, Config, Genesis, Blocks, Schedule, ReadFault, WriteFault, NoMemory}
 
-abbrev pub exit_status : Status → ℕ
-exit_status Done = 0
-exit_status Usage = 1
-exit_status (Config kind entry) = 2
-exit_status (Genesis kind a b c) = 3
-exit_status (Blocks kind a) = 4
-exit_status ReadFault = 5
-exit_status WriteFault = 6
-exit_status NoMemory = 7
-exit_status (Schedule kind line) = 8
-
--- the numbers that it tells
-abbrev pub numbers : Status → List ℕ
-numbers Done = []
-numbers Usage = []
-numbers (Config kind entry) = kind ∷ entry ∷ []
-numbers (Genesis kind a b c) = kind ∷ a ∷ b ∷ c ∷ []
-numbers (Blocks kind a) = kind ∷ a ∷ []
-numbers ReadFault = []
-numbers WriteFault = []
-numbers NoMemory = []
-numbers (Schedule kind line) = kind ∷ line ∷ []
+-- the exit status, and the numbers that it tells
+abbrev pub told : Status → ℕ × List ℕ
+told Done = (0, [])
+told Usage = (1, [])
+told (Config kind entry) = (2, kind ∷ entry ∷ [])
+told (Genesis kind a b c) = (3, kind ∷ a ∷ b ∷ c ∷ [])
+told (Blocks kind a) = (4, kind ∷ a ∷ [])
+told ReadFault = (5, [])
+told WriteFault = (6, [])
+told NoMemory = (7, [])
+told (Schedule kind line) = (8, kind ∷ line ∷ [])
 
 -- in decimal, each with a space before it
 abbrev pub spaced : List ℕ → List ℕ
@@ -33,4 +22,4 @@ spaced (n ∷ ns) = 32 ∷ decimal n ++ spaced ns
 
 -- the exit status and the numbers, parted by single spaces
 abbrev pub status_line : Status → List ℕ
-status_line status = decimal (exit_status status) ++ spaced (numbers status)
+status_line status = decimal (told status).0 ++ spaced (told status).1

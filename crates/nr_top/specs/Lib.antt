@@ -8,6 +8,6 @@ pub mod Moments
 pub mod Driving
 pub mod Hashing
 pub mod Works
-pub mod Input
+pub mod Plans
 pub mod Answers
 pub mod Exit

@@ -1,7 +1,7 @@
 //! How a program ends with an answer.
 
 ghost use Rattle.std.specs.Prelude.{◌≡◌, Some};
-ghost use Rattle.nr_top.specs.Exit.{exit_status, status_line};
+ghost use Rattle.nr_top.specs.Exit.{status_line, told};
 
 use crate::status::Status;
 use std::fmt;
@@ -11,7 +11,7 @@ impl Status {
     /// 3 `Genesis`, 4 `Blocks`, 5 `ReadFault`, 6 `WriteFault`, 7 `NoMemory` and
     /// 8 `Schedule`.
     pub fn exit_status(&self) -> u8
-        ensures { result ≡ exit_status self.now }
+        ensures { result ≡ (told self.now).0 }
     {
         match self {
             Status::Done => 0,

@@ -1,6 +1,6 @@
-//! What holds of every run.
+//! What holds of every run, and of every command.
 
-ghost use Rattle.std.specs.Prelude.{◌≡◌, List};
+ghost use Rattle.std.specs.Prelude.{◌≡◌, ◌++◌, ℕ, List, Option};
 ghost use Rattle.nr_blocks.specs.declared.block.Block.{Block};
 ghost use Rattle.nr_blocks.specs.declared.genesis.Genesis.{Genesis};
 ghost use Rattle.nr_chunk.specs.Chain.{IsChain, rules_of};
@@ -9,9 +9,13 @@ ghost use Rattle.nr_overlap.specs.Inside.{AreInside};
 ghost use Rattle.nr_overlap.specs.Next.{left};
 ghost use Rattle.nr_overlap.specs.Run.{ending, opening, run_of};
 ghost use Rattle.nr_overlap.specs.declared.event.Event.{Event};
+ghost use Rattle.nr_shell.specs.Plans.{LeadsBy, Plan};
 ghost use Rattle.nr_top.specs.Checking.{events_left};
+ghost use Rattle.nr_top.specs.Plans.{files_of, plan};
 ghost use Rattle.nr_top.specs.Run.{chain};
 ghost use Rattle.nr_top.specs.Totals.{AddUp, totals_at};
+ghost use Rattle.nr_top.specs.declared.status.Status.{Status};
+ghost use Rattle.nr_words.specs.Command.{Command};
 
 /// The totals add up: what the accounts have, what receipts hold and what was burnt are together the
 /// supply of the genesis, and as many receipts were routed as are executed, postponed, delayed and in
@@ -21,4 +25,11 @@ pub fn totals_law()
     ensures run { (c : Config) (g : Genesis) (bs : List Block) → IsChain (chain c g bs) → AddUp (totals_at (chain c g bs) (ending (rules_of (chain c g bs)))) }
     ensures check { (c : Config) (g : Genesis) (bs : List Block) → IsChain (chain c g bs) → (es : List Event) → AreInside (rules_of (chain c g bs)).shards es → AddUp (totals_at (chain c g bs) (run_of (rules_of (chain c g bs)) (opening (rules_of (chain c g bs))) es)) }
     ensures rest { (c : Config) (g : Genesis) (bs : List Block) (es : List Event) → let r = rules_of (chain c g bs) in AreInside r.shards es → let ps = run_of r (opening r) es in run_of r ps (events_left r (left r ps) ps) ≡ ending r }
+{}
+
+/// Whatever its plan comes to, a command asks for its own files alone, in their order, and once for each; words that
+/// are no command ask for none. It does nothing when it runs.
+pub fn asked_law()
+    ensures { (held : List ℕ → Option (List ℕ)) (asked : Option Command) (names : List (List ℕ)) (q : Plan (List ℕ) Status)
+        → LeadsBy held names (plan asked) q → (rest : List (List ℕ)) × (files_of asked ≡ names ++ rest) }
 {}

@@ -1,78 +1,80 @@
-//! The status that tells why a file is refused.
+//! Why a command stops where a file is refused.
 
-ghost use Rattle.std.specs.Prelude.{◌≡◌};
-ghost use Rattle.nr_top.specs.Input.{blocks_status, config_status, genesis_status, schedule_status};
-ghost use Rattle.nr_top.specs.declared.status.Status.TheVariants.{Blocks as faulty_blocks, Genesis as faulty_genesis};
+ghost use Rattle.std.specs.Prelude.{◌≡◌, true};
+ghost use Rattle.nr_blocks.specs.declared.fault.BlocksFault.TheVariants as blocks;
+ghost use Rattle.nr_blocks.specs.declared.fault.GenesisFault.TheVariants as genesis;
+ghost use Rattle.nr_config.specs.declared.fault.ConfigFault.TheVariants as config;
+ghost use Rattle.nr_shell.specs.Answers.{StopsBy};
+ghost use Rattle.nr_top.specs.Answers.{refuses};
+ghost use Rattle.nr_top.specs.Plans.{blocks_status, config_status, genesis_status, schedule_status};
+ghost use Rattle.nr_top.specs.declared.schedule.ScheduleFault.TheVariants as schedule;
+ghost use Rattle.nr_top.specs.declared.status.Status.TheVariants.{Genesis as faulty_genesis};
 
 use crate::schedule::ScheduleFault;
 use crate::status::Status;
 use nr_blocks::{BlocksFault, GenesisFault};
 use nr_config::ConfigFault;
+use nr_shell::Stop;
 
-fn refused_genesis(kind: u32, a: u64, b: u64, c: u64) -> Status
-    ensures { result ≡ faulty_genesis kind a b c }
+fn genesis_refusal(kind: u32, a: u64, b: u64, c: u64) -> Status
+    ensures value { result ≡ faulty_genesis kind a b c }
+    ensures refuses { refuses result ≡ true }
 {
     Status::Genesis { kind, a, b, c }
 }
 
-fn refused_blocks(kind: u32, a: u64) -> Status
-    ensures { result ≡ faulty_blocks kind a }
-{
-    Status::Blocks { kind, a }
-}
-
-/// The status of a faulty configuration.
-pub(crate) fn config_status(fault: ConfigFault) -> Status
-    ensures { result ≡ config_status fault }
+/// Why a faulty configuration stops the command.
+pub(crate) fn config_stop(fault: ConfigFault) -> Stop<Status>
+    ensures { StopsBy refuses config.Memory config_status fault result }
 {
     match fault {
-        ConfigFault::NotJson => Status::Config { kind: 1, entry: 0 },
-        ConfigFault::Missing { entry } => Status::Config { kind: 2, entry },
-        ConfigFault::NotWhole { entry } => Status::Config { kind: 3, entry },
-        ConfigFault::OutOfRange { entry } => Status::Config { kind: 4, entry },
-        ConfigFault::Memory => Status::NoMemory,
+        ConfigFault::NotJson => Stop::Refused(Status::Config { kind: 1, entry: 0 }),
+        ConfigFault::Missing { entry } => Stop::Refused(Status::Config { kind: 2, entry }),
+        ConfigFault::NotWhole { entry } => Stop::Refused(Status::Config { kind: 3, entry }),
+        ConfigFault::OutOfRange { entry } => Stop::Refused(Status::Config { kind: 4, entry }),
+        ConfigFault::Memory => Stop::Memory,
     }
 }
 
-/// The status of a faulty genesis.
-pub(crate) fn genesis_status(fault: GenesisFault) -> Status
-    ensures { result ≡ genesis_status fault }
+/// Why a faulty genesis stops the command.
+pub(crate) fn genesis_stop(fault: GenesisFault) -> Stop<Status>
+    ensures { StopsBy refuses genesis.Memory genesis_status fault result }
 {
     match fault {
-        GenesisFault::Spelling { at } => refused_genesis(1, at, 0, 0),
-        GenesisFault::Duplicate { index } => refused_genesis(2, index, 0, 0),
-        GenesisFault::NoOwner { index } => refused_genesis(3, index, 0, 0),
+        GenesisFault::Spelling { at } => Stop::Refused(genesis_refusal(1, at, 0, 0)),
+        GenesisFault::Duplicate { index } => Stop::Refused(genesis_refusal(2, index, 0, 0)),
+        GenesisFault::NoOwner { index } => Stop::Refused(genesis_refusal(3, index, 0, 0)),
         GenesisFault::Usage {
             index,
             stated,
             counted,
-        } => refused_genesis(4, index, stated, counted),
-        GenesisFault::Supply => refused_genesis(5, 0, 0, 0),
-        GenesisFault::CodeHash { index } => refused_genesis(6, index, 0, 0),
-        GenesisFault::Memory => Status::NoMemory,
+        } => Stop::Refused(genesis_refusal(4, index, stated, counted)),
+        GenesisFault::Supply => Stop::Refused(genesis_refusal(5, 0, 0, 0)),
+        GenesisFault::CodeHash { index } => Stop::Refused(genesis_refusal(6, index, 0, 0)),
+        GenesisFault::Memory => Stop::Memory,
     }
 }
 
-/// The status of faulty blocks.
-pub(crate) fn blocks_status(fault: BlocksFault) -> Status
-    ensures { result ≡ blocks_status fault }
+/// Why faulty blocks stop the command.
+pub(crate) fn blocks_stop(fault: BlocksFault) -> Stop<Status>
+    ensures { StopsBy refuses blocks.Memory blocks_status fault result }
 {
     match fault {
-        BlocksFault::Spelling { at } => refused_blocks(1, at),
-        BlocksFault::ShardCount { height } => refused_blocks(2, height),
-        BlocksFault::HeightOrder { height } => refused_blocks(3, height),
-        BlocksFault::TooMany => refused_blocks(4, 0),
-        BlocksFault::Stake { at } => refused_blocks(5, at),
-        BlocksFault::Memory => Status::NoMemory,
+        BlocksFault::Spelling { at } => Stop::Refused(Status::Blocks { kind: 1, a: at }),
+        BlocksFault::ShardCount { height } => Stop::Refused(Status::Blocks { kind: 2, a: height }),
+        BlocksFault::HeightOrder { height } => Stop::Refused(Status::Blocks { kind: 3, a: height }),
+        BlocksFault::TooMany => Stop::Refused(Status::Blocks { kind: 4, a: 0 }),
+        BlocksFault::Stake { at } => Stop::Refused(Status::Blocks { kind: 5, a: at }),
+        BlocksFault::Memory => Stop::Memory,
     }
 }
 
-/// The status of a faulty schedule.
-pub(crate) fn schedule_status(fault: ScheduleFault) -> Status
-    ensures { result ≡ schedule_status fault }
+/// Why a faulty schedule stops the command.
+pub(crate) fn schedule_stop(fault: ScheduleFault) -> Stop<Status>
+    ensures { StopsBy refuses schedule.Memory schedule_status fault result }
 {
     match fault {
-        ScheduleFault::NoLine { line } => Status::Schedule { kind: 1, line },
-        ScheduleFault::Memory => Status::NoMemory,
+        ScheduleFault::NoLine { line } => Stop::Refused(Status::Schedule { kind: 1, line }),
+        ScheduleFault::Memory => Stop::Memory,
     }
 }

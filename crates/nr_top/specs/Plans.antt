@@ -1,0 +1,139 @@
+-- What each command does, as a plan: the files that it asks for in their order, and what it answers or refuses. This
+-- project's own commands and limits.
+use Rattle.std.specs.Prelude.{ℕ, ◌+◌, List, [], ◌∷◌, ◌++◌, cond, length, Option, Some, None}
+use Rattle.nr_words.specs.Command.{Command, Replay, Generate, Names, is_free}
+use Rattle.nr_config.specs.Config.{Config, free}
+use Rattle.nr_config.specs.Reading.{configuration}
+use Rattle.nr_config.specs.declared.fault.ConfigFault.{ConfigFault}
+use Rattle.nr_config.specs.declared.fault.ConfigFault.TheVariants as fault
+use Rattle.nr_blocks.specs.Judging.{genesis_read, blocks_read}
+use Rattle.nr_blocks.specs.declared.block.Block.{Block}
+use Rattle.nr_blocks.specs.declared.fault.BlocksFault.{BlocksFault}
+use Rattle.nr_blocks.specs.declared.fault.BlocksFault.TheVariants as blocks
+use Rattle.nr_blocks.specs.declared.fault.GenesisFault.{GenesisFault}
+use Rattle.nr_blocks.specs.declared.fault.GenesisFault.TheVariants as genesis
+use Rattle.nr_blocks.specs.declared.genesis.Genesis.{Genesis}
+use Rattle.nr_chunk.specs.Chain.{Chain, shards_of}
+use Rattle.nr_shell.specs.Plans.{Plan, Answer, Refuse, and_then, by_reading, file_plan}
+use Rattle.nr_top.specs.Generated.{generated_text}
+use Rattle.nr_top.specs.Run.{chain, check_text, run_text}
+use Rattle.nr_top.specs.Schedule.{schedule_read}
+use Rattle.nr_top.specs.declared.chain.ChainFiles.{ChainFiles}
+use Rattle.nr_top.specs.declared.schedule.Line.{Line}
+use Rattle.nr_top.specs.declared.schedule.ScheduleFault.{ScheduleFault}
+use Rattle.nr_top.specs.declared.schedule.ScheduleFault.TheVariants as schedule
+use Rattle.nr_top.specs.declared.status.Status.{Status}
+use Rattle.nr_top.specs.declared.status.Status.TheVariants.{Usage, Config as faulty_config, Genesis as faulty_genesis, Blocks as faulty_blocks, Schedule as faulty_schedule, NoMemory}
+
+-- ---- the configuration: the built-in one, or that of a file of at most 1 MiB; its faults, by kind and entry
+abbrev pub config_status : ConfigFault → Status
+config_status fault.NotJson = faulty_config 1 0
+config_status (fault.Missing entry) = faulty_config 2 entry
+config_status (fault.NotWhole entry) = faulty_config 3 entry
+config_status (fault.OutOfRange entry) = faulty_config 4 entry
+config_status fault.Memory = NoMemory
+
+abbrev pub by_config_bytes : List ℕ → Plan Config Status
+by_config_bytes bytes = by_reading config_status (configuration bytes)
+
+abbrev pub config_plan : List ℕ → Plan Config Status
+config_plan word =
+    cond (is_free word) (Answer free) (and_then (file_plan word 1048576 (faulty_config 0 0)) by_config_bytes)
+
+-- ---- the genesis, in a file of at most 64 MiB; its faults, by kind and numbers
+abbrev pub genesis_status : GenesisFault → Status
+genesis_status (genesis.Spelling at) = faulty_genesis 1 at 0 0
+genesis_status (genesis.Duplicate index) = faulty_genesis 2 index 0 0
+genesis_status (genesis.NoOwner index) = faulty_genesis 3 index 0 0
+genesis_status (genesis.Usage index stated counted) = faulty_genesis 4 index stated counted
+genesis_status genesis.Supply = faulty_genesis 5 0 0 0
+genesis_status (genesis.CodeHash index) = faulty_genesis 6 index 0 0
+genesis_status genesis.Memory = NoMemory
+
+abbrev pub by_genesis_bytes : Config → List ℕ → Plan Genesis Status
+by_genesis_bytes c bytes = by_reading genesis_status (genesis_read c bytes)
+
+abbrev pub genesis_plan : Config → List ℕ → Plan Genesis Status
+genesis_plan c name = and_then (file_plan name 67108864 (faulty_genesis 0 0 0 0)) (by_genesis_bytes c)
+
+-- ---- the blocks for so many shards, in a file of at most 256 MiB; their faults, by kind and number
+abbrev pub blocks_status : BlocksFault → Status
+blocks_status (blocks.Spelling at) = faulty_blocks 1 at
+blocks_status (blocks.ShardCount height) = faulty_blocks 2 height
+blocks_status (blocks.HeightOrder height) = faulty_blocks 3 height
+blocks_status blocks.TooMany = faulty_blocks 4 0
+blocks_status (blocks.Stake at) = faulty_blocks 5 at
+blocks_status blocks.Memory = NoMemory
+
+abbrev pub by_blocks_bytes : ℕ → List ℕ → Plan (List Block) Status
+by_blocks_bytes shards bytes = by_reading blocks_status (blocks_read shards bytes)
+
+abbrev pub blocks_plan : ℕ → List ℕ → Plan (List Block) Status
+blocks_plan shards name = and_then (file_plan name 268435456 (faulty_blocks 0 0)) (by_blocks_bytes shards)
+
+-- ---- the lines of a schedule for so many shards, in a file of at most 1 MiB; its faults, by kind and line
+abbrev pub schedule_status : ScheduleFault → Status
+schedule_status (schedule.NoLine n) = faulty_schedule 1 n
+schedule_status schedule.Memory = NoMemory
+
+abbrev pub by_schedule_bytes : ℕ → List ℕ → Plan (List Line) Status
+by_schedule_bytes shards bytes = by_reading schedule_status (schedule_read shards bytes)
+
+abbrev pub schedule_plan : ℕ → List ℕ → Plan (List Line) Status
+schedule_plan shards name = and_then (file_plan name 1048576 (faulty_schedule 0 0)) (by_schedule_bytes shards)
+
+-- ---- the chain of three files, each of which is asked for once the one before has passed
+abbrev pub by_genesis : Config → Names → Genesis → Plan Chain Status
+by_genesis c names g = and_then (blocks_plan (length g.layout + 1) names.blocks) (λ bs. Answer (chain c g bs))
+
+abbrev pub by_config : Names → Config → Plan Chain Status
+by_config names c = and_then (genesis_plan c names.genesis) (by_genesis c names)
+
+abbrev pub chain_plan : Names → Plan Chain Status
+chain_plan names = and_then (config_plan names.config) (by_config names)
+
+-- the chain that was loaded
+abbrev pub loaded : ChainFiles → Chain
+loaded files = chain files.config files.genesis files.blocks
+
+-- ---- commands
+-- `run` and `replay`
+abbrev pub run_plan : Names → Plan (List ℕ) Status
+run_plan names = and_then (chain_plan names) (λ x. Answer (run_text x))
+
+-- `check`
+abbrev pub by_chain : List ℕ → Chain → Plan (List ℕ) Status
+by_chain file x = and_then (schedule_plan (shards_of x) file) (λ lines. Answer (check_text x lines))
+
+abbrev pub check_plan : Names → List ℕ → Plan (List ℕ) Status
+check_plan names file = and_then (chain_plan names) (by_chain file)
+
+abbrev pub replay_plan : Names → Option (List ℕ) → Plan (List ℕ) Status
+replay_plan names None = run_plan names
+replay_plan names (Some file) = check_plan names file
+
+-- `gen` asks for no file
+abbrev pub command_plan : Command → Plan (List ℕ) Status
+command_plan (Replay names) = replay_plan names names.schedule
+command_plan (Generate start shards blocks) = Answer (generated_text start shards blocks)
+
+-- words that are no command are refused
+abbrev pub plan : Option Command → Plan (List ℕ) Status
+plan None = Refuse Usage
+plan (Some c) = command_plan c
+
+-- ---- the files of a command in their order, each of which it asks for once
+abbrev pub config_files : List ℕ → List (List ℕ)
+config_files word = cond (is_free word) [] (word ∷ [])
+
+abbrev pub chain_files : Names → List (List ℕ)
+chain_files names = config_files names.config ++ names.genesis ∷ names.blocks ∷ []
+
+abbrev pub schedule_files : Option (List ℕ) → List (List ℕ)
+schedule_files None = []
+schedule_files (Some file) = file ∷ []
+
+abbrev pub files_of : Option Command → List (List ℕ)
+files_of None = []
+files_of (Some (Replay names)) = chain_files names ++ schedule_files names.schedule
+files_of (Some (Generate start shards blocks)) = []

@@ -1,0 +1,69 @@
+//! The commands: what each answers before anything is written.
+
+ghost use Rattle.nr_shell.specs.Answers.{Follows};
+ghost use Rattle.nr_top.specs.Answers.{refuses};
+ghost use Rattle.nr_top.specs.Plans.{command_plan, replay_plan};
+ghost use Rattle.nr_top.specs.Works.{IsRight, Runs};
+ghost use Rattle.nr_words.specs.Words.{CanRun, command_in, names_in};
+
+mod check;
+mod generate;
+mod run;
+
+use crate::status::Status;
+use crate::work::Work;
+use check::check_text;
+use generate::generate_text;
+use nr_bytes::{Blob, Shelf};
+use nr_shell::Stop;
+use nr_words::{FileNames, Words};
+use run::run_text;
+use std::alloc::{AllocError, Global};
+
+/// The text of a replay, to its end or by a schedule.
+fn replay_text<F: Fn(Work) -> Result<Blob, AllocError>, S: Shelf>(
+    alloc: Global,
+    run: &F,
+    names: &FileNames<'_>,
+    shelf: &mut S,
+) -> Result<Blob, Stop<Status>>
+    requires can { Runs (F.pre run.now) }
+    requires right { IsRight (F.post run.now) }
+    ensures { Follows refuses (λ text. text) (S.held shelf.old) (S.held shelf.new)
+        (S.asked shelf.old) (S.asked shelf.new) (S.faults shelf.old) (S.faults shelf.new)
+        result (replay_plan (names_in names.now) (names_in names.now).schedule) }
+{
+    match names.schedule {
+        None => run_text(alloc, run, names, shelf),
+        Some(schedule) => check_text(alloc, names, schedule, shelf),
+    }
+}
+
+/// The text that a command asks for.
+///
+/// # Errors
+///
+/// `Unread` where a file could not be read, `Memory` where memory ran out, and `Refused` with the first refusal of the
+/// command's plan.
+pub(crate) fn text_of<F: Fn(Work) -> Result<Blob, AllocError>, S: Shelf>(
+    alloc: Global,
+    run: &F,
+    command: &Words<'_>,
+    shelf: &mut S,
+) -> Result<Blob, Stop<Status>>
+    requires can_run { CanRun command.now }
+    requires can { Runs (F.pre run.now) }
+    requires right { IsRight (F.post run.now) }
+    ensures { Follows refuses (λ text. text) (S.held shelf.old) (S.held shelf.new)
+        (S.asked shelf.old) (S.asked shelf.new) (S.faults shelf.old) (S.faults shelf.new)
+        result (command_plan (command_in command.now)) }
+{
+    match command {
+        Words::ReplayFiles(names) => replay_text(alloc, run, names, shelf),
+        Words::GenerateInput {
+            start,
+            shards,
+            blocks,
+        } => generate_text(run, *start, *shards, *blocks),
+    }
+}
