@@ -1,7 +1,8 @@
 -- What the cut of worlds and of lists keeps.
-use Rattle.std.proofs.Common.{◌≡◌, ℕ, zero, suc, ◌+◌, ◌^◌, ◌<◌, ◌≤◌, Bool, true, false, cond, List, [], ◌∷◌, ◌++◌, map, length, Option, Some, None, Ordering, refl, sym, ap, subst, ◌∙◌, arith}
-use Rattle.std.specs.Prelude.{◌==◌, sum_by, filter, not, slice_get}
-use Rattle.std.specs.FinMap.{FinMap, IsAntisymmetric, get, entries, values, retain_keys}
+use Rattle.std.proofs.Common.{◌≡◌, ℕ, zero, suc, ◌+◌, ◌^◌, ◌<◌, ◌≤◌, Bool, true, false, cond, List, [], ◌∷◌, ◌++◌}
+use Rattle.std.proofs.Common.{map, length, Some, None, Ordering, refl, sym, ap, subst, ◌∙◌, arith}
+use Rattle.std.specs.Prelude.{◌==◌, sum_by, not, slice_get}
+use Rattle.std.specs.FinMap.{FinMap, IsAntisymmetric, get, entries, retain_keys}
 use Rattle.std.specs.List.{AllByRecursion, flat_map, range_with_len}
 use Rattle.std.specs.Cmp.{IsTotalOrder}
 use Rattle.std.specs.Cmp.Lexicographic.{nat_list_cmp_total}
@@ -10,9 +11,12 @@ use Rattle.std.proofs.lemmas.List.Sums.{sum_by-cons, sum_by-append}
 use Rattle.std.proofs.lemmas.Map.Lookups.{exact_bytes}
 use Rattle.nr_config.specs.Config.{Config}
 use Rattle.nr_cut.specs.Cut.{joined, beside, all_beside, lives_in, cut_world, cut_worlds, carried, HasOnly, AreApart}
-use Rattle.nr_cut.specs.Laws.{CanCut, IsFound, KeepsWorlds, AreFor, KeepsLists}
-use Rattle.nr_cut.proofs.Maps.{HasOwners, either, none_left, if_passes, sum_of_values, sum-filter, sum_spread, test_same, test_other, test_of, nothing, get-joined, get-part, sum-part, absent}
-use Rattle.nr_cut.proofs.Worlds.{Owned, owned, only_part, other, each_kept, each_both, fewer_delayed, valid_beside, accounts_of_both, postponed_of_both, delayed_of_both, tokens_of_both, owned_beside, owned_weaker, owned_none_here}
+use Rattle.nr_cut.specs.Laws.{CanCut, IsFound, KeepsWorlds, KeepsLists}
+use Rattle.nr_cut.proofs.Maps.{HasOwners, either, none_left, if_passes, sum_of_values, sum-filter, sum_spread}
+use Rattle.nr_cut.proofs.Maps.{test_same, test_other, test_of, nothing, get-joined, get-part, sum-part, absent}
+use Rattle.nr_cut.proofs.Worlds.{Owned, owned, only_part, other, each_kept, each_both, fewer_delayed, valid_beside}
+use Rattle.nr_cut.proofs.Worlds.{accounts_of_both, postponed_of_both, delayed_of_both, tokens_of_both, owned_beside}
+use Rattle.nr_cut.proofs.Worlds.{owned_weaker, owned_none_here}
 use Rattle.nr_fees.specs.Fees.{receipt_tokens}
 use Rattle.nr_layout.specs.Layout.{shard_of, out_to, parts}
 use Rattle.nr_layout.proofs.Counting.{at_most}
@@ -21,7 +25,7 @@ use Rattle.nr_records.specs.declared.account.Account.{Account}
 use Rattle.nr_records.specs.declared.receipt.Receipt.{Receipt}
 use Rattle.nr_state.specs.Tokens.{world_tokens, postponed_sum, delayed_sum}
 use Rattle.nr_state.specs.Valid.{IsValidWorld, IsBounded}
-use Rattle.nr_state.specs.World.{World, no_world, bytes_cmp, pair_cmp, key_cmp, account_tokens, accounts_tokens}
+use Rattle.nr_state.specs.World.{World, no_world, bytes_cmp, pair_cmp, account_tokens, accounts_tokens}
 use Rattle.nr_state.specs.Scopes.{part_of}
 use Rattle.nr_state.proofs.ValidOwned.{key_total, pair_total, exact_keys, exact_data}
 use Rattle.nr_state.proofs.ValidPart.{part_valid}
@@ -33,12 +37,14 @@ sum-map f g [] = refl
 sum-map f g (x ∷ xs) =
     sum_by-cons f (g x) (map g xs) ∙ ap (λ n. f (g x) + n) (sum-map f g xs) ∙ sym (sum_by-cons (λ x. f (g x)) x xs)
 
-each_mapped : {B : Type 0} (P : B → Type 0) (g : ℕ → B) → ((n : ℕ) → P (g n)) → (ns : List ℕ) → AllByRecursion P (map g ns)
+each_mapped : {B : Type 0} (P : B → Type 0) (g : ℕ → B) → ((n : ℕ) → P (g n)) → (ns : List ℕ)
+    → AllByRecursion P (map g ns)
 each_mapped P g all [] = tt
 each_mapped P g all (n ∷ ns) = (all n, each_mapped P g all ns)
 
 -- the item at a place
-mapped_at : {B : Type 0} (g : ℕ → B) (n a s : ℕ) (x : B) → slice_get (map g (range_with_len a n)) s ≡ Some x → x ≡ g (a + s)
+mapped_at : {B : Type 0} (g : ℕ → B) (n a s : ℕ) (x : B) → slice_get (map g (range_with_len a n)) s ≡ Some x
+    → x ≡ g (a + s)
 mapped_at g zero a s x e = absurd cc
 mapped_at g (suc n) a zero x e = let is : g a ≡ x = cc in sym is ∙ ap g (omega arith)
 mapped_at g (suc n) a (suc s) x e = mapped_at g n (a + 1) s x e ∙ ap g (omega arith)
@@ -65,7 +71,8 @@ module _ (old : List (List ℕ)) where
       let is : shard_of old id ≡ j = test_of (shard_of old id) j h in
       ap not (test_other (shard_of old id) i (λ e. omega (arith, is, e, l)))
 
-  rest_other : (i j : ℕ) (ws : List World) → i < j → AreApartFrom old j ws → Owned (other (lives_in old i)) (all_beside ws)
+  rest_other : (i j : ℕ) (ws : List World) → i < j → AreApartFrom old j ws
+      → Owned (other (lives_in old i)) (all_beside ws)
   rest_other i j [] l apart = owned_none_here (other (lives_in old i))
   rest_other i j (w ∷ ws) l apart =
       owned_beside (other (lives_in old i)) w (all_beside ws)
@@ -86,10 +93,12 @@ module _ (old : List (List ℕ)) where
         ∙ ap (λ n. f w + n) (all_sum f none both (j + 1) ws apart.1) ∙ sym (sum_by-cons f w ws)
 
     none_accounts : accounts_tokens no_world ≡ 0
-    none_accounts = ap (λ (es : List (List ℕ × Account)). sum_by account_tokens (map (λ e. e.1) es)) (nothing bytes_cmp Account)
+    none_accounts =
+        ap (λ (es : List (List ℕ × Account)). sum_by account_tokens (map (λ e. e.1) es)) (nothing bytes_cmp Account)
 
     none_postponed : (f : Receipt → ℕ) → postponed_sum f no_world ≡ 0
-    none_postponed f = ap (λ (es : List ((List ℕ × List ℕ) × Receipt)). sum_by f (map (λ e. e.1) es)) (nothing pair_cmp Receipt)
+    none_postponed f =
+        ap (λ (es : List ((List ℕ × List ℕ) × Receipt)). sum_by f (map (λ e. e.1) es)) (nothing pair_cmp Receipt)
 
     all_accounts : (j : ℕ) (ws : List World) → AreApartFrom old j ws
         → accounts_tokens (all_beside ws) ≡ sum_by accounts_tokens ws
@@ -121,7 +130,9 @@ module _ (old : List (List ℕ)) where
         (omega (arith, sum, few, all_tokens (j + 1) ws apart.1))
 
   -- ---- what is found under a key
-  module _ {K X : Type 0} {R : K → K → Ordering} (o : IsTotalOrder R) (same : IsAntisymmetric R) (owner : K → List ℕ) (column : World → FinMap R X) (joins : (a b : World) → column (beside a b) ≡ joined (column a) (column b)) (has : (test : List ℕ → Bool) (w : World) → Owned test w → HasOwners owner test (column w)) where
+  module _ {K X : Type 0} {R : K → K → Ordering} (o : IsTotalOrder R) (same : IsAntisymmetric R) (owner : K → List ℕ)
+      (column : World → FinMap R X) (joins : (a b : World) → column (beside a b) ≡ joined (column a) (column b))
+      (has : (test : List ℕ → Bool) (w : World) → Owned test w → HasOwners owner test (column w)) where
     found_in : (j n : ℕ) (ws : List World) (w : World) (k : K) → AreApartFrom old j ws → slice_get ws n ≡ Some w
         → shard_of old (owner k) ≡ j + n → get (column (all_beside ws)) k ≡ get (column w) k
     found_in j n [] w k apart e at = absurd cc
@@ -145,7 +156,8 @@ module _ (old : List (List ℕ)) where
         ∙ found_in (j + 1) n ws w k apart.1 e (omega (arith, at))
 
     found : (new : List (List ℕ)) (ws : List World) → AreApartFrom old 0 ws
-        → ((shard : ℕ) → column (cut_world new ws shard) ≡ retain_keys (column (all_beside ws)) (λ k. lives_in new shard (owner k)))
+        → ((shard : ℕ)
+        → column (cut_world new ws shard) ≡ retain_keys (column (all_beside ws)) (λ k. lives_in new shard (owner k)))
         → IsFound old new ws owner column
     found new ws apart parts k w e =
         let shard : ℕ = shard_of new (owner k) in
@@ -159,7 +171,8 @@ module _ (new : List (List ℕ)) (ws : List World) where
   cut_apart : AreApart new (cut_worlds new ws)
   unfolding cut_world
   cut_apart s w e =
-      subst (HasOnly (lives_in new s)) (sym (mapped_at (cut_world new ws) (length new + 1) 0 s w e ∙ ap (cut_world new ws) (omega arith)))
+      subst (HasOnly (lives_in new s))
+      (sym (mapped_at (cut_world new ws) (length new + 1) 0 s w e ∙ ap (cut_world new ws) (omega arith)))
       (only_part (lives_in new s) (all_beside ws) (out_to new s (all_beside ws).delayed))
 
   cut_valid : (c : Config) (s : ℕ) → IsValidWorld c (all_beside ws) → IsValidWorld c (cut_world new ws s)
@@ -200,7 +213,8 @@ module _ (new : List (List ℕ)) (ws : List World) where
 
   three : (c : Config) (vs : List World)
       → sum_by (world_tokens c) vs
-      ≡ sum_by accounts_tokens vs + (sum_by (postponed_sum (receipt_tokens c)) vs + sum_by (delayed_sum (receipt_tokens c)) vs)
+      ≡ sum_by accounts_tokens vs
+      + (sum_by (postponed_sum (receipt_tokens c)) vs + sum_by (delayed_sum (receipt_tokens c)) vs)
   three c [] = omega arith
   three c (v ∷ vs) =
       omega (
@@ -221,7 +235,8 @@ module _ (new : List (List ℕ)) (ws : List World) where
   served_all (v ∷ vs) = refl
 
 -- ---- the whole
-pub keeps_worlds : (c : Config) (old new : List (List ℕ)) (ws : List World) → CanCut c old ws → KeepsWorlds c old new ws
+pub keeps_worlds : (c : Config) (old new : List (List ℕ)) (ws : List World) → CanCut c old ws
+    → KeepsWorlds c old new ws
 unfolding cut_world
 keeps_worlds c old new ws can =
     let apart : AreApartFrom old 0 ws = apart_from old 0 ws
@@ -256,7 +271,8 @@ keeps_worlds c old new ws can =
       postponed_sum = postponed;
       delayed_sum = delayed;
       tokens_sum = three new ws c (cut_worlds new ws)
-          ∙ (λ i. accounts i + (postponed (receipt_tokens c) i + delayed (receipt_tokens c) i)) ∙ sym (three new ws c ws);
+          ∙ (λ i. accounts i + (postponed (receipt_tokens c) i + delayed (receipt_tokens c) i))
+          ∙ sym (three new ws c ws);
     }
 
 -- ---- lists
@@ -273,7 +289,8 @@ sum-flat f (list ∷ lists) =
     ∙ sym (sum_by-cons (λ l. sum_by f l) list lists)
 
 module _ (new : List (List ℕ)) where
-  right : (s : ℕ) (list : List Receipt) → AllByRecursion (λ (r : Receipt). shard_of new r.receiver ≡ s) (out_to new s list)
+  right : (s : ℕ) (list : List Receipt)
+      → AllByRecursion (λ (r : Receipt). shard_of new r.receiver ≡ s) (out_to new s list)
   right s [] = tt
   right s (r ∷ list) =
       elim (shard_of new r.receiver == s) as
@@ -283,7 +300,8 @@ module _ (new : List (List ℕ)) where
         | false ↦ λ e. right s list
       ] refl
 
-  are_for : (n : ℕ) (all list : List Receipt) (s : ℕ) → slice_get (map (λ s. out_to new s all) (range_with_len 0 n)) s ≡ Some list
+  are_for : (n : ℕ) (all list : List Receipt) (s : ℕ)
+      → slice_get (map (λ s. out_to new s all) (range_with_len 0 n)) s ≡ Some list
       → AllByRecursion (λ (r : Receipt). shard_of new r.receiver ≡ s) list
   are_for n all list s e =
       subst (AllByRecursion (λ (r : Receipt). shard_of new r.receiver ≡ s))
@@ -295,7 +313,8 @@ module _ (new : List (List ℕ)) where
   each_carried P lists is =
       let all : List Receipt = flat_map (λ list. list) lists in
       each_mapped (AllByRecursion P) (λ s. out_to new s all)
-      (λ s. each_kept P (λ r. shard_of new r.receiver == s) all (each_flat P lists is)) (range_with_len 0 (length new + 1))
+      (λ s. each_kept P (λ r. shard_of new r.receiver == s) all (each_flat P lists is))
+      (range_with_len 0 (length new + 1))
 
   pub keeps_lists : (lists : List (List Receipt)) → KeepsLists new lists
   keeps_lists lists =
@@ -305,8 +324,10 @@ module _ (new : List (List ℕ)) where
         receivers = λ s list e. are_for (length new + 1) all list s e;
         sum = λ f.
             sum-map (λ list. sum_by f list) (λ s. out_to new s all) (range_with_len 0 (length new + 1))
-            ∙ (λ i. sum_by (λ s. sum-filter f (λ r. shard_of new r.receiver == s) all i) (range_with_len 0 (length new + 1)))
-            ∙ sum_spread f (λ r. shard_of new r.receiver) (length new + 1) (λ r. omega (arith, at_most new r.receiver)) all
+            ∙ (λ i. sum_by (λ s. sum-filter f (λ r. shard_of new r.receiver == s) all i)
+            (range_with_len 0 (length new + 1)))
+            ∙ sum_spread f (λ r. shard_of new r.receiver) (length new + 1)
+            (λ r. omega (arith, at_most new r.receiver)) all
             ∙ sum-flat f lists;
         bounded = λ c is. each_carried (IsBounded c) lists is;
       }

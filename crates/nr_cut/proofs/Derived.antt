@@ -1,7 +1,7 @@
 -- What is derived from postponed receipts, of the part of a world and of worlds side by side.
-use Rattle.std.proofs.Common.{◌≡◌, Bool, List, ◌++◌, ℕ, map, Option, Some, None, Ordering, refl, sym, ap, ◌∙◌}
+use Rattle.std.proofs.Common.{◌≡◌, Bool, List, ◌++◌, ℕ, map, Option, Some, None, Ordering, sym, ap, ◌∙◌}
 use Rattle.std.specs.Prelude.{not}
-use Rattle.std.specs.FinMap.{FinMap, empty, entries, from_entries, get, get-empty, retain_keys}
+use Rattle.std.specs.FinMap.{FinMap, empty, entries, from_entries, get-empty, retain_keys}
 use Rattle.std.specs.List.{flat_map}
 use Rattle.std.specs.Cmp.Lexicographic.{nat_list_cmp_total}
 use Rattle.std.proofs.lemmas.Map.Lookups.{exact_bytes}
@@ -9,9 +9,8 @@ use Rattle.nr_columns.specs.Columns.{Columns}
 use Rattle.nr_columns.specs.Orders.{pair_cmp}
 use Rattle.nr_columns.proofs.Empty.{entries_empty}
 use Rattle.nr_cut.specs.Cut.{HasOnly, beside, joined}
-use Rattle.nr_ids.specs.declared.key.Hash32.{Hash32}
 use Rattle.nr_records.specs.declared.receipt.Receipt.{Receipt}
-use Rattle.nr_state.specs.Flat.{awaited_in, awaits, columns_of, missing_in, missing_inputs}
+use Rattle.nr_state.specs.Flat.{awaited_in, awaits, missing_in, missing_inputs}
 use Rattle.nr_state.specs.Keyed.{IsKeyed}
 use Rattle.nr_state.specs.Scopes.{all_of, over, over_map, part_of}
 use Rattle.nr_state.specs.World.{World, no_world}
@@ -28,7 +27,8 @@ none_awaited : awaited_in no_world ≡ empty
 none_awaited = λ i. from_entries (flat_map awaits (map (λ e. e.1) (entries_empty {X = Receipt} pair_cmp i)))
 
 none_missing : missing_in no_world ≡ empty
-none_missing = λ i. from_entries (map (λ (e : Key × Receipt). (e.0, missing_inputs no_world e.1)) (entries_empty pair_cmp i))
+none_missing = λ i.
+    from_entries (map (λ (e : Key × Receipt). (e.0, missing_inputs no_world e.1)) (entries_empty pair_cmp i))
 
 -- ---- of a part
 module _ (test : List ℕ → Bool) (w : World) (keyed : IsKeyed w) where
@@ -64,14 +64,19 @@ over_joined : {K X : Type 0} {R : K → K → Ordering} (test : K → Bool) (m n
 unfolding over_map
 over_joined test m n e f = λ i. from_entries (entries (e i) ++ entries (f i))
 
-module _ (test : List ℕ → Bool) (a b : World) (one : HasOnly test a) (other : HasOnly (λ id. not (test id)) b) (ka : IsKeyed a) (kb : IsKeyed b) where
+module _ (test : List ℕ → Bool) (a b : World) (one : HasOnly test a) (other : HasOnly (λ id. not (test id)) b)
+    (ka : IsKeyed a) (kb : IsKeyed b) where
   abbrev mixed : World
   mixed = over (all_of test) a b
 
   waiting_alike : record (beside a b) { received = mixed.received; postponed = mixed.postponed } ≡ beside a b
   waiting_alike = λ i. record (beside a b) {
-    received = over_joined (λ (k : Key). test k.0) a.received b.received (λ j. (one j).received) (λ j. (other j).received) i;
-    postponed = over_joined (λ (k : Key). test k.0) a.postponed b.postponed (λ j. (one j).postponed) (λ j. (other j).postponed) i;
+    received =
+        over_joined (λ (k : Key). test k.0) a.received b.received (λ j. (one j).received)
+        (λ j. (other j).received) i;
+    postponed =
+        over_joined (λ (k : Key). test k.0) a.postponed b.postponed (λ j. (one j).postponed)
+        (λ j. (other j).postponed) i;
   }
 
   pub awaited_of_both : awaited_in (beside a b) ≡ joined (awaited_in a) (awaited_in b)

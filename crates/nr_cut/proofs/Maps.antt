@@ -1,9 +1,11 @@
 -- Finite maps side by side, and the part of one whose keys pass a test: what is found in them, and sums over them.
-use Rattle.std.proofs.Common.{◌≡◌, ℕ, zero, suc, ◌+◌, ◌<◌, ◌≤◌, Bool, true, false, cond, List, [], ◌∷◌, ◌++◌, map, length, Option, Some, None, Ordering, inl, inr, ◌⊎◌, eqb, rules, refl, sym, ap, subst, ◌∙◌, arith}
+use Rattle.std.proofs.Common.{◌≡◌, ℕ, zero, suc, ◌+◌, ◌<◌, ◌≤◌, Bool, true, false, cond, List, [], ◌∷◌, ◌++◌, map}
+use Rattle.std.proofs.Common.{Option, Some, None, Ordering, inl, inr, ◌⊎◌, eqb, rules, refl, sym, ap, ◌∙◌, arith}
 use Rattle.std.specs.Prelude.{T, ◌&&◌, ◌==◌, sum_by, filter, is_some, IsSome}
 use Rattle.std.specs.declared.cmp.Ordering.TheVariants.{Less, Equal, Greater}
-use Rattle.std.specs.FinMap.{FinMap, IsAntisymmetric, empty, get, retain_keys, entries, values, from_entries, from_sorted, entries_sorted, entries-from_sorted, get-entries, get-from_sorted, get-from_entries, get-retain_keys, get-empty, len-empty, len-entries, same_map}
-use Rattle.std.specs.FinMap.Entries.{find, is_sorted, below_all, where_key, is_sorted-where_key, find-where_key}
+use Rattle.std.specs.FinMap.{FinMap, IsAntisymmetric, empty, get, retain_keys, entries, from_entries, entries_sorted}
+use Rattle.std.specs.FinMap.{get-entries, get-from_entries, get-retain_keys, len-empty, len-entries, same_map}
+use Rattle.std.specs.FinMap.Entries.{find, is_sorted, below_all}
 use Rattle.std.specs.Ordering.{is_eq, is_lt, eq_by_cmp}
 use Rattle.std.specs.Cmp.{IsTotalOrder, tied_itself}
 use Rattle.std.specs.List.{range_with_len}
@@ -25,7 +27,8 @@ none_left None = refl
 none_left (Some x) = refl
 
 -- ---- sums over lists
-pub sum_of_values : {K X : Type 0} (f : X → ℕ) (es : List (K × X)) → sum_by f (map (λ e. e.1) es) ≡ sum_by (λ e. f e.1) es
+pub sum_of_values : {K X : Type 0} (f : X → ℕ) (es : List (K × X))
+    → sum_by f (map (λ e. e.1) es) ≡ sum_by (λ e. f e.1) es
 sum_of_values f [] = refl
 sum_of_values {K} {X} f (e ∷ es) =
     sum_by-cons f e.1 (map (λ (e : K × X). e.1) es) ∙ ap (λ n. f e.1 + n) (sum_of_values f es)
@@ -35,10 +38,12 @@ sum_of_values {K} {X} f (e ∷ es) =
 abbrev pub if_passes : {A : Type 0} → (A → Bool) → (A → ℕ) → A → ℕ
 if_passes p f x = cond (p x) (f x) 0
 
-pub sum-filter : {A : Type 0} (f : A → ℕ) (p : A → Bool) (xs : List A) → sum_by f (filter p xs) ≡ sum_by (if_passes p f) xs
+pub sum-filter : {A : Type 0} (f : A → ℕ) (p : A → Bool) (xs : List A)
+    → sum_by f (filter p xs) ≡ sum_by (if_passes p f) xs
 sum-filter f p [] = refl
 sum-filter f p (x ∷ xs) =
-    elim (p x) as (λ b. sum_by f (cond b (x ∷ filter p xs) (filter p xs)) ≡ cond b (f x) 0 + sum_by (if_passes p f) xs) [
+    elim (p x) as
+    (λ b. sum_by f (cond b (x ∷ filter p xs) (filter p xs)) ≡ cond b (f x) 0 + sum_by (if_passes p f) xs) [
       | true ↦ sum_by-cons f x (filter p xs) ∙ ap (λ n. f x + n) (sum-filter f p xs)
       | false ↦ sum-filter f p xs ∙ none_more (sum_by (if_passes p f) xs)
     ]
@@ -164,7 +169,8 @@ module _ {K X : Type 0} {R : K → K → Ordering} (o : IsTotalOrder R) (same : 
     once_both es fs one.1 two (λ q h. away q (found_later q e es h)),
   )
 
-  sum-once : (f : K × X → ℕ) (es : List (K × X)) → Once R es → sum_by f (entries (from_entries {R = R} es)) ≡ sum_by f es
+  sum-once : (f : K × X → ℕ) (es : List (K × X)) → Once R es
+      → sum_by f (entries (from_entries {R = R} es)) ≡ sum_by f es
   sum-once f [] once = ap (sum_by f) (nothing R X)
   sum-once f (e ∷ es) once =
       let m : FinMap R X = from_entries es in
@@ -201,7 +207,8 @@ module _ {K X : Type 0} {R : K → K → Ordering} (o : IsTotalOrder R) (same : 
 
   pub retained_twice : (m : FinMap R X) (p : K → Bool) → retain_keys (retain_keys m p) p ≡ retain_keys m p
   retained_twice m p = same_map o same _ _ (λ q.
-      get-part (retain_keys m p) p q ∙ ap (λ x. cond (p q) x None) (get-part m p q) ∙ again (p q) (get m q) ∙ sym (get-part m p q))
+      get-part (retain_keys m p) p q ∙ ap (λ x. cond (p q) x None) (get-part m p q) ∙ again (p q) (get m q)
+      ∙ sym (get-part m p q))
     where
       again : {A : Type 0} (b : Bool) (x : Option A) → cond b (cond b x None) None ≡ cond b x None
       again true x = refl
@@ -226,7 +233,8 @@ module _ {K X : Type 0} {R : K → K → Ordering} (o : IsTotalOrder R) (same : 
         by false h = absurd (let e : false ≡ true = h in cc)
 
     -- where one passes a test that the other doesn't
-    pub absent : (p : List ℕ → Bool) (m : FinMap R X) (q : K) → HasOwners owner p m → p (owner q) ≡ false → get m q ≡ None
+    pub absent : (p : List ℕ → Bool) (m : FinMap R X) (q : K) → HasOwners owner p m → p (owner q) ≡ false
+        → get m q ≡ None
     absent p m q has none = by (get m q) (has q)
       where
         by : (x : Option X) → (IsSome x → p (owner q) ≡ true) → x ≡ None

@@ -1,5 +1,7 @@
--- Valid worlds side by side that share no owner are valid, and so is a valid world with fewer delayed receipts; what worlds have together.
-use Rattle.std.proofs.Common.{◌≡◌, ℕ, ◌+◌, ◌^◌, ◌≤◌, Bool, true, false, cond, List, [], ◌∷◌, ◌++◌, map, length, Option, Some, None, Ordering, inl, inr, ◌⊎◌, refl, sym, ap, subst, ◌∙◌, arith}
+-- Valid worlds side by side that share no owner are valid, and so is a valid world with fewer delayed receipts; what
+-- worlds have together.
+use Rattle.std.proofs.Common.{◌≡◌, ℕ, ◌+◌, ◌^◌, ◌≤◌, Bool, true, false, cond, List, [], ◌∷◌, ◌++◌, length, Option}
+use Rattle.std.proofs.Common.{Some, None, Ordering, inl, inr, ◌⊎◌, refl, sym, ap, subst, ◌∙◌, arith}
 use Rattle.std.specs.Prelude.{sum_by, filter, not, is_some, is_none, IsSome, option_map}
 use Rattle.std.specs.FinMap.{FinMap, IsAntisymmetric, empty, get, get-empty, entries, values, retain_keys}
 use Rattle.std.specs.List.{AllByRecursion, list_any}
@@ -8,9 +10,10 @@ use Rattle.std.specs.Cmp.{IsTotalOrder}
 use Rattle.std.specs.Cmp.Lexicographic.{nat_list_cmp_total}
 use Rattle.std.proofs.lemmas.List.Sums.{sum_by-cons, sum_by-append}
 use Rattle.std.proofs.lemmas.Map.Lookups.{exact_bytes}
-use Rattle.nr_config.specs.Config.{Config, account_bytes_entry}
+use Rattle.nr_config.specs.Config.{Config}
 use Rattle.nr_cut.specs.Cut.{joined, beside, HasOnly}
-use Rattle.nr_cut.proofs.Maps.{HasOwners, either, none_left, sum_of_values, get-joined, sum-joined, retained_twice, owners_joined, owners_part, absent}
+use Rattle.nr_cut.proofs.Maps.{HasOwners, either, none_left, sum_of_values, get-joined, sum-joined, retained_twice}
+use Rattle.nr_cut.proofs.Maps.{owners_joined, owners_part, absent}
 use Rattle.nr_fees.specs.Fees.{receipt_tokens}
 use Rattle.nr_ids.specs.declared.key.Hash32.{Hash32}
 use Rattle.nr_ids.specs.declared.key.PublicKey.{PublicKey}
@@ -22,8 +25,9 @@ use Rattle.nr_state.specs.Queues.{is_act}
 use Rattle.nr_state.specs.Scopes.{part_of}
 use Rattle.nr_state.specs.Tokens.{world_tokens, postponed_sum, delayed_sum}
 use Rattle.nr_state.specs.Usage.{key_usage, datum_usage}
-use Rattle.nr_state.specs.Valid.{IsValidWorld, AreAccounts, AreWaiting, IsBounded, Waits, if_owned, owned_usage, usage_in, code_hash_in, hash_of_code}
-use Rattle.nr_state.specs.View.{IsPostponed, ArePostponed, has_input}
+use Rattle.nr_state.specs.Valid.{IsValidWorld, AreAccounts, AreWaiting, IsBounded, Waits, if_owned, owned_usage}
+use Rattle.nr_state.specs.Valid.{usage_in, hash_of_code}
+use Rattle.nr_state.specs.View.{IsPostponed, has_input}
 use Rattle.nr_state.specs.World.{World, no_world, bytes_cmp, pair_cmp, key_cmp, account_tokens, accounts_tokens}
 use Rattle.nr_state.proofs.ValidOwned.{key_total, pair_total, exact_keys, exact_data, same_id, owned_none}
 
@@ -146,14 +150,16 @@ module _ (c : Config) (test : List ℕ → Bool) (a b : World) (ia : Owned test 
   at_id : {X : Type 0} (m n : FinMap bytes_cmp X) (q : List ℕ) → get (joined m n) q ≡ either (get m q) (get n q)
   at_id m n q = get-joined nat_list_cmp_total exact_bytes m n q
 
-  at_pair : {X : Type 0} (m n : FinMap pair_cmp X) (q : List ℕ × List ℕ) → get (joined m n) q ≡ either (get m q) (get n q)
+  at_pair : {X : Type 0} (m n : FinMap pair_cmp X) (q : List ℕ × List ℕ)
+      → get (joined m n) q ≡ either (get m q) (get n q)
   at_pair m n q = get-joined pair_total exact_data m n q
 
   at_key : (q : List ℕ × PublicKey) → get both.keys q ≡ either (get a.keys q) (get b.keys q)
   at_key q = get-joined key_total exact_keys a.keys b.keys q
 
   -- ---- what the one has, and what the other doesn't
-  module _ {K X : Type 0} {R : K → K → Ordering} (o : IsTotalOrder R) (same : IsAntisymmetric R) (owner : K → List ℕ) (m n : FinMap R X) (im : HasOwners owner test m) (il : HasOwners owner (other test) n) where
+  module _ {K X : Type 0} {R : K → K → Ordering} (o : IsTotalOrder R) (same : IsAntisymmetric R) (owner : K → List ℕ)
+      (m n : FinMap R X) (im : HasOwners owner test m) (il : HasOwners owner (other test) n) where
     first_alone : (q : K) → test (owner q) ≡ true → get (joined m n) q ≡ get m q
     first_alone q passes =
         get-joined o same m n q ∙ ap (either (get m q)) (absent o same owner (other test) n q il (ap not passes))
@@ -176,7 +182,9 @@ module _ (c : Config) (test : List ℕ → Bool) (a b : World) (ia : Owned test 
           sum_of_values f (entries n),
         )
 
-  module _ {K X : Type 0} {R : List ℕ × K → List ℕ × K → Ordering} (o : IsTotalOrder R) (same : IsAntisymmetric R) (count : K → X → ℕ) (m n : FinMap R X) (im : HasOwners (λ k. k.0) test m) (il : HasOwners (λ k. k.0) (other test) n) where
+  module _ {K X : Type 0} {R : List ℕ × K → List ℕ × K → Ordering} (o : IsTotalOrder R) (same : IsAntisymmetric R)
+      (count : K → X → ℕ) (m n : FinMap R X) (im : HasOwners (λ k. k.0) test m)
+      (il : HasOwners (λ k. k.0) (other test) n) where
     differs : (t : List ℕ → Bool) (id q : List ℕ) → t id ≡ false → t q ≡ true → bytes_eq id q ≡ false
     differs t id q fails passes =
         elim (bytes_eq id q) as (λ b. bytes_eq id q ≡ b → b ≡ false) [
@@ -203,7 +211,8 @@ module _ (c : Config) (test : List ℕ → Bool) (a b : World) (ia : Owned test 
   -- ---- sums
   pub accounts_of_both : accounts_tokens both ≡ accounts_tokens a + accounts_tokens b
   accounts_of_both =
-      values_of_both nat_list_cmp_total exact_bytes (λ id. id) a.accounts b.accounts ia.accounts ib.accounts account_tokens
+      values_of_both nat_list_cmp_total exact_bytes (λ id. id) a.accounts b.accounts ia.accounts ib.accounts
+      account_tokens
 
   pub postponed_of_both : (f : Receipt → ℕ) → postponed_sum f both ≡ postponed_sum f a + postponed_sum f b
   postponed_of_both f =
@@ -219,10 +228,12 @@ module _ (c : Config) (test : List ℕ → Bool) (a b : World) (ia : Owned test 
   -- ---- validity
   module _ (va : IsValidWorld c a) (vb : IsValidWorld c b) where
     code_first : (id : List ℕ) → test id ≡ true → get both.code id ≡ get a.code id
-    code_first id passes = first_alone nat_list_cmp_total exact_bytes (λ id. id) a.code b.code ia.code ib.code id passes
+    code_first id passes =
+        first_alone nat_list_cmp_total exact_bytes (λ id. id) a.code b.code ia.code ib.code id passes
 
     code_second : (id : List ℕ) → test id ≡ false → get both.code id ≡ get b.code id
-    code_second id fails = second_alone nat_list_cmp_total exact_bytes (λ id. id) a.code b.code ia.code ib.code id fails
+    code_second id fails =
+        second_alone nat_list_cmp_total exact_bytes (λ id. id) a.code b.code ia.code ib.code id fails
 
     usage_first : (id : List ℕ) → test id ≡ true → usage_in c both id ≡ usage_in c a id
     usage_first id passes =
@@ -242,7 +253,8 @@ module _ (c : Config) (test : List ℕ → Bool) (a b : World) (ia : Owned test 
           ap (λ o. or_none (option_map (λ (x : List ℕ). length x) o)) (code_second id fails),
         )
 
-    stands_both : (id : List ℕ) → IsSome (get a.accounts id) ⊎ IsSome (get b.accounts id) → IsSome (get both.accounts id)
+    stands_both : (id : List ℕ) → IsSome (get a.accounts id) ⊎ IsSome (get b.accounts id)
+        → IsSome (get both.accounts id)
     stands_both id h =
         ap is_some (at_id a.accounts b.accounts id)
         ∙ elim h [
@@ -364,7 +376,8 @@ module _ (c : Config) (test : List ℕ → Bool) (a b : World) (ia : Owned test 
 -- ---- owners side by side
 pub owned_beside : (test : List ℕ → Bool) (a b : World) → Owned test a → Owned test b → Owned test (beside a b)
 owned_beside test a b ia ib = record {
-  accounts = owners_joined nat_list_cmp_total exact_bytes (λ id. id) test a.accounts b.accounts ia.accounts ib.accounts;
+  accounts =
+      owners_joined nat_list_cmp_total exact_bytes (λ id. id) test a.accounts b.accounts ia.accounts ib.accounts;
   keys = owners_joined key_total exact_keys (λ k. k.0) test a.keys b.keys ia.keys ib.keys;
   code = owners_joined nat_list_cmp_total exact_bytes (λ id. id) test a.code b.code ia.code ib.code;
   data_of = owners_joined pair_total exact_data (λ k. k.0) test a.data_of b.data_of ia.data_of ib.data_of;

@@ -1,4 +1,5 @@
--- How the worlds of shards, and the receipts that their last chunks sent, are laid out by other boundaries. This project's own.
+-- How the worlds of shards, and the receipts that their last chunks sent, are laid out by other boundaries. This
+-- project's own.
 use Rattle.std.specs.Prelude.{◌≡◌, ℕ, ◌+◌, ◌==◌, Bool, List, [], ◌∷◌, ◌++◌, length, map, Some, slice_get}
 use Rattle.std.specs.FinMap.{FinMap, entries, from_entries}
 use Rattle.std.specs.List.{flat_map, range_with_len}
@@ -44,7 +45,8 @@ cut_world boundaries worlds shard =
 abbrev pub cut_worlds : List (List ℕ) → List World → List World
 cut_worlds boundaries worlds = map (cut_world boundaries worlds) (range_with_len 0 (length boundaries + 1))
 
--- what each shard gets of the lists that were sent, by source and then by destination: list after list, each in its order
+-- what each shard gets of the lists that were sent, by source and then by destination: list after list, each in its
+-- order
 abbrev pub carried : List (List ℕ) → List (List Receipt) → List (List Receipt)
 carried boundaries lists = parts boundaries (length boundaries + 1) (flat_map (λ list. list) lists)
 

@@ -1,4 +1,5 @@
--- What a cut keeps: each world is valid, nothing of the worlds and lists is lost or stands twice, and each receipt is where its receiver lives. This project's own.
+-- What a cut keeps: each world is valid, nothing of the worlds and lists is lost or stands twice, and each receipt is
+-- where its receiver lives. This project's own.
 use Rattle.std.specs.Prelude.{◌≡◌, ℕ, ◌+◌, ◌^◌, ◌≤◌, Bool, List, length, Some, slice_get, sum_by}
 use Rattle.std.specs.FinMap.{FinMap, get, retain_keys}
 use Rattle.std.specs.List.{AllByRecursion, flat_map}
@@ -57,8 +58,10 @@ pub record KeepsLists (new : List (List ℕ)) (lists : List (List Receipt)) : Ty
   pub count : length (carried new lists) ≡ length new + 1
   pub receivers : AreFor new (carried new lists)
   -- together they have what the lists had, of any amount that receipts have
-  pub sum : (f : Receipt → ℕ) → sum_by (λ list. sum_by f list) (carried new lists) ≡ sum_by (λ list. sum_by f list) lists
-  pub bounded : (c : Config) → AllByRecursion (AllByRecursion (IsBounded c)) lists → AllByRecursion (AllByRecursion (IsBounded c)) (carried new lists)
+  pub sum : (f : Receipt → ℕ)
+      → sum_by (λ list. sum_by f list) (carried new lists) ≡ sum_by (λ list. sum_by f list) lists
+  pub bounded : (c : Config) → AllByRecursion (AllByRecursion (IsBounded c)) lists
+      → AllByRecursion (AllByRecursion (IsBounded c)) (carried new lists)
 
 -- ---- what is derived from the postponed receipts, of a part and of worlds side by side
 pub record PartsDerived (test : List ℕ → Bool) (w : World) : Type 0 where

@@ -5,4 +5,5 @@ use Rattle.nr_cut.proofs.carrying.carry.Given as goal
 
 -- what is there and what is left make the whole
 abbrev pub invariant-loop-list : goal.invariant-loop-list
-invariant-loop-list l = l.all.items ++ flat_map (λ list. list) (into_iter_items l.list-iterator) ≡ flat_map (λ list. list) l.fn.left
+invariant-loop-list l =
+    l.all.items ++ flat_map (λ list. list) (into_iter_items l.list-iterator) ≡ flat_map (λ list. list) l.fn.left
