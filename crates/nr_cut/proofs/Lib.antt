@@ -1,0 +1,4 @@
+pub mod Maps
+pub mod Worlds
+pub mod Cuts
+pub mod Derived

@@ -1,0 +1,5 @@
+use Rattle.nr_cut.proofs.Cuts.{keeps_worlds}
+use Rattle.nr_cut.proofs.laws.world_laws.Goals as goal
+
+pub returns : goal.returns
+returns c = keeps_worlds
