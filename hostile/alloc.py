@@ -3,12 +3,12 @@
 
 usage: hostile/alloc.py [--programs FOLDER] [--only WORD] [--most N] [--rooms N] [--jobs N] [--limit SECONDS]
 
-Build the programs first. faults.c is compiled and loaded before them; it makes the Nth allocation fail, once alone and
-once with all behind it. Where a command has more than --most allocations (2,000), the first half of that many are tried
-each, and the others evenly. A run has to end with status 7, the line `7` on standard error and nothing on standard
-output; or as it ends undisturbed, with the same text. Then each command runs with --rooms sizes of address space (60),
-from what the program needs to start, to what it needs to end: the same two answers are right. The exit status is 0
-where every run was right.
+Build the programs first. faults.c is compiled and loaded before them; it makes the Nth allocation fail, once alone
+and once with all behind it. Where a command has more than --most allocations (20,000), the first half of that many
+are tried each, and the others evenly. A run has to end with status 7, the line `7` on standard error and nothing on
+standard output; or as it ends undisturbed, with the same text. Then each command runs with --rooms sizes of address
+space (60), from what the program needs to start, to what it needs to end: the same two answers are right. The exit
+status is 0 where every run was right.
 """
 import collections
 import multiprocessing
@@ -46,10 +46,6 @@ def tried(task):
     return judged(ran, right), number, many, ran
 
 
-def told(case, ended, what):
-    print(f"  WRONG {case.name}, {what}: status {ended.status}, {len(ended.out)} bytes written, {ended.err[-200:]!r}", flush=True)
-
-
 def sweep(pool, case, most):
     """Each allocation in turn, alone and with those behind it; the count of wrong runs."""
     begin = time.monotonic()
@@ -63,7 +59,7 @@ def sweep(pool, case, most):
         ends[end] += 1
         if end == "wrong" and shown < 10:
             shown += 1
-            told(case, ran, f"allocation {number} {'alone' if many else 'and all behind it'}")
+            shared.tell(case.name, ran, f"allocation {number} {'alone' if many else 'and all behind it'}")
     seconds = time.monotonic() - begin
     print(f"{case.program} {case.name}: {calls} allocations, {len(numbers)} tried each way; "
           + ", ".join(f"{end} {count}" for end, count in sorted(ends.items())) + f"; {seconds:.0f} s", flush=True)
@@ -88,7 +84,7 @@ def rooms(case, program, many):
         end = judged(ran, right)
         ends[end] += 1
         if end == "wrong":
-            told(case, ran, f"in {size} bytes of address space")
+            shared.tell(case.name, ran, f"in {size} bytes of address space")
     print(f"{case.program} {case.name}: from {least / MIB:.1f} to {most / MIB:.1f} MiB of address space; "
           + ", ".join(f"{end} {count}" for end, count in sorted(ends.items())), flush=True)
     return ends["wrong"]
@@ -106,7 +102,8 @@ def least_that(holds, size):
 
 
 def main():
-    arguments = shared.arguments_of(__doc__, ("--most", {"type": int, "default": 2000}), ("--rooms", {"type": int, "default": 60}))
+    more = [("--most", {"type": int, "default": 20_000}), ("--rooms", {"type": int, "default": 60})]
+    arguments = shared.arguments_of(__doc__, *more)
     found, wrong = shared.programs_in(arguments.programs), 0
     with tempfile.TemporaryDirectory() as folder:
         library = shared.faults_in(folder)

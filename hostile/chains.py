@@ -47,7 +47,7 @@ def for_calls(allowance, receiver, methods):
 
 
 def genesis(boundaries, accounts, price=(100, 40)):
-    """Accounts by their ids, each (amount, code or None, keys with permissions, data by keys); their usage is counted."""
+    """Accounts by their ids, each (amount, code or None, keys with permissions, data by keys), with their usage."""
     entries = []
     for name, (amount, code, keys, data) in accounts.items():
         records = [len(key) + 8 + len(may) for key, may in keys] + [len(key) + len(value) for key, value in data]
@@ -78,7 +78,7 @@ def blocks(rows, prices=None):
 
 
 def busy_blocks(heights=12):
-    """Over the genesis of examples/contract: three calls in each of the first four blocks, and chunks that are missing."""
+    """Over the genesis of examples/contract: three calls in each of four blocks, and chunks that are missing."""
     rows = []
     for height in range(1, heights + 1):
         turns = range(3 * height - 2, 3 * height + 1) if height <= 4 else ()
@@ -107,11 +107,12 @@ def people(code):
 def every_action():
     """Transactions with each action but staking, over the genesis of `people`."""
     made = [b"\0", b"\3" + u128(10**9), b"\5" + KEY + u64(0) + FOR_ALL, b"\1" + counted(example_code())]
+    for_ask = b"\5" + b"\0" + b"\3" * 32 + u64(1) + for_calls(5, b"desk", [b"ask"])
     first = [
         transaction(1, b"desk", [call(b"ask", b"hello"), call(b"put", b"again", 5_000, 7)]),
         transaction(2, b"new.alice", made),
         transaction(3, b"ab" * 32, [b"\3" + u128(5)]),
-        transaction(4, b"alice", [b"\5" + b"\0" + b"\3" * 32 + u64(1) + for_calls(5, b"desk", [b"ask"]), b"\6" + LONG_KEY]),
+        transaction(4, b"alice", [for_ask, b"\6" + LONG_KEY]),
         transaction(5, b"nobody", [b"\3" + u128(1)]),
     ]
     last = [transaction(6, b"registrar", [b"\7" + counted(b"alice")]), transaction(6, b"vault", [call(b"put")])]
@@ -120,6 +121,6 @@ def every_action():
 
 
 def busy_config(**changes):
-    """The configuration `generated`, with chunks that end early, so that receipts are delayed, and calls that are short."""
+    """The configuration `generated` with chunks that end early, so that receipts are delayed, and short calls."""
     values = json.loads(bytes_of("config", "generated.json"))
     return json.dumps({**values, "chunk_gas_limit": 900, "max_prepaid_gas": 200_000, **changes}).encode()

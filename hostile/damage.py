@@ -4,23 +4,24 @@
 usage: hostile/damage.py [--programs FOLDER] [--only KIND] [--files N] [--seed N] [--jobs N] [--limit SECONDS]
        hostile/damage.py --show KIND NUMBER FILE [--seed N]
 
-Build the programs first. Of each kind (genesis, blocks, contract, configuration, schedule, module, genesis text, blocks
-text, report, words) N files (100,000) are made from a few good ones: bits flipped, bytes set, counts turned into 2^32 - 1 or
-nearly kept, pieces cut out, doubled, moved and added, the end cut off, and in texts numbers out of range, quotes, and
-brackets in one another. A contract is damaged code in a genesis that is otherwise whole; words are what stands behind a program's
-name, and each program is given them. A file is made by its kind, its
-number and the seed (1), and --show writes it again.
+Build the programs first. Of each kind (genesis, blocks, contract, configuration, schedule, module, genesis text,
+blocks text, report, words) N files (100,000) are made from a few good ones: bits flipped, bytes set, counts turned
+into 2^32 - 1 or nearly kept, pieces cut out, doubled, moved and added, the end cut off, and in texts numbers out of
+range, quotes, and brackets in one another. A contract is damaged code in a genesis that is otherwise whole; words are
+what stands behind a program's name, and each program is given them. A file is made by its kind, its number and the
+seed (1), and --show writes it again.
 
-What is right: the program ends by itself, with a status that it has for this kind; with no text on standard output and one
-line on standard error where the status is above 0 (near_module: one line on standard output), which `near_files explain`
-has a sentence for; in at most 1 second of processor time and 100 microseconds for each byte of the file; holding at most
-64 MiB and 64 times the file's length. And
+What is right: the program ends by itself, with a status that it has for this kind. Where the status is above 0 there
+is nothing on standard output and one line on standard error (of near_module one line on standard output), and
+`near_files explain` has a sentence for it. It takes at most 1 second of processor time and 100 microseconds for each
+byte of the file, and holds at most 64 MiB and 64 times the file's length. And
 
-  genesis, blocks, contract, configuration   near_serial and near_replay end alike, with the same texts
-  genesis, blocks                            what `near_files show` makes of one that it reads is made into the same bytes
-  genesis text                               what `near_files genesis` makes of it near_serial doesn't refuse as a genesis
-  module                                     `run` answers as `check` does where that refuses
-  words                                      near_serial and near_replay end alike behind `gen`
+  genesis, blocks, contract,    near_serial and near_replay end alike, with the same texts
+  configuration
+  genesis, blocks               what `near_files show` makes of one that it reads is made into the same bytes
+  genesis text                  what `near_files genesis` makes of it near_serial doesn't refuse as a genesis
+  module                        `run` answers as `check` does where that refuses
+  words                         near_serial and near_replay end alike behind `gen`
 
 The exit status is 0 where every run was right.
 """
@@ -41,14 +42,16 @@ SECONDS, SECONDS_A_BYTE = 1, 100e-6
 MEMORY, MEMORY_A_BYTE = 64 * MIB, 64
 WORDS = [b"-1", b"1e400", b"0.5", b"18446744073709551616", b"340282366920938463463374607431768211456", b'"', b"\\",
          b"\\ud800", b"\\u0000", b"\0", b"\xff", b"null", b"true", b"{", b"}", b"[", b"]", b",", b":", b"[" * 100,
-         b"[" * 127, b"[" * 128, b"]" * 127, b'{"a":' * 127, b"[" * 3000, b" " * 50, b"\n", b"\r\n", b"\t", b"00", b"rest\n",
-         b"take 1 0 1\n", b"seal 1\n"]
-COMMANDS = [b"run config genesis blocks", b"check config genesis blocks schedule", b"gen 7 2 1", b"replay config genesis blocks",
-            b"check config module", b"run config module run 1000", b"genesis config genesis.json", b"blocks blocks.json",
-            b"show genesis config genesis", b"show blocks blocks", b"show report report", b"explain 3 4 0 182 100"]
-VOCABULARY = [b"", b"-", b"--", b"-h", b"--help", b"-V", b"run", b"gen", b"show", b"free", b"config", b"genesis", b"blocks", b"0",
-              b"1", b"01", b"+1", b"-1", b"2", b"17", b"257", b"18446744073709551615", b"18446744073709551616", b"\xff", b"\xc3\xa9",
-              b"x" * 5000, b"=", b"gen=1", b"no/such/file", b".", b"a b"]
+         b"[" * 127, b"[" * 128, b"]" * 127, b'{"a":' * 127, b"[" * 3000, b" " * 50, b"\n", b"\r\n", b"\t", b"00",
+         b"rest\n", b"take 1 0 1\n", b"seal 1\n"]
+COMMANDS = [b"run config genesis blocks", b"check config genesis blocks schedule", b"gen 7 2 1",
+            b"replay config genesis blocks", b"check config module", b"run config module run 1000",
+            b"genesis config genesis.json", b"blocks blocks.json", b"show genesis config genesis",
+            b"show blocks blocks", b"show report report", b"explain 3 4 0 182 100"]
+VOCABULARY = [b"", b"-", b"--", b"-h", b"--help", b"-V", b"run", b"gen", b"show", b"free", b"config", b"genesis",
+              b"blocks", b"0", b"1", b"01", b"+1", b"-1", b"2", b"17", b"257", b"18446744073709551615",
+              b"18446744073709551616", b"\xff", b"\xc3\xa9", b"x" * 5000, b"=", b"gen=1", b"none/here", b".", b"a b"]
+HUGE = [b"\xff" * 4, b"\xff" * 8, b"\xff" * 16, b"\xff\xff\xff\x7f", b"\0\0\0\x80", b"\xff\xff\xff\xff\x0f"]
 TEXTS = ("configuration", "schedule", "genesis text", "blocks text", "report")
 
 
@@ -60,7 +63,7 @@ def seeds():
         "genesis": [read("contract", "genesis"), chains.people(code)],
         "blocks": [read("contract", "blocks"), chains.busy_blocks(6), chains.every_action()],
         "contract": [code],
-        "configuration": [read("config", name) for name in ("generated.json", "receipt_fees.json")] + [chains.busy_config()],
+        "configuration": [read("config", "generated.json"), read("config", "receipt_fees.json"), chains.busy_config()],
         "schedule": [chains.SCHEDULE, b"rest\n", b"open 0\nseal 0\npublish 0\nopen 1\nseal 1\npublish 1\n" * 3],
         "module": [code, wasm.lively(), wasm.nested(20, wasm.IF)],
         "genesis text": [read(name, "genesis.json") for name in ("contract", "one_transfer")],
@@ -95,8 +98,7 @@ def set_byte(data, chance):
 
 
 def huge(data, chance):
-    new = chance.choice((b"\xff" * 4, b"\xff" * 8, b"\xff\xff\xff\x7f", b"\0\0\0\x80", b"\xff" * 16, b"\xff\xff\xff\xff\x0f"))
-    put(data, place_in(data, chance), new)
+    put(data, place_in(data, chance), chance.choice(HUGE))
 
 
 def nudge(data, chance):
@@ -146,7 +148,8 @@ def words(chance, good):
     for _ in range(chance.randint(1, 3)):
         at = chance.randrange(len(data) + 1)
         end = at + chance.choice((0, 1))
-        data[at:end] = chance.choice(([], [chance.choice(VOCABULARY)], [chance.choice(VOCABULARY)], data[at : at + 1] * 2))
+        other = [chance.choice(VOCABULARY)]
+        data[at:end] = chance.choice(([], other, other, data[at : at + 1] * 2))
     if data and not chance.randrange(3):
         at = chance.randrange(len(data))
         changed = bytearray(data[at])
@@ -163,7 +166,7 @@ def damaged(kind, number, seed, good):
     if kind == "words":
         return words(chance, good)
     data = bytearray(chance.choice(good))
-    ways = [flip, set_byte, cut, drop, double, move, word, word, digit, digit] if kind in TEXTS else WAYS
+    ways = [flip, set_byte, cut, drop, double, move, word, word, digit, digit, digit] if kind in TEXTS else WAYS
     for _ in range(chance.choice((1, 1, 2, 3))):
         chance.choice(ways)(data, chance)
     return bytes(data)
@@ -228,7 +231,8 @@ class Judge:
         one = self.run("near_serial", "run", config, genesis, blocks, statuses=statuses)
         other = self.run("near_replay", "replay", config, genesis, blocks, statuses=statuses)
         if one and other and one[:3] != other[:3]:
-            self.wrong.append(f"near_replay: status {other.status}, {other.err!r}; near_serial: {one.status}, {one.err!r}")
+            ends = f"{one.status}, {one.err!r}; near_replay: {other.status}, {other.err!r}"
+            self.wrong.append(f"near_serial: {ends}")
         return one or other
 
     def shown(self, data, words, back):
@@ -238,6 +242,7 @@ class Judge:
             made = self.run("near_files", *back, shared.write(self.again, ran.out))
             if made.out != data:
                 self.wrong.append("near_files: what was shown is made into other bytes")
+        return ran
 
     def judge(self, kind, data):
         """The status of the first run on the file, of this kind."""
@@ -245,14 +250,12 @@ class Judge:
         return getattr(self, f"judge_{kind.replace(' ', '_')}")(data)
 
     def judge_genesis(self, data):
-        ran = self.both(self.config, self.file, self.blocks, (0, 3, 4))
-        self.shown(data, ["genesis", self.config], ["genesis", self.config])
-        return ran
+        shown = self.shown(data, ["genesis", self.config], ["genesis", self.config])
+        return self.both(self.config, self.file, self.blocks, (0, 3, 4)) or shown
 
     def judge_blocks(self, data):
-        ran = self.both(self.config, self.genesis, self.file, (0, 4))
-        self.shown(data, ["blocks"], ["blocks"])
-        return ran
+        shown = self.shown(data, ["blocks"], ["blocks"])
+        return self.both(self.config, self.genesis, self.file, (0, 4)) or shown
 
     def judge_contract(self, data):
         shared.write(self.made, chains.people(data))

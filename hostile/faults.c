@@ -4,13 +4,13 @@
  * FAULTS_FROM   the first call that fails, counted from 1; 0 or absent: none
  * FAULTS_MANY   how many fail from there on; 0: all
  * FAULTS_EVERY  of these only each so many-th fails
- * FAULTS_HOW    the error number of a call that fails; or 'short': it moves one byte; or 'pause': it sleeps FAULTS_PAUSE
- *               microseconds first and then does its work
+ * FAULTS_HOW    the error number of a call that fails; or 'short': it moves one byte; or 'pause': it sleeps
+ *               FAULTS_PAUSE microseconds first and then does its work
  * FAULTS_PIECE  the most bytes that any read or write moves; 0 or absent: no bound
  * FAULTS_TOLD   a file of 8 bytes that is there: the count of calls so far stands in it
  *
- * Calls count from the moment when this file is loaded, so not those that load the program. Reads of files and writes to
- * standard output count; writes to standard error don't. */
+ * Calls count from the moment when this file is loaded, so not those that load the program. Writes to standard error
+ * don't count. */
 #define _GNU_SOURCE
 #include <dlfcn.h>
 #include <errno.h>

@@ -44,7 +44,7 @@ def programs_in(folder):
 
 
 class Ran(NamedTuple):
-    """How a run ended: its status (below 0 a signal), both its texts, its seconds of processor time, and the most KiB that it held."""
+    """How a run ended: its status (below 0 a signal), its texts, its processor seconds, the most KiB that it held."""
     status: object
     out: bytes
     err: bytes
@@ -126,6 +126,12 @@ class Faults:
             return struct.unpack("<Q", told.read())[0]
 
 
+def tell(name, ran, what):
+    """Prints a run that was wrong."""
+    ended = f"status {ran.status}, {len(ran.out)} bytes written, {ran.err[-200:]!r}"
+    print(f"  WRONG {name}, {what}: {ended}", flush=True)
+
+
 class Case(NamedTuple):
     """A command: its name, the program, and the words behind it."""
     name: str
@@ -134,7 +140,7 @@ class Case(NamedTuple):
 
 
 def spread(count, most):
-    """The numbers from 1 to the count; where they are more than `most`, the first half of `most`, and the rest evenly."""
+    """The numbers from 1 to the count; of more than `most` the first half of `most`, and the others evenly."""
     if count <= most:
         return range(1, count + 1)
     front = most // 2

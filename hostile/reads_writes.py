@@ -1,6 +1,6 @@
 #!/usr/bin/env python3
-"""Runs each command again and again, each time with another read, write or opening that fails or is short; and on files,
-pipes and devices that really are so.
+"""Runs each command again and again, each time with another read, write or opening that fails or is short; and on
+files, pipes and devices that really are so.
 
 usage: hostile/reads_writes.py [--programs FOLDER] [--only WORD] [--most N] [--jobs N] [--limit SECONDS]
 
@@ -69,10 +69,6 @@ def tried(task):
     return judged(ran, right, kind, how), how, number, many, ran
 
 
-def told(case, ended, what):
-    print(f"  WRONG {case.name}, {what}: status {ended.status}, {len(ended.out)} bytes written, {ended.err[-200:]!r}", flush=True)
-
-
 def word_of(how):
     return how if how == "short" else errno.errorcode[how]
 
@@ -90,7 +86,8 @@ def sweep(pool, case, most):
         ends[f"{task[2]} {word_of(how)}: {end}"] += 1
         if end == "wrong" and shown < 10:
             shown += 1
-            told(case, ran, f"{task[2]} {number} {word_of(how)} {'alone' if many else 'and all behind it'}")
+            where = "alone" if many else "and all behind it"
+            shared.tell(case.name, ran, f"{task[2]} {number} {word_of(how)} {where}")
     counts = ", ".join(f"{count} {kind}" for kind, count in calls.items())
     print(f"{case.program} {case.name}: {counts}; {len(tasks)} runs, {time.monotonic() - begin:.0f} s", flush=True)
     print("    " + "; ".join(f"{end} {count}" for end, count in sorted(ends.items())), flush=True)
@@ -241,7 +238,7 @@ def really(case, limit, folder):
         count += 1
         if not is_right:
             wrong += 1
-            told(case, ran, what)
+            shared.tell(case.name, ran, what)
     print(f"{case.program} {case.name}: {count} runs on files, pipes and devices, {wrong} wrong", flush=True)
     return wrong
 

@@ -3,12 +3,12 @@
 
 usage: hostile/stack.py [--programs FOLDER] [--only WORD] [--stack KIB] [--keys N] [--limit SECONDS]
 
-Build the programs first. Each command runs as the shell's limits are, and then with a stack of 256 KiB (--stack), on texts
-that nest 127 deep (and 128, which is refused), modules with 256 blocks in one another (and 257), calls and values to the
-bounds of the configuration with the greatest bounds, lists of 50,000, and a genesis whose keys nest in one another (--keys,
-11,200: the most that a file of 64 MiB has). What is right is the same end with the same texts, and where it is known from
-outside, the status. The last column is the least of some stacks, in KiB, that serve. The exit status is 0 where every run
-was right.
+Build the programs first. Each command runs as the shell's limits are, and then with a stack of 256 KiB (--stack), on
+texts that nest 127 deep (and 128, which is refused), modules with 256 blocks in one another (and 257), calls and
+values to the greatest bounds that a configuration can have, lists of 50,000, and a genesis whose keys nest in one
+another (--keys, 11,200: some 63 of the 64 MB that a file may have). What is right is the same end with the same
+texts, and the status that is known. The last column is the least of some stacks, in KiB, from which on all serve. The
+exit status is 0 where every run was right.
 """
 import json
 import resource
@@ -22,7 +22,7 @@ import wasm
 from wasm import const32, const64, unsigned, vector
 
 STACKS = (16, 32, 64, 128, 256, 512, 1024, 2048, 4096, 8192)
-DEEP_CONFIG = {"max_call_depth": 10_000, "max_stack_values": 1_000_000, "max_prepaid_gas": 10**9, "chunk_gas_limit": 10**12}
+DEEP = {"max_call_depth": 10_000, "max_stack_values": 1_000_000, "max_prepaid_gas": 10**9, "chunk_gas_limit": 10**12}
 
 
 def nested_text(depth, opening=b"[", closing=b"]", before=b'"deeper":'):
@@ -43,13 +43,15 @@ def texts(at):
                 continue
             member, what = nested_text(depth, opening, closing), f"{depth} levels of {opening[:1].decode()}"
             for kind in ("genesis", "blocks"):
-                text = at(f"{kind}-{depth}-{len(opening)}", with_member(chains.bytes_of("one_transfer", f"{kind}.json"), member))
+                text = with_member(chains.bytes_of("one_transfer", f"{kind}.json"), member)
+                text = at(f"{kind}-{depth}-{len(opening)}", text)
                 words = ["genesis", "free", text] if kind == "genesis" else ["blocks", text]
                 yield f"{kind} text, {what}", "near_files", words, status
             config = at(f"config-{depth}-{len(opening)}", with_member(chains.busy_config(), member))
             module = at("module", wasm.lively())
             yield f"configuration, {what}", "near_module", ["check", config, module], min(status, 2)
-    wide = at("wide", with_member(chains.bytes_of("one_transfer", "genesis.json"), b'"wide":[' + b"[]," * 300_000 + b"1]"))
+    member = b'"wide":[' + b"[]," * 300_000 + b"1]"
+    wide = at("wide", with_member(chains.bytes_of("one_transfer", "genesis.json"), member))
     yield "genesis text, 300,000 lists", "near_files", ["genesis", "free", wide], 0
     long = at("long", b"log " + b"00" * 5_000_000 + b"\n")
     yield "report, a line of 10,000,004 bytes", "near_files", ["show", "report", long], 0
@@ -74,7 +76,7 @@ def modules():
 
 
 def module_runs(at):
-    config = at("deep", chains.busy_config(**DEEP_CONFIG))
+    config = at("deep", chains.busy_config(**DEEP))
     for place, (name, data, checked, ran) in enumerate(modules()):
         file = at(f"module-{place}", data)
         yield f"module, {name}", "near_module", ["check", config, file], checked
@@ -83,7 +85,8 @@ def module_runs(at):
 
 def chain_runs(at):
     """Each of the modules as a contract, by both programs."""
-    config = at("deep-free", json.dumps({**json.loads(chains.bytes_of("config", "free.json")), **DEEP_CONFIG}).encode())
+    free = json.loads(chains.bytes_of("config", "free.json"))
+    config = at("deep-free", json.dumps({**free, **DEEP}).encode())
     method = [chains.transaction(1, b"desk", [chains.call(b"run", b"", 10**8)]),
               chains.transaction(2, b"vault", [chains.call(b"run", b"", 10**8)])]
     blocks = at("deep-blocks", chains.blocks([[method, []], [[], []], [[], []], [[], []]]))
@@ -141,15 +144,17 @@ def tell(case, status, arguments):
     seconds = time.monotonic() - begin
     is_right = right.status == status and ran[:3] == right[:3]
     serves = least(case.words, right, arguments.limit) if seconds < 2 else "-"
-    print(f"| {case.program} {case.words[1]} | {case.name} | {right.status} | {ran.status} | {seconds:.2f} | {serves} |", flush=True)
+    command = f"{case.program} {case.words[1]}"
+    print(f"| {command} | {case.name} | {right.status} | {ran.status} | {seconds:.2f} | {serves} |", flush=True)
     if not is_right:
-        print(f"  WRONG {case.words[1]} {case.name}: status {right.status} ({status} is wanted), under the small stack "
-              f"{ran.status}, {ran.err[-200:]!r}; {len(right.out)} and {len(ran.out)} bytes written", flush=True)
+        ends = f"status {right.status} for {status}, {len(right.out)} bytes written; under the small stack"
+        shared.tell(f"{command}, {case.name}", ran, ends)
     return is_right
 
 
 def main():
-    arguments = shared.arguments_of(__doc__, ("--stack", {"type": int, "default": 256}), ("--keys", {"type": int, "default": 11_200}))
+    more = [("--stack", {"type": int, "default": 256}), ("--keys", {"type": int, "default": 11_200})]
+    arguments = shared.arguments_of(__doc__, *more)
     found, count, wrong = shared.programs_in(arguments.programs), 0, 0
     print("| Command | Input | Status | Under the small stack | Seconds | Least stack, KiB |")
     print("|---|---|---|---|---|---|")

@@ -1,11 +1,12 @@
 #!/usr/bin/env python3
 """Runs chains by threads while threads are held up, or can't be had, and compares what is written with the serial run.
 
-usage: hostile/threads.py [--programs FOLDER] [--only WAY] [--runs N] [--busy N] [--seed N] [--jobs N] [--limit SECONDS]
+usage: hostile/threads.py [--programs FOLDER] [--only WAY] [--runs N] [--busy N] [--seed N] [--jobs N]
+                          [--limit SECONDS]
 
-Build the programs first. Chains that numbers generate, with 2 to 16 shards, and chains of contracts with promises, delayed
-receipts and chunks that are missing, are run in each of these ways, N times in all a way (1,000), while some processes (4)
-keep the processors busy:
+Build the programs first. Chains that numbers generate, with 2 to 16 shards, and chains of contracts with promises,
+delayed receipts and chunks that are missing, are run in each of these ways, N times in all a way (1,000), while some
+processes (4) keep the processors busy:
 
   one processor, two processors, all processors
   allocations pause     by faults.c each so many-th allocation sleeps, so that a thread stands still at any place
@@ -14,7 +15,8 @@ keep the processors busy:
   no thread             by faults.c no thread can be started
   few threads           by faults.c all threads but the first few fail to start, or one alone fails
   a user without        the limit of processes is reached (for root: by the user nobody, who may have a few threads)
-  little room           so little address space that stacks of threads don't fit: status 7 is right too, with nothing written
+  little room           so little address space that stacks of threads don't fit: status 7 is right too, with nothing
+                        written
 
 The exit status is 0 where each run wrote what the serial run writes, and ended as it did.
 """
@@ -37,8 +39,8 @@ import programs as shared
 
 MIB = 1 << 20
 GENERATED = [(7, 2, 40), (7, 3, 25), (7, 4, 30), (9, 4, 12), (7, 8, 12), (7, 16, 8), (4, 16, 5)]
-WAYS = ("one processor", "two processors", "all processors", "allocations pause", "threads stop", "all stop", "no thread",
-        "few threads", "a user without", "little room")
+WAYS = ("one processor", "two processors", "all processors", "allocations pause", "threads stop", "all stop",
+        "no thread", "few threads", "a user without", "little room")
 NOBODY = 65534
 SEIZE, INTERRUPT, DETACH, WALL = 0x4206, 0x4207, 17, 0x40000000
 trace = ctypes.CDLL(None, use_errno=True).ptrace
@@ -50,7 +52,8 @@ def words_of(folder):
     rows = [[["gen", *map(str, row)]] * 2 for row in GENERATED]
     write = lambda name, data: shared.write(os.path.join(folder, name), data)
     config, people = write("config", chains.busy_config()), write("people", chains.people(chains.example_code()))
-    genesis, four = write("genesis", chains.bytes_of("contract", "genesis")), write("four", chains.bytes_of("four_shards", "genesis"))
+    genesis = write("genesis", chains.bytes_of("contract", "genesis"))
+    four = write("four", chains.bytes_of("four_shards", "genesis"))
     files = [
         [config, genesis, write("busy", chains.busy_blocks())],
         [config, people, write("every", chains.every_action())],
@@ -60,8 +63,9 @@ def words_of(folder):
 
 
 def ready(limit, library, folder, replay, wanted):
-    global runner, faults, chance, program, right, seconds, there
-    runner, faults, program, right, seconds = shared.Runner(limit), shared.Faults(library, folder), replay, wanted, limit
+    global runner, faults, program, right, seconds, there
+    runner, faults = shared.Runner(limit), shared.Faults(library, folder)
+    program, right, seconds = replay, wanted, limit
     there = sorted(os.sched_getaffinity(0))
 
 
@@ -186,16 +190,16 @@ def sweep(pool, way, rows, arguments):
     for end, task, ran in pool.imap_unordered(tried, tasks):
         ends[end] += 1
         if end == "wrong" and ends[end] <= 10:
-            print(f"  WRONG {way}, run {task[2]}, {' '.join(map(os.path.basename, rows[task[1]][1]))}: status {ran.status}, "
-                  f"{len(ran.out)} bytes written, {ran.err[-200:]!r}", flush=True)
+            shared.tell(" ".join(map(os.path.basename, rows[task[1]][1])), ran, f"{way}, run {task[2]}")
     counts = ", ".join(f"{end} {count}" for end, count in sorted(ends.items()))
     print(f"{way}: {len(tasks)} runs, {counts}; {time.monotonic() - begin:.0f} s", flush=True)
     return ends["wrong"]
 
 
 def main():
-    arguments = shared.arguments_of(__doc__, ("--runs", {"type": int, "default": 1000}), ("--busy", {"type": int, "default": 4}),
-                                    ("--seed", {"type": int, "default": 1}))
+    numbers = {"--runs": 1000, "--busy": 4, "--seed": 1}
+    arguments = shared.arguments_of(__doc__, *((name, {"type": int, "default": n}) for name, n in numbers.items()))
+    ways = [way for way in WAYS if not arguments.only or arguments.only in way]
     found, wrong = shared.programs_in(arguments.programs), 0
     if not {"near_serial", "near_replay"} <= found.keys():
         sys.exit("near_serial and near_replay are needed: build them first")
@@ -210,8 +214,9 @@ def main():
             sys.exit("a serial run failed")
         busy = [subprocess.Popen([sys.executable, "-c", "while True: pass"]) for _ in range(arguments.busy)]
         try:
-            with multiprocessing.Pool(arguments.jobs, ready, (arguments.limit, library, folder, replay, wanted)) as pool:
-                wrong = sum(sweep(pool, way, rows, arguments) for way in WAYS if not arguments.only or arguments.only in way)
+            given = (arguments.limit, library, folder, replay, wanted)
+            with multiprocessing.Pool(arguments.jobs, ready, given) as pool:
+                wrong = sum(sweep(pool, way, rows, arguments) for way in ways)
         finally:
             for process in busy:
                 process.kill()

@@ -11,7 +11,7 @@ NOTHING, STEP = b"\x60\x00\x00", b"\x60\x01\x7e\x01\x7e"
 
 
 def whole(types, functions, bodies, exports, others=()):
-    """A module: the types, a type for each function, the bodies, the exported methods, and other sections by number."""
+    """A module: types, a type for each function, bodies, exported methods, and other sections by number."""
     parts = {1: vector(types), 3: vector([unsigned(kind) for kind in functions]), 10: vector(bodies),
              7: vector([name(text) + b"\x00" + unsigned(place) for text, place in exports]), **dict(others)}
     return b"\0asm\1\0\0\0" + b"".join(section(number, parts[number]) for number in sorted(parts))
