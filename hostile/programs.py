@@ -158,6 +158,8 @@ def cases(folder, programs):
     """Each command of the programs that are there, on chains with contracts, promises and delayed receipts."""
     at = lambda name: os.path.join(folder, name)
     config, blocks = write(at("config"), chains.busy_config()), write(at("blocks"), chains.busy_blocks())
+    people = write(at("people"), chains.people(chains.example_code()))
+    actions = write(at("actions"), chains.every_action())
     schedule = write(at("schedule"), chains.SCHEDULE)
     module = write(at("module"), wasm.lively())
     priced, genesis = example("config", "generated.json"), example("contract", "genesis")
@@ -168,11 +170,13 @@ def cases(folder, programs):
         ("run four shards", "near_serial", ["run", "free", *four]),
         ("check", "near_serial", ["check", config, genesis, blocks, schedule]),
         ("gen", "near_serial", ["gen", "7", "3", "8"]),
+        ("run every action", "near_serial", ["run", config, people, actions]),
         ("run refused", "near_serial", ["run", priced, blocks, blocks]),
         ("no command", "near_serial", ["walk", "free"]),
         ("replay", "near_replay", ["replay", priced, genesis, example("contract", "blocks")]),
         ("replay delayed", "near_replay", ["replay", config, genesis, blocks]),
         ("replay four shards", "near_replay", ["replay", "free", *four]),
+        ("replay every action", "near_replay", ["replay", config, people, actions]),
         ("replay gen", "near_replay", ["gen", "7", "3", "8"]),
         ("genesis", "near_files", ["genesis", priced, example("contract", "genesis.json")]),
         ("blocks", "near_files", ["blocks", example("four_shards", "blocks.json")]),
