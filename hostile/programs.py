@@ -67,17 +67,16 @@ class Runner:
         if self.child:
             os.kill(self.child, signal.SIGKILL)
 
-    def run(self, words, environment=None, out=None, limit=None):
-        """A run with the words; what it writes goes to the file `out`, if it is given."""
+    def run(self, words, environment=None):
+        """A run with the words, and with these changes of the environment."""
         for text in self.texts:
             os.ftruncate(text, 0)
             os.lseek(text, 0, os.SEEK_SET)
-        actions = [(os.POSIX_SPAWN_DUP2, self.texts[0] if out is None else out, 1),
-                   (os.POSIX_SPAWN_DUP2, self.texts[1], 2)]
+        actions = [(os.POSIX_SPAWN_DUP2, text, number) for text, number in zip(self.texts, (1, 2))]
         self.hung = False
         self.child = os.posix_spawn(words[0], words, {**os.environ, **(environment or {})}, file_actions=actions,
                                     setsigdef=[signal.SIGPIPE])
-        signal.setitimer(signal.ITIMER_REAL, limit or self.limit)
+        signal.setitimer(signal.ITIMER_REAL, self.limit)
         _, status, used = os.wait4(self.child, 0)
         self.child = 0
         signal.setitimer(signal.ITIMER_REAL, 0)
