@@ -1,0 +1,194 @@
+"""What the scripts of this folder share: the programs, a run of one of them, the chains that they run on."""
+import argparse
+import os
+import resource
+import signal
+import struct
+import subprocess
+import sys
+from typing import NamedTuple
+
+import chains
+import wasm
+from chains import example
+
+HERE = os.path.dirname(os.path.abspath(__file__))
+NAMES = ("near_serial", "near_replay", "near_files", "near_module")
+DONE, USAGE, UNREADABLE, UNWRITTEN, NO_MEMORY = 0, 1, 5, 6, 7
+HUNG = "hung"
+
+
+def arguments_of(about, *more):
+    """The arguments of a script: those that all have, and its own, each a pair of a name and what argparse takes."""
+    parser = argparse.ArgumentParser(description=about, formatter_class=argparse.RawDescriptionHelpFormatter)
+    parser.add_argument("--programs", default=os.path.join(HERE, "..", "crates"),
+                        help="the folder that has NAME/out/NAME, or NAME, of each program (crates)")
+    parser.add_argument("--only", help="the cases whose name contains this word")
+    parser.add_argument("--jobs", type=int, default=len(os.sched_getaffinity(0)), help="how many runs at once")
+    parser.add_argument("--limit", type=float, default=60, help="seconds after which a run counts as hung (60)")
+    for name, how in more:
+        parser.add_argument(name, **how)
+    return parser.parse_args()
+
+
+def programs_in(folder):
+    """The path of each program that is there."""
+    found = {}
+    for name in NAMES:
+        for path in (os.path.join(folder, name, "out", name), os.path.join(folder, name)):
+            if os.path.isfile(path):
+                found[name] = os.path.abspath(path)
+    if not found:
+        sys.exit(f"no program in {folder}: build them first (rt ci at the top of the repository)")
+    return found
+
+
+class Ran(NamedTuple):
+    """How a run ended: its status (below 0 a signal), its texts, its processor seconds, the most KiB that it held."""
+    status: object
+    out: bytes
+    err: bytes
+    processor: float
+    memory: int
+
+
+class Runner:
+    """Runs programs, one at a time; each of the jobs has its own."""
+
+    def __init__(self, limit=60):
+        self.limit = limit
+        self.texts = [os.memfd_create(name) for name in ("out", "err")]
+        self.child = 0
+        self.hung = False
+        signal.signal(signal.SIGALRM, self.stop)
+
+    def stop(self, *_):
+        self.hung = True
+        if self.child:
+            os.kill(self.child, signal.SIGKILL)
+
+    def run(self, words, environment=None):
+        """A run with the words, and with these changes of the environment."""
+        for text in self.texts:
+            os.ftruncate(text, 0)
+            os.lseek(text, 0, os.SEEK_SET)
+        actions = [(os.POSIX_SPAWN_DUP2, text, number) for text, number in zip(self.texts, (1, 2))]
+        self.hung = False
+        self.child = os.posix_spawn(words[0], words, {**os.environ, **(environment or {})}, file_actions=actions,
+                                    setsigdef=[signal.SIGPIPE])
+        signal.setitimer(signal.ITIMER_REAL, self.limit)
+        _, status, used = os.wait4(self.child, 0)
+        self.child = 0
+        signal.setitimer(signal.ITIMER_REAL, 0)
+        texts = [os.pread(text, os.fstat(text).st_size, 0) for text in self.texts]
+        return Ran(HUNG if self.hung else os.waitstatus_to_exitcode(status), *texts,
+                   used.ru_utime + used.ru_stime, used.ru_maxrss)
+
+
+def limited(words, limits, user=None, seconds=60):
+    """A run under limits of resources, as {resource.RLIMIT_STACK: 262144}, maybe by another user."""
+    def begin():
+        for what, most in limits.items():
+            resource.setrlimit(what, (most, most))
+
+    try:
+        done = subprocess.run(words, capture_output=True, preexec_fn=begin, user=user, timeout=seconds)
+    except subprocess.TimeoutExpired as late:
+        return Ran(HUNG, late.stdout or b"", late.stderr or b"", 0, 0)
+    return Ran(done.returncode, done.stdout, done.stderr, 0, 0)
+
+
+def faults_in(folder):
+    """Compiles faults.c into the folder."""
+    made = os.path.join(folder, "faults.so")
+    words = [os.environ.get("CC", "cc"), "-O2", "-shared", "-fPIC", "-o", made, os.path.join(HERE, "faults.c"), "-ldl"]
+    subprocess.run(words, check=True)
+    return made
+
+
+class Faults:
+    """The environment of a run in which calls of one kind fail, and the count of these calls."""
+
+    def __init__(self, library, folder):
+        self.library = library
+        self.told = os.path.join(folder, f"told-{os.getpid()}")
+
+    def of(self, kind, first=0, many=0, how="", every=1, pause=0, piece=0):
+        with open(self.told, "wb") as out:
+            out.write(bytes(8))
+        values = {"told": self.told, "kind": kind, "from": first, "many": many, "how": how, "every": every,
+                  "pause": pause, "piece": piece}
+        return {"LD_PRELOAD": self.library, **{f"FAULTS_{name.upper()}": str(value) for name, value in values.items()}}
+
+    def count(self):
+        with open(self.told, "rb") as told:
+            return struct.unpack("<Q", told.read())[0]
+
+
+def tell(name, ran, what):
+    """Prints a run that was wrong."""
+    ended = f"status {ran.status}, {len(ran.out)} bytes written, {ran.err[-200:]!r}"
+    print(f"  WRONG {name}, {what}: {ended}", flush=True)
+
+
+class Case(NamedTuple):
+    """A command: its name, the program, and the words behind it."""
+    name: str
+    program: str
+    words: list
+
+
+def spread(count, most):
+    """The numbers from 1 to the count; of more than `most` the first half of `most`, and the others evenly."""
+    if count <= most:
+        return range(1, count + 1)
+    front = most // 2
+    rest = most - front
+    return [*range(1, front + 1), *(front + (count - front) * (step + 1) // rest for step in range(rest))]
+
+
+def write(path, data):
+    with open(path, "wb") as out:
+        out.write(data)
+    return path
+
+
+def cases(folder, programs):
+    """Each command of the programs that are there, on chains with contracts, promises and delayed receipts."""
+    at = lambda name: os.path.join(folder, name)
+    config, blocks = write(at("config"), chains.busy_config()), write(at("blocks"), chains.busy_blocks())
+    people = write(at("people"), chains.people(chains.example_code()))
+    actions = write(at("actions"), chains.every_action())
+    schedule = write(at("schedule"), chains.SCHEDULE)
+    module = write(at("module"), wasm.lively())
+    priced, genesis = example("config", "generated.json"), example("contract", "genesis")
+    four = [example("four_shards", part) for part in ("genesis", "blocks")]
+    rows = [
+        ("run", "near_serial", ["run", priced, genesis, example("contract", "blocks")]),
+        ("run delayed", "near_serial", ["run", config, genesis, blocks]),
+        ("run four shards", "near_serial", ["run", "free", *four]),
+        ("check", "near_serial", ["check", config, genesis, blocks, schedule]),
+        ("gen", "near_serial", ["gen", "7", "3", "8"]),
+        ("run every action", "near_serial", ["run", config, people, actions]),
+        ("run refused", "near_serial", ["run", priced, blocks, blocks]),
+        ("no command", "near_serial", ["walk", "free"]),
+        ("replay", "near_replay", ["replay", priced, genesis, example("contract", "blocks")]),
+        ("replay delayed", "near_replay", ["replay", config, genesis, blocks]),
+        ("replay four shards", "near_replay", ["replay", "free", *four]),
+        ("replay every action", "near_replay", ["replay", config, people, actions]),
+        ("replay gen", "near_replay", ["gen", "7", "3", "8"]),
+        ("genesis", "near_files", ["genesis", priced, example("contract", "genesis.json")]),
+        ("blocks", "near_files", ["blocks", example("four_shards", "blocks.json")]),
+        ("genesis refused", "near_files", ["genesis", priced, example("contract", "blocks.json")]),
+        ("show genesis", "near_files", ["show", "genesis", priced, genesis]),
+        ("show blocks", "near_files", ["show", "blocks", blocks]),
+        ("show report", "near_files", ["show", "report", example("contract", "report")]),
+        ("explain", "near_files", ["explain", "3", "4", "0", "182", "100"]),
+        ("module check", "near_module", ["check", priced, module]),
+        ("module run", "near_module", ["run", priced, module, "run", "100000"]),
+    ]
+    return [Case(name, program, [programs[program], *words]) for name, program, words in rows if program in programs]
+
+
+def fits(case, only):
+    return not only or only in case.name or only in case.program

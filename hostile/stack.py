@@ -1,0 +1,174 @@
+#!/usr/bin/env python3
+"""Runs the programs on the deepest inputs under a small stack.
+
+usage: hostile/stack.py [--programs FOLDER] [--only WORD] [--stack KIB] [--keys N] [--limit SECONDS]
+
+Build the programs first. Each command runs as the shell's limits are, and then with a stack of 256 KiB (--stack), on
+texts that nest 127 deep (and 128, which is refused), modules with 256 blocks in one another (and 257), calls and
+values to the greatest bounds that a configuration can have, lists of 50,000, and a genesis whose keys nest in one
+another (--keys, 11,200: some 63 of the 64 MB that a file may have). What is right is the same end with the same
+texts, and the status that is known. The last column is the least of some stacks, in KiB, from which on all serve. The
+exit status is 0 where every run was right.
+"""
+import json
+import resource
+import sys
+import tempfile
+import time
+
+import chains
+import programs as shared
+import wasm
+from wasm import const32, const64, unsigned, vector
+
+STACKS = (16, 32, 64, 128, 256, 512, 1024, 2048, 4096, 8192)
+DEEP = {"max_call_depth": 10_000, "max_stack_values": 1_000_000, "max_prepaid_gas": 10**9, "chunk_gas_limit": 10**12}
+
+
+def nested_text(depth, opening=b"[", closing=b"]", before=b'"deeper":'):
+    """A member whose value nests so deep, within an object that is one level by itself."""
+    return before + opening * (depth - 1) + b"1" + closing * (depth - 1)
+
+
+def with_member(text, member):
+    """A JSON text whose outer object has one member more."""
+    return text.rstrip()[:-1].rstrip() + b"," + member + b"}"
+
+
+def texts(at):
+    """Commands on JSON texts that nest, as (name, program, words, status)."""
+    for depth, status in ((127, 0), (128, 20), (5000, 20), (1_000_000, 20)):
+        for opening, closing in ((b"[", b"]"), (b'{"a":', b"}")):
+            if len(opening) > 1 and depth > 5000:
+                continue
+            member, what = nested_text(depth, opening, closing), f"{depth} levels of {opening[:1].decode()}"
+            for kind in ("genesis", "blocks"):
+                text = with_member(chains.bytes_of("one_transfer", f"{kind}.json"), member)
+                text = at(f"{kind}-{depth}-{len(opening)}", text)
+                words = ["genesis", "free", text] if kind == "genesis" else ["blocks", text]
+                yield f"{kind} text, {what}", "near_files", words, status
+            config = at(f"config-{depth}-{len(opening)}", with_member(chains.busy_config(), member))
+            module = at("module", wasm.lively())
+            yield f"configuration, {what}", "near_module", ["check", config, module], min(status, 2)
+    member = b'"wide":[' + b"[]," * 300_000 + b"1]"
+    wide = at("wide", with_member(chains.bytes_of("one_transfer", "genesis.json"), member))
+    yield "genesis text, 300,000 lists", "near_files", ["genesis", "free", wide], 0
+    long = at("long", b"log " + b"00" * 5_000_000 + b"\n")
+    yield "report, a line of 10,000,004 bytes", "near_files", ["show", "report", long], 0
+
+
+def modules():
+    """Modules to the bounds of what a module may be, as (name, bytes, the status of check, the status of run)."""
+    for depth, status in ((256, 0), (257, 20)):
+        for what, opening in (("blocks", wasm.BLOCK), ("loops", wasm.LOOP), ("ifs", wasm.IF)):
+            yield f"{depth} {what} in one another", wasm.nested(depth, opening), status, status
+    yield "calls without end", wasm.recursing(), 0, 20
+    yield "calls without end, 90 values each", wasm.recursing(90), 0, 20
+    yield "50,000 operands", wasm.long_body(50_000), 0, 0
+    labels = const32(3) + b"\x0e" + vector([unsigned(0)] * 49_999) + unsigned(0)
+    yield "a branch with 50,000 labels", wasm.whole([wasm.NOTHING], [0], [wasm.body(labels)], [("run", 0)]), 0, 0
+    chain = (const32(0) + wasm.IF + wasm.EMPTY + wasm.ELSE) * 255 + wasm.END * 255
+    yield "255 ifs, each in the other's else", wasm.whole([wasm.NOTHING], [0], [wasm.body(chain)], [("run", 0)]), 0, 0
+    many = 50_000
+    yield "50,000 functions", wasm.whole([wasm.NOTHING], [0] * many, [wasm.body(b"")] * many, [("run", 0)]), 0, 0
+    wide = b"\x60" + vector([wasm.LONG] * 50_000) + vector([])
+    yield "50,000 parameters", wasm.whole([wasm.NOTHING, wide], [0], [wasm.body(b"")], [("run", 0)]), 0, 0
+
+
+def module_runs(at):
+    config = at("deep", chains.busy_config(**DEEP))
+    for place, (name, data, checked, ran) in enumerate(modules()):
+        file = at(f"module-{place}", data)
+        yield f"module, {name}", "near_module", ["check", config, file], checked
+        yield f"module, {name}, run", "near_module", ["run", config, file, "run", "10000000"], ran
+
+
+def chain_runs(at):
+    """Each of the modules as a contract, by both programs."""
+    free = json.loads(chains.bytes_of("config", "free.json"))
+    config = at("deep-free", json.dumps({**free, **DEEP}).encode())
+    method = [chains.transaction(1, b"desk", [chains.call(b"run", b"", 10**8)]),
+              chains.transaction(2, b"vault", [chains.call(b"run", b"", 10**8)])]
+    blocks = at("deep-blocks", chains.blocks([[method, []], [[], []], [[], []], [[], []]]))
+    for place, (name, data, _, _) in enumerate(modules()):
+        genesis = at(f"genesis-{place}", chains.people(data))
+        yield f"contract, {name}", "near_serial", ["run", config, genesis, blocks], 0
+        yield f"contract, {name}", "near_replay", ["replay", config, genesis, blocks], 0
+
+
+def key_runs(at, count):
+    """A genesis whose data's keys nest in one another, and blocks that change it."""
+    data = [(b"k" * length, b"v") for length in range(1, count + 1)]
+    genesis = at("nested", chains.genesis([b"mm"], {b"alice": (10**20, None, [(chains.KEY, chains.FOR_ALL)], data)}))
+    moves = [chains.transaction(turn, b"zoe.alice", [b"\0", b"\3" + chains.u128(10**9)]) for turn in (1, 2)]
+    blocks = at("nested-blocks", chains.blocks([[moves, []], [[], []], [[], []]]))
+    schedule = at("nested-schedule", b"open 0\nseal 0\nrest\n")
+    name = f"{count} keys in one another"
+    yield name, "near_serial", ["run", "free", genesis, blocks], 0
+    yield name, "near_serial", ["check", "free", genesis, blocks, schedule], 0
+    yield name, "near_replay", ["replay", "free", genesis, blocks], 0
+    yield name, "near_files", ["show", "genesis", "free", genesis], 0
+
+
+def other_runs(at):
+    lines = at("lines", b"seal 0\n" * 149_000)
+    example = [chains.example("one_transfer", part) for part in ("genesis", "blocks")]
+    yield "schedule, 149,000 lines", "near_serial", ["check", "free", *example, lines], 0
+    many = [chains.transaction(turn, b"bob", [b"\3" + bytes(16)] * 100) for turn in range(1, 301)]
+    blocks = at("many", chains.blocks([[many], [[]]]))
+    yield "30,000 actions in a chunk", "near_serial", ["run", "free", example[0], blocks], 0
+    yield "30,000 actions in a chunk", "near_replay", ["replay", "free", example[0], blocks], 0
+    yield "16 shards", "near_serial", ["gen", "7", "16", "20"], 0
+    yield "16 shards", "near_replay", ["gen", "7", "16", "20"], 0
+
+
+def under(words, kib, limit):
+    return shared.limited(words, {resource.RLIMIT_STACK: kib * 1024}, seconds=limit)
+
+
+def least(words, right, limit):
+    """The least of the stacks from which on the run is right."""
+    serves = None
+    for kib in reversed(STACKS):
+        if under(words, kib, limit)[:3] != right[:3]:
+            break
+        serves = kib
+    return serves
+
+
+def tell(case, status, arguments):
+    """Runs a command both ways, and prints its row; whether it was right."""
+    right = shared.limited(case.words, {}, seconds=arguments.limit)
+    begin = time.monotonic()
+    ran = under(case.words, arguments.stack, arguments.limit)
+    seconds = time.monotonic() - begin
+    is_right = right.status == status and ran[:3] == right[:3]
+    serves = least(case.words, right, arguments.limit) if seconds < 2 else "-"
+    command = f"{case.program} {case.words[1]}"
+    print(f"| {command} | {case.name} | {right.status} | {ran.status} | {seconds:.2f} | {serves} |", flush=True)
+    if not is_right:
+        ends = f"status {right.status} for {status}, {len(right.out)} bytes written; under the small stack"
+        shared.tell(f"{command}, {case.name}", ran, ends)
+    return is_right
+
+
+def main():
+    more = [("--stack", {"type": int, "default": 256}), ("--keys", {"type": int, "default": 11_200})]
+    arguments = shared.arguments_of(__doc__, *more)
+    found, count, wrong = shared.programs_in(arguments.programs), 0, 0
+    print("| Command | Input | Status | Under the small stack | Seconds | Least stack, KiB |")
+    print("|---|---|---|---|---|---|")
+    with tempfile.TemporaryDirectory() as folder:
+        at = lambda name, data: shared.write(f"{folder}/{name}", data)
+        for rows in (texts(at), module_runs(at), chain_runs(at), other_runs(at), key_runs(at, arguments.keys)):
+            for name, program, words, status in rows:
+                case = shared.Case(name, program, [found.get(program), *words])
+                if program in found and shared.fits(case, arguments.only):
+                    count += 1
+                    wrong += not tell(case, status, arguments)
+    print(f"{count} commands, {wrong} were wrong")
+    sys.exit(1 if wrong else 0)
+
+
+if __name__ == "__main__":
+    main()
