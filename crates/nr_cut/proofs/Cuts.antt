@@ -166,20 +166,37 @@ module _ (old : List (List ℕ)) where
         ∙ ap (λ b. cond b (get all k) None) (test_same shard shard refl)
         ∙ found_in 0 (shard_of old (owner k)) ws w k apart e (omega arith)
 
+-- ---- the delayed receipts of all
+delayed_all : (ws : List World) → (all_beside ws).delayed ≡ flat_map (λ w. w.delayed) ws
+delayed_all [] = refl
+delayed_all (w ∷ ws) = ap (λ l. w.delayed ++ l) (delayed_all ws)
+
+served_all : (ws : List World) → (all_beside ws).served ≡ 0
+served_all [] = refl
+served_all (w ∷ ws) = refl
+
 -- ---- the cut of one world
 module _ (new : List (List ℕ)) (ws : List World) where
-  cut_apart : AreApart new (cut_worlds new ws)
+  part_cut : (s : ℕ)
+      → record (part_of (lives_in new s) (all_beside ws)) { delayed = out_to new s (all_beside ws).delayed }
+      ≡ cut_world new ws s
   unfolding cut_world
+  part_cut s = λ i. record (part_of (lives_in new s) (all_beside ws)) {
+    delayed = out_to new s (delayed_all ws i);
+    served = served_all ws i;
+  }
+
+  cut_apart : AreApart new (cut_worlds new ws)
   cut_apart s w e =
       subst (HasOnly (lives_in new s))
-      (sym (mapped_at (cut_world new ws) (length new + 1) 0 s w e ∙ ap (cut_world new ws) (omega arith)))
+      (part_cut s ∙ sym (mapped_at (cut_world new ws) (length new + 1) 0 s w e ∙ ap (cut_world new ws) (omega arith)))
       (only_part (lives_in new s) (all_beside ws) (out_to new s (all_beside ws).delayed))
 
   cut_valid : (c : Config) (s : ℕ) → IsValidWorld c (all_beside ws) → IsValidWorld c (cut_world new ws s)
-  unfolding cut_world
   cut_valid c s valid =
-      fewer_delayed c (part_of (lives_in new s) (all_beside ws)) (λ r. lives_in new s r.receiver)
-      (part_valid (lives_in new s) c (all_beside ws) valid)
+      subst (IsValidWorld c) (part_cut s)
+      (fewer_delayed c (part_of (lives_in new s) (all_beside ws)) (λ r. lives_in new s r.receiver)
+      (part_valid (lives_in new s) c (all_beside ws) valid))
 
   spread : {A : Type 0} (f : World → ℕ) (g : A → ℕ) (to : A → List ℕ) (xs : List A)
       → ((s : ℕ) → f (cut_world new ws s) ≡ sum_by (if_passes (λ x. lives_in new s (to x)) g) xs)
@@ -208,8 +225,9 @@ module _ (new : List (List ℕ)) (ws : List World) where
   delayed_cut : (f : Receipt → ℕ) → sum_by (delayed_sum f) (cut_worlds new ws) ≡ delayed_sum f (all_beside ws)
   unfolding cut_world
   delayed_cut f =
-      spread (delayed_sum f) f (λ r. r.receiver) (all_beside ws).delayed
-      (λ s. sum-filter f (λ r. lives_in new s r.receiver) (all_beside ws).delayed)
+      spread (delayed_sum f) f (λ r. r.receiver) (flat_map (λ w. w.delayed) ws)
+      (λ s. sum-filter f (λ r. lives_in new s r.receiver) (flat_map (λ w. w.delayed) ws))
+      ∙ ap (sum_by f) (sym (delayed_all ws))
 
   three : (c : Config) (vs : List World)
       → sum_by (world_tokens c) vs
@@ -226,14 +244,6 @@ module _ (new : List (List ℕ)) (ws : List World) where
         three c vs,
       )
 
-  delayed_all : (vs : List World) → (all_beside vs).delayed ≡ flat_map (λ w. w.delayed) vs
-  delayed_all [] = refl
-  delayed_all (v ∷ vs) = ap (λ l. v.delayed ++ l) (delayed_all vs)
-
-  served_all : (vs : List World) → (all_beside vs).served ≡ 0
-  served_all [] = refl
-  served_all (v ∷ vs) = refl
-
 -- ---- the whole
 pub keeps_worlds : (c : Config) (old new : List (List ℕ)) (ws : List World) → CanCut c old ws
     → KeepsWorlds c old new ws
@@ -241,7 +251,7 @@ unfolding cut_world
 keeps_worlds c old new ws can =
     let apart : AreApartFrom old 0 ws = apart_from old 0 ws
     (λ k w e. subst (λ m. HasOnly (lives_in old m) w) (omega arith) (can.apart k w e)) in
-    let valid : IsValidWorld c (all_beside ws) = all_valid old c 0 ws apart can.valid can.few in
+    let valid : IsValidWorld c (all_beside ws) = all_valid old c 0 ws apart can.valid can.tokens in
     let accounts : sum_by accounts_tokens (cut_worlds new ws) ≡ sum_by accounts_tokens ws =
     accounts_cut new ws ∙ all_accounts old c 0 ws apart in
     let postponed : (f : Receipt → ℕ) → sum_by (postponed_sum f) (cut_worlds new ws) ≡ sum_by (postponed_sum f) ws =
@@ -265,8 +275,8 @@ keeps_worlds c old new ws can =
           new ws apart (λ s. refl);
       postponed = found old pair_total exact_data (λ k. k.0) (λ w. w.postponed) (λ a b. refl)
           (λ test w is. is.postponed) new ws apart (λ s. refl);
-      delayed = λ s. ap (out_to new s) (delayed_all new ws ws);
-      served = λ s. served_all new ws ws;
+      delayed = λ s. refl;
+      served = λ s. refl;
       accounts_sum = accounts;
       postponed_sum = postponed;
       delayed_sum = delayed;

@@ -28,20 +28,26 @@ beside a b =
       served = 0;
     }
 
+-- all worlds of a list as one, in order; of no world it is the empty one
 abbrev pub all_beside : List World → World
 all_beside [] = no_world
 all_beside (w ∷ ws) = beside w (all_beside ws)
 
 -- ---- the cut
+-- the shard of an account under the boundaries is this one
 abbrev pub lives_in : List (List ℕ) → ℕ → List ℕ → Bool
 lives_in boundaries shard id = shard_of boundaries id == shard
 
--- a shard's world: what lives in it of all worlds, and their delayed receipts for it, world after world
+-- a shard's world: the accounts, keys, code, data, received data and postponed receipts of all worlds whose owner or
+-- receiver lives in it, the delayed receipts for it, world after world, and none was served
 unfoldable pub cut_world : List (List ℕ) → List World → ℕ → World
 cut_world boundaries worlds shard =
-    let all = all_beside worlds in
-    record (part_of (lives_in boundaries shard) all) { delayed = out_to boundaries shard all.delayed }
+    record (part_of (lives_in boundaries shard) (all_beside worlds)) {
+      delayed = out_to boundaries shard (flat_map (λ w. w.delayed) worlds);
+      served = 0;
+    }
 
+-- the worlds of all shards under the boundaries, in order
 abbrev pub cut_worlds : List (List ℕ) → List World → List World
 cut_worlds boundaries worlds = map (cut_world boundaries worlds) (range_with_len 0 (length boundaries + 1))
 

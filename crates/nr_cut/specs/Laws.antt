@@ -18,7 +18,7 @@ use Rattle.nr_state.specs.World.{World, accounts_tokens}
 pub record CanCut (c : Config) (old : List (List ℕ)) (ws : List World) : Type 0 where
   pub valid : AllByRecursion (IsValidWorld c) ws
   pub apart : AreApart old ws
-  pub few : sum_by (world_tokens c) ws ≤ 2 ^ 127
+  pub tokens : sum_by (world_tokens c) ws ≤ 2 ^ 127
 
 -- under each key the world of its owner's new shard has what the world of the old shard had
 abbrev pub IsFound : {K X : Type 0} {R : K → K → Ordering} → List (List ℕ) → List (List ℕ) → List World → (K → List ℕ)
