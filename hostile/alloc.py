@@ -6,9 +6,9 @@ usage: hostile/alloc.py [--programs FOLDER] [--only WORD] [--most N] [--rooms N]
 Build the programs first. faults.c is compiled and loaded before them; it makes the Nth allocation fail, once alone
 and once with all behind it. Where a command has more than --most allocations (20,000), the first half of that many
 are tried each, and the others evenly. A run has to end with status 7, the line `7` on standard error and nothing on
-standard output; or as it ends undisturbed, with the same text. Then each command runs with --rooms sizes of address
-space (60), from what the program needs to start, to what it needs to end: the same two answers are right. The exit
-status is 0 where every run was right.
+standard output; or as it ends undisturbed, with the same text. Then commands on long files run with --rooms sizes of
+address space (60), from what the program needs to start, to what it needs to end: the same two answers are right.
+The exit status is 0 where every run was right.
 """
 import collections
 import multiprocessing
@@ -111,6 +111,7 @@ def main():
         with multiprocessing.Pool(arguments.jobs, ready, (arguments.limit, library, folder)) as pool:
             wrong += sum(sweep(pool, case, arguments.most) for case in cases)
         if arguments.rooms:
+            cases = [case for case in shared.long_cases(folder, found) if shared.fits(case, arguments.only)]
             wrong += sum(rooms(case, found[case.program], arguments.rooms) for case in cases)
     print(f"{wrong} runs were wrong")
     sys.exit(1 if wrong else 0)

@@ -1,5 +1,6 @@
 """What the scripts of this folder share: the programs, a run of one of them, the chains that they run on."""
 import argparse
+import json
 import os
 import resource
 import signal
@@ -186,6 +187,27 @@ def cases(folder, programs):
         ("explain", "near_files", ["explain", "3", "4", "0", "182", "100"]),
         ("module check", "near_module", ["check", priced, module]),
         ("module run", "near_module", ["run", priced, module, "run", "100000"]),
+    ]
+    return [Case(name, program, [programs[program], *words]) for name, program, words in rows if program in programs]
+
+
+def long_cases(folder, programs):
+    """Commands on long files, with texts that are longer than a pipe holds."""
+    at = lambda name: os.path.join(folder, name)
+    heights = range(1, 1001)
+    blocks = write(at("long"), chains.blocks([[[], []]] * len(heights)))
+    rows = [{"height": height, "timestamp": height * 10**9, "chunks": [[], []]} for height in heights]
+    text = write(at("long.json"), json.dumps({"blocks": rows}).encode())
+    module = write(at("many"), wasm.whole([wasm.NOTHING], [0] * 20_000, [wasm.body(b"")] * 20_000, [("run", 0)]))
+    report = write(at("long-report"), b"log " + b"00" * 500_000 + b"\n")
+    chain = ["free", example("contract", "genesis"), blocks]
+    rows = [
+        ("run long", "near_serial", ["run", *chain]),
+        ("replay long", "near_replay", ["replay", *chain]),
+        ("blocks long", "near_files", ["blocks", text]),
+        ("show blocks long", "near_files", ["show", "blocks", blocks]),
+        ("show report long", "near_files", ["show", "report", report]),
+        ("module long", "near_module", ["check", "free", module]),
     ]
     return [Case(name, program, [programs[program], *words]) for name, program, words in rows if program in programs]
 

@@ -27,7 +27,6 @@ import tempfile
 import threading
 import time
 
-import chains
 import programs as shared
 
 FAULTS = [("open", errno.EACCES), ("open", errno.EMFILE), ("open", errno.EINTR),
@@ -36,15 +35,6 @@ FAULTS = [("open", errno.EACCES), ("open", errno.EMFILE), ("open", errno.EINTR),
           ("write", errno.EINTR), ("write", "short")]
 
 PIECE = 100
-
-
-def long_cases(folder, found):
-    """Commands whose text is longer than a pipe holds."""
-    blocks = shared.write(os.path.join(folder, "long"), chains.blocks([[[], []]] * 1000))
-    words = ["free", chains.example("contract", "genesis"), blocks]
-    rows = [("run long", "near_serial", ["run", *words]), ("replay long", "near_replay", ["replay", *words]),
-            ("show long", "near_files", ["show", "blocks", blocks])]
-    return [shared.Case(name, program, [found[program], *more]) for name, program, more in rows if program in found]
 
 
 def ready(limit, library, folder):
@@ -258,7 +248,7 @@ def main():
     found, wrong = shared.programs_in(arguments.programs), 0
     with tempfile.TemporaryDirectory() as folder:
         library = shared.faults_in(folder)
-        cases = shared.cases(folder, found) + long_cases(folder, found)
+        cases = shared.cases(folder, found) + shared.long_cases(folder, found)
         cases = [case for case in cases if shared.fits(case, arguments.only)]
         with multiprocessing.Pool(arguments.jobs, ready, (arguments.limit, library, folder)) as pool:
             wrong += sum(sweep(pool, case, arguments.most) for case in cases)
