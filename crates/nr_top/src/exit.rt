@@ -8,8 +8,8 @@ use std::fmt;
 
 impl Status {
     /// The exit status of a program that ends with this answer: 0 `Done`, 1 `Usage`, 2 `Config`,
-    /// 3 `Genesis`, 4 `Blocks`, 5 `ReadFault`, 6 `WriteFault`, 7 `NoMemory` and
-    /// 8 `Schedule`.
+    /// 3 `Genesis`, 4 `Blocks`, 5 `ReadFault`, 6 `WriteFault`, 7 `NoMemory`, 8 `Schedule`, 10 `Proof`,
+    /// 11 `NoItem` and 13 `Parts`.
     pub fn exit_status(&self) -> u8
         ensures { result ≡ (told self.now).0 }
     {
@@ -23,6 +23,9 @@ impl Status {
             Status::WriteFault => 6,
             Status::NoMemory => 7,
             Status::Schedule { .. } => 8,
+            Status::Proof { .. } => 10,
+            Status::NoItem { .. } => 11,
+            Status::Parts { .. } => 13,
         }
     }
 }
@@ -39,6 +42,9 @@ impl fmt::Display for Status {
             Status::Genesis { kind, a, b, c } => write!(f, "{number} {kind} {a} {b} {c}"),
             Status::Blocks { kind, a } => write!(f, "{number} {kind} {a}"),
             Status::Schedule { kind, line } => write!(f, "{number} {kind} {line}"),
+            Status::Proof { kind, line } => write!(f, "{number} {kind} {line}"),
+            Status::NoItem { count } => write!(f, "{number} {count}"),
+            Status::Parts { kind, a } => write!(f, "{number} {kind} {a}"),
             Status::Done => write!(f, "{number}"),
             Status::Usage => write!(f, "{number}"),
             Status::ReadFault => write!(f, "{number}"),

@@ -30,6 +30,19 @@ pub enum Status {
     /// `take S SOURCE HEIGHT`, `seal S`, `publish S` and `rest`, has no line feed behind it, or names a
     /// shard that isn't there.
     Schedule { kind: u32, line: u64 },
+    /// The file is no proof. The kind is 0 where it is longer than 256 MiB (the line is then 0), and 1
+    /// where a line, counted from 1, isn't of the form or isn't there.
+    Proof { kind: u32, line: u64 },
+    /// There is no such chunk, or it has no item at the place. The count is that of the chunk's items of
+    /// the kind, and 0 where there is no such chunk.
+    NoItem { count: u64 },
+    /// Parts of a state are refused. The kind is 0 where a file is longer than 256 MiB, and else the
+    /// number of the fault that `nr_parts` gives: 1 a field can't be read, 2 the part's numbers are out of
+    /// range, 3 another root, 4 a text is missing, 5 a text is no node's, 6 the entries aren't those of the
+    /// walk, 7 a part out of order, 8 another root of the whole, 9 too many nodes. `a` is the place of a
+    /// field, the index of an entry, the position of a part out of order, and else the part's position,
+    /// from 0.
+    Parts { kind: u32, a: u64 },
     /// A file could not be read.
     ReadFault,
     /// The text could not be written whole.
