@@ -1,7 +1,8 @@
 -- What each command does, as a plan: the files that it asks for in their order, and what it answers or refuses. This
 -- project's own commands and limits.
 use Rattle.std.specs.Prelude.{ℕ, ◌+◌, List, [], ◌∷◌, ◌++◌, cond, length, Option, Some, None}
-use Rattle.nr_words.specs.Command.{Command, Replay, Generate, Names, is_free}
+use Rattle.nr_words.specs.Command.{Command, Replay, Generate, Cut, CheckPart, JoinParts, Names, is_free}
+use Rattle.nr_words.specs.declared.words.StatePart.{StatePart}
 use Rattle.nr_config.specs.Config.{Config, free}
 use Rattle.nr_config.specs.Reading.{configuration}
 use Rattle.nr_config.specs.declared.fault.ConfigFault.{ConfigFault}
@@ -18,6 +19,7 @@ use Rattle.nr_shell.specs.Plans.{Plan, Answer, Refuse, and_then, by_reading, fil
 use Rattle.nr_top.specs.Generated.{generated_text}
 use Rattle.nr_top.specs.Run.{chain, check_text, run_text}
 use Rattle.nr_top.specs.Schedule.{schedule_read}
+use Rattle.nr_top.specs.StateParts.{by_part, check_part_plan, join_parts_plan, part_names}
 use Rattle.nr_top.specs.declared.chain.ChainFiles.{ChainFiles}
 use Rattle.nr_top.specs.declared.schedule.Line.{Line}
 use Rattle.nr_top.specs.declared.schedule.ScheduleFault.{ScheduleFault}
@@ -112,10 +114,17 @@ abbrev pub replay_plan : Names → Option (List ℕ) → Plan (List ℕ) Status
 replay_plan names None = run_plan names
 replay_plan names (Some file) = check_plan names file
 
+-- `part`
+abbrev pub part_plan : Names → StatePart → Plan (List ℕ) Status
+part_plan names part = and_then (chain_plan names) (by_part part)
+
 -- `gen` asks for no file
 abbrev pub command_plan : Command → Plan (List ℕ) Status
 command_plan (Replay names) = replay_plan names names.schedule
 command_plan (Generate start shards blocks) = Answer (generated_text start shards blocks)
+command_plan (Cut names part) = part_plan names part
+command_plan (CheckPart root file) = check_part_plan root file
+command_plan (JoinParts root count prefix) = join_parts_plan root count prefix
 
 -- words that are no command are refused
 abbrev pub plan : Option Command → Plan (List ℕ) Status
@@ -137,3 +146,6 @@ abbrev pub files_of : Option Command → List (List ℕ)
 files_of None = []
 files_of (Some (Replay names)) = chain_files names ++ schedule_files names.schedule
 files_of (Some (Generate start shards blocks)) = []
+files_of (Some (Cut names part)) = chain_files names
+files_of (Some (CheckPart root file)) = file ∷ []
+files_of (Some (JoinParts root count prefix)) = part_names prefix count
