@@ -8,6 +8,7 @@ pub mod Moments
 pub mod Driving
 pub mod Hashing
 pub mod Works
+pub mod Proving
 pub mod Plans
 pub mod Answers
 pub mod Exit
