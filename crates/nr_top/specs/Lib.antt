@@ -9,6 +9,7 @@ pub mod Driving
 pub mod Arriving
 pub mod Hashing
 pub mod Works
+pub mod Proving
 pub mod StateParts
 pub mod Plans
 pub mod Answers

@@ -1,9 +1,7 @@
 -- The commands on parts of a state: what is cut out of a run, and what is written of parts in files. This project's own.
-use Rattle.std.specs.Prelude.{ℕ, zero, suc, ◌+◌, ◌&&◌, Bool, cond, nat_lt, List, [], ◌∷◌, ◌++◌, length, map, codes, decimal, replicate, unwrap_or}
+use Rattle.std.specs.Prelude.{ℕ, zero, suc, ◌+◌, ◌&&◌, Bool, cond, nat_lt, List, [], ◌∷◌, ◌++◌, length, map, codes, decimal, unwrap_or}
 use Rattle.std.specs.FinMap.{entries}
 use Rattle.std.specs.List.{range_with_len}
-use Rattle.std.specs.Result.{result_unwrap_or}
-use Rattle.hex.specs.Hex.{decode_sized}
 use Rattle.nr_chunk.specs.Chain.{Chain, rules_of, shards_of}
 use Rattle.nr_columns.specs.declared.entry.Entry.{Entry}
 use Rattle.nr_ids.specs.declared.key.Hash32.{Hash32}
@@ -18,6 +16,7 @@ use Rattle.nr_parts.specs.declared.part.Part.{Part}
 use Rattle.nr_report.specs.Lines.{line}
 use Rattle.nr_shell.specs.Plans.{Plan, Answer, Refuse, and_then, by_reading, file_plan}
 use Rattle.nr_state.specs.Flat.{flat}
+use Rattle.nr_top.specs.Proving.{hash_in}
 use Rattle.nr_top.specs.declared.status.Status.{Status}
 use Rattle.nr_top.specs.declared.status.Status.TheVariants.{NoItem, Parts as refused_parts, NoMemory}
 use Rattle.nr_words.specs.declared.words.StatePart.{StatePart}
@@ -58,10 +57,6 @@ by_part_bytes position bytes = by_reading (part_status position) (part_in bytes)
 abbrev pub part_file_plan : ℕ → List ℕ → Plan Part Status
 part_file_plan position name = and_then (file_plan name 268435456 (refused_parts 0 position)) (by_part_bytes position)
 
--- the root that 64 digits of base 16 spell; other words, which no command has, are 32 zeros
-abbrev pub root_in : List ℕ → Hash32
-root_in word = record { 0 = result_unwrap_or (decode_sized word 32) (replicate 32 0) }
-
 -- ---- one part against a root
 abbrev pub part_line : Part → List ℕ
 part_line p = line (codes "part" ∷ decimal p.number ∷ decimal p.count ∷ codes "entries" ∷ decimal (length p.entries) ∷ [])
@@ -70,7 +65,7 @@ abbrev pub by_one_part : Hash32 → Part → Plan (List ℕ) Status
 by_one_part root part = and_then (by_reading (part_status 0) (checked root part)) (λ accepted. Answer (part_line part))
 
 abbrev pub check_part_plan : List ℕ → List ℕ → Plan (List ℕ) Status
-check_part_plan root file = and_then (part_file_plan 0 file) (by_one_part (root_in root))
+check_part_plan root file = and_then (part_file_plan 0 file) (by_one_part (hash_in root))
 
 -- ---- all parts of a root, in files whose names are a prefix and the part's position, from 0
 abbrev pub part_name : List ℕ → ℕ → List ℕ
@@ -98,7 +93,7 @@ root_line root es = line (codes "root" ∷ root ∷ codes "entries" ∷ decimal 
 
 abbrev pub by_parts : List ℕ → List Part → Plan (List ℕ) Status
 by_parts root parts =
-    and_then (by_reading (join_status (root_in root) parts) (joined_or_fault (root_in root) parts))
+    and_then (by_reading (join_status (hash_in root) parts) (joined_or_fault (hash_in root) parts))
     (λ es. Answer (root_line root es))
 
 abbrev pub join_parts_plan : List ℕ → ℕ → List ℕ → Plan (List ℕ) Status
