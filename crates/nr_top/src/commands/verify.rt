@@ -23,7 +23,7 @@ const PROOF_LIMIT: usize = 268_435_456;
 const LONG_PROOF: Status = Status::Proof { kind: 0, line: 0 };
 
 /// The hash that 64 digits spell.
-fn hash_in(digits: &str) -> Hash32
+pub(super) fn hash_in(digits: &str) -> Hash32
     requires { is_digest digits.now ≡ true }
     ensures { result ≡ hash_in digits.now }
 {

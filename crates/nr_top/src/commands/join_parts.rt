@@ -1,0 +1,84 @@
+//! `joinparts ROOT COUNT PREFIX`.
+
+ghost use Rattle.std.specs.Prelude.{◌≡◌, true, IfOk, unwrap_or};
+ghost use Rattle.nr_parts.specs.Joining.{first_refused, joined_or_fault};
+ghost use Rattle.nr_shell.specs.Answers.{Follows, Judges};
+ghost use Rattle.nr_shell.specs.Plans.{by_reading};
+ghost use Rattle.nr_top.specs.Answers.{refuses};
+ghost use Rattle.nr_top.specs.StateParts.{by_parts, join_parts_plan, join_status, root_line};
+ghost use Rattle.nr_words.specs.Forms.{is_digest};
+
+use crate::commands::verify::hash_in;
+use crate::part_files::load_parts;
+use crate::refused::part_stop;
+use crate::status::Status;
+use nr_bytes::{Blob, List, Shelf};
+use nr_columns::Entry;
+use nr_ids::Hash32;
+use nr_parts::{Part, first_refused, join_parts};
+use nr_shell::Stop;
+use std::alloc::{AllocError, Global};
+
+/// The line of a root whose parts were joined.
+fn root_line(alloc: Global, root: &str, entries: &List<Entry>) -> Result<Blob, AllocError>
+    ensures { IfOk result (λ text. text ≡ root_line root.now entries.now) }
+{
+    let count = entries.inner().len();
+    let line = format!(in alloc; "root {root} entries {count}\n")?;
+    Ok(Blob::of(Vec::from_slice(alloc, line.as_bytes())?))
+}
+
+/// The position of the first part that is refused, and 0 where none is.
+fn refused_at(alloc: Global, root: &Hash32, parts: &List<Part>) -> Result<u64, AllocError>
+    ensures { IfOk result (λ at. at ≡ unwrap_or (first_refused root.now 0 parts.now) 0) }
+{
+    let at = first_refused(alloc, root, parts)?;
+    Ok(at.unwrap_or(0) as u64)
+}
+
+/// The entries of all parts, against a root.
+fn joined(alloc: Global, root: &Hash32, parts: &List<Part>) -> Result<List<Entry>, Stop<Status>>
+    ensures { Judges refuses (λ entries. entries) result
+        (by_reading (join_status root.now parts.now) (joined_or_fault root.now parts.now)) }
+{
+    match join_parts(alloc, root, parts) {
+        Ok(entries) => Ok(entries),
+        Err(fault) => match refused_at(alloc, root, parts) {
+            Ok(position) => Err(part_stop(position, fault)),
+            Err(_) => Err(Stop::Memory),
+        },
+    }
+}
+
+/// What is said of all parts, against the root that 64 digits spell.
+fn joined_text(alloc: Global, root: &str, parts: &List<Part>) -> Result<Blob, Stop<Status>>
+    requires { is_digest root.now ≡ true }
+    ensures { Judges refuses (λ text. text) result (by_parts root.now parts.now) }
+{
+    match joined(alloc, &hash_in(root), parts) {
+        Ok(entries) => match root_line(alloc, root, &entries) {
+            Ok(text) => Ok(text),
+            Err(_) => Err(Stop::Memory),
+        },
+        Err(stop) => Err(stop),
+    }
+}
+
+/// What is said of all parts, in files that are named by a prefix and the position from 0.
+pub(crate) fn join_parts_text<S: Shelf>(
+    alloc: Global,
+    root: &str,
+    count: u32,
+    prefix: &str,
+    shelf: &mut S,
+) -> Result<Blob, Stop<Status>>
+    requires { is_digest root.now ≡ true }
+    ensures { Follows refuses (λ text. text) (S.held shelf.old) (S.held shelf.new)
+        (S.asked shelf.old) (S.asked shelf.new) (S.faults shelf.old) (S.faults shelf.new)
+        result (join_parts_plan root.now count prefix.now) }
+{
+    match load_parts(alloc, prefix, count, shelf) {
+        Ok(parts) => joined_text(alloc, root, &parts),
+        Err(stop) => Err(stop),
+    }
+}
