@@ -6,3 +6,4 @@ pub mod Standing
 pub mod Drives
 pub mod Digesting
 pub mod Asking
+pub mod Digests

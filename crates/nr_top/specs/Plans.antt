@@ -1,7 +1,7 @@
 -- What each command does, as a plan: the files that it asks for in their order, and what it answers or refuses. This
 -- project's own commands and limits.
 use Rattle.std.specs.Prelude.{ℕ, ◌+◌, List, [], ◌∷◌, ◌++◌, cond, length, Option, Some, None}
-use Rattle.nr_words.specs.Command.{Command, Replay, Generate, Roots, Prove, Verify, Names, is_free}
+use Rattle.nr_words.specs.Command.{Command, Replay, Generate, Roots, Prove, Verify, Cut, CheckPart, JoinParts, Names, is_free}
 use Rattle.nr_words.specs.declared.words.ChunkItem.{ChunkItem}
 use Rattle.nr_config.specs.Config.{Config, free}
 use Rattle.nr_config.specs.Reading.{configuration}
@@ -17,7 +17,7 @@ use Rattle.nr_blocks.specs.declared.genesis.Genesis.{Genesis}
 use Rattle.nr_chunk.specs.Chain.{Chain, shards_of}
 use Rattle.nr_shell.specs.Plans.{Plan, Answer, Refuse, and_then, by_reading, file_plan}
 use Rattle.nr_top.specs.Generated.{generated_text}
-use Rattle.nr_top.specs.Proving.{by_item, by_proof_bytes, hash_in, roots_text}
+use Rattle.nr_top.specs.Proving.{by_item, by_proof_bytes, root_in, roots_text}
 use Rattle.nr_top.specs.Run.{chain, check_text, run_text}
 use Rattle.nr_top.specs.Schedule.{schedule_read}
 use Rattle.nr_top.specs.declared.chain.ChainFiles.{ChainFiles}
@@ -124,7 +124,7 @@ prove_plan names item = and_then (chain_plan names) (by_item item)
 
 -- `verify`, over a file of at most 256 MiB
 abbrev pub verify_plan : List ℕ → List ℕ → Plan (List ℕ) Status
-verify_plan root name = and_then (file_plan name 268435456 (faulty_proof 0 0)) (by_proof_bytes (hash_in root))
+verify_plan root name = and_then (file_plan name 268435456 (faulty_proof 0 0)) (by_proof_bytes (root_in root))
 
 -- `gen` asks for no file
 abbrev pub command_plan : Command → Plan (List ℕ) Status
@@ -133,6 +133,9 @@ command_plan (Generate start shards blocks) = Answer (generated_text start shard
 command_plan (Roots names) = roots_plan names
 command_plan (Prove names item) = prove_plan names item
 command_plan (Verify root name) = verify_plan root name
+command_plan (Cut names part) = Refuse Usage
+command_plan (CheckPart root name) = Refuse Usage
+command_plan (JoinParts root count prefix) = Refuse Usage
 
 -- words that are no command are refused
 abbrev pub plan : Option Command → Plan (List ℕ) Status
@@ -157,3 +160,6 @@ files_of (Some (Generate start shards blocks)) = []
 files_of (Some (Roots names)) = chain_files names
 files_of (Some (Prove names item)) = chain_files names
 files_of (Some (Verify root name)) = name ∷ []
+files_of (Some (Cut names part)) = []
+files_of (Some (CheckPart root name)) = []
+files_of (Some (JoinParts root count prefix)) = []

@@ -8,7 +8,10 @@ ghost use Rattle.nr_words.specs.Words.{CanRun, command_in, names_in};
 
 mod check;
 mod generate;
+mod prove;
+mod roots;
 mod run;
+mod verify;
 
 use crate::status::Status;
 use crate::work::Work;
@@ -17,8 +20,11 @@ use generate::generate_text;
 use nr_bytes::{Blob, Shelf};
 use nr_shell::Stop;
 use nr_words::{FileNames, Words};
+use prove::prove_text;
+use roots::roots_text;
 use run::run_text;
 use std::alloc::{AllocError, Global};
+use verify::verify_text;
 
 /// The text of a replay, to its end or by a schedule.
 fn replay_text<F: Fn(Work) -> Result<Blob, AllocError>, S: Shelf>(
@@ -65,5 +71,11 @@ pub(crate) fn text_of<F: Fn(Work) -> Result<Blob, AllocError>, S: Shelf>(
             shards,
             blocks,
         } => generate_text(run, *start, *shards, *blocks),
+        Words::ChunkRoots(files) => roots_text(alloc, files, shelf),
+        Words::ProveItem { files, item } => prove_text(alloc, files, *item, shelf),
+        Words::VerifyProof { root, proof } => verify_text(alloc, root, proof, shelf),
+        Words::CutPart { .. } => Err(Stop::Refused(Status::Usage)),
+        Words::CheckPartFile { .. } => Err(Stop::Refused(Status::Usage)),
+        Words::JoinPartFiles { .. } => Err(Stop::Refused(Status::Usage)),
     }
 }

@@ -8,6 +8,7 @@ mod exit;
 mod generated;
 mod laws;
 mod refused;
+mod root_word;
 mod run;
 mod schedule;
 mod status;
