@@ -16,12 +16,14 @@ use Rattle.nr_records.specs.declared.chunk_result.ChunkResult.{ChunkResult}
 use Rattle.nr_shell.specs.Plans.{Plan, Answer, Asks, and_then, file_plan}
 use Rattle.nr_shell.proofs.Ends.{file_asks, reading_asks, then_asks}
 use Rattle.nr_top.specs.Plans.{blocks_plan, blocks_status, by_blocks_bytes, by_chain, by_config, by_config_bytes, by_genesis, by_genesis_bytes, by_schedule_bytes, chain_files, chain_plan, config_files, config_plan, config_status, files_of, genesis_plan, genesis_status, plan, prove_plan, replay_plan, schedule_files, schedule_plan, schedule_status, verify_plan}
-use Rattle.nr_top.specs.Proving.{by_chunk, by_item, by_proof, by_proof_bytes, by_proof_read, chunk_at, hash_in, roots_text}
+use Rattle.nr_top.specs.Proving.{by_chunk, by_item, by_proof, by_proof_bytes, by_proof_read, chunk_at, root_in, roots_text}
 use Rattle.nr_top.specs.Run.{chain, check_text, run_text}
 use Rattle.nr_top.specs.Schedule.{schedule_read}
+use Rattle.nr_top.specs.StateParts.{by_part}
+use Rattle.nr_top.proofs.PartAsking.{by_part_asks, check_part_asks, join_parts_asks}
 use Rattle.nr_top.specs.declared.status.Status.{Status}
 use Rattle.nr_top.specs.declared.status.Status.TheVariants.{Config as faulty_config, Genesis as faulty_genesis, Blocks as faulty_blocks, Schedule as faulty_schedule, Proof as faulty_proof}
-use Rattle.nr_words.specs.Command.{Command, Replay, Generate, Roots, Prove, Verify, Names, is_free}
+use Rattle.nr_words.specs.Command.{Command, Replay, Generate, Roots, Prove, Verify, Cut, CheckPart, JoinParts, Names, is_free}
 use Rattle.nr_words.specs.declared.words.ChunkItem.{ChunkItem}
 
 -- a file, behind whose bytes no other is asked for
@@ -87,7 +89,7 @@ proof_read_asks root (Err f) = tt
 
 verify_asks : (root name : List ℕ) → Asks (name ∷ []) (verify_plan root name)
 verify_asks root name =
-    file_alone name 268435456 (faulty_proof 0 0) (by_proof_bytes (hash_in root)) (λ b. proof_read_asks (hash_in root) (proof_read b))
+    file_alone name 268435456 (faulty_proof 0 0) (by_proof_bytes (root_in root)) (λ b. proof_read_asks (root_in root) (proof_read b))
 
 pub plan_asks : (asked : Option Command) → Asks (files_of asked) (plan asked)
 plan_asks None = tt
@@ -96,3 +98,6 @@ plan_asks (Some (Generate start shards blocks)) = tt
 plan_asks (Some (Roots names)) = chain_alone names (λ x. Answer (roots_text x)) (λ x. tt)
 plan_asks (Some (Prove names item)) = prove_asks names item
 plan_asks (Some (Verify root name)) = verify_asks root name
+plan_asks (Some (Cut names part)) = chain_alone names (by_part part) (by_part_asks part)
+plan_asks (Some (CheckPart root file)) = check_part_asks root file
+plan_asks (Some (JoinParts root count prefix)) = join_parts_asks root count prefix

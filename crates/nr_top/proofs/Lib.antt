@@ -5,4 +5,7 @@ pub mod Onward
 pub mod Standing
 pub mod Drives
 pub mod Digesting
+pub mod Arrival
+pub mod PartAsking
 pub mod Asking
+pub mod Digests

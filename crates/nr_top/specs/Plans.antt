@@ -18,7 +18,7 @@ use Rattle.nr_blocks.specs.declared.genesis.Genesis.{Genesis}
 use Rattle.nr_chunk.specs.Chain.{Chain, shards_of}
 use Rattle.nr_shell.specs.Plans.{Plan, Answer, Refuse, and_then, by_reading, file_plan}
 use Rattle.nr_top.specs.Generated.{generated_text}
-use Rattle.nr_top.specs.Proving.{by_item, by_proof_bytes, hash_in, roots_text}
+use Rattle.nr_top.specs.Proving.{by_item, by_proof_bytes, root_in, roots_text}
 use Rattle.nr_top.specs.Run.{chain, check_text, run_text}
 use Rattle.nr_top.specs.Schedule.{schedule_read}
 use Rattle.nr_top.specs.StateParts.{by_part, check_part_plan, join_parts_plan, part_names}
@@ -126,7 +126,7 @@ prove_plan names item = and_then (chain_plan names) (by_item item)
 
 -- `verify`, over a file of at most 256 MiB
 abbrev pub verify_plan : List ℕ → List ℕ → Plan (List ℕ) Status
-verify_plan root name = and_then (file_plan name 268435456 (faulty_proof 0 0)) (by_proof_bytes (hash_in root))
+verify_plan root name = and_then (file_plan name 268435456 (faulty_proof 0 0)) (by_proof_bytes (root_in root))
 
 -- `part`
 abbrev pub part_plan : Names → StatePart → Plan (List ℕ) Status

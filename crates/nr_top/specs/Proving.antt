@@ -54,9 +54,9 @@ abbrev pub by_item : ChunkItem → Chain → Plan (List ℕ) Status
 by_item item x = by_chunk item (chunk_at x item.height item.shard)
 
 -- ---- `verify`: whether the proof of a file is accepted against a root; the faults of its text, by kind and line
--- the hash that 64 digits spell
-abbrev pub hash_in : List ℕ → Hash32
-hash_in word = record { 0 = unwrap_or (result_ok (decode_of word)) [] }
+-- the root that 64 digits spell
+abbrev pub root_in : List ℕ → Hash32
+root_in word = record { 0 = unwrap_or (result_ok (decode_of word)) [] }
 
 abbrev pub judgement : Bool → List ℕ
 judgement true = line (codes "valid" ∷ [])

@@ -16,7 +16,7 @@ use Rattle.nr_parts.specs.declared.part.Part.{Part}
 use Rattle.nr_report.specs.Lines.{line}
 use Rattle.nr_shell.specs.Plans.{Plan, Answer, Refuse, and_then, by_reading, file_plan}
 use Rattle.nr_state.specs.Flat.{flat}
-use Rattle.nr_top.specs.Proving.{hash_in}
+use Rattle.nr_top.specs.Proving.{root_in}
 use Rattle.nr_top.specs.declared.status.Status.{Status}
 use Rattle.nr_top.specs.declared.status.Status.TheVariants.{NoItem, Parts as refused_parts, NoMemory}
 use Rattle.nr_words.specs.declared.words.StatePart.{StatePart}
@@ -65,7 +65,7 @@ abbrev pub by_one_part : Hash32 → Part → Plan (List ℕ) Status
 by_one_part root part = and_then (by_reading (part_status 0) (checked root part)) (λ accepted. Answer (part_line part))
 
 abbrev pub check_part_plan : List ℕ → List ℕ → Plan (List ℕ) Status
-check_part_plan root file = and_then (part_file_plan 0 file) (by_one_part (hash_in root))
+check_part_plan root file = and_then (part_file_plan 0 file) (by_one_part (root_in root))
 
 -- ---- all parts of a root, in files whose names are a prefix and the part's position, from 0
 abbrev pub part_name : List ℕ → ℕ → List ℕ
@@ -93,7 +93,7 @@ root_line root es = line (codes "root" ∷ root ∷ codes "entries" ∷ decimal 
 
 abbrev pub by_parts : List ℕ → List Part → Plan (List ℕ) Status
 by_parts root parts =
-    and_then (by_reading (join_status (hash_in root) parts) (joined_or_fault (hash_in root) parts))
+    and_then (by_reading (join_status (root_in root) parts) (joined_or_fault (root_in root) parts))
     (λ es. Answer (root_line root es))
 
 abbrev pub join_parts_plan : List ℕ → ℕ → List ℕ → Plan (List ℕ) Status

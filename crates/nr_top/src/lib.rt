@@ -9,6 +9,7 @@ mod generated;
 mod laws;
 mod part_files;
 mod refused;
+mod root_word;
 mod run;
 mod schedule;
 mod state_after;

@@ -4,10 +4,12 @@ ghost use Rattle.std.specs.Prelude.{◌≡◌, true};
 ghost use Rattle.nr_blocks.specs.declared.fault.BlocksFault.TheVariants as blocks;
 ghost use Rattle.nr_blocks.specs.declared.fault.GenesisFault.TheVariants as genesis;
 ghost use Rattle.nr_config.specs.declared.fault.ConfigFault.TheVariants as config;
+ghost use Rattle.nr_outproof.specs.declared.fault.ProofFault.TheVariants as proof;
 ghost use Rattle.nr_parts.specs.declared.fault.PartFault.TheVariants as part;
 ghost use Rattle.nr_shell.specs.Answers.{StopsBy};
 ghost use Rattle.nr_top.specs.Answers.{refuses};
 ghost use Rattle.nr_top.specs.Plans.{blocks_status, config_status, genesis_status, schedule_status};
+ghost use Rattle.nr_top.specs.Proving.{proof_status};
 ghost use Rattle.nr_top.specs.StateParts.{part_status};
 ghost use Rattle.nr_top.specs.declared.schedule.ScheduleFault.TheVariants as schedule;
 ghost use Rattle.nr_top.specs.declared.status.Status.TheVariants.{Genesis as faulty_genesis, Parts as refused_parts};
@@ -16,6 +18,7 @@ use crate::schedule::ScheduleFault;
 use crate::status::Status;
 use nr_blocks::{BlocksFault, GenesisFault};
 use nr_config::ConfigFault;
+use nr_outproof::ProofFault;
 use nr_parts::PartFault;
 use nr_shell::Stop;
 
@@ -79,6 +82,16 @@ pub(crate) fn schedule_stop(fault: ScheduleFault) -> Stop<Status>
     match fault {
         ScheduleFault::NoLine { line } => Stop::Refused(Status::Schedule { kind: 1, line }),
         ScheduleFault::Memory => Stop::Memory,
+    }
+}
+
+/// Why a faulty proof stops the command.
+pub(crate) fn proof_stop(fault: ProofFault) -> Stop<Status>
+    ensures { StopsBy refuses proof.Memory proof_status fault result }
+{
+    match fault {
+        ProofFault::Form { line } => Stop::Refused(Status::Proof { kind: 1, line }),
+        ProofFault::Memory => Stop::Memory,
     }
 }
 

@@ -6,9 +6,10 @@ ghost use Rattle.nr_top.specs.Answers.{refuses};
 ghost use Rattle.nr_top.specs.StateParts.{by_one_part, check_part_plan, part_line};
 ghost use Rattle.nr_words.specs.Forms.{is_digest};
 
-use crate::commands::verify::hash_in;
+
 use crate::part_files::load_part;
 use crate::refused::part_stop;
+use crate::root_word::root_in;
 use crate::status::Status;
 use nr_bytes::{Blob, Shelf};
 use nr_ids::Hash32;
@@ -52,7 +53,7 @@ pub(crate) fn check_part_text<S: Shelf>(
         (S.asked shelf.old) (S.asked shelf.new) (S.faults shelf.old) (S.faults shelf.new)
         result (check_part_plan root.now file.now) }
 {
-    let root = hash_in(root);
+    let root = root_in(root);
     match load_part(alloc, 0, file, shelf) {
         Ok(part) => accepted(alloc, &root, &part),
         Err(stop) => Err(stop),

@@ -8,9 +8,10 @@ ghost use Rattle.nr_top.specs.Answers.{refuses};
 ghost use Rattle.nr_top.specs.StateParts.{by_parts, join_parts_plan, join_status, root_line};
 ghost use Rattle.nr_words.specs.Forms.{is_digest};
 
-use crate::commands::verify::hash_in;
+
 use crate::part_files::load_parts;
 use crate::refused::part_stop;
+use crate::root_word::root_in;
 use crate::status::Status;
 use nr_bytes::{Blob, List, Shelf};
 use nr_columns::Entry;
@@ -55,7 +56,7 @@ fn joined_text(alloc: Global, root: &str, parts: &List<Part>) -> Result<Blob, St
     requires { is_digest root.now ≡ true }
     ensures { Judges refuses (λ text. text) result (by_parts root.now parts.now) }
 {
-    match joined(alloc, &hash_in(root), parts) {
+    match joined(alloc, &root_in(root), parts) {
         Ok(entries) => match root_line(alloc, root, &entries) {
             Ok(text) => Ok(text),
             Err(_) => Err(Stop::Memory),

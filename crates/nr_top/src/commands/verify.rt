@@ -5,12 +5,12 @@ ghost use Rattle.nr_outproof.specs.Proofs.{accepts};
 ghost use Rattle.nr_shell.specs.Answers.{Follows, Judges};
 ghost use Rattle.nr_top.specs.Answers.{refuses};
 ghost use Rattle.nr_top.specs.Plans.{verify_plan};
-ghost use Rattle.nr_top.specs.Proving.{by_proof_bytes, hash_in, judgement};
+ghost use Rattle.nr_top.specs.Proving.{by_proof_bytes, judgement};
 ghost use Rattle.nr_words.specs.Forms.{is_digest};
 
 use crate::refused::proof_stop;
+use crate::root_word::root_in;
 use crate::status::Status;
-use hex::FromHex;
 use nr_bytes::{Blob, Shelf};
 use nr_ids::Hash32;
 use nr_outproof::{Proof, read_proof, verify};
@@ -21,17 +21,6 @@ use std::alloc::{AllocError, Global};
 const PROOF_LIMIT: usize = 268_435_456;
 
 const LONG_PROOF: Status = Status::Proof { kind: 0, line: 0 };
-
-/// The hash that 64 digits spell.
-pub(super) fn hash_in(digits: &str) -> Hash32
-    requires { is_digest digits.now ≡ true }
-    ensures { result ≡ hash_in digits.now }
-{
-    match <[u8; 32] as FromHex>::from_hex(digits) {
-        Ok(bytes) => Hash32(bytes),
-        Err(_) => unreachable!(),
-    }
-}
 
 /// What is said of a proof.
 fn judgement(alloc: Global, valid: bool) -> Result<Blob, AllocError>
@@ -75,7 +64,7 @@ pub(crate) fn verify_text<S: Shelf>(
         (S.asked shelf.old) (S.asked shelf.new) (S.faults shelf.old) (S.faults shelf.new)
         result (verify_plan root.now name.now) }
 {
-    let root = hash_in(root);
+    let root = root_in(root);
     match load(alloc, name, PROOF_LIMIT, LONG_PROOF, shelf) {
         Ok(bytes) => judged_bytes(alloc, &root, &bytes),
         Err(stop) => Err(stop),

@@ -1,0 +1,11 @@
+use Rattle.std.proofs.Common.{refl}
+use Rattle.nr_shell.proofs.Leading.{read_follows, stop_follows}
+use Rattle.nr_top.specs.Answers.{refuses}
+use Rattle.nr_top.specs.Proving.{by_proof_bytes, root_in}
+use Rattle.nr_top.proofs.commands.verify.verify_text.Goals as goal
+
+pub returns-in-Ok : goal.returns-in-Ok
+returns-in-Ok g c = rw c.root_in-root.ensures at (read_follows (by_proof_bytes (root_in c.args.root.now)) (c.in-Ok.ensures refuses refl) c.deref.ensures.value c.judged_bytes.ensures)
+
+pub returns-in-Err : goal.returns-in-Err
+returns-in-Err g c = stop_follows (by_proof_bytes (root_in c.args.root.now)) (c.in-Err.ensures refuses refl)
