@@ -2,6 +2,7 @@ ghost use Rattle.std.specs.Prelude.{◌≡◌, IfOk};
 ghost use Rattle.std.specs.FinMap as map;
 ghost use Rattle.nr_columns.specs.Entries.{pairs_of};
 ghost use Rattle.nr_state.specs.Flat.{flat};
+ghost use Rattle.nr_state.specs.FromEntries.{AreWholeEntries, world_from};
 
 use crate::state::State;
 use nr_bytes::List;
@@ -30,13 +31,16 @@ impl Model for ChunkWorld {
 }
 
 impl ChunkWorld {
-    /// All trie entries of the world, in the order of their keys' bytes.
+    /// All trie entries of the world, in the order of their keys' bytes. The world can be made of
+    /// them again.
     ///
     /// # Errors
     ///
-    /// Where there is no memory for them.
+    /// Where memory runs out.
     pub fn entries(&self) -> Result<List<Entry>, AllocError>
-        ensures { IfOk result (λ found. pairs_of found ≡ map.entries (flat self.now.world)) }
+        ensures entries { IfOk result (λ found. pairs_of found ≡ map.entries (flat self.now.world)) }
+        ensures whole { IfOk result AreWholeEntries }
+        ensures world { IfOk result (λ found. world_from found ≡ self.now.world) }
     {
         self.state.entries()
     }
