@@ -13,7 +13,7 @@ use Rattle.nr_overlap.specs.declared.position.Stage.TheVariants.{Idle, Opened, S
 use Rattle.nr_state.specs.declared.calls.Caller.{Ghosts}
 use Rattle.nr_top.specs.Moments.{Chains, IsMoment, chain_of}
 
--- the next event of a run, or none where the chunk of a shard at a height is sealed
+-- the next event of a run, until the chunk of a shard at a height is sealed
 abbrev pub IsNextBefore : {W K L R : Type 0} → Rules W K L R → List Position → ℕ → ℕ → Option Event → Type 0
 IsNextBefore r ps shard height None = IsSome (report_at r ps shard height)
 IsNextBefore r ps shard height (Some e) = (report_at r ps shard height ≡ None) × IsNext r ps e

@@ -21,7 +21,7 @@ use Rattle.nr_top.specs.Generated.{generated_text}
 use Rattle.nr_top.specs.Proving.{by_item, by_proof_bytes, root_in, roots_text}
 use Rattle.nr_top.specs.Run.{chain, check_text, run_text}
 use Rattle.nr_top.specs.Schedule.{schedule_read}
-use Rattle.nr_top.specs.StateParts.{by_part, check_part_plan, join_parts_plan, part_names}
+use Rattle.nr_top.specs.StateParts.{check_part_plan, cut_answer, join_parts_plan, part_names}
 use Rattle.nr_top.specs.declared.chain.ChainFiles.{ChainFiles}
 use Rattle.nr_top.specs.declared.schedule.Line.{Line}
 use Rattle.nr_top.specs.declared.schedule.ScheduleFault.{ScheduleFault}
@@ -130,7 +130,7 @@ verify_plan root name = and_then (file_plan name 268435456 (faulty_proof 0 0)) (
 
 -- `part`
 abbrev pub part_plan : Names → StatePart → Plan (List ℕ) Status
-part_plan names part = and_then (chain_plan names) (by_part part)
+part_plan names part = and_then (chain_plan names) (cut_answer part)
 
 -- `gen` asks for no file
 abbrev pub command_plan : Command → Plan (List ℕ) Status
@@ -140,8 +140,8 @@ command_plan (Roots names) = roots_plan names
 command_plan (Prove names item) = prove_plan names item
 command_plan (Verify root name) = verify_plan root name
 command_plan (Cut names part) = part_plan names part
-command_plan (CheckPart root file) = check_part_plan root file
-command_plan (JoinParts root count prefix) = join_parts_plan root count prefix
+command_plan (CheckPart word file) = check_part_plan word file
+command_plan (JoinParts word count prefix) = join_parts_plan word count prefix
 
 -- words that are no command are refused
 abbrev pub plan : Option Command → Plan (List ℕ) Status
@@ -167,5 +167,5 @@ files_of (Some (Roots names)) = chain_files names
 files_of (Some (Prove names item)) = chain_files names
 files_of (Some (Verify root name)) = name ∷ []
 files_of (Some (Cut names part)) = chain_files names
-files_of (Some (CheckPart root file)) = file ∷ []
-files_of (Some (JoinParts root count prefix)) = part_names prefix count
+files_of (Some (CheckPart word file)) = file ∷ []
+files_of (Some (JoinParts word count prefix)) = part_names prefix count

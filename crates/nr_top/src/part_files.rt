@@ -2,8 +2,9 @@
 
 ghost use Rattle.std.specs.Prelude.{◌≡◌, ◌++◌, ◌∷◌, [], IfOk, OnOk, string_bytes};
 ghost use Rattle.nr_shell.specs.Answers.{Follows, Judges};
+ghost use Rattle.nr_shell.specs.Plans.{Answer, and_then};
 ghost use Rattle.nr_top.specs.Answers.{refuses};
-ghost use Rattle.nr_top.specs.StateParts.{by_part_bytes, next_part_plan, part_file_plan, part_name, parts_plan};
+ghost use Rattle.nr_top.specs.StateParts.{by_part_bytes, part_file_plan, part_name, part_names, parts_plan};
 
 use crate::refused::part_stop;
 use crate::status::Status;
@@ -86,7 +87,7 @@ fn add_part<S: Shelf>(
 ) -> Result<(), Stop<Status>>
     ensures { Follows refuses (λ _. parts.new.items) (S.held shelf.old) (S.held shelf.new)
         (S.asked shelf.old) (S.asked shelf.new) (S.faults shelf.old) (S.faults shelf.new)
-        result (next_part_plan prefix.now position parts.old.items) }
+        result (and_then (part_file_plan position (part_name prefix.now position)) (λ part. Answer (parts.old.items ++ part ∷ []))) }
 {
     match load_named(alloc, prefix, position, shelf) {
         Ok(part) => match push_part(parts, part) {
@@ -99,7 +100,6 @@ fn add_part<S: Shelf>(
 
 /// So many parts, of files that are named by a prefix and the position from 0. Each is read before the next one is
 /// loaded.
-#[tactic(auto, unfolding(crate::specs::StateParts::parts_plan))]
 pub(crate) fn load_parts<S: Shelf>(
     alloc: Global,
     prefix: &str,
@@ -108,7 +108,7 @@ pub(crate) fn load_parts<S: Shelf>(
 ) -> Result<List<Part>, Stop<Status>>
     ensures { Follows refuses (λ parts. parts) (S.held shelf.old) (S.held shelf.new)
         (S.asked shelf.old) (S.asked shelf.new) (S.faults shelf.old) (S.faults shelf.new)
-        result (parts_plan prefix.now count 0 []) }
+        result (parts_plan 0 (part_names prefix.now count)) }
 {
     let mut parts = Vec::new(alloc);
     for position in 0..count {

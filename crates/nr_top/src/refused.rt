@@ -12,7 +12,7 @@ ghost use Rattle.nr_top.specs.Plans.{blocks_status, config_status, genesis_statu
 ghost use Rattle.nr_top.specs.Proving.{proof_status};
 ghost use Rattle.nr_top.specs.StateParts.{part_status};
 ghost use Rattle.nr_top.specs.declared.schedule.ScheduleFault.TheVariants as schedule;
-ghost use Rattle.nr_top.specs.declared.status.Status.TheVariants.{Genesis as faulty_genesis, Parts as refused_parts};
+ghost use Rattle.nr_top.specs.declared.status.Status.TheVariants.{Genesis as faulty_genesis, Parts as faulty_parts};
 
 use crate::schedule::ScheduleFault;
 use crate::status::Status;
@@ -96,7 +96,7 @@ pub(crate) fn proof_stop(fault: ProofFault) -> Stop<Status>
 }
 
 fn parts_refusal(kind: u32, a: u64) -> Status
-    ensures value { result ≡ refused_parts kind a }
+    ensures value { result ≡ faulty_parts kind a }
     ensures refuses { refuses result ≡ true }
 {
     Status::Parts { kind, a }

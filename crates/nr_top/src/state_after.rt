@@ -38,7 +38,7 @@ fn event_before(core: &Run, shard: ShardId, height: Height) -> Option<Event>
     }
 }
 
-/// Runs a chain from its opening until a chunk is sealed, and no further than the heights that this takes.
+/// Runs a chain from its opening until a chunk is sealed.
 ///
 /// # Errors
 ///

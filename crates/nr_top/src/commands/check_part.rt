@@ -3,9 +3,8 @@
 ghost use Rattle.std.specs.Prelude.{◌≡◌, true, IfOk};
 ghost use Rattle.nr_shell.specs.Answers.{Follows, Judges};
 ghost use Rattle.nr_top.specs.Answers.{refuses};
-ghost use Rattle.nr_top.specs.StateParts.{by_one_part, check_part_plan, part_line};
+ghost use Rattle.nr_top.specs.StateParts.{check_answer, check_part_plan, part_line};
 ghost use Rattle.nr_words.specs.Forms.{is_digest};
-
 
 use crate::part_files::load_part;
 use crate::refused::part_stop;
@@ -30,7 +29,7 @@ fn part_line(alloc: Global, part: &Part) -> Result<Blob, AllocError>
 
 /// The same, if it is accepted against a root.
 fn accepted(alloc: Global, root: &Hash32, part: &Part) -> Result<Blob, Stop<Status>>
-    ensures { Judges refuses (λ text. text) result (by_one_part root.now part.now) }
+    ensures { Judges refuses (λ text. text) result (check_answer root.now part.now) }
 {
     match check_part(alloc, root, part) {
         Ok(()) => match part_line(alloc, part) {
@@ -44,16 +43,16 @@ fn accepted(alloc: Global, root: &Hash32, part: &Part) -> Result<Blob, Stop<Stat
 /// What is said of the part of a file, against the root that 64 digits spell.
 pub(crate) fn check_part_text<S: Shelf>(
     alloc: Global,
-    root: &str,
+    word: &str,
     file: &str,
     shelf: &mut S,
 ) -> Result<Blob, Stop<Status>>
-    requires { is_digest root.now ≡ true }
+    requires { is_digest word.now ≡ true }
     ensures { Follows refuses (λ text. text) (S.held shelf.old) (S.held shelf.new)
         (S.asked shelf.old) (S.asked shelf.new) (S.faults shelf.old) (S.faults shelf.new)
-        result (check_part_plan root.now file.now) }
+        result (check_part_plan word.now file.now) }
 {
-    let root = root_in(root);
+    let root = root_in(word);
     match load_part(alloc, 0, file, shelf) {
         Ok(part) => accepted(alloc, &root, &part),
         Err(stop) => Err(stop),

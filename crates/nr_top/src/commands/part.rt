@@ -8,7 +8,7 @@ ghost use Rattle.nr_shell.specs.Answers.{Follows, Judges};
 ghost use Rattle.nr_top.specs.Answers.{refuses};
 ghost use Rattle.nr_top.specs.Moments.{IsMoment, chain_of};
 ghost use Rattle.nr_top.specs.Plans.{loaded, part_plan};
-ghost use Rattle.nr_top.specs.StateParts.{by_part, has_chunk, part_text};
+ghost use Rattle.nr_top.specs.StateParts.{cut_answer, has_chunk, part_text};
 ghost use Rattle.nr_words.specs.Words.{CanCut, names_in};
 
 use crate::chain::{ChainFiles, load_chain};
@@ -43,7 +43,7 @@ fn cut_if_there(alloc: Global, core: Run, part: StatePart) -> Result<Blob, Stop<
     requires moment { IsMoment core }
     requires first { core.positions ≡ opening (rules_of (chain_of core)) }
     requires part { CanCut part }
-    ensures { Judges refuses (λ text. text) result (by_part part (chain_of core)) }
+    ensures { Judges refuses (λ text. text) result (cut_answer part (chain_of core)) }
 {
     if !has_chunk(&core, ShardId(part.shard), Height(part.height)) {
         return Err(Stop::Refused(Status::NoItem { count: 0 }));
@@ -58,7 +58,7 @@ fn cut_if_there(alloc: Global, core: Run, part: StatePart) -> Result<Blob, Stop<
 fn cut(alloc: Global, files: ChainFiles, part: StatePart) -> Result<Blob, Stop<Status>>
     requires sound { IsSoundGenesis files.config files.genesis }
     requires part { CanCut part }
-    ensures { Judges refuses (λ text. text) result (by_part part (loaded files)) }
+    ensures { Judges refuses (λ text. text) result (cut_answer part (loaded files)) }
 {
     match begin(alloc, files.config, files.genesis, files.blocks) {
         Ok(core) => cut_if_there(alloc, core, part),
