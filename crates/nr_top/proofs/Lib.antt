@@ -7,5 +7,6 @@ pub mod Drives
 pub mod Digesting
 pub mod Arrival
 pub mod PartAsking
+pub mod PartLoading
 pub mod Asking
 pub mod Digests
