@@ -16,7 +16,11 @@ mod ends;
 #[cfg(test)]
 mod faulty;
 #[cfg(test)]
+mod four_parts;
+#[cfg(test)]
 mod lengths;
+#[cfg(test)]
+mod parts;
 #[cfg(test)]
 mod pieces;
 #[cfg(test)]
