@@ -1,6 +1,6 @@
 //! Parts of a state: how they are cut, checked and joined.
 
-use crate::four_parts::{CHANGED, CUT, FOUR, ROOT};
+use crate::four_parts::{CHANGED, CUT, FOUR, OF_ANOTHER, ROOT};
 use crate::setting::{Ended, end_of, shelf_of};
 use crate::worked;
 use nr_bytes::MemoryShelf;
@@ -131,6 +131,7 @@ fn parts_that_do_not_join_are_refused(rt: HostRuntime) -> Result<(), Fail> {
         (ROOT, [first, third, second, last], 7, 1),
         (ROOT, [second, second, third, last], 7, 0),
         (ROOT, [first, CHANGED, third, last], 6, 0),
+        (ROOT, [first, second, OF_ANOTHER, last], 3, 2),
         (OTHER_ROOT, [first, CHANGED, third, last], 3, 0),
     ];
     for (root, files, kind, a) in rows {

@@ -74,7 +74,8 @@ fn load_named<S: Shelf>(
 fn push_part(parts: &mut Vec<Part>, part: Part) -> Result<(), AllocError>
     ensures { OnOk result (parts.new.items ≡ parts.old.items ++ part ∷ []) }
 {
-    parts.push(part)
+    parts.push(part)?;
+    Ok(())
 }
 
 /// Loads the part at a position, behind other parts.
