@@ -20,6 +20,8 @@ mod lengths;
 #[cfg(test)]
 mod pieces;
 #[cfg(test)]
+mod proving;
+#[cfg(test)]
 mod refused;
 #[cfg(test)]
 mod rows;
