@@ -37,40 +37,53 @@ const ROOT: &str = "24fce4e93a8e49381c92be4f8651e896340e37107be601a68d589d7bdafa
 const ROOT_OF_FIVE: &str = "fd2aaf9b7d2b6eb7c189f1f3d7a4dfccaf1747890b0105e73e995a8049de6fc9";
 
 /// The proof of the one receipt.
-const PROOF: &str =
-    "proof receipt 1 0 0 1\n\
+const PROOF: &str = "proof receipt 1 0 0 1\n\
      item 000000001db49a92f6565af840d649a74ad2eacfc1d2c593723750fc7a83746f38e0c950cc4b3fa3598b60d747c37afc920f1c9ef7456e774c36c53fca5ca167ca6df6e0\n";
 
 /// The same with another last digit.
-const BENT: &str =
-    "proof receipt 1 0 0 1\n\
+const BENT: &str = "proof receipt 1 0 0 1\n\
      item 000000001db49a92f6565af840d649a74ad2eacfc1d2c593723750fc7a83746f38e0c950cc4b3fa3598b60d747c37afc920f1c9ef7456e774c36c53fca5ca167ca6df6e1\n";
 
-/// The proofs of five outcomes: the last one's way is shorter.
-const FIVE: [&str; 5] = [
-    "proof outcome 1 0 0 5\n\
+/// The places of five outcomes with their proofs; the last one's way is shorter.
+const FIVE: [(&str, &str); 5] = [
+    (
+        "0",
+        "proof outcome 1 0 0 5\n\
      item 00d208e5ee21ab44c19467cc418b196d78f3229cabd6477b77a5d36265fb17c13100f183d40ae5ce5d891c8039a907fb9db9efa1c0bc5e5c6b1db36b0132941b9f\n\
      path 15da24edcd72d0058b581625acb409211af0b043b8e3b845308d9799fde3b6f6\n\
      path 72c8bf462775d34e150b93eb4ad032802572f5433ab899cd05131362386840f9\n\
      path 32e5f1fb30eaafa876d78018ee29b2c2b851808f150f26dc8e1e8f7cfb05e622\n",
-    "proof outcome 1 0 1 5\n\
+    ),
+    (
+        "1",
+        "proof outcome 1 0 1 5\n\
      item 004a3ee8260d4b4ff4552b506e3c850ce1dcc2cb037dd03903ab28ffe96f7a7af362b7a3be681eae66f6d32740d4a74828d4bbe257718a309f0ed2f5b926935bf3\n\
      path 7fca05439ea4e3d780f5d0b815a2d8e54f484e6b1abce1a8916c608c6562076e\n\
      path 72c8bf462775d34e150b93eb4ad032802572f5433ab899cd05131362386840f9\n\
      path 32e5f1fb30eaafa876d78018ee29b2c2b851808f150f26dc8e1e8f7cfb05e622\n",
-    "proof outcome 1 0 2 5\n\
+    ),
+    (
+        "2",
+        "proof outcome 1 0 2 5\n\
      item 0013290925872318074a571b10924629565a12abcbacd51f8bd90ae3bc1f5353eb30640ec9db65749f38b29953244a4eca0887cf83d8270cb9aabb4c913ac946d1\n\
      path 2aee7f2c799a90fe4ead0fbf0bd7f6e60dc22fad5ac064653c72189b158f7a05\n\
      path 4a1f559537a91c9b6c379c23d06e15225b1d63fa9612c9f61d4a229ca6f39db3\n\
      path 32e5f1fb30eaafa876d78018ee29b2c2b851808f150f26dc8e1e8f7cfb05e622\n",
-    "proof outcome 1 0 3 5\n\
+    ),
+    (
+        "3",
+        "proof outcome 1 0 3 5\n\
      item 006aae407f593ea91eae94ccc3fc1ce727cd426450e16eff92e0ee78f1217e6d32e77ec86c9fc3a9f638ca63ce25864437268f5a2b4868a85b0635890a35e8ad86\n\
      path 3b513f39254b52043b2a071bf44f8eb182a32282436ad52932036600ac8b1093\n\
      path 4a1f559537a91c9b6c379c23d06e15225b1d63fa9612c9f61d4a229ca6f39db3\n\
      path 32e5f1fb30eaafa876d78018ee29b2c2b851808f150f26dc8e1e8f7cfb05e622\n",
-    "proof outcome 1 0 4 5\n\
+    ),
+    (
+        "4",
+        "proof outcome 1 0 4 5\n\
      item 00b33eab1d59af236c95918de6f2511abcd86568bb27776213a10a9ef4ec6f57b17895548666a4d2bb1965053af3ad2adc14d099d52581636229eaac6d43d83540\n\
      path aeb72bb1112532357ea8a96b138b39aeea5bf6dd65a98dc97e0688c4f8398dcb\n",
+    ),
 ];
 
 /// A root that is no chunk's.
@@ -114,8 +127,7 @@ fn chunks_have_roots_and_proofs(rt: HostRuntime) -> Result<(), Fail> {
 
 #[test]
 fn each_of_five_outcomes_has_its_way(rt: HostRuntime) -> Result<(), Fail> {
-    let places = ["0", "1", "2", "3", "4"];
-    for (place, proof) in places.into_iter().zip(FIVE) {
+    for (place, proof) in FIVE {
         let words = ["prove", "free", "G", "B", "1", "0", "outcome", place];
         let ended = ended_by(rt.alloc(), &words, FIVE_TRANSFERS, "")?;
         assert_eq!(rt; ended.status, Status::Done);
@@ -130,8 +142,8 @@ fn proofs_are_judged(rt: HostRuntime) -> Result<(), Fail> {
         (ROOT, PROOF, "valid\n"),
         (ROOT, BENT, "invalid\n"),
         (OTHER_ROOT, PROOF, "invalid\n"),
-        (ROOT_OF_FIVE, FIVE[0], "valid\n"),
-        (ROOT_OF_FIVE, FIVE[4], "valid\n"),
+        (ROOT_OF_FIVE, FIVE[0].1, "valid\n"),
+        (ROOT_OF_FIVE, FIVE[4].1, "valid\n"),
         (ROOT_OF_FIVE, PROOF, "invalid\n"),
     ];
     for (root, proof, text) in rows {

@@ -34,11 +34,7 @@ fn written(alloc: Global, proof: Option<Proof>, count: u64) -> Result<Blob, Stop
 }
 
 /// The text of the proof of an item of a chunk.
-fn proved_in(
-    alloc: Global,
-    chunk: &ChunkResult,
-    item: ChunkItem,
-) -> Result<Blob, Stop<Status>>
+fn proved_in(alloc: Global, chunk: &ChunkResult, item: ChunkItem) -> Result<Blob, Stop<Status>>
     ensures { Judges refuses (λ text. text) result (by_chunk item (Some chunk.now)) }
 {
     let count = item_count(chunk, item.kind);
