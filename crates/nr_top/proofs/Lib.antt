@@ -7,3 +7,4 @@ pub mod Drives
 pub mod Digesting
 pub mod Asking
 pub mod Digests
+pub mod Present

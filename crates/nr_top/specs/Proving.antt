@@ -1,8 +1,8 @@
 -- The roots of a chain's chunks, the proof of an item of one of them, and what is said of a proof: what is written, or why nothing is. This project's own.
-use Rattle.std.specs.Prelude.{ℕ, ◌+◌, Bool, true, false, List, [], ◌∷◌, length, Option, Some, None, Result, Ok, Err, codes, decimal, unwrap_or}
+use Rattle.std.specs.Prelude.{ℕ, ◌+◌, ◌<◌, IsSome, Bool, true, false, List, [], ◌∷◌, length, Option, Some, None, Result, Ok, Err, codes, decimal, unwrap_or}
 use Rattle.std.specs.Result.{result_ok}
 use Rattle.hex.specs.Hex.{decode_of}
-use Rattle.nr_chunk.specs.Chain.{Chain, rules_of}
+use Rattle.nr_chunk.specs.Chain.{Chain, chunk_at, rules_of, shards_of}
 use Rattle.nr_ids.specs.declared.key.Hash32.{Hash32}
 use Rattle.nr_outproof.specs.Items.{items}
 use Rattle.nr_outproof.specs.Proofs.{accepts, proof_of, root_of}
@@ -21,10 +21,13 @@ use Rattle.nr_top.specs.declared.status.Status.TheVariants.{NoMemory, NoItem, Pr
 use Rattle.nr_words.specs.declared.kind.ProofKind.TheVariants.{Outcome, Receipt}
 use Rattle.nr_words.specs.declared.words.ChunkItem.{ChunkItem}
 
--- The result of a chunk of the run to the end, by height and shard. There is none at a height of 0 or above the last, of a
--- shard that isn't there, and where the chunk is missing.
-abbrev pub chunk_at : Chain → ℕ → ℕ → Option ChunkResult
-chunk_at x h s = report_at (rules_of x) (ending (rules_of x)) s h
+-- what the chunk of a shard at a height comes to in the run to the end
+abbrev pub result_at : Chain → ℕ → ℕ → Option ChunkResult
+result_at x s h = report_at (rules_of x) (ending (rules_of x)) s h
+
+-- there is a chunk: the shard is there, and the block of the height has the chunk
+abbrev pub HasChunk : Chain → ℕ → ℕ → Type 0
+HasChunk x s h = (s < shards_of x) × IsSome (chunk_at x s h)
 
 -- ---- `roots`: a line for each chunk, with the root of its outcomes and that of its receipts
 abbrev pub roots_line : ChunkResult → List ℕ
@@ -35,7 +38,7 @@ roots_told None = []
 roots_told (Some y) = roots_line y
 
 abbrev pub height_roots : Chain → ℕ → List ℕ
-height_roots x h = text_below (rules_of x).shards (λ s. roots_told (chunk_at x h s))
+height_roots x h = text_below (rules_of x).shards (λ s. roots_told (result_at x s h))
 
 -- by height, from 1, and then shard
 unfoldable pub roots_text : Chain → List ℕ
@@ -51,7 +54,7 @@ by_chunk item None = Refuse (NoItem 0)
 by_chunk item (Some y) = by_proof (length (items item.kind y)) (proof_of y item.kind item.place)
 
 abbrev pub by_item : ChunkItem → Chain → Plan (List ℕ) Status
-by_item item x = by_chunk item (chunk_at x item.height item.shard)
+by_item item x = by_chunk item (result_at x item.shard item.height)
 
 -- ---- `verify`: whether the proof of a file is accepted against a root; the faults of its text, by kind and line
 -- the root that 64 digits spell
