@@ -5,10 +5,10 @@ ghost use Rattle.std.specs.List.{flat_map};
 ghost use Rattle.nr_report.specs.Lines.{bytes_word, hash_word};
 ghost use Rattle.nr_outproof.specs.Texts.{head_line, item_line, kind_word, path_line, proof_text};
 
-use crate::kind::ProofKind;
 use crate::proof::Proof;
 use nr_bytes::Blob;
 use nr_ids::Hash32;
+use nr_words::ProofKind;
 use std::alloc::{AllocError, Global};
 use std::fmt::Write;
 

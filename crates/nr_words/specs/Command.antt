@@ -114,14 +114,14 @@ verify_of values = None
 
 -- a part has a number below the count of parts
 abbrev pub part_of : ℕ → ℕ → ℕ → ℕ → Option StatePart
-part_of height shard count number = cond (nat_lt number count) (Some (record { height = height; shard = shard; count = count; number = number })) None
+part_of height shard count k = cond (nat_lt k count) (Some (record { height = height; shard = shard; count = count; number = k })) None
 
 abbrev pub cut_of : List Value → Option Command
-cut_of (Text config ∷ Text genesis ∷ Text blocks ∷ Number height ∷ Number shard ∷ Number count ∷ Number number ∷ []) = option_map (Cut (names_of config genesis blocks)) (part_of height shard count number)
+cut_of (Text config ∷ Text genesis ∷ Text blocks ∷ Number height ∷ Number shard ∷ Number count ∷ Number k ∷ []) = option_map (Cut (names_of config genesis blocks)) (part_of height shard count k)
 cut_of values = None
 
 abbrev pub check_part_of : List Value → Option Command
-check_part_of (Digits root ∷ Text file ∷ []) = Some (CheckPart root file)
+check_part_of (Digits root ∷ Text part ∷ []) = Some (CheckPart root part)
 check_part_of values = None
 
 abbrev pub join_parts_of : List Value → Option Command
