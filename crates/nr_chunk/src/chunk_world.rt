@@ -1,6 +1,13 @@
-ghost use Rattle.std.specs.Prelude.{◌≡◌};
+ghost use Rattle.std.specs.Prelude.{◌≡◌, IfOk};
+ghost use Rattle.std.specs.FinMap as map;
+ghost use Rattle.nr_columns.specs.Entries.{pairs_of};
+ghost use Rattle.nr_state.specs.Flat.{flat};
+ghost use Rattle.nr_state.specs.FromEntries.{AreWholeEntries, world_from};
 
 use crate::state::State;
+use nr_bytes::List;
+use nr_columns::Entry;
+use std::alloc::AllocError;
 use std::marker::Model;
 
 /// A shard between its chunks. Contracts see its world, and the configuration under which its state is kept.
@@ -21,4 +28,20 @@ impl Model for ChunkWorld {
     ghost view = { λ w. record { config = w.state.config; world = w.state.world } };
 
     ghost invariant = { λ w. (w.state.whole ≡ true) × (w.state.marks ≡ []) };
+}
+
+impl ChunkWorld {
+    /// All trie entries of the world, in the order of their keys' bytes. The world can be made of
+    /// them again.
+    ///
+    /// # Errors
+    ///
+    /// Where memory runs out.
+    pub fn entries(&self) -> Result<List<Entry>, AllocError>
+        ensures entries { IfOk result (λ found. pairs_of found ≡ map.entries (flat self.now.world)) }
+        ensures whole { IfOk result AreWholeEntries }
+        ensures world { IfOk result (λ found. world_from found ≡ self.now.world) }
+    {
+        self.state.entries()
+    }
 }

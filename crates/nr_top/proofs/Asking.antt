@@ -19,6 +19,8 @@ use Rattle.nr_top.specs.Plans.{blocks_plan, blocks_status, by_blocks_bytes, by_c
 use Rattle.nr_top.specs.Proving.{by_chunk, by_item, by_proof, by_proof_bytes, by_proof_read, result_at, root_in, roots_text}
 use Rattle.nr_top.specs.Run.{chain, check_text, run_text}
 use Rattle.nr_top.specs.Schedule.{schedule_read}
+use Rattle.nr_top.specs.StateParts.{cut_answer}
+use Rattle.nr_top.proofs.PartAsking.{check_part_asks, cut_asks, join_parts_asks}
 use Rattle.nr_top.specs.declared.status.Status.{Status}
 use Rattle.nr_top.specs.declared.status.Status.TheVariants.{Config as faulty_config, Genesis as faulty_genesis, Blocks as faulty_blocks, Schedule as faulty_schedule, Proof as faulty_proof}
 use Rattle.nr_words.specs.Command.{Command, Replay, Generate, Roots, Prove, Verify, Cut, CheckPart, JoinParts, Names, is_free}
@@ -96,6 +98,6 @@ plan_asks (Some (Generate start shards blocks)) = tt
 plan_asks (Some (Roots names)) = chain_alone names (λ x. Answer (roots_text x)) (λ x. tt)
 plan_asks (Some (Prove names item)) = prove_asks names item
 plan_asks (Some (Verify root name)) = verify_asks root name
-plan_asks (Some (Cut names part)) = tt
-plan_asks (Some (CheckPart root name)) = tt
-plan_asks (Some (JoinParts root count prefix)) = tt
+plan_asks (Some (Cut names part)) = chain_alone names (cut_answer part) (cut_asks part)
+plan_asks (Some (CheckPart word file)) = check_part_asks word file
+plan_asks (Some (JoinParts word count prefix)) = join_parts_asks word count prefix

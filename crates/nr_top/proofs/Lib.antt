@@ -5,6 +5,8 @@ pub mod Onward
 pub mod Standing
 pub mod Drives
 pub mod Digesting
+pub mod Arrival
+pub mod PartAsking
 pub mod Asking
 pub mod Digests
 pub mod Present

@@ -6,9 +6,11 @@ pub mod Run
 pub mod Generated
 pub mod Moments
 pub mod Driving
+pub mod Arriving
 pub mod Hashing
 pub mod Works
 pub mod Proving
+pub mod StateParts
 pub mod Plans
 pub mod Answers
 pub mod Exit

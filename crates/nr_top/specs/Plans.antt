@@ -3,6 +3,7 @@
 use Rattle.std.specs.Prelude.{ℕ, ◌+◌, List, [], ◌∷◌, ◌++◌, cond, length, Option, Some, None}
 use Rattle.nr_words.specs.Command.{Command, Replay, Generate, Roots, Prove, Verify, Cut, CheckPart, JoinParts, Names, is_free}
 use Rattle.nr_words.specs.declared.words.ChunkItem.{ChunkItem}
+use Rattle.nr_words.specs.declared.words.StatePart.{StatePart}
 use Rattle.nr_config.specs.Config.{Config, free}
 use Rattle.nr_config.specs.Reading.{configuration}
 use Rattle.nr_config.specs.declared.fault.ConfigFault.{ConfigFault}
@@ -20,6 +21,7 @@ use Rattle.nr_top.specs.Generated.{generated_text}
 use Rattle.nr_top.specs.Proving.{by_item, by_proof_bytes, root_in, roots_text}
 use Rattle.nr_top.specs.Run.{chain, check_text, run_text}
 use Rattle.nr_top.specs.Schedule.{schedule_read}
+use Rattle.nr_top.specs.StateParts.{check_part_plan, cut_answer, join_parts_plan, part_names}
 use Rattle.nr_top.specs.declared.chain.ChainFiles.{ChainFiles}
 use Rattle.nr_top.specs.declared.schedule.Line.{Line}
 use Rattle.nr_top.specs.declared.schedule.ScheduleFault.{ScheduleFault}
@@ -126,6 +128,10 @@ prove_plan names item = and_then (chain_plan names) (by_item item)
 abbrev pub verify_plan : List ℕ → List ℕ → Plan (List ℕ) Status
 verify_plan root name = and_then (file_plan name 268435456 (faulty_proof 0 0)) (by_proof_bytes (root_in root))
 
+-- `part`
+abbrev pub part_plan : Names → StatePart → Plan (List ℕ) Status
+part_plan names part = and_then (chain_plan names) (cut_answer part)
+
 -- `gen` asks for no file
 abbrev pub command_plan : Command → Plan (List ℕ) Status
 command_plan (Replay names) = replay_plan names names.schedule
@@ -133,9 +139,9 @@ command_plan (Generate start shards blocks) = Answer (generated_text start shard
 command_plan (Roots names) = roots_plan names
 command_plan (Prove names item) = prove_plan names item
 command_plan (Verify root name) = verify_plan root name
-command_plan (Cut names part) = Refuse Usage
-command_plan (CheckPart root name) = Refuse Usage
-command_plan (JoinParts root count prefix) = Refuse Usage
+command_plan (Cut names part) = part_plan names part
+command_plan (CheckPart word file) = check_part_plan word file
+command_plan (JoinParts word count prefix) = join_parts_plan word count prefix
 
 -- words that are no command are refused
 abbrev pub plan : Option Command → Plan (List ℕ) Status
@@ -160,6 +166,6 @@ files_of (Some (Generate start shards blocks)) = []
 files_of (Some (Roots names)) = chain_files names
 files_of (Some (Prove names item)) = chain_files names
 files_of (Some (Verify root name)) = name ∷ []
-files_of (Some (Cut names part)) = []
-files_of (Some (CheckPart root name)) = []
-files_of (Some (JoinParts root count prefix)) = []
+files_of (Some (Cut names part)) = chain_files names
+files_of (Some (CheckPart word file)) = file ∷ []
+files_of (Some (JoinParts word count prefix)) = part_names prefix count
