@@ -1,7 +1,6 @@
 //! Which words have a form, and what they are.
 
 use crate::forms::{Form, Found, Place, Value};
-use crate::kind::ProofKind;
 use crate::reading::read_words;
 use crate::words::{FileNames, Words, replay_command, serial_command};
 use std::alloc::{AllocError, Global};
@@ -86,13 +85,6 @@ fn chain(alloc: Global, files: &FileNames<'_>) -> Result<String, AllocError> {
     format!(in alloc; "{config} {genesis} {blocks}")
 }
 
-fn kind_word(kind: ProofKind) -> &'static str {
-    match kind {
-        ProofKind::Outcome => "outcome",
-        ProofKind::Receipt => "receipt",
-    }
-}
-
 // The line that a command is read from.
 fn line_of(alloc: Global, words: &Words<'_>) -> Result<String, AllocError> {
     match words {
@@ -104,7 +96,7 @@ fn line_of(alloc: Global, words: &Words<'_>) -> Result<String, AllocError> {
             let chain = chain(alloc, files)?;
             let height = item.height;
             let shard = item.shard;
-            let kind = kind_word(item.kind);
+            let kind = item.kind.word();
             let place = item.place;
             format!(in alloc; "prove {chain} {height} {shard} {kind} {place}")
         }
