@@ -18,12 +18,13 @@ use Rattle.nr_ids.specs.declared.key.Hash32.{Hash32}
 use Rattle.nr_report.specs.Lines.{Words, line, hash_word, bytes_word}
 use Rattle.nr_words.specs.Command.{has_no_leading_zero, is_digit, is_numeral, number_in}
 use Rattle.nr_words.specs.Forms.{is_hex_digit}
+use Rattle.nr_words.specs.Kinds.{kind_word}
 use Rattle.nr_outproof.specs.declared.fault.ProofFault.{ProofFault}
 use Rattle.nr_words.specs.declared.kind.ProofKind.{ProofKind}
 use Rattle.nr_words.specs.declared.kind.ProofKind.TheVariants.{Outcome, Receipt}
 use Rattle.nr_outproof.specs.declared.proof.Proof.{Proof}
 use Rattle.nr_outproof.specs.declared.reading.Head.{Head}
-use Rattle.nr_outproof.specs.Texts.{behind_head, by_lines, bytes_in, hash_in, hash_of, hash_word_in, head_by, head_in, hex_in, item_in, item_line, item_word, kind_in, kind_word, last_piece, number_32, number_64, path_from, path_line, pieces, proof_read, proof_text, with_hash, with_head, with_item, with_path, word_behind}
+use Rattle.nr_outproof.specs.Texts.{behind_head, by_lines, bytes_in, hash_in, hash_of, hash_word_in, head_by, head_in, hex_in, item_in, item_line, item_word, kind_in, last_piece, number_32, number_64, path_from, path_line, pieces, proof_read, proof_text, with_hash, with_head, with_item, with_path, word_behind}
 
 -- ---- values
 some_same : {X : Type 0} (x y : X) → ◌≡◌ {A = Option X} (Some x) (Some y) → x ≡ y

@@ -12,11 +12,12 @@ use Rattle.nr_ids.specs.declared.key.Hash32.{Hash32}
 use Rattle.nr_report.specs.Lines.{Words, line, hash_word, bytes_word}
 use Rattle.nr_words.specs.Command.{has_no_leading_zero, is_digit, is_numeral, number_in}
 use Rattle.nr_words.specs.Forms.{is_hex_digit}
+use Rattle.nr_words.specs.Kinds.{kind_word}
 use Rattle.nr_words.specs.declared.kind.ProofKind.{ProofKind}
 use Rattle.nr_words.specs.declared.kind.ProofKind.TheVariants.{Outcome, Receipt}
 use Rattle.nr_outproof.specs.declared.proof.Proof.{Proof}
 use Rattle.nr_outproof.specs.declared.reading.Head.{Head}
-use Rattle.nr_outproof.specs.Texts.{FitsProof, bytes_in, hash_in, hash_of, head_in, head_line, hex_in, item_in, item_line, item_word, kind_in, kind_word, path_from, path_line, pieces, proof_read, proof_text, with_hash, with_head, with_item, with_path, hash_word_in, word_behind}
+use Rattle.nr_outproof.specs.Texts.{FitsProof, bytes_in, hash_in, hash_of, head_in, head_line, hex_in, item_in, item_line, item_word, kind_in, path_from, path_line, pieces, proof_read, proof_text, with_hash, with_head, with_item, with_path, hash_word_in, word_behind}
 use Rattle.nr_outproof.proofs.TextLines.{head_is_read, item_is_read, next_line, last_line}
 
 -- ---- words without spaces and line feeds

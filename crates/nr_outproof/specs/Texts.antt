@@ -9,6 +9,7 @@ use Rattle.nr_ids.specs.declared.key.Hash32.{Hash32}
 use Rattle.nr_report.specs.Lines.{line, hash_word, bytes_word}
 use Rattle.nr_words.specs.Command.{number_in}
 use Rattle.nr_words.specs.Forms.{is_hex_digit}
+use Rattle.nr_words.specs.Kinds.{kind_word}
 use Rattle.nr_words.specs.declared.kind.ProofKind.{ProofKind}
 use Rattle.nr_words.specs.declared.kind.ProofKind.TheVariants.{Outcome, Receipt}
 use Rattle.nr_outproof.specs.declared.proof.Proof.{Proof}
@@ -17,10 +18,6 @@ use Rattle.nr_outproof.specs.declared.fault.ProofFault.{ProofFault}
 use Rattle.nr_outproof.specs.declared.fault.ProofFault.TheVariants.{Form}
 
 -- ---- the text of a proof
-abbrev pub kind_word : ProofKind → List ℕ
-kind_word Outcome = codes "outcome"
-kind_word Receipt = codes "receipt"
-
 abbrev pub head_line : Proof → List ℕ
 head_line p = line (codes "proof" ∷ kind_word p.kind ∷ decimal p.height.0 ∷ decimal p.shard.0 ∷ decimal p.place ∷ decimal p.count ∷ [])
 
@@ -48,7 +45,7 @@ abbrev pub pieces : ℕ → List ℕ → List (List ℕ)
 pieces separator bytes = slice_split (λ b. b == separator) bytes
 
 abbrev pub kind_in : List ℕ → Option ProofKind
-kind_in word = cond (bytes_eq word (codes "outcome")) (Some Outcome) (cond (bytes_eq word (codes "receipt")) (Some Receipt) None)
+kind_in word = cond (bytes_eq word (kind_word Outcome)) (Some Outcome) (cond (bytes_eq word (kind_word Receipt)) (Some Receipt) None)
 
 -- bytes in lower-case hexadecimal
 unfoldable pub hex_in : List ℕ → Option (List ℕ)
