@@ -1,22 +1,22 @@
 -- Which chunks the run to the end has results of.
 use Rattle.std.proofs.Common.{◌≡◌, ℕ, zero, suc, ◌+◌, ◌<◌, ◌≤◌, Bool, true, false, cond, length, Option, Some, None, inl, inr, refl, sym, ap, subst, ◌∙◌, arith, add-one}
-use Rattle.std.specs.Prelude.{IsSome, is_some, nat_le, ◌↔◌, replicate, option_map, slice_get}
+use Rattle.std.specs.Prelude.{IsSome, is_some, nat_le, nat_lt, ◌&&◌, replicate, option_map, slice_get}
 use Rattle.std.specs.Option.{option_and_then}
-use Rattle.std.proofs.lemmas.Bool.{cases_lt}
+use Rattle.std.proofs.lemmas.Bool.{and_parts, cases_lt}
 use Rattle.std.proofs.lemmas.List.{get_or-replicate}
 use Rattle.std.proofs.lemmas.Option.{slice_get_within}
 use Rattle.nr_blocks.specs.declared.block.Block.{Block}
-use Rattle.nr_chunk.specs.Chain.{Chain, chunk_at, chunk_in, rules_of}
+use Rattle.nr_chunk.specs.Chain.{Chain, chunk_at, chunk_in, rules_of, shards_of}
 use Rattle.nr_overlap.specs.Moment.{report_at, shown}
 use Rattle.nr_overlap.specs.Positions.{at, end_at, start, top}
 use Rattle.nr_overlap.specs.Rules.{Rules}
 use Rattle.nr_overlap.specs.Run.{ending}
 use Rattle.nr_overlap.specs.Serial.{sealing_at}
 use Rattle.nr_overlap.specs.declared.position.Position.{Position}
-use Rattle.nr_overlap.proofs.Basics.{is_le}
+use Rattle.nr_overlap.proofs.Basics.{is_le, is_lt, lt_of}
 use Rattle.nr_overlap.proofs.Flights.{chunk_or_not}
 use Rattle.nr_overlap.proofs.SerialLemmas.{sealing_first, sealing_there}
-use Rattle.nr_top.specs.Proving.{HasChunk, result_at}
+use Rattle.nr_top.specs.Chunks.{has_chunk, result_at}
 
 not_none : {A : Type 0} (o : Option A) → o ≡ None → IsSome o → ⊥
 not_none None e is = cc
@@ -66,12 +66,23 @@ present_below x s h is = by (slice_get x.blocks h) refl is
     by None e is = cc
     by (Some b) e is = slice_get_within x.blocks h b e
 
-chunk_result : (x : Chain) (s h : ℕ) → HasChunk x s h → IsSome (result_at x s h)
-chunk_result x s zero has = absurd (no_chunk has.1)
-  where
-    no_chunk : IsSome (chunk_at x s zero) → ⊥
-    no_chunk is = cc
-chunk_result x s (suc h) has = present_result (rules_of x) s h has.0 (present_below x s h has.1) has.1
+chunk_result : (x : Chain) (s h : ℕ) → s < shards_of x → IsSome (chunk_at x s h) → IsSome (result_at x s h)
+chunk_result x s zero inside there = absurd cc
+chunk_result x s (suc h) inside there = present_result (rules_of x) s h inside (present_below x s h there) there
 
-pub chunks_have_results : (x : Chain) (s h : ℕ) → IsSome (result_at x s h) ↔ HasChunk x s h
-chunks_have_results x s h = (result_present (rules_of x) s h, chunk_result x s h)
+both : (a b : Bool) → a ≡ true → b ≡ true → (a && b) ≡ true
+both true b e f = f
+both false b e f = absurd cc
+
+same_truth : (a b : Bool) → (a ≡ true → b ≡ true) → (b ≡ true → a ≡ true) → a ≡ b
+same_truth true b f g = sym (f refl)
+same_truth false true f g = g refl
+same_truth false false f g = refl
+
+pub chunks_have_results : (x : Chain) (s h : ℕ) → is_some (result_at x s h) ≡ has_chunk x s h
+chunks_have_results x s h =
+    let inside : Bool = nat_lt s (shards_of x) in
+    let there : Bool = (rules_of x).present s h in
+    same_truth (is_some (result_at x s h)) (has_chunk x s h)
+    (λ is. let got = result_present (rules_of x) s h is in both inside there (is_lt s (shards_of x) got.0) got.1)
+    (λ has. let parts = and_parts inside there has in chunk_result x s h (lt_of s (shards_of x) parts.0) parts.1)

@@ -1,8 +1,6 @@
 -- The roots of a chain's chunks, the proof of an item of one of them, and what is said of a proof: what is written, or why nothing is. This project's own.
-use Rattle.std.specs.Prelude.{ℕ, ◌+◌, ◌<◌, IsSome, Bool, true, false, List, [], ◌∷◌, length, Option, Some, None, Result, Ok, Err, codes, decimal, unwrap_or}
-use Rattle.std.specs.Result.{result_ok}
-use Rattle.hex.specs.Hex.{decode_of}
-use Rattle.nr_chunk.specs.Chain.{Chain, chunk_at, rules_of, shards_of}
+use Rattle.std.specs.Prelude.{ℕ, ◌+◌, Bool, true, false, List, [], ◌∷◌, length, Option, Some, None, Result, Ok, Err, codes, decimal}
+use Rattle.nr_chunk.specs.Chain.{Chain, rules_of}
 use Rattle.nr_ids.specs.declared.key.Hash32.{Hash32}
 use Rattle.nr_outproof.specs.Items.{items}
 use Rattle.nr_outproof.specs.Proofs.{accepts, proof_of, root_of}
@@ -10,24 +8,15 @@ use Rattle.nr_outproof.specs.Texts.{proof_read, proof_text}
 use Rattle.nr_outproof.specs.declared.fault.ProofFault.{ProofFault}
 use Rattle.nr_outproof.specs.declared.fault.ProofFault.TheVariants as fault
 use Rattle.nr_outproof.specs.declared.proof.Proof.{Proof}
-use Rattle.nr_overlap.specs.Moment.{report_at}
-use Rattle.nr_overlap.specs.Run.{ending}
 use Rattle.nr_records.specs.declared.chunk_result.ChunkResult.{ChunkResult}
 use Rattle.nr_report.specs.Lines.{hash_word, line}
 use Rattle.nr_shell.specs.Plans.{Plan, Answer, Refuse}
+use Rattle.nr_top.specs.Chunks.{result_at}
 use Rattle.nr_top.specs.Run.{text_below}
 use Rattle.nr_top.specs.declared.status.Status.{Status}
 use Rattle.nr_top.specs.declared.status.Status.TheVariants.{NoMemory, NoItem, Proof as faulty_proof}
 use Rattle.nr_words.specs.declared.kind.ProofKind.TheVariants.{Outcome, Receipt}
 use Rattle.nr_words.specs.declared.words.ChunkItem.{ChunkItem}
-
--- what the chunk of a shard at a height comes to in the run to the end
-abbrev pub result_at : Chain → ℕ → ℕ → Option ChunkResult
-result_at x s h = report_at (rules_of x) (ending (rules_of x)) s h
-
--- there is a chunk: the shard is there, and the block of the height has the chunk
-abbrev pub HasChunk : Chain → ℕ → ℕ → Type 0
-HasChunk x s h = (s < shards_of x) × IsSome (chunk_at x s h)
 
 -- ---- `roots`: a line for each chunk, with the root of its outcomes and that of its receipts
 abbrev pub roots_line : ChunkResult → List ℕ
@@ -44,7 +33,8 @@ height_roots x h = text_below (rules_of x).shards (λ s. roots_told (result_at x
 unfoldable pub roots_text : Chain → List ℕ
 roots_text x = text_below (rules_of x).heights (λ h. height_roots x (h + 1))
 
--- ---- `prove`: the text of the proof; without the chunk, or the item, how many items of the kind there are
+-- ---- `prove`: the text of the proof; where there is no such chunk the count is 0, and where the place isn't below the
+-- number of the chunk's items of the kind it is that number
 abbrev pub by_proof : ℕ → Option Proof → Plan (List ℕ) Status
 by_proof count None = Refuse (NoItem count)
 by_proof count (Some p) = Answer (proof_text p)
@@ -57,10 +47,6 @@ abbrev pub by_item : ChunkItem → Chain → Plan (List ℕ) Status
 by_item item x = by_chunk item (result_at x item.shard item.height)
 
 -- ---- `verify`: whether the proof of a file is accepted against a root; the faults of its text, by kind and line
--- the root that 64 digits spell
-abbrev pub root_in : List ℕ → Hash32
-root_in word = record { 0 = unwrap_or (result_ok (decode_of word)) [] }
-
 abbrev pub judgement : Bool → List ℕ
 judgement true = line (codes "valid" ∷ [])
 judgement false = line (codes "invalid" ∷ [])

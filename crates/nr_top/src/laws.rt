@@ -1,6 +1,6 @@
 //! What holds of every run, and of every command.
 
-ghost use Rattle.std.specs.Prelude.{◌≡◌, ◌↔◌, ◌++◌, ℕ, List, Option, IsSome};
+ghost use Rattle.std.specs.Prelude.{◌≡◌, ◌++◌, ℕ, List, Option, is_some};
 ghost use Rattle.nr_blocks.specs.declared.block.Block.{Block};
 ghost use Rattle.nr_blocks.specs.declared.genesis.Genesis.{Genesis};
 ghost use Rattle.nr_chunk.specs.Chain.{Chain, IsChain, rules_of};
@@ -12,7 +12,7 @@ ghost use Rattle.nr_overlap.specs.declared.event.Event.{Event};
 ghost use Rattle.nr_shell.specs.Plans.{LeadsBy, Plan};
 ghost use Rattle.nr_top.specs.Checking.{events_left};
 ghost use Rattle.nr_top.specs.Plans.{files_of, plan};
-ghost use Rattle.nr_top.specs.Proving.{HasChunk, result_at};
+ghost use Rattle.nr_top.specs.Chunks.{has_chunk, result_at};
 ghost use Rattle.nr_top.specs.Run.{chain};
 ghost use Rattle.nr_top.specs.Totals.{AddUp, totals_at};
 ghost use Rattle.nr_top.specs.declared.status.Status.{Status};
@@ -35,8 +35,9 @@ pub fn asked_law()
         → LeadsBy held names (plan asked) q → (rest : List (List ℕ)) × (files_of asked ≡ names ++ rest) }
 {}
 
-/// A run to its end has a result of a chunk exactly where the block of its height has the chunk. So `roots` has a line for
-/// each of them, and `prove` says of no other that it isn't there. It does nothing when it runs.
+/// A run to its end has the result of a chunk exactly where the chain has the chunk. So `roots` has a line for each of
+/// these chunks and for no other, and `prove` says exactly of the others that there is no such chunk. It does nothing when
+/// it runs.
 pub fn chunks_law()
-    ensures { (x : Chain) (s h : ℕ) → IsSome (result_at x s h) ↔ HasChunk x s h }
+    ensures { (x : Chain) (shard height : ℕ) → is_some (result_at x shard height) ≡ has_chunk x shard height }
 {}

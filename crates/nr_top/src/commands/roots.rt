@@ -8,7 +8,8 @@ ghost use Rattle.nr_shell.specs.Answers.{Follows, Makes};
 ghost use Rattle.nr_top.specs.Answers.{refuses};
 ghost use Rattle.nr_top.specs.Moments.{chain_of};
 ghost use Rattle.nr_top.specs.Plans.{loaded, roots_plan};
-ghost use Rattle.nr_top.specs.Proving.{result_at, height_roots, roots_line, roots_text, roots_told};
+ghost use Rattle.nr_top.specs.Chunks.{result_at};
+ghost use Rattle.nr_top.specs.Proving.{height_roots, roots_line, roots_text, roots_told};
 ghost use Rattle.nr_top.specs.Run.{chain};
 ghost use Rattle.nr_words.specs.Words.{names_in};
 

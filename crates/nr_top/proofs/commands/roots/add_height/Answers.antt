@@ -1,5 +1,6 @@
 use Rattle.nr_top.specs.Moments.{chain_of}
-use Rattle.nr_top.specs.Proving.{result_at, roots_told}
+use Rattle.nr_top.specs.Chunks.{result_at}
+use Rattle.nr_top.specs.Proving.{roots_told}
 use Rattle.nr_top.proofs.Steps.{text_next}
 use Rattle.nr_top.proofs.commands.roots.add_height.Goals as goal
 
