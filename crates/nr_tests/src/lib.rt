@@ -24,6 +24,8 @@ mod parts;
 #[cfg(test)]
 mod pieces;
 #[cfg(test)]
+mod proving;
+#[cfg(test)]
 mod refused;
 #[cfg(test)]
 mod rows;

@@ -30,7 +30,7 @@ use Rattle.nr_overlap.proofs.SerialLemmas.{sealing_there}
 use Rattle.nr_state.specs.declared.calls.Caller.{Ghosts}
 use Rattle.nr_top.specs.Arriving.{IsNextBefore, IsUpTo, Nears}
 use Rattle.nr_top.specs.Moments.{Chains, IsMoment, chain_of}
-use Rattle.nr_top.specs.StateParts.{has_chunk}
+use Rattle.nr_top.specs.Chunks.{has_chunk}
 use Rattle.nr_top.proofs.Standing.{tried_moment}
 
 -- ---- a chunk of the run

@@ -16,7 +16,9 @@ use Rattle.nr_records.specs.declared.chunk_result.ChunkResult.{ChunkResult}
 use Rattle.nr_shell.specs.Plans.{Plan, Answer, Asks, and_then, file_plan}
 use Rattle.nr_shell.proofs.Ends.{file_asks, reading_asks, then_asks}
 use Rattle.nr_top.specs.Plans.{blocks_plan, blocks_status, by_blocks_bytes, by_chain, by_config, by_config_bytes, by_genesis, by_genesis_bytes, by_schedule_bytes, chain_files, chain_plan, config_files, config_plan, config_status, files_of, genesis_plan, genesis_status, plan, prove_plan, replay_plan, schedule_files, schedule_plan, schedule_status, verify_plan}
-use Rattle.nr_top.specs.Proving.{by_chunk, by_item, by_proof, by_proof_bytes, by_proof_read, chunk_at, root_in, roots_text}
+use Rattle.nr_top.specs.Chunks.{result_at}
+use Rattle.nr_top.specs.Proving.{by_chunk, by_item, by_proof, by_proof_bytes, by_proof_read, roots_text}
+use Rattle.nr_top.specs.Roots.{root_in}
 use Rattle.nr_top.specs.Run.{chain, check_text, run_text}
 use Rattle.nr_top.specs.Schedule.{schedule_read}
 use Rattle.nr_top.specs.StateParts.{cut_answer}
@@ -81,7 +83,7 @@ chunk_asks item None = tt
 chunk_asks item (Some y) = proof_asks (length (items item.kind y)) (proof_of y item.kind item.place)
 
 prove_asks : (names : Names) (item : ChunkItem) → Asks (chain_files names) (prove_plan names item)
-prove_asks names item = chain_alone names (by_item item) (λ x. chunk_asks item (chunk_at x item.height item.shard))
+prove_asks names item = chain_alone names (by_item item) (λ x. chunk_asks item (result_at x item.shard item.height))
 
 proof_read_asks : (root : Hash32) (r : Result Proof ProofFault) → Asks [] (by_proof_read root r)
 proof_read_asks root (Ok p) = tt

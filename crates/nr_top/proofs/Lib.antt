@@ -10,3 +10,4 @@ pub mod PartAsking
 pub mod PartLoading
 pub mod Asking
 pub mod Digests
+pub mod Present

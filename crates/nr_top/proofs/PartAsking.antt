@@ -10,8 +10,9 @@ use Rattle.nr_parts.specs.Joining.{joined_or_fault}
 use Rattle.nr_parts.specs.declared.part.Part.{Part}
 use Rattle.nr_shell.specs.Plans.{Plan, Answer, Refuse, Asks, and_then, by_reading, file_plan}
 use Rattle.nr_shell.proofs.Ends.{file_asks, reading_asks, then_asks}
-use Rattle.nr_top.specs.Proving.{root_in}
-use Rattle.nr_top.specs.StateParts.{by_part_bytes, check_answer, check_part_plan, cut_answer, has_chunk, join_answer, join_parts_plan, join_status, part_file_plan, part_line, part_names, part_status, part_text, parts_plan, root_line}
+use Rattle.nr_top.specs.Roots.{root_in}
+use Rattle.nr_top.specs.Chunks.{has_chunk}
+use Rattle.nr_top.specs.StateParts.{by_part_bytes, check_answer, check_part_plan, cut_answer, join_answer, join_parts_plan, join_status, part_file_plan, part_line, part_names, part_status, part_text, parts_plan, root_line}
 use Rattle.nr_top.specs.declared.status.Status.{Status}
 use Rattle.nr_top.specs.declared.status.Status.TheVariants.{NoItem, Parts as faulty_parts}
 use Rattle.nr_words.specs.declared.words.StatePart.{StatePart}

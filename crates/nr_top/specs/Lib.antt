@@ -9,6 +9,8 @@ pub mod Driving
 pub mod Arriving
 pub mod Hashing
 pub mod Works
+pub mod Chunks
+pub mod Roots
 pub mod Proving
 pub mod StateParts
 pub mod Plans

@@ -18,7 +18,8 @@ use Rattle.nr_blocks.specs.declared.genesis.Genesis.{Genesis}
 use Rattle.nr_chunk.specs.Chain.{Chain, shards_of}
 use Rattle.nr_shell.specs.Plans.{Plan, Answer, Refuse, and_then, by_reading, file_plan}
 use Rattle.nr_top.specs.Generated.{generated_text}
-use Rattle.nr_top.specs.Proving.{by_item, by_proof_bytes, root_in, roots_text}
+use Rattle.nr_top.specs.Proving.{by_item, by_proof_bytes, roots_text}
+use Rattle.nr_top.specs.Roots.{root_in}
 use Rattle.nr_top.specs.Run.{chain, check_text, run_text}
 use Rattle.nr_top.specs.Schedule.{schedule_read}
 use Rattle.nr_top.specs.StateParts.{check_part_plan, cut_answer, join_parts_plan, part_names}

@@ -1,11 +1,9 @@
 -- The commands on parts of a state: what is cut out of a run, and what is written of parts in files. This project's own.
-use Rattle.std.specs.Prelude.{ℕ, ◌+◌, ◌&&◌, Bool, cond, nat_lt, List, [], ◌∷◌, ◌++◌, length, map, codes, decimal, unwrap_or}
-use Rattle.std.specs.FinMap.{entries}
+use Rattle.std.specs.Prelude.{ℕ, ◌+◌, cond, List, [], ◌∷◌, ◌++◌, length, map, codes, decimal, unwrap_or}
 use Rattle.std.specs.List.{range_with_len}
-use Rattle.nr_chunk.specs.Chain.{Chain, rules_of, shards_of}
+use Rattle.nr_chunk.specs.Chain.{Chain}
 use Rattle.nr_columns.specs.declared.entry.Entry.{Entry}
 use Rattle.nr_ids.specs.declared.key.Hash32.{Hash32}
-use Rattle.nr_overlap.specs.Serial.{world_after}
 use Rattle.nr_parts.specs.Checking.{checked}
 use Rattle.nr_parts.specs.Cutting.{part_cut}
 use Rattle.nr_parts.specs.Files.{part_bytes, part_in}
@@ -15,21 +13,13 @@ use Rattle.nr_parts.specs.declared.fault.PartFault.TheVariants as fault
 use Rattle.nr_parts.specs.declared.part.Part.{Part}
 use Rattle.nr_report.specs.Lines.{line}
 use Rattle.nr_shell.specs.Plans.{Plan, Answer, Refuse, and_then, by_reading, file_plan}
-use Rattle.nr_state.specs.Flat.{flat}
-use Rattle.nr_top.specs.Proving.{root_in}
+use Rattle.nr_top.specs.Chunks.{has_chunk, state_after}
+use Rattle.nr_top.specs.Roots.{root_in}
 use Rattle.nr_top.specs.declared.status.Status.{Status}
 use Rattle.nr_top.specs.declared.status.Status.TheVariants.{NoItem, Parts as faulty_parts, NoMemory}
 use Rattle.nr_words.specs.declared.words.StatePart.{StatePart}
 
 -- ---- a part that is cut out of the state of a shard behind a chunk
--- the shard is one of the chain's, and the block of the height has its chunk
-abbrev pub has_chunk : Chain → ℕ → ℕ → Bool
-has_chunk x shard height = nat_lt shard (shards_of x) && (rules_of x).present shard height
-
--- the trie entries of the shard's world behind the height, by the serial run, in the order of their keys' bytes
-abbrev pub state_after : Chain → ℕ → ℕ → List (List ℕ × List ℕ)
-state_after x shard height = entries (flat (world_after (rules_of x) shard height).world)
-
 -- the file of the part
 unfoldable pub part_text : Chain → StatePart → List ℕ
 part_text x p = part_bytes (part_cut (state_after x p.shard p.height) p.count p.number)

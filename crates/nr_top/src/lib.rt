@@ -19,7 +19,7 @@ mod top;
 mod work;
 
 pub use generated::first_lines;
-pub use laws::{asked_law, totals_law};
+pub use laws::{asked_law, chunks_law, totals_law};
 pub use status::Status;
 pub use top::{serial, serve};
 pub use work::Work;

@@ -1,7 +1,7 @@
 //! A root as a word.
 
 ghost use Rattle.std.specs.Prelude.{◌≡◌, true};
-ghost use Rattle.nr_top.specs.Proving.{root_in};
+ghost use Rattle.nr_top.specs.Roots.{root_in};
 ghost use Rattle.nr_words.specs.Forms.{is_digest};
 
 use hex::FromHex;

@@ -10,7 +10,7 @@ ghost use Rattle.nr_overlap.specs.Serial.{world_after};
 ghost use Rattle.nr_parts.specs.Cutting.{InOrder};
 ghost use Rattle.nr_top.specs.Arriving.{IsNextBefore};
 ghost use Rattle.nr_top.specs.Moments.{IsMoment, chain_of};
-ghost use Rattle.nr_top.specs.StateParts.{has_chunk, state_after};
+ghost use Rattle.nr_top.specs.Chunks.{has_chunk, state_after};
 
 use crate::run::Run;
 use nr_bytes::List;

@@ -105,8 +105,8 @@ pub fn serve<F: Fn(Work) -> Result<Blob, AllocError>, S: Shelf, K: Sink>(
 ///   `gen NUMBER SHARDS BLOCKS`, `roots CONFIG GENESIS BLOCKS`,
 ///   `prove CONFIG GENESIS BLOCKS HEIGHT SHARD KIND PLACE` and `verify ROOT PROOF`. There no word is empty or
 ///   begins with `-`, and numbers are decimal without leading zeros: NUMBER, HEIGHT and PLACE up to 2^64 - 1,
-///   SHARD up to 2^32 - 1, SHARDS from 1 to 16 and BLOCKS of `gen` from 1 to 256; ROOT is 64 digits of base 16
-///   in lower case. Nothing was loaded or written.
+///   SHARD up to 2^32 - 1, SHARDS from 1 to 16 and BLOCKS of `gen` from 1 to 256; the word of ROOT is 64 digits
+///   of base 16 in lower case. Nothing was loaded or written.
 /// - `Config`: the configuration's file is longer than 1 MiB (kind 0), or its first fault, by the kind
 ///   and the entry that `nr_config::Config::read` gives. Nothing was written.
 /// - `Genesis`: the genesis is longer than 64 MiB (kind 0), or its first fault, by the kind and the
@@ -124,7 +124,8 @@ pub fn serve<F: Fn(Work) -> Result<Blob, AllocError>, S: Shelf, K: Sink>(
 /// - `NoMemory`: memory ran out. It counts as that where a total doesn't fit its number of 64 or 128
 ///   bits. Nothing was written.
 ///
-/// Of several refusals the first in this order comes: `Usage`, `Config`, `Genesis`, `Blocks`, `Schedule`, `NoItem`.
+/// Of several refusals the first in this order comes: `Usage`, `Config`, `Genesis`, `Blocks`, `Schedule`,
+/// `Proof`, `NoItem`.
 /// A file is loaded after all before it has passed; `gen` loads none. Where the shelf tells its files, the plan has one
 /// end (`nr_shell::plan_law`), so the answer is that end's, unless a file is unread, memory runs out or the sink fails.
 pub fn serial<S: Shelf, K: Sink>(

@@ -2,6 +2,7 @@
 use Rattle.std.specs.Prelude.{ℕ, List, [], ◌∷◌, Bool, cond, ◌==◌, nat_lt, Option, Some, None, codes, option_and_then, option_map}
 use Rattle.std.specs.Str.{bytes_eq}
 use Rattle.nr_words.specs.Forms.{Form, Place, Value, Text, Number, Digits, Choice, file, number, digits, one_of, read}
+use Rattle.nr_words.specs.Kinds.{kind_word}
 use Rattle.nr_words.specs.declared.kind.ProofKind.{ProofKind}
 use Rattle.nr_words.specs.declared.kind.ProofKind.TheVariants.{Outcome, Receipt}
 use Rattle.nr_words.specs.declared.words.ChunkItem.{ChunkItem}
@@ -51,7 +52,7 @@ count_place = number (codes "COUNT") 1 10000
 
 -- a place of 64 bits among the chunk's items of a kind
 abbrev pub item_places : List Place
-item_places = file (codes "CONFIG") ∷ file (codes "GENESIS") ∷ file (codes "BLOCKS") ∷ height_place ∷ shard_place ∷ one_of (codes "KIND") (codes "outcome" ∷ codes "receipt" ∷ []) ∷ number (codes "PLACE") 0 18446744073709551615 ∷ []
+item_places = file (codes "CONFIG") ∷ file (codes "GENESIS") ∷ file (codes "BLOCKS") ∷ height_place ∷ shard_place ∷ one_of (codes "KIND") (kind_word Outcome ∷ kind_word Receipt ∷ []) ∷ number (codes "PLACE") 0 18446744073709551615 ∷ []
 
 abbrev pub part_places : List Place
 part_places = file (codes "CONFIG") ∷ file (codes "GENESIS") ∷ file (codes "BLOCKS") ∷ height_place ∷ shard_place ∷ count_place ∷ number (codes "NUMBER") 0 9999 ∷ []
@@ -114,14 +115,14 @@ verify_of values = None
 
 -- a part has a number below the count of parts
 abbrev pub part_of : ℕ → ℕ → ℕ → ℕ → Option StatePart
-part_of height shard count number = cond (nat_lt number count) (Some (record { height = height; shard = shard; count = count; number = number })) None
+part_of height shard count k = cond (nat_lt k count) (Some (record { height = height; shard = shard; count = count; number = k })) None
 
 abbrev pub cut_of : List Value → Option Command
-cut_of (Text config ∷ Text genesis ∷ Text blocks ∷ Number height ∷ Number shard ∷ Number count ∷ Number number ∷ []) = option_map (Cut (names_of config genesis blocks)) (part_of height shard count number)
+cut_of (Text config ∷ Text genesis ∷ Text blocks ∷ Number height ∷ Number shard ∷ Number count ∷ Number k ∷ []) = option_map (Cut (names_of config genesis blocks)) (part_of height shard count k)
 cut_of values = None
 
 abbrev pub check_part_of : List Value → Option Command
-check_part_of (Digits root ∷ Text file ∷ []) = Some (CheckPart root file)
+check_part_of (Digits root ∷ Text part ∷ []) = Some (CheckPart root part)
 check_part_of values = None
 
 abbrev pub join_parts_of : List Value → Option Command

@@ -62,7 +62,7 @@ command_in (ChunkRoots files) = Roots (names_in files)
 command_in (ProveItem files item) = Prove (names_in files) item
 command_in (VerifyProof root proof) = Verify root.now proof.now
 command_in (CutPart files part) = Cut (names_in files) part
-command_in (CheckPartFile root file) = CheckPart root.now file.now
+command_in (CheckPartFile root part) = CheckPart root.now part.now
 command_in (JoinPartFiles root count prefix) = JoinParts root.now count prefix.now
 
 -- ---- what is known of the values of a command
@@ -99,5 +99,5 @@ CanRun (ChunkRoots files) = Unit {0}
 CanRun (ProveItem files item) = CanProve item
 CanRun (VerifyProof root proof) = is_digest root.now ≡ true
 CanRun (CutPart files part) = CanCut part
-CanRun (CheckPartFile root file) = is_digest root.now ≡ true
+CanRun (CheckPartFile root part) = is_digest root.now ≡ true
 CanRun (JoinPartFiles root count prefix) = CanJoin root.now count

@@ -8,7 +8,8 @@ ghost use Rattle.nr_shell.specs.Answers.{Follows, Judges};
 ghost use Rattle.nr_top.specs.Answers.{refuses};
 ghost use Rattle.nr_top.specs.Moments.{IsMoment, chain_of};
 ghost use Rattle.nr_top.specs.Plans.{loaded, part_plan};
-ghost use Rattle.nr_top.specs.StateParts.{cut_answer, has_chunk, part_text};
+ghost use Rattle.nr_top.specs.Chunks.{has_chunk};
+ghost use Rattle.nr_top.specs.StateParts.{cut_answer, part_text};
 ghost use Rattle.nr_words.specs.Words.{CanCut, names_in};
 
 use crate::chain::{ChainFiles, load_chain};

@@ -1,15 +1,18 @@
 //! `prove CONFIG GENESIS BLOCKS HEIGHT SHARD KIND PLACE`.
 
-ghost use Rattle.std.specs.Prelude.{Some};
+ghost use Rattle.std.specs.Prelude.{◌≡◌, Some};
 ghost use Rattle.nr_blocks.specs.Genesis.{IsSoundGenesis};
+ghost use Rattle.nr_chunk.specs.Chain.{rules_of};
+ghost use Rattle.nr_overlap.specs.Run.{ending};
 ghost use Rattle.nr_shell.specs.Answers.{Follows, Judges};
 ghost use Rattle.nr_top.specs.Answers.{refuses};
+ghost use Rattle.nr_top.specs.Moments.{chain_of};
 ghost use Rattle.nr_top.specs.Plans.{loaded, prove_plan};
 ghost use Rattle.nr_top.specs.Proving.{by_chunk, by_item, by_proof};
 ghost use Rattle.nr_words.specs.Words.{names_in};
 
 use crate::chain::{ChainFiles, load_chain};
-use crate::run::run;
+use crate::run::{Run, run};
 use crate::status::Status;
 use nr_bytes::{Blob, Shelf};
 use nr_ids::{Height, ShardId};
@@ -34,11 +37,7 @@ fn written(alloc: Global, proof: Option<Proof>, count: u64) -> Result<Blob, Stop
 }
 
 /// The text of the proof of an item of a chunk.
-fn proved_in(
-    alloc: Global,
-    chunk: &ChunkResult,
-    item: ChunkItem,
-) -> Result<Blob, Stop<Status>>
+fn proved_in(alloc: Global, chunk: &ChunkResult, item: ChunkItem) -> Result<Blob, Stop<Status>>
     ensures { Judges refuses (λ text. text) result (by_chunk item (Some chunk.now)) }
 {
     let count = item_count(chunk, item.kind);
@@ -48,18 +47,25 @@ fn proved_in(
     }
 }
 
-/// The same in the chain that files hold.
+/// The same in a run that is at its end.
+fn proved_by(alloc: Global, core: &Run, item: ChunkItem) -> Result<Blob, Stop<Status>>
+    requires { core.now.positions ≡ ending (rules_of (chain_of core.now)) }
+    ensures { Judges refuses (λ text. text) result (by_item item (chain_of core.now)) }
+{
+    match core.report(ShardId(item.shard), Height(item.height)) {
+        Some(chunk) => proved_in(alloc, chunk, item),
+        None => Err(Stop::Refused(Status::NoItem { count: 0 })),
+    }
+}
+
+/// The same in the chain that files hold, run to its end.
 fn proved(alloc: Global, files: ChainFiles, item: ChunkItem) -> Result<Blob, Stop<Status>>
     requires { IsSoundGenesis files.config files.genesis }
     ensures { Judges refuses (λ text. text) result (by_item item (loaded files)) }
 {
-    let core = match run(alloc, files.config, files.genesis, files.blocks) {
-        Ok(core) => core,
-        Err(_) => return Err(Stop::Memory),
-    };
-    match core.report(ShardId(item.shard), Height(item.height)) {
-        Some(chunk) => proved_in(alloc, chunk, item),
-        None => Err(Stop::Refused(Status::NoItem { count: 0 })),
+    match run(alloc, files.config, files.genesis, files.blocks) {
+        Ok(core) => proved_by(alloc, &core, item),
+        Err(_) => Err(Stop::Memory),
     }
 }
 

@@ -8,7 +8,8 @@ ghost use Rattle.nr_shell.specs.Answers.{Follows, Makes};
 ghost use Rattle.nr_top.specs.Answers.{refuses};
 ghost use Rattle.nr_top.specs.Moments.{chain_of};
 ghost use Rattle.nr_top.specs.Plans.{loaded, roots_plan};
-ghost use Rattle.nr_top.specs.Proving.{chunk_at, height_roots, roots_line, roots_text, roots_told};
+ghost use Rattle.nr_top.specs.Chunks.{result_at};
+ghost use Rattle.nr_top.specs.Proving.{height_roots, roots_line, roots_text, roots_told};
 ghost use Rattle.nr_top.specs.Run.{chain};
 ghost use Rattle.nr_words.specs.Words.{names_in};
 
@@ -49,7 +50,7 @@ fn add_chunk(
     text: &mut Blob,
 ) -> Result<(), AllocError>
     requires { core.now.positions ≡ ending (rules_of (chain_of core.now)) }
-    ensures { OnOk result (text.new ≡ text.old ++ roots_told (chunk_at (chain_of core.now) height.0 shard.0)) }
+    ensures { OnOk result (text.new ≡ text.old ++ roots_told (result_at (chain_of core.now) shard.0 height.0)) }
 {
     let Some(chunk) = core.report(shard, height) else {
         return Ok(());

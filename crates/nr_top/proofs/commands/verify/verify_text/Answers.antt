@@ -1,7 +1,8 @@
 use Rattle.std.proofs.Common.{refl}
 use Rattle.nr_shell.proofs.Leading.{read_follows, stop_follows}
 use Rattle.nr_top.specs.Answers.{refuses}
-use Rattle.nr_top.specs.Proving.{by_proof_bytes, root_in}
+use Rattle.nr_top.specs.Proving.{by_proof_bytes}
+use Rattle.nr_top.specs.Roots.{root_in}
 use Rattle.nr_top.proofs.commands.verify.verify_text.Goals as goal
 
 pub returns-in-Ok : goal.returns-in-Ok
