@@ -42,9 +42,7 @@ fn checked(alloc: Global, root: &str, file: &str) -> Result<Ended, Fail> {
 fn cut(alloc: Global, blocks: &str, part: [&str; 4]) -> Result<Ended, Fail> {
     let [height, shard, count, number] = part;
     let shelf = shelf_of(alloc, worked::GENESIS, blocks, &[])?;
-    let words = [
-        "part", "free", "G", "B", height, shard, count, number,
-    ];
+    let words = ["part", "free", "G", "B", height, shard, count, number];
     end_of(alloc, &words, shelf)
 }
 
@@ -114,8 +112,7 @@ fn a_part_that_is_none_is_refused(rt: HostRuntime) -> Result<(), Fail> {
 
 #[test]
 fn all_parts_are_joined(rt: HostRuntime) -> Result<(), Fail> {
-    let line =
-        "root 92320917050449af130cdb3b2e0fd713aae8154575253e0513b30f32d6d5fa43 entries 3\n";
+    let line = "root 92320917050449af130cdb3b2e0fd713aae8154575253e0513b30f32d6d5fa43 entries 3\n";
     let ended = joined(rt.alloc(), ROOT, "4", &FOUR)?;
     assert_eq!(rt; ended.status, Status::Done);
     assert!(rt; ended.asked(rt.alloc(), "Some([\"p0\", \"p1\", \"p2\", \"p3\"])")?);
