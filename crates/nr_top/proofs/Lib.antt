@@ -11,3 +11,4 @@ pub mod PartLoading
 pub mod Asking
 pub mod Digests
 pub mod Present
+pub mod Named
