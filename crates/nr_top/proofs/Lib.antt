@@ -12,3 +12,4 @@ pub mod PartAnswers
 pub mod Asking
 pub mod Digests
 pub mod Present
+pub mod Named

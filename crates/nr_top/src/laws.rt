@@ -1,6 +1,6 @@
 //! What holds of every run, and of every command.
 
-ghost use Rattle.std.specs.Prelude.{◌≡◌, ◌++◌, ℕ, List, Option, is_some};
+ghost use Rattle.std.specs.Prelude.{◌≡◌, ◌++◌, ℕ, List, Option, Some, is_some};
 ghost use Rattle.nr_blocks.specs.declared.block.Block.{Block};
 ghost use Rattle.nr_blocks.specs.declared.genesis.Genesis.{Genesis};
 ghost use Rattle.nr_chunk.specs.Chain.{Chain, IsChain, rules_of};
@@ -9,6 +9,7 @@ ghost use Rattle.nr_overlap.specs.Inside.{AreInside};
 ghost use Rattle.nr_overlap.specs.Next.{left};
 ghost use Rattle.nr_overlap.specs.Run.{ending, opening, run_of};
 ghost use Rattle.nr_overlap.specs.declared.event.Event.{Event};
+ghost use Rattle.nr_records.specs.declared.chunk_result.ChunkResult.{ChunkResult};
 ghost use Rattle.nr_shell.specs.Plans.{LeadsBy, Plan};
 ghost use Rattle.nr_top.specs.Checking.{events_left};
 ghost use Rattle.nr_top.specs.Plans.{files_of, plan};
@@ -35,9 +36,11 @@ pub fn asked_law()
         → LeadsBy held names (plan asked) q → (rest : List (List ℕ)) × (files_of asked ≡ names ++ rest) }
 {}
 
-/// A run to its end has the result of a chunk exactly where the chain has the chunk. So `roots` has a line for each of
-/// these chunks and for no other, and `prove` says exactly of the others that there is no such chunk. It does nothing when
-/// it runs.
+/// A run to its end has the result of a chunk exactly where the chain has the chunk, and it states the chunk's shard and
+/// height. So `roots` has a line for each of these chunks and for no other, and `prove` says exactly of the others that
+/// there is no such chunk. It does nothing when it runs.
 pub fn chunks_law()
-    ensures { (x : Chain) (shard height : ℕ) → is_some (result_at x shard height) ≡ has_chunk x shard height }
+    ensures there { (x : Chain) (shard height : ℕ) → is_some (result_at x shard height) ≡ has_chunk x shard height }
+    ensures named { (x : Chain) (shard height : ℕ) (y : ChunkResult) → result_at x shard height ≡ Some y
+        → (y.shard.0 ≡ shard) × (y.height.0 ≡ height) }
 {}
