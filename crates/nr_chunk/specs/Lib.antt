@@ -2,6 +2,8 @@ pub mod Views
 pub mod Codes
 pub mod Refused
 pub mod Chunk
+pub mod Start
+pub mod Starts
 pub mod Chain
 pub mod Serving
 pub mod Store
@@ -17,6 +19,7 @@ pub mod Promised
 pub mod Routed
 pub mod GenesisSums
 pub mod Prices
+pub mod StartSums
 pub mod Lawful
 pub mod Lasting
 pub mod Locality
