@@ -71,10 +71,13 @@ place_at x h =
 abbrev pub first_world : Chain → ℕ → Kept
 first_world x s = record { config = x.config; world = start_world x.start s; carried = start_list x.start s }
 
+-- an opening, before it takes what is carried
+abbrev pub opened_first : Chain → ℕ → ℕ → Kept → Working
+opened_first x s h w =
+    open_chunk x.config x.call (begun w (record { 0 = s }) (place_at x h)) (unwrap_or (chunk_at x s h) [])
+
 abbrev pub opened : Chain → ℕ → ℕ → Kept → Working
-opened x s h w =
-    take_list x.config x.call
-    (open_chunk x.config x.call (begun w (record { 0 = s }) (place_at x h)) (unwrap_or (chunk_at x s h) [])) w.carried
+opened x s h w = take_list x.config x.call (opened_first x s h w) w.carried
 
 abbrev pub rules_of : Chain → Rules Kept Working (List Receipt) ChunkResult
 rules_of x = record {

@@ -3,9 +3,9 @@ use Rattle.std.proofs.Common.{◌≡◌, ℕ, ◌+◌, ◌^◌, ◌<◌, ◌≤�
 use Rattle.std.proofs.Common.{arith}
 use Rattle.std.specs.Prelude.{slice_get, unwrap_or}
 use Rattle.nr_chunk.specs.Amounts.{tokens}
-use Rattle.nr_chunk.specs.Chain.{Chain, IsChain, CanOpen, CanTake, CanSeal, chunk_at, first_world, opened, place_at}
-use Rattle.nr_chunk.specs.Chain.{kept_tokens, rules_of, shards_of, working_tokens}
-use Rattle.nr_chunk.specs.Chunk.{begun, open_chunk, take_list}
+use Rattle.nr_chunk.specs.Chain.{Chain, IsChain, CanOpen, CanTake, CanSeal, chunk_at, first_world, opened}
+use Rattle.nr_chunk.specs.Chain.{kept_tokens, opened_first, place_at, rules_of, shards_of, working_tokens}
+use Rattle.nr_chunk.specs.Chunk.{begun, take_list}
 use Rattle.nr_chunk.specs.Goodness.{IsGood, AreGood, IsGoodWork, IsGoodWorld}
 use Rattle.nr_chunk.specs.Serving.{CanServe, Pays, Promise}
 use Rattle.nr_chunk.specs.Views.{Kept, Working}
@@ -78,11 +78,7 @@ module _ (x : Chain) (is : IsChain x) where
       }
 
   -- ---- opening
-  -- before the list that is carried
-  abbrev pub opened_first : ℕ → ℕ → Kept → Working
-  opened_first s h w = open_chunk c x.call (begun w (record { 0 = s }) (place_at x h)) (unwrap_or (chunk_at x s h) [])
-
-  first_holds : (s h : ℕ) (w : Kept) → IsGoodWorld c w → Holds c (world_tokens c w.world) (opened_first s h w)
+  first_holds : (s h : ℕ) (w : Kept) → IsGoodWorld c w → Holds c (world_tokens c w.world) (opened_first x s h w)
   first_holds s h w good =
       let place : Place = place_at x h in
       let shard : ShardId = record { 0 = s } in
@@ -91,13 +87,13 @@ module _ (x : Chain) (is : IsChain x) where
 
   opens_holds : (s h : ℕ) (w : Kept) → IsGoodWorld c w → kept_tokens c w ≤ 2 ^ 127 → Holds c (kept_tokens c w) (opened x s h w)
   opens_holds s h w good few =
-      all_served c x.call promise w.carried (world_tokens c w.world) (opened_first s h w) (first_holds s h w good)
+      all_served c x.call promise w.carried (world_tokens c w.world) (opened_first x s h w) (first_holds s h w good)
       good.carried few
 
   -- where a chunk may be opened it can take what is carried
-  pub can_take_carried : (s h : ℕ) (w : Kept) → CanOpen x s h w → CanServe c (opened_first s h w) w.carried
+  pub can_take_carried : (s h : ℕ) (w : Kept) → CanOpen x s h w → CanServe c (opened_first x s h w) w.carried
   can_take_carried s h w can =
-      can_serve c (world_tokens c w.world) (opened_first s h w) w.carried (first_holds s h w can.good) can.good.carried
+      can_serve c (world_tokens c w.world) (opened_first x s h w) w.carried (first_holds s h w can.good) can.good.carried
       can.room
 
   opens_at : (s h : ℕ) → IsGoodWorld c (world_after r s h) → kept_tokens c (world_after r s h) ≤ 2 ^ 127

@@ -8,6 +8,7 @@ pub mod Chain
 pub mod Serving
 pub mod Store
 pub mod Works
+pub mod Runs
 pub mod Amounts
 pub mod Tallies
 pub mod Served

@@ -57,12 +57,13 @@ fn know_prices(blocks: &[Block])
 }
 
 impl<C: Caller<ChunkStore>> ChainRun<C> {
-    ghost use Rattle.nr_chunk.specs.Chain.{chain_with, IsChain};
+    ghost use Rattle.nr_chunk.specs.Chain.{IsChain};
+    ghost use Rattle.nr_chunk.specs.Runs.{chain_in};
     ghost use Rattle.nr_chunk.specs.Serving.{Pays, Promise};
 
     /// What is known of a chain. It does nothing when it runs.
     pub(crate) fn known(&self)
-        ensures { IsChain (chain_with self.now.config self.now.grounds.start self.now.blocks (C.meaning self.now.caller)) }
+        ensures { IsChain (chain_in self.now) }
     {
         let _ = self.grounds.config().entry(GAS_PRICE);
         let _ = self.grounds.layout().shards();

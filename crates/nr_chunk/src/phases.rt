@@ -2,7 +2,8 @@
 
 ghost use Rattle.std.specs.Prelude.{◌≡◌, ◌+◌, ◌<◌, ◌≤◌, true, IfOk, OnOk, length};
 ghost use Rattle.std.specs.Option.{option_copied};
-ghost use Rattle.nr_chunk.specs.Chain.{Chain, chain_with, block_at, chunk_in, chunk_at, time_of, price_in, place_at};
+ghost use Rattle.nr_chunk.specs.Chain.{Chain, block_at, chunk_in, chunk_at, time_of, price_in, place_at};
+ghost use Rattle.nr_chunk.specs.Runs.{chain_in};
 
 use crate::chain::ChainRun;
 use crate::chunk_work::ChunkWork;
@@ -69,7 +70,7 @@ fn price(blocks: &[Block], height: Height, usual: u64) -> u64
 
 fn place_at<C: Caller<ChunkStore>>(chain: &ChainRun<C>, height: Height) -> Place
     requires { height.0 ≤ length chain.now.blocks }
-    ensures { let run = chain.now in result ≡ place_at (chain_with run.config run.grounds.start run.blocks (C.meaning run.caller)) height.0 }
+    ensures { result ≡ place_at (chain_in chain.now) height.0 }
 {
     let blocks = chain.blocks.inner();
     let below = chain.grounds.below();

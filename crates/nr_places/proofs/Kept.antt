@@ -3,7 +3,7 @@ use Rattle.std.proofs.Common.{◌≡◌, ℕ, suc, ◌+◌, ◌-◌, List, [], �
 use Rattle.std.specs.Prelude.{slice_get, sum_by, unwrap_or}
 use Rattle.std.proofs.lemmas.List.Sums.{sum_by-append}
 use Rattle.nr_chunk.proofs.Converted.{CanGo}
-use Rattle.nr_chunk.specs.Chain.{Chain, IsChain, CanOpen, CanTake, CanSeal, chunk_at, opened, place_at, rules_of}
+use Rattle.nr_chunk.specs.Chain.{Chain, IsChain, CanOpen, CanTake, CanSeal, chunk_at, opened, opened_first, place_at, rules_of}
 use Rattle.nr_chunk.specs.Chunk.{begun, serve_all, take_list}
 use Rattle.nr_chunk.specs.Lawful.{can_take_carried, laws_of}
 use Rattle.nr_chunk.specs.Prices.{place_fits}
@@ -17,7 +17,7 @@ use Rattle.nr_overlap.specs.Lawful.{AreLawful}
 use Rattle.nr_overlap.specs.Rules.{Rules}
 use Rattle.nr_overlap.specs.Serial.{due_after, last_work, list_to, sealing_at, with_list, work, world_after}
 use Rattle.nr_overlap.proofs.SerialLemmas.{work_first, work_next}
-use Rattle.nr_places.specs.Places.{waiting, executes_all, executes_list, executes_due, executes_opened, converted_at, executed_at, executed_in, opened_first, places}
+use Rattle.nr_places.specs.Places.{waiting, executes_all, executes_list, executes_due, executes_opened, converted_at, executed_at, executed_in, executes_carried, places}
 use Rattle.nr_places.proofs.Opening.{opened_waits}
 use Rattle.nr_places.proofs.Waiting.{all_wait}
 use Rattle.nr_records.specs.declared.chunk_result.ChunkResult.{ChunkResult}
@@ -25,7 +25,7 @@ use Rattle.nr_records.specs.declared.receipt.Receipt.{Receipt}
 
 -- ---- what was executed, a step at a time
 module _ (x : Chain) where
-  pub executed_first : (s h : ℕ) → executed_at x s h 0 ≡ executes_opened x (converted_at x s h) ++ executes_all x (opened_first x s h) (world_after (rules_of x) s h).carried
+  pub executed_first : (s h : ℕ) → executed_at x s h 0 ≡ executes_opened x (converted_at x s h) ++ executes_carried x s h (world_after (rules_of x) s h)
   unfolding executed_at
   executed_first s h = refl
 
@@ -67,7 +67,7 @@ module _ (x : Chain) (is : IsChain x) (f : Receipt → ℕ) where
       let w : Kept = world_after r s h in
       let k : Working = begun w (record { 0 = s }) (place_at x (h + 1)) in
       let held : waiting f (work r s h 0).world ≡ waiting f (opened x s (h + 1) w).world = ap (λ (k : Working). waiting f k.world) (work_first r s h) in
-      let k1 : Working = opened_first x s h in
+      let k1 : Working = opened_first x s (h + 1) w in
       let done : sum_by f (executed_at x s h 0) ≡ sum_by f (executes_opened x (converted_at x s h) ++ executes_all x k1 w.carried) = ap (λ (q : List Receipt). sum_by f q) (executed_first x s h) in
       let taken = all_wait x promise f w.carried k1 (can_take_carried x is s (h + 1) w can) in
       let parts = sum_by-append f (executes_opened x (converted_at x s h)) (executes_all x k1 w.carried) in

@@ -1,7 +1,7 @@
 -- Where the receipts of a run are: executed, postponed, delayed or in flight. After the Nomicon, Runtime Specification (Receipts); the amounts are this project's.
 use Rattle.std.specs.Prelude.{◌≡◌, ℕ, zero, suc, ◌+◌, ◌-◌, true, false, cond, List, [], ◌∷◌, ◌++◌, Option, Some, None, length, slice_get, sum_by, unwrap_or}
-use Rattle.nr_chunk.specs.Chain.{Chain, rules_of, chunk_at, place_at}
-use Rattle.nr_chunk.specs.Chunk.{Opening, begun, has_gas, open_chunk, serve, served_local, convert_all, without_front}
+use Rattle.nr_chunk.specs.Chain.{Chain, rules_of, chunk_at, opened_first, place_at}
+use Rattle.nr_chunk.specs.Chunk.{Opening, begun, has_gas, serve, served_local, convert_all, without_front}
 use Rattle.nr_chunk.specs.Serving.{CanServe}
 use Rattle.nr_chunk.specs.Start.{Start}
 use Rattle.nr_chunk.specs.Views.{Kept, Working}
@@ -69,13 +69,13 @@ module _ (x : Chain) where
   executes_due s h n None = []
   executes_due s h n (Some due) = executes_list (work (rules_of x) s h n) (list_to (rules_of x) (sealing_at (rules_of x) due.1 due.0) s)
 
-  -- what its opening leaves before it takes what its shard carries
-  abbrev pub opened_first : ℕ → ℕ → Working
-  opened_first s h = open_chunk x.config x.call (begun (world_after (rules_of x) s h) (record { 0 = s }) (place_at x (h + 1))) (unwrap_or (chunk_at x s (h + 1)) [])
+  -- and of what its shard carries
+  abbrev pub executes_carried : ℕ → ℕ → Kept → List Receipt
+  executes_carried s h w = executes_all (opened_first x s (h + 1) w) w.carried
 
   -- by the chunk after a height, when it has taken n lists
   unfoldable pub executed_at : ℕ → ℕ → ℕ → List Receipt
-  executed_at s h zero = executes_opened (converted_at s h) ++ executes_all (opened_first s h) (world_after (rules_of x) s h).carried
+  executed_at s h zero = executes_opened (converted_at s h) ++ executes_carried s h (world_after (rules_of x) s h)
   executed_at s h (suc n) = executed_at s h n ++ executes_due s h n (slice_get (due_after (rules_of x) s h) n)
 
   -- and when it has taken all

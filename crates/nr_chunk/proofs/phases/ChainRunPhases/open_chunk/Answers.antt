@@ -1,8 +1,8 @@
 use Rattle.std.proofs.Common.{Bor, List, [], ◌≡◌, sym, ap, subst, ◌∙◌}
 use Rattle.std.specs.Prelude.{unwrap_or}
-use Rattle.nr_chunk.specs.Chain.{Chain, chain_with, chunk_at, place_at}
+use Rattle.nr_chunk.specs.Chain.{Chain, chain_with, chunk_at, opened_first, place_at}
 use Rattle.nr_chunk.specs.Chunk.{begun, open_chunk, serve_all}
-use Rattle.nr_chunk.specs.Lawful.{can_take_carried, opened_first}
+use Rattle.nr_chunk.specs.Lawful.{can_take_carried}
 use Rattle.nr_chunk.specs.Serving.{CanServe}
 use Rattle.nr_chunk.specs.Views.{Kept, Working}
 use Rattle.nr_chunk.specs.Works.{working_of}
@@ -21,13 +21,13 @@ serve_all-requires-clause-can g c =
     let x : Chain = chain_with c.args.self.now.config c.args.self.now.grounds.start c.args.self.now.blocks (g.C.Caller.meaning c.args.self.now.caller) in
     let txs : c.unwrap_or-txs.result.now ≡ unwrap_or (chunk_at x c.args.shard.0 c.args.height.0) [] =
     ap (λ b. b.now) c.unwrap_or-txs.ensures ∙ lent_or c.chunk_at.result _ ∙ ap (λ o. unwrap_or o []) (c.chunk_at.ensures x c.inner.ensures) in
-    let first : working_of c.in_ok-work.work ≡ opened_first x c.known.ensures c.args.shard.0 c.args.height.0 c.args.world =
+    let first : working_of c.in_ok-work.work ≡ opened_first x c.args.shard.0 c.args.height.0 c.args.world =
     c.in_ok-work.ensures.opened
     ∙ ap (λ (w : Kept). open_chunk x.config x.call (begun w c.args.shard c.place_at-place.result) c.unwrap_or-txs.result.now) c.world.view_is
     ∙ ap (λ p. open_chunk x.config x.call (begun c.args.world c.args.shard p) c.unwrap_or-txs.result.now) c.place_at-place.ensures
     ∙ ap (λ t. open_chunk x.config x.call (begun c.args.world c.args.shard (place_at x c.args.height.0)) t) txs in
     subst (λ (k : Working). CanServe x.config k c.world.inside.carried) (sym first)
-    (subst (λ (list : List Receipt). CanServe x.config (opened_first x c.known.ensures c.args.shard.0 c.args.height.0 c.args.world) list) (sym (ap (λ (w : Kept). w.carried) c.world.view_is))
+    (subst (λ (list : List Receipt). CanServe x.config (opened_first x c.args.shard.0 c.args.height.0 c.args.world) list) (sym (ap (λ (w : Kept). w.carried) c.world.view_is))
     (can_take_carried x c.known.ensures c.args.shard.0 c.args.height.0 c.args.world c.requires))
 
 pub returns : goal.returns
@@ -35,11 +35,11 @@ returns g c =
     let x : Chain = chain_with c.args.self.now.config c.args.self.now.grounds.start c.args.self.now.blocks (g.C.Caller.meaning c.args.self.now.caller) in
     let txs : c.unwrap_or-txs.result.now ≡ unwrap_or (chunk_at x c.args.shard.0 c.args.height.0) [] =
     ap (λ b. b.now) c.unwrap_or-txs.ensures ∙ lent_or c.chunk_at.result _ ∙ ap (λ o. unwrap_or o []) (c.chunk_at.ensures x c.inner.ensures) in
-    let first : working_of c.in_ok-work.work ≡ opened_first x c.known.ensures c.args.shard.0 c.args.height.0 c.args.world =
+    let first : working_of c.in_ok-work.work ≡ opened_first x c.args.shard.0 c.args.height.0 c.args.world =
     c.in_ok-work.ensures.opened
     ∙ ap (λ (w : Kept). open_chunk x.config x.call (begun w c.args.shard c.place_at-place.result) c.unwrap_or-txs.result.now) c.world.view_is
     ∙ ap (λ p. open_chunk x.config x.call (begun c.args.world c.args.shard p) c.unwrap_or-txs.result.now) c.place_at-place.ensures
     ∙ ap (λ t. open_chunk x.config x.call (begun c.args.world c.args.shard (place_at x c.args.height.0)) t) txs in
     c.in_ok-serve_all.ensures.served
     ∙ ap (λ (k : Working). serve_all x.config x.call k c.world.inside.carried) first
-    ∙ ap (λ (w : Kept). serve_all x.config x.call (opened_first x c.known.ensures c.args.shard.0 c.args.height.0 c.args.world) w.carried) c.world.view_is
+    ∙ ap (λ (w : Kept). serve_all x.config x.call (opened_first x c.args.shard.0 c.args.height.0 c.args.world) w.carried) c.world.view_is
