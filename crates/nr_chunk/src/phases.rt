@@ -82,20 +82,21 @@ fn place_at<C: Caller<ChunkStore>>(chain: &ChainRun<C>, height: Height) -> Place
 }
 
 impl<C: Caller<ChunkStore>> Phases for ChainRun<C> {
-    ghost use Rattle.nr_chunk.specs.Chain.{chain_with, rules_of, IsChain, CanOpen, CanTake, CanSeal};
+    ghost use Rattle.nr_chunk.specs.Chain.{rules_of, IsChain, CanOpen, CanTake, CanSeal};
     ghost use Rattle.nr_chunk.specs.Lawful.{laws_of};
+    ghost use Rattle.nr_chunk.specs.Runs.{chain_in};
 
-    ghost is_run = { λ x. IsChain (chain_with x.config x.grounds.start x.blocks (C.meaning x.caller)) };
+    ghost is_run = { λ x. IsChain (chain_in x) };
 
-    ghost rules = { λ x. rules_of (chain_with x.config x.grounds.start x.blocks (C.meaning x.caller)) };
+    ghost rules = { λ x. rules_of (chain_in x) };
 
-    ghost can_open = { λ x. CanOpen (chain_with x.config x.grounds.start x.blocks (C.meaning x.caller)) };
+    ghost can_open = { λ x. CanOpen (chain_in x) };
 
-    ghost can_take = { λ x. CanTake (chain_with x.config x.grounds.start x.blocks (C.meaning x.caller)) };
+    ghost can_take = { λ x. CanTake (chain_in x) };
 
-    ghost can_seal = { λ x. CanSeal (chain_with x.config x.grounds.start x.blocks (C.meaning x.caller)) };
+    ghost can_seal = { λ x. CanSeal (chain_in x) };
 
-    ghost laws = { λ x is. laws_of (chain_with x.config x.grounds.start x.blocks (C.meaning x.caller)) is };
+    ghost laws = { λ x is. laws_of (chain_in x) is };
 
     type World = ChunkWorld;
 

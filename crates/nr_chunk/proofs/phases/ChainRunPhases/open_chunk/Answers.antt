@@ -1,8 +1,9 @@
 use Rattle.std.proofs.Common.{Bor, List, [], ◌≡◌, sym, ap, subst, ◌∙◌}
 use Rattle.std.specs.Prelude.{unwrap_or}
-use Rattle.nr_chunk.specs.Chain.{Chain, chain_with, chunk_at, opened_first, place_at}
+use Rattle.nr_chunk.specs.Chain.{Chain, chunk_at, opened_first, place_at}
 use Rattle.nr_chunk.specs.Chunk.{begun, open_chunk, serve_all}
 use Rattle.nr_chunk.specs.Lawful.{can_take_carried}
+use Rattle.nr_chunk.specs.Runs.{chain_in}
 use Rattle.nr_chunk.specs.Serving.{CanServe}
 use Rattle.nr_chunk.specs.Views.{Kept, Working}
 use Rattle.nr_chunk.specs.Works.{working_of}
@@ -14,11 +15,11 @@ use Rattle.nr_records.specs.declared.transaction.Transaction.{Transaction}
 
 pub place_at-place-requires : goal.place_at-place-requires
 place_at-place-requires g c =
-    chunk_below (chain_with c.args.self.now.config c.args.self.now.grounds.start c.args.self.now.blocks (g.C.Caller.meaning c.args.self.now.caller)) c.args.shard.0 c.args.height.0 c.requires.there
+    chunk_below (chain_in c.args.self.now) c.args.shard.0 c.args.height.0 c.requires.there
 
 pub serve_all-requires-clause-can : goal.serve_all-requires-clause-can
 serve_all-requires-clause-can g c =
-    let x : Chain = chain_with c.args.self.now.config c.args.self.now.grounds.start c.args.self.now.blocks (g.C.Caller.meaning c.args.self.now.caller) in
+    let x : Chain = chain_in c.args.self.now in
     let txs : c.unwrap_or-txs.result.now ≡ unwrap_or (chunk_at x c.args.shard.0 c.args.height.0) [] =
     ap (λ b. b.now) c.unwrap_or-txs.ensures ∙ lent_or c.chunk_at.result _ ∙ ap (λ o. unwrap_or o []) (c.chunk_at.ensures x c.inner.ensures) in
     let first : working_of c.in_ok-work.work ≡ opened_first x c.args.shard.0 c.args.height.0 c.args.world =
@@ -32,7 +33,7 @@ serve_all-requires-clause-can g c =
 
 pub returns : goal.returns
 returns g c =
-    let x : Chain = chain_with c.args.self.now.config c.args.self.now.grounds.start c.args.self.now.blocks (g.C.Caller.meaning c.args.self.now.caller) in
+    let x : Chain = chain_in c.args.self.now in
     let txs : c.unwrap_or-txs.result.now ≡ unwrap_or (chunk_at x c.args.shard.0 c.args.height.0) [] =
     ap (λ b. b.now) c.unwrap_or-txs.ensures ∙ lent_or c.chunk_at.result _ ∙ ap (λ o. unwrap_or o []) (c.chunk_at.ensures x c.inner.ensures) in
     let first : working_of c.in_ok-work.work ≡ opened_first x c.args.shard.0 c.args.height.0 c.args.world =
