@@ -1,8 +1,8 @@
 -- The first worlds with what they carry have together the tokens of their start; and a genesis is a start.
-use Rattle.std.proofs.Common.{◌≡◌, ℕ, zero, suc, ◌+◌, ◌<◌, ◌≤◌, List, [], ◌∷◌, length, map, refl, sym, ap, ◌∙◌, arith}
+use Rattle.std.proofs.Common.{◌≡◌, ℕ, zero, suc, ◌+◌, ◌<◌, List, [], ◌∷◌, length, map, refl, sym, ap, ◌∙◌, arith}
 use Rattle.std.specs.Prelude.{replicate, slice_index_or, sum_by}
 use Rattle.std.specs.List.{AllByRecursion, range_with_len}
-use Rattle.std.proofs.lemmas.List.{length-map, length-replicate}
+use Rattle.std.proofs.lemmas.List.{length-replicate}
 use Rattle.std.proofs.lemmas.List.FromFn.{length-map-range_with_len}
 use Rattle.std.proofs.lemmas.List.Sums.{sum_by-cons}
 use Rattle.nr_blocks.proofs.ValidFirst.{first_valid}
@@ -13,7 +13,6 @@ use Rattle.nr_chunk.specs.Goodness.{AreGood, IsSmall}
 use Rattle.nr_chunk.specs.Start.{IsStart, Start, genesis_start, shards_in, start_list, start_tokens, start_world}
 use Rattle.nr_config.specs.Config.{Config}
 use Rattle.nr_overlap.specs.Balance.{sum_below}
-use Rattle.nr_records.specs.declared.receipt.Receipt.{Receipt}
 use Rattle.nr_state.specs.Tokens.{list_tokens, world_tokens}
 use Rattle.nr_state.specs.Valid.{IsValidWorld}
 use Rattle.nr_state.specs.World.{World, no_world}
@@ -97,7 +96,7 @@ genesis_tokens c g sound =
     let n : ℕ = length g.layout + 1 in
     let zero_on : (s : ℕ) → 0 + s ≡ s = λ s. omega arith in
     let worlds : sum_by (world_tokens c)
-        (map (λ s. genesis_world (entries_of g.layout s g.entries)) (range_with_len 0 n)) ≡ supply g.entries =
+    (map (λ s. genesis_world (entries_of g.layout s g.entries)) (range_with_len 0 n)) ≡ supply g.entries =
     sum_map (world_tokens c) (λ s. genesis_world (entries_of g.layout s g.entries)) n 0
     ∙ (λ i. sum_below n (λ s. world_tokens c (genesis_world (entries_of g.layout (zero_on s i) g.entries))))
     ∙ first_tokens g.layout c g.entries sound in

@@ -8,7 +8,7 @@ use Rattle.nr_chunk.specs.Start.{start_list, start_world}
 use Rattle.nr_chunk.specs.StartSums.{sum_of, sum_both as both_sums}
 use Rattle.nr_chunk.specs.Views.{Kept, Working}
 use Rattle.nr_overlap.specs.Balance.{AddsUp, Amount, held_in_all, held_by as holding, if_some, made_by, made_in_all, making, sealed_by as sealing, sum_below}
-use Rattle.nr_overlap.specs.Moment.{world_at, world_in, working_in, working_at, report_at, flight_at}
+use Rattle.nr_overlap.specs.Moment.{world_in, working_in, working_at, report_at, flight_at}
 use Rattle.nr_overlap.specs.Positions.{at}
 use Rattle.nr_overlap.specs.Rules.{Rules}
 use Rattle.nr_overlap.specs.Serial.{last_work}

@@ -1,4 +1,4 @@
-use Rattle.std.proofs.Common.{Bor, List, [], ◌≡◌, sym, ap, subst, ◌∙◌}
+use Rattle.std.proofs.Common.{List, [], ◌≡◌, sym, ap, subst, ◌∙◌}
 use Rattle.std.specs.Prelude.{unwrap_or}
 use Rattle.nr_chunk.specs.Chain.{Chain, chunk_at, opened_first, place_at}
 use Rattle.nr_chunk.specs.Chunk.{begun, open_chunk, serve_all}
@@ -11,7 +11,6 @@ use Rattle.nr_chunk.proofs.Lent.{lent_or}
 use Rattle.nr_chunk.proofs.Started.{chunk_below}
 use Rattle.nr_chunk.proofs.phases.ChainRunPhases.open_chunk.Goals as goal
 use Rattle.nr_records.specs.declared.receipt.Receipt.{Receipt}
-use Rattle.nr_records.specs.declared.transaction.Transaction.{Transaction}
 
 pub place_at-place-requires : goal.place_at-place-requires
 place_at-place-requires g c =

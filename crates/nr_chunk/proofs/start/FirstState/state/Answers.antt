@@ -1,6 +1,6 @@
 use Rattle.std.proofs.Common.{◌≡◌, ◌+◌, ◌<◌, IfOk, List, length, get_or, sym, ap, subst, ◌∙◌, arith}
 use Rattle.std.proofs.lemmas.List.{length-map}
-use Rattle.nr_chunk.specs.Start.{IsStart, shards_in, start_world}
+use Rattle.nr_chunk.specs.Start.{shards_in, start_world}
 use Rattle.nr_chunk.specs.Starts.{IsSoundStart, start_of}
 use Rattle.nr_chunk.specs.declared.start.FirstState.{FirstState}
 use Rattle.nr_chunk.specs.declared.start.FirstState.TheVariants as first
