@@ -39,8 +39,18 @@ pub(crate) fn part_json(alloc: Global, part: &Part) -> Result<Value, AllocError>
     let mut object = Map::new(alloc);
     let root = part.root.to_json(alloc)?;
     put(&mut object, alloc, "root", root)?;
-    put(&mut object, alloc, "count", Value::from(u64::from(part.count)))?;
-    put(&mut object, alloc, "number", Value::from(u64::from(part.number)))?;
+    put(
+        &mut object,
+        alloc,
+        "count",
+        Value::from(u64::from(part.count)),
+    )?;
+    put(
+        &mut object,
+        alloc,
+        "number",
+        Value::from(u64::from(part.number)),
+    )?;
     let entries = entries_json(alloc, part.entries.inner())?;
     put(&mut object, alloc, "entries", Value::from(entries))?;
     let texts = part.texts.to_json(alloc)?;
@@ -56,7 +66,12 @@ pub(crate) fn proof_json(alloc: Global, proof: &Proof) -> Result<Value, AllocErr
     let kind = Value::try_from_str(alloc, proof.kind.word())?;
     put(&mut object, alloc, "kind", kind)?;
     put(&mut object, alloc, "height", Value::from(proof.height.0))?;
-    put(&mut object, alloc, "shard", Value::from(u64::from(proof.shard.0)))?;
+    put(
+        &mut object,
+        alloc,
+        "shard",
+        Value::from(u64::from(proof.shard.0)),
+    )?;
     put(&mut object, alloc, "place", Value::from(proof.place))?;
     put(&mut object, alloc, "count", Value::from(proof.count))?;
     let item = proof.item.to_json(alloc)?;

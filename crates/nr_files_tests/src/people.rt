@@ -105,7 +105,8 @@ no 2 5 1
 
 #[test]
 fn what_other_commands_write_is_shown(rt: HostRuntime) -> Result<(), Fail> {
-    let text = b"roots 1 2 0b0b0b0b0b0b0b0b0b0b0b0b0b0b0b0b0b0b0b0b0b0b0b0b0b0b0b0b0b0b0b0b 0c0c0c0c0c0c0c0c0c0c0c0c0c0c0c0c0c0c0c0c0c0c0c0c0c0c0c0c0c0c0c0c
+    let text =
+        b"roots 1 2 0b0b0b0b0b0b0b0b0b0b0b0b0b0b0b0b0b0b0b0b0b0b0b0b0b0b0b0b0b0b0b0b 0c0c0c0c0c0c0c0c0c0c0c0c0c0c0c0c0c0c0c0c0c0c0c0c0c0c0c0c0c0c0c0c
 proof receipt 1 2 3 18446744073709551615
 item -
 path 0b0b0b0b0b0b0b0b0b0b0b0b0b0b0b0b0b0b0b0b0b0b0b0b0b0b0b0b0b0b0b0b
@@ -114,7 +115,8 @@ invalid
 part 3 10000 entries 7
 root 0b0b0b0b0b0b0b0b0b0b0b0b0b0b0b0b0b0b0b0b0b0b0b0b0b0b0b0b0b0b0b0b entries 0
 ";
-    let json = b"{\"line\":\"roots\",\"height\":1,\"shard\":2,\"outcome_root\":\"0b0b0b0b0b0b0b0b0b0b0b0b0b0b0b0b0b0b0b0b0b0b0b0b0b0b0b0b0b0b0b0b\",\"receipt_root\":\"0c0c0c0c0c0c0c0c0c0c0c0c0c0c0c0c0c0c0c0c0c0c0c0c0c0c0c0c0c0c0c0c\"}
+    let json =
+        b"{\"line\":\"roots\",\"height\":1,\"shard\":2,\"outcome_root\":\"0b0b0b0b0b0b0b0b0b0b0b0b0b0b0b0b0b0b0b0b0b0b0b0b0b0b0b0b0b0b0b0b\",\"receipt_root\":\"0c0c0c0c0c0c0c0c0c0c0c0c0c0c0c0c0c0c0c0c0c0c0c0c0c0c0c0c0c0c0c0c\"}
 {\"line\":\"proof\",\"kind\":\"receipt\",\"height\":1,\"shard\":2,\"place\":3,\"count\":18446744073709551615}
 {\"line\":\"item\",\"bytes\":\"\"}
 {\"line\":\"path\",\"hash\":\"0b0b0b0b0b0b0b0b0b0b0b0b0b0b0b0b0b0b0b0b0b0b0b0b0b0b0b0b0b0b0b0b\"}
