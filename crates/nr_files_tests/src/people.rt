@@ -46,7 +46,11 @@ fn statuses_have_sentences(rt: HostRuntime) -> Result<(), Fail> {
         ),
         (
             "11 0",
-            "There is no such item: the chunk is missing, or has only 0 of them.",
+            "There is no such chunk, or it has no item of the kind.",
+        ),
+        (
+            "11 5",
+            "There is no item at that place: the chunk has only 5 of the kind.",
         ),
         (
             "13 7 1",
