@@ -7,6 +7,7 @@ ghost use Rattle.nr_state.specs.FromEntries.{AreWholeEntries, world_from};
 use crate::state::State;
 use nr_bytes::List;
 use nr_columns::Entry;
+use nr_records::Receipt;
 use std::alloc::AllocError;
 use std::marker::Model;
 
@@ -14,6 +15,8 @@ use std::marker::Model;
 #[derive(Drop)]
 pub struct ChunkWorld {
     pub(crate) state: State,
+    /// What its next chunk takes at the end of its opening: nothing behind a seal.
+    pub(crate) carried: List<Receipt>,
 }
 
 impl Model for ChunkWorld {
@@ -25,7 +28,7 @@ impl Model for ChunkWorld {
 
     ghost coded = { kept_code };
 
-    ghost view = { λ w. record { config = w.state.config; world = w.state.world } };
+    ghost view = { λ w. record { config = w.state.config; world = w.state.world; carried = w.carried } };
 
     ghost invariant = { λ w. (w.state.whole ≡ true) × (w.state.marks ≡ []) };
 }

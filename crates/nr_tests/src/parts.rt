@@ -14,27 +14,34 @@ const OTHER_ROOT: &str = "070707070707070707070707070707070707070707070707070707
 /// A block without a chunk.
 const MISSING_CHUNK: &str = "4e52423101000000010000000000000000000000000000000100000000";
 
-/// The names of the files.
-const NAMES: [&str; 4] = ["p0", "p1", "p2", "p3"];
-
-/// A shelf with files, given in hexadecimal, whose names are `p` and their position.
-fn shelf_of_parts(alloc: Global, files: &[&str]) -> Result<MemoryShelf, Fail> {
+/// A shelf with named files, given in hexadecimal.
+fn shelf_of_parts(alloc: Global, files: &[(&str, &str)]) -> Result<MemoryShelf, Fail> {
     let mut held = Vec::new(alloc);
-    for (name, digits) in NAMES.iter().zip(files) {
+    for (name, digits) in files {
         held.push((String::from_str(alloc, name)?, hex::decode(alloc, digits)?))?;
     }
     Ok(MemoryShelf::new(held, Vec::new(alloc)))
 }
 
-/// How the joining of so many parts ends over these files.
-fn joined(alloc: Global, root: &str, count: &str, files: &[&str]) -> Result<Ended, Fail> {
+/// How the joining of four parts ends over these files.
+fn joined_of(alloc: Global, root: &str, files: &[(&str, &str)]) -> Result<Ended, Fail> {
     let shelf = shelf_of_parts(alloc, files)?;
-    end_of(alloc, &["joinparts", root, count, "p"], shelf)
+    end_of(alloc, &["joinparts", root, "4", "p"], shelf)
+}
+
+/// The same over four files.
+fn joined(alloc: Global, root: &str, files: [&str; 4]) -> Result<Ended, Fail> {
+    let [first, second, third, last] = files;
+    joined_of(
+        alloc,
+        root,
+        &[("p0", first), ("p1", second), ("p2", third), ("p3", last)],
+    )
 }
 
 /// How the check of one file ends.
 fn checked(alloc: Global, root: &str, file: &str) -> Result<Ended, Fail> {
-    let shelf = shelf_of_parts(alloc, &[file])?;
+    let shelf = shelf_of_parts(alloc, &[("p0", file)])?;
     end_of(alloc, &["checkpart", root, "p0"], shelf)
 }
 
@@ -42,15 +49,15 @@ fn checked(alloc: Global, root: &str, file: &str) -> Result<Ended, Fail> {
 fn cut(alloc: Global, blocks: &str, part: [&str; 4]) -> Result<Ended, Fail> {
     let [height, shard, count, number] = part;
     let shelf = shelf_of(alloc, worked::GENESIS, blocks, &[])?;
-    let words = [
-        "part", "free", "G", "B", height, shard, count, number,
-    ];
+    let words = ["part", "free", "G", "B", height, shard, count, number];
     end_of(alloc, &words, shelf)
 }
 
 #[test]
 fn a_state_is_cut_into_four_parts(rt: HostRuntime) -> Result<(), Fail> {
-    for (number, part) in ["0", "1", "2", "3"].iter().zip(&FOUR) {
+    let [first, second, third, last] = FOUR;
+    let rows = [("0", first), ("1", second), ("2", third), ("3", last)];
+    for (number, part) in rows {
         let ended = cut(rt.alloc(), worked::TRANSFER, ["2", "0", "4", number])?;
         assert_eq!(rt; ended.status, Status::Done);
         assert!(rt; ended.asked(rt.alloc(), "Some([\"G\", \"B\"])")?);
@@ -80,13 +87,14 @@ fn there_is_no_part_behind_no_chunk(rt: HostRuntime) -> Result<(), Fail> {
 
 #[test]
 fn each_part_is_checked_by_itself(rt: HostRuntime) -> Result<(), Fail> {
-    let lines = [
-        "part 0 4 entries 0\n",
-        "part 1 4 entries 1\n",
-        "part 2 4 entries 2\n",
-        "part 3 4 entries 0\n",
+    let [first, second, third, last] = FOUR;
+    let rows = [
+        (first, "part 0 4 entries 0\n"),
+        (second, "part 1 4 entries 1\n"),
+        (third, "part 2 4 entries 2\n"),
+        (last, "part 3 4 entries 0\n"),
     ];
-    for (file, line) in FOUR.iter().zip(lines) {
+    for (file, line) in rows {
         let ended = checked(rt.alloc(), ROOT, file)?;
         assert_eq!(rt; ended.status, Status::Done);
         assert!(rt; ended.asked(rt.alloc(), "Some([\"p0\"])")?);
@@ -102,7 +110,7 @@ fn a_part_that_is_none_is_refused(rt: HostRuntime) -> Result<(), Fail> {
         (ROOT, "4e5250", 1, 0),
         (ROOT, CUT, 1, 424),
         (ROOT, CHANGED, 6, 0),
-        (OTHER_ROOT, FOUR[1], 3, 0),
+        (OTHER_ROOT, CHANGED, 3, 0),
     ];
     for (root, file, kind, a) in rows {
         let ended = checked(rt.alloc(), root, file)?;
@@ -114,9 +122,8 @@ fn a_part_that_is_none_is_refused(rt: HostRuntime) -> Result<(), Fail> {
 
 #[test]
 fn all_parts_are_joined(rt: HostRuntime) -> Result<(), Fail> {
-    let line =
-        "root 92320917050449af130cdb3b2e0fd713aae8154575253e0513b30f32d6d5fa43 entries 3\n";
-    let ended = joined(rt.alloc(), ROOT, "4", &FOUR)?;
+    let line = "root 92320917050449af130cdb3b2e0fd713aae8154575253e0513b30f32d6d5fa43 entries 3\n";
+    let ended = joined(rt.alloc(), ROOT, FOUR)?;
     assert_eq!(rt; ended.status, Status::Done);
     assert!(rt; ended.asked(rt.alloc(), "Some([\"p0\", \"p1\", \"p2\", \"p3\"])")?);
     assert_eq!(rt; ended.sink.bytes(), line.as_bytes());
@@ -135,7 +142,7 @@ fn parts_that_do_not_join_are_refused(rt: HostRuntime) -> Result<(), Fail> {
         (OTHER_ROOT, [first, CHANGED, third, last], 3, 0),
     ];
     for (root, files, kind, a) in rows {
-        let ended = joined(rt.alloc(), root, "4", &files)?;
+        let ended = joined(rt.alloc(), root, files)?;
         assert_eq!(rt; ended.status, Status::Parts { kind, a });
         assert!(rt; ended.wrote_nothing(rt.alloc(), "Some([\"p0\", \"p1\", \"p2\", \"p3\"])")?);
     }
@@ -144,11 +151,11 @@ fn parts_that_do_not_join_are_refused(rt: HostRuntime) -> Result<(), Fail> {
 
 #[test]
 fn a_file_of_parts_is_refused_at_its_turn(rt: HostRuntime) -> Result<(), Fail> {
-    let [first, second, ..] = FOUR;
-    let ended = joined(rt.alloc(), ROOT, "4", &[second, CUT])?;
+    let [first, second, _, _] = FOUR;
+    let ended = joined_of(rt.alloc(), ROOT, &[("p0", second), ("p1", CUT)])?;
     assert_eq!(rt; ended.status, Status::Parts { kind: 1, a: 424 });
     assert!(rt; ended.wrote_nothing(rt.alloc(), "Some([\"p0\", \"p1\"])")?);
-    let ended = joined(rt.alloc(), ROOT, "4", &[second, first])?;
+    let ended = joined_of(rt.alloc(), ROOT, &[("p0", second), ("p1", first)])?;
     assert_eq!(rt; ended.status, Status::ReadFault);
     assert!(rt; ended.wrote_nothing(rt.alloc(), "Some([\"p0\", \"p1\", \"p2\"])")?);
     Ok(())

@@ -1,11 +1,17 @@
 -- A run that comes to a chunk: the world that the shard then has is the serial run's behind it.
-use Rattle.std.proofs.Common.{◌≡◌, ℕ, zero, suc, ◌+◌, ◌<◌, ◌≤◌, Bool, true, false, cond, List, [], ◌∷◌, Option, Some, None, length, inl, inr, refl, sym, ap, subst, ◌∙◌, arith, add-one}
-use Rattle.std.specs.Prelude.{◌&&◌, is_some, nat_le, nat_lt, slice_get}
+use Rattle.std.proofs.Common.{◌≡◌, ℕ, zero, suc, ◌+◌, ◌<◌, ◌≤◌, Bool, true, false, cond, List, [], ◌∷◌, Option, Some, None, Result, Ok, Err, length, inl, inr, refl, sym, ap, subst, ◌∙◌, arith, add-one}
+use Rattle.std.specs.Prelude.{◌&&◌, IfOk, T, is_some, nat_le, nat_lt, slice_get}
+use Rattle.std.specs.Cmp.Lexicographic.{slice_cmp}
+use Rattle.std.specs.FinMap.{entries, entries_sorted}
+use Rattle.std.specs.FinMap.Entries.{is_sorted}
+use Rattle.std.specs.Ordering.{nat_cmp}
 use Rattle.std.specs.Option.{option_and_then, option_map}
 use Rattle.std.proofs.lemmas.Option.{slice_get_within}
 use Rattle.nr_blocks.specs.declared.block.Block.{Block}
 use Rattle.nr_chunk.specs.Chain.{Chain, chunk_in, rules_of, shards_of}
 use Rattle.nr_chunk.specs.Store.{StateStore}
+use Rattle.nr_columns.specs.Entries.{pairs_of}
+use Rattle.nr_columns.specs.declared.entry.Entry.{Entry}
 use Rattle.nr_contract.specs.declared.caller.ContractCaller.{ContractCaller}
 use Rattle.nr_overlap.specs.Held.{IsReached}
 use Rattle.nr_overlap.specs.Inside.{IsInside, actor}
@@ -27,7 +33,9 @@ use Rattle.nr_overlap.proofs.Founding.{at_replicate}
 use Rattle.nr_overlap.proofs.Reaching.{becomes}
 use Rattle.nr_overlap.proofs.Running.{tries_made}
 use Rattle.nr_overlap.proofs.SerialLemmas.{sealing_there}
+use Rattle.nr_parts.specs.Cutting.{InOrder}
 use Rattle.nr_state.specs.declared.calls.Caller.{Ghosts}
+use Rattle.nr_triedef.specs.Root.{Contents}
 use Rattle.nr_top.specs.Arriving.{IsNextBefore, IsUpTo, Nears}
 use Rattle.nr_top.specs.Moments.{Chains, IsMoment, chain_of}
 use Rattle.nr_top.specs.Chunks.{has_chunk}
@@ -175,3 +183,8 @@ pub nears_world : {g : Ghosts ContractCaller StateStore} (old new : Chains g) (s
 nears_world old new s h nears some =
     subst (λ (x : Chain). world_at (rules_of x) s (at new.positions s) ≡ Some (world_after (rules_of x) s h)) nears.chain
     (arrived (rules_of (chain_of new)) s h new.positions nears.place some)
+
+-- ---- the entries of a map are in the order of their keys
+pub in_order : {E : Type 0} (r : Result (List Entry) E) (m : Contents) → IfOk r (λ es. pairs_of es ≡ entries m) → IfOk r InOrder
+in_order (Ok es) m e = subst (λ (l : List (List ℕ × List ℕ)). T (is_sorted (slice_cmp nat_cmp) l)) (sym e) (entries_sorted m)
+in_order (Err f) m e = tt

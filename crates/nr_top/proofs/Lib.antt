@@ -8,6 +8,7 @@ pub mod Digesting
 pub mod Arrival
 pub mod PartAsking
 pub mod PartLoading
+pub mod PartAnswers
 pub mod Asking
 pub mod Digests
 pub mod Present

@@ -56,7 +56,7 @@ rest_more position name names parts =
     let others : Plan (List Part) Status = parts_plan (position + 1) names in
     then_then file (λ part. and_then others (λ ps. Answer (part ∷ ps))) (λ ps. Answer (parts ++ ps))
     ∙ ap (λ (f : Part → Plan (List Part) Status). and_then file f)
-      (λ i part. (then_then others (λ ps. Answer (part ∷ ps)) (λ ps. Answer (parts ++ ps)) ∙ ap (λ (f : List Part → Plan (List Part) Status). and_then others f) (λ j ps. Answer (append_assoc parts (part ∷ []) ps (~ j)))) i)
+    (λ i part. (then_then others (λ ps. Answer (part ∷ ps)) (λ ps. Answer (parts ++ ps)) ∙ ap (λ (f : List Part → Plan (List Part) Status). and_then others f) (λ j ps. Answer (sym (append_assoc parts (part ∷ []) ps) j))) i)
     ∙ sym (then_then file (λ part. Answer (parts ++ part ∷ [])) (rest_plan (position + 1) names))
 
 -- what follows the plan of those that are left follows the whole plan
