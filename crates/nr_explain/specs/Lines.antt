@@ -24,7 +24,9 @@ run how fields = line (codes "run") ∷ hash (codes "receipt_id") ∷ status how
 
 -- what a proof states of an item of this kind
 abbrev pub proof : List ℕ → Form
-proof kind = line (codes "proof") ∷ word kind (codes "kind") ∷ number (codes "height") ∷ number (codes "shard") ∷ number (codes "place") ∷ number (codes "count") ∷ []
+proof kind =
+    line (codes "proof") ∷ word kind (codes "kind") ∷ number (codes "height") ∷ number (codes "shard")
+    ∷ number (codes "place") ∷ number (codes "count") ∷ []
 
 -- how many entries a part or a whole state has
 abbrev pub holds_entries : Form

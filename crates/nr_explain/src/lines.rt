@@ -1,4 +1,4 @@
-//! The lines of a report, and the JSON object that stands for each.
+//! The lines that programs write, and the JSON object that stands for each.
 
 ghost use Rattle.std.specs.Prelude.{◌≡◌, ◌∷◌, [], ◌++◌, map, IfOk, OnOk, Some, None};
 ghost use Rattle.nr_explain.specs.Words.{pieces};

@@ -1,4 +1,4 @@
--- A part of a state and a proof as JSON values, bytes in hexadecimal (RFC 8259). They are shown and never read. This project's own.
+-- A part of a state and a proof as JSON values (RFC 8259), which are shown and never read. This project's own.
 use Rattle.std.specs.Prelude.{List, codes}
 use Rattle.serde_json.specs.Data.{Data, string, object, Members, no_members, put}
 use Rattle.nr_columns.specs.declared.entry.Entry.{Entry}
@@ -19,7 +19,10 @@ entry_json e = object (entry_members e)
 abbrev pub part_members : Part → Members
 part_members p =
     put (codes "texts") (list_json bytes_json p.texts)
-    (put (codes "entries") (list_json entry_json p.entries) (put (codes "number") (number_json p.number) (put (codes "count") (number_json p.count) (put (codes "root") (hash_json p.root) no_members))))
+    (put (codes "entries") (list_json entry_json p.entries)
+    (put (codes "number") (number_json p.number)
+    (put (codes "count") (number_json p.count)
+    (put (codes "root") (hash_json p.root) no_members))))
 
 abbrev pub part_json : Part → Data
 part_json p = object (part_members p)
@@ -28,10 +31,15 @@ part_json p = object (part_members p)
 abbrev pub stated_members : Proof → Members
 stated_members p =
     put (codes "count") (number_json p.count)
-    (put (codes "place") (number_json p.place) (put (codes "shard") (number_json p.shard.0) (put (codes "height") (number_json p.height.0) (put (codes "kind") (string (kind_word p.kind)) no_members))))
+    (put (codes "place") (number_json p.place)
+    (put (codes "shard") (number_json p.shard.0)
+    (put (codes "height") (number_json p.height.0)
+    (put (codes "kind") (string (kind_word p.kind)) no_members))))
 
 abbrev pub proof_members : Proof → Members
-proof_members p = put (codes "path") (list_json hash_json p.path) (put (codes "item") (bytes_json p.item) (stated_members p))
+proof_members p =
+    put (codes "path") (list_json hash_json p.path)
+    (put (codes "item") (bytes_json p.item) (stated_members p))
 
 abbrev pub proof_json : Proof → Data
 proof_json p = object (proof_members p)

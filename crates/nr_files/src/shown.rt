@@ -5,20 +5,18 @@ ghost use Rattle.serde_json.specs.View.{view};
 ghost use Rattle.nr_files.specs.Shown.{entry_json, part_json, proof_json};
 
 use nr_columns::Entry;
-use nr_json::Form;
+use nr_json::put;
 use nr_outproof::Proof;
 use nr_parts::Part;
-use serde_json::{Map, Value, put};
+use serde_json::{Map, Value};
 use std::alloc::{AllocError, Global};
 
 fn entry_json(alloc: Global, entry: &Entry) -> Result<Value, AllocError>
     ensures { IfOk result (λ value. view value ≡ entry_json entry.now) }
 {
     let mut object = Map::new(alloc);
-    let key = entry.key.to_json(alloc)?;
-    put(&mut object, alloc, "key", key)?;
-    let value = entry.value.to_json(alloc)?;
-    put(&mut object, alloc, "value", value)?;
+    put(&mut object, alloc, "key", &entry.key)?;
+    put(&mut object, alloc, "value", &entry.value)?;
     Ok(Value::from(object))
 }
 
@@ -37,14 +35,12 @@ pub(crate) fn part_json(alloc: Global, part: &Part) -> Result<Value, AllocError>
     ensures { IfOk result (λ value. view value ≡ part_json part.now) }
 {
     let mut object = Map::new(alloc);
-    let root = part.root.to_json(alloc)?;
-    put(&mut object, alloc, "root", root)?;
-    put(&mut object, alloc, "count", Value::from(u64::from(part.count)))?;
-    put(&mut object, alloc, "number", Value::from(u64::from(part.number)))?;
+    put(&mut object, alloc, "root", &part.root)?;
+    put(&mut object, alloc, "count", &u64::from(part.count))?;
+    put(&mut object, alloc, "number", &u64::from(part.number))?;
     let entries = entries_json(alloc, part.entries.inner())?;
-    put(&mut object, alloc, "entries", Value::from(entries))?;
-    let texts = part.texts.to_json(alloc)?;
-    put(&mut object, alloc, "texts", texts)?;
+    serde_json::put(&mut object, alloc, "entries", Value::from(entries))?;
+    put(&mut object, alloc, "texts", &part.texts)?;
     Ok(Value::from(object))
 }
 
@@ -54,14 +50,12 @@ pub(crate) fn proof_json(alloc: Global, proof: &Proof) -> Result<Value, AllocErr
 {
     let mut object = Map::new(alloc);
     let kind = Value::try_from_str(alloc, proof.kind.word())?;
-    put(&mut object, alloc, "kind", kind)?;
-    put(&mut object, alloc, "height", Value::from(proof.height.0))?;
-    put(&mut object, alloc, "shard", Value::from(u64::from(proof.shard.0)))?;
-    put(&mut object, alloc, "place", Value::from(proof.place))?;
-    put(&mut object, alloc, "count", Value::from(proof.count))?;
-    let item = proof.item.to_json(alloc)?;
-    put(&mut object, alloc, "item", item)?;
-    let path = proof.path.to_json(alloc)?;
-    put(&mut object, alloc, "path", path)?;
+    serde_json::put(&mut object, alloc, "kind", kind)?;
+    put(&mut object, alloc, "height", &proof.height.0)?;
+    put(&mut object, alloc, "shard", &u64::from(proof.shard.0))?;
+    put(&mut object, alloc, "place", &proof.place)?;
+    put(&mut object, alloc, "count", &proof.count)?;
+    put(&mut object, alloc, "item", &proof.item)?;
+    put(&mut object, alloc, "path", &proof.path)?;
     Ok(Value::from(object))
 }

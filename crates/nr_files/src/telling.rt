@@ -151,8 +151,15 @@ pub(crate) fn part_status(alloc: Global, fault: PartFault) -> Status
 {
     match fault {
         PartFault::Spelling { at } => told(at_text(alloc, at)),
+        PartFault::Numbers { .. }
+        | PartFault::Root { .. }
+        | PartFault::Missing { .. }
+        | PartFault::BadText { .. }
+        | PartFault::Entries { .. }
+        | PartFault::Order { .. }
+        | PartFault::Whole { .. }
+        | PartFault::TooMany => faulty(alloc, "the file is no part of a state"),
         PartFault::Memory => Status::NoMemory,
-        _ => faulty(alloc, "the file is no part of a state"),
     }
 }
 

@@ -1,8 +1,8 @@
 -- A chunk's result names the chunk's shard and height.
 use Rattle.std.proofs.Common.{◌≡◌, ℕ, zero, suc, ◌+◌, ◌<◌, Bool, true, false, cond, List, [], ◌∷◌, Option, Some, None, Ok, Err, inl, inr, refl, sym, ap, subst, ◌∙◌, arith, add-one}
-use Rattle.std.specs.Prelude.{fold, option_map, nat_le, take, length}
-use Rattle.nr_chunk.specs.Chain.{Chain, place_at, rules_of}
-use Rattle.nr_chunk.specs.Chunk.{Opening, by_conversion, by_offer, clashed, convert_next, has_gas, is_local, late, offered_to, open_chunk, put_aside, run, serve, serve_all, serve_queue, told, with_converted, without_front}
+use Rattle.std.specs.Prelude.{fold, option_map, nat_le, take, length, unwrap_or}
+use Rattle.nr_chunk.specs.Chain.{Chain, chunk_at, opened, opened_first, place_at, rules_of}
+use Rattle.nr_chunk.specs.Chunk.{Opening, begun, by_conversion, by_offer, clashed, convert_next, has_gas, is_local, late, offered_to, open_chunk, put_aside, run, serve, serve_all, serve_queue, told, with_converted, without_front}
 use Rattle.nr_chunk.specs.Views.{Kept, Working}
 use Rattle.nr_ids.specs.declared.number.ShardId.{ShardId}
 use Rattle.nr_join.specs.Offering.{offer}
@@ -104,9 +104,16 @@ module _ (x : Chain) (s h : ℕ) where
       let list = list_to (rules_of x) ((past_after (rules_of x) h).sealed due.0 due.1) s in
       dues_are (with_list (rules_of x) k list) dues (list_is x shard (place_at x (h + 1)) k list is)
 
+  opened_is : (w : Kept) → IsOf x shard (place_at x (h + 1)) (opened x s (h + 1) w)
+  opened_is w =
+      serve_all_is x shard (place_at x (h + 1)) (opened_first x s (h + 1) w) w.carried
+      (open_is x shard (place_at x (h + 1)) (begun w shard (place_at x (h + 1))) (unwrap_or (chunk_at x s (h + 1)) []) (refl, refl))
+
   work_is : (n : ℕ) → IsOf x shard (place_at x (h + 1)) (work (rules_of x) s h n)
   unfolding work
-  work_is n = dues_are _ (take n (due_after (rules_of x) s h)) (open_is x shard (place_at x (h + 1)) _ _ (refl, refl))
+  work_is n =
+      let w : Kept = (past_after (rules_of x) h).world s in
+      dues_are (opened x s (h + 1) w) (take n (due_after (rules_of x) s h)) (opened_is w)
 
 -- a result that is there is the sealed one's
 names_none : (o : Option ChunkResult) (y : ChunkResult) → o ≡ None → o ≡ Some y → ⊥
@@ -114,7 +121,7 @@ names_none o y e f = let same : ◌≡◌ {A = Option ChunkResult} None (Some y)
 
 module _ (x : Chain) (s : ℕ) where
   abbrev Names : ℕ → ChunkResult → Type 0
-  Names h y = (y.shard.0 ≡ s) × (y.height.0 ≡ h)
+  Names h y = (y.shard.0 ≡ s) × (y.height.0 ≡ x.start.below + h)
 
   sealed_named : (h : ℕ) (y : ChunkResult) → (rules_of x).present s (h + 1) ≡ true → option_map (λ z. z.report) (sealing_at (rules_of x) s (h + 1)) ≡ Some y → Names (h + 1) y
   sealed_named h y there e =
@@ -137,5 +144,5 @@ module _ (x : Chain) (s : ℕ) where
           subst (λ n. Names n y) (add-one h)
           (sealed_named h y (subst (λ n. (rules_of x).present s n ≡ true) (sym (add-one h)) there) (ap (λ n. option_map (λ z. z.report) (sealing_at (rules_of x) s n)) (add-one h) ∙ e))
 
-pub results_name : (x : Chain) (s h : ℕ) (y : ChunkResult) → result_at x s h ≡ Some y → (y.shard.0 ≡ s) × (y.height.0 ≡ h)
+pub results_name : (x : Chain) (s h : ℕ) (y : ChunkResult) → result_at x s h ≡ Some y → (y.shard.0 ≡ s) × (y.height.0 ≡ x.start.below + h)
 results_name x s h y e = shown_named x s h (nat_le h (top (at (ending (rules_of x)) s))) y e

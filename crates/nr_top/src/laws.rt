@@ -1,6 +1,6 @@
 //! What holds of every run, and of every command.
 
-ghost use Rattle.std.specs.Prelude.{◌≡◌, ◌++◌, ℕ, List, Option, Some, is_some};
+ghost use Rattle.std.specs.Prelude.{◌≡◌, ◌+◌, ◌++◌, ℕ, List, Option, Some, is_some};
 ghost use Rattle.nr_blocks.specs.declared.block.Block.{Block};
 ghost use Rattle.nr_blocks.specs.declared.genesis.Genesis.{Genesis};
 ghost use Rattle.nr_chunk.specs.Chain.{Chain, IsChain, rules_of};
@@ -42,5 +42,5 @@ pub fn asked_law()
 pub fn chunks_law()
     ensures there { (x : Chain) (shard height : ℕ) → is_some (result_at x shard height) ≡ has_chunk x shard height }
     ensures named { (x : Chain) (shard height : ℕ) (y : ChunkResult) → result_at x shard height ≡ Some y
-        → (y.shard.0 ≡ shard) × (y.height.0 ≡ height) }
+        → (y.shard.0 ≡ shard) × (y.height.0 ≡ x.start.below + height) }
 {}
