@@ -34,6 +34,11 @@ names_next prefix count position l =
     let e : count - position ≡ suc (count - (position + 1)) = omega (arith, l) in
     ap (λ k. map (part_name prefix) (range_with_len position k)) e
 
+names_first : (prefix : List ℕ) (count : ℕ) → names_left prefix count 0 ≡ part_names prefix count
+names_first prefix count =
+    let e : count - 0 ≡ count = omega arith in
+    ap (λ k. map (part_name prefix) (range_with_len 0 k)) e
+
 names_last : (prefix : List ℕ) (count position : ℕ) → count ≤ position → names_left prefix count position ≡ []
 names_last prefix count position l =
     let e : count - position ≡ 0 = omega (arith, l) in
@@ -59,15 +64,21 @@ rest_more position name names parts =
     (λ i part. (then_then others (λ ps. Answer (part ∷ ps)) (λ ps. Answer (parts ++ ps)) ∙ ap (λ (f : List Part → Plan (List Part) Status). and_then others f) (λ j ps. Answer (sym (append_assoc parts (part ∷ []) ps) j))) i)
     ∙ sym (then_then file (λ part. Answer (parts ++ part ∷ [])) (rest_plan (position + 1) names))
 
+first_is : (prefix : List ℕ) (count : ℕ) (parts : List Part) → parts ≡ [] → rest_plan 0 (names_left prefix count 0) parts ≡ parts_plan 0 (part_names prefix count)
+first_is prefix count parts none =
+    ap (λ (ps : List Part). rest_plan 0 (names_left prefix count 0) ps) none
+    ∙ ap (λ (names : List (List ℕ)). and_then (parts_plan 0 names) (λ others. Answer others)) (names_first prefix count)
+    ∙ then_answer (parts_plan 0 (part_names prefix count))
+
 -- what follows the plan of those that are left follows the whole plan
 pub record LeadsOn (held held_now : List ℕ → Option (List ℕ)) (old now : List (List ℕ)) (before between : ℕ) (whole rest : Plan (List Part) Status) : Type 0 where
   pub on : (kept : List ℕ → Option (List ℕ)) (new : List (List ℕ)) (after : ℕ) (r : Result (List Part) (Stop Status)) → Follows refuses (λ (ps : List Part). ps) held_now kept now new between after r rest
       → Follows refuses (λ (ps : List Part). ps) held kept old new before after r whole
 
 module _ {held : List ℕ → Option (List ℕ)} {old : List (List ℕ)} {before : ℕ} (prefix : List ℕ) (count : ℕ) where
-  pub on_first : LeadsOn held held old old before before (parts_plan 0 (part_names prefix count)) (rest_plan 0 (names_left prefix count 0) [])
-  on_first = record {
-    on = λ kept new after r follows. subst (λ (p : Plan (List Part) Status). Follows refuses (λ (ps : List Part). ps) held kept old new before after r p) (then_answer (parts_plan 0 (part_names prefix count))) follows;
+  pub on_first : (parts : List Part) → parts ≡ [] → LeadsOn held held old old before before (parts_plan 0 (part_names prefix count)) (rest_plan 0 (names_left prefix count 0) parts)
+  on_first parts none = record {
+    on = λ kept new after r follows. subst (λ (p : Plan (List Part) Status). Follows refuses (λ (ps : List Part). ps) held kept old new before after r p) (first_is prefix count parts none) follows;
   }
 
   module _ {held_now : List ℕ → Option (List ℕ)} {now : List (List ℕ)} {between : ℕ} {whole : Plan (List Part) Status} (position : ℕ) (parts : List Part) (on : LeadsOn held held_now old now before between whole (rest_plan position (names_left prefix count position) parts)) where
@@ -92,7 +103,7 @@ module _ {held : List ℕ → Option (List ℕ)} {old : List (List ℕ)} {before
         (subst (λ (p : Plan (List Part) Status). Follows refuses (λ (ps : List Part). ps) held_now kept now new between after (Err s) p) (sym (rest_is l))
         (stop_follows (rest_plan (position + 1) (names_left prefix count (position + 1))) step))
 
-    pub on_last : count ≤ position → Follows refuses (λ (ps : List Part). ps) held held_now old now before between (Ok parts) whole
+    pub on_last : (out : List Part) → out ≡ parts → count ≤ position → Follows refuses (λ (ps : List Part). ps) held held_now old now before between (Ok out) whole
     unfolding and_then parts_plan
-    on_last l = on.on held_now now between (Ok parts)
-        (judge_follows (ap (λ (names : List (List ℕ)). rest_plan position names parts) (names_last prefix count position l) ∙ ap (λ (ps : List Part). Answer ps) (append-nil parts)))
+    on_last out same l = on.on held_now now between (Ok out)
+        (judge_follows (ap (λ (names : List (List ℕ)). rest_plan position names parts) (names_last prefix count position l) ∙ ap (λ (ps : List Part). Answer ps) (append-nil parts ∙ sym same)))

@@ -4,7 +4,7 @@ use Rattle.nr_top.specs.StateParts.{check_answer}
 use Rattle.nr_top.proofs.commands.check_part.check_part_text.Goals as goal
 
 pub returns-in-Ok : goal.returns-in-Ok
-returns-in-Ok g c = rw c.root_in-root.ensures at (then_follows (check_answer c.root_in-root.result) c.in-Ok.ensures (judge_follows c.accepted.ensures))
+returns-in-Ok g c = then_follows (check_answer (root_in c.args.word.now)) c.in-Ok.ensures (judge_follows (rw c.root_in-root.ensures at c.accepted.ensures))
 
 pub returns-in-Err : goal.returns-in-Err
 returns-in-Err g c = stop_follows (check_answer (root_in c.args.word.now)) c.in-Err.ensures
