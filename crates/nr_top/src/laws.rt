@@ -36,9 +36,9 @@ pub fn asked_law()
         → LeadsBy held names (plan asked) q → (rest : List (List ℕ)) × (files_of asked ≡ names ++ rest) }
 {}
 
-/// A run to its end has the result of a chunk exactly where the chain has the chunk, and it states the chunk's shard and
-/// height. So `roots` has a line for each of these chunks and for no other, and `prove` says exactly of the others that
-/// there is no such chunk. It does nothing when it runs.
+/// A run to its end has the result of a chunk exactly where the chain has the chunk, and it states the chunk's shard
+/// and height. So `roots` has a line for each of these chunks and for no other, and `prove` says exactly of the others
+/// that there is no such chunk. It does nothing when it runs.
 pub fn chunks_law()
     ensures there { (x : Chain) (shard height : ℕ) → is_some (result_at x shard height) ≡ has_chunk x shard height }
     ensures named { (x : Chain) (shard height : ℕ) (y : ChunkResult) → result_at x shard height ≡ Some y
