@@ -1,4 +1,4 @@
--- A chain: its configuration, what calls of contracts mean, its genesis and its blocks; and the phases of its chunks.
+-- A chain: its configuration, what calls of contracts mean, its start and its blocks; and the phases of its chunks.
 -- After the Nomicon, Chain Specification.
 use Rattle.std.specs.Prelude.{◌≡◌, ℕ, zero, suc, ◌+◌, ◌^◌, ◌≤◌, true, List, [], length, Option, Some, None, slice_get}
 use Rattle.std.specs.Prelude.{unwrap_or, is_some}

@@ -78,14 +78,16 @@ module _ (x : Chain) (is : IsChain x) where
       }
 
   -- ---- opening
-  first_holds : (s h : ℕ) (w : Kept) → IsGoodWorld c w → Holds c (world_tokens c w.world) (opened_first x s h w)
+  first_holds : (s h : ℕ) (w : Kept) → IsGoodWorld c w
+      → Holds c (world_tokens c w.world) (opened_first x s h w)
   first_holds s h w good =
       let place : Place = place_at x h in
       let shard : ShardId = record { 0 = s } in
       opened_holds c pays x.call promise (world_tokens c w.world) (begun w shard place) (unwrap_or (chunk_at x s h) [])
       (begun_holds c w shard place good (place_fits x is h)) good.valid.tokens
 
-  opens_holds : (s h : ℕ) (w : Kept) → IsGoodWorld c w → kept_tokens c w ≤ 2 ^ 127 → Holds c (kept_tokens c w) (opened x s h w)
+  opens_holds : (s h : ℕ) (w : Kept) → IsGoodWorld c w → kept_tokens c w ≤ 2 ^ 127
+      → Holds c (kept_tokens c w) (opened x s h w)
   opens_holds s h w good few =
       all_served c x.call promise w.carried (world_tokens c w.world) (opened_first x s h w) (first_holds s h w good)
       good.carried few

@@ -18,7 +18,7 @@ use nr_receipt::laws::execution_laws;
 use nr_state::Caller;
 use nr_txconvert::laws::conversion_laws;
 
-/// A chain whose chunks are worked on: its configuration, its genesis and its blocks, and who runs its contracts.
+/// A chain whose chunks are worked on: its configuration, its start and its blocks, and who runs its contracts.
 #[derive(Drop)]
 pub struct ChainRun<C: Caller<ChunkStore>> {
     pub(crate) config: Config,

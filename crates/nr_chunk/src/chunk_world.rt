@@ -11,7 +11,8 @@ use nr_records::Receipt;
 use std::alloc::AllocError;
 use std::marker::Model;
 
-/// A shard between its chunks. Contracts see its world, and the configuration under which its state is kept.
+/// A shard between its chunks. Contracts see its world, what it carries, and the configuration under which its state is
+/// kept.
 #[derive(Drop)]
 pub struct ChunkWorld {
     pub(crate) state: State,
@@ -35,7 +36,7 @@ impl Model for ChunkWorld {
 
 impl ChunkWorld {
     /// All trie entries of the world, in the order of their keys' bytes. The world can be made of
-    /// them again.
+    /// them again; what the shard carries isn't among them.
     ///
     /// # Errors
     ///

@@ -1,7 +1,7 @@
 //! What holds of every chunk of a run.
 
 ghost use Rattle.std.specs.Prelude.{◌≡◌};
-ghost use Rattle.nr_blocks.specs.Genesis.{AreSoundEntries, IsSoundGenesis};
+ghost use Rattle.nr_blocks.specs.Genesis.{AreSoundEntries, supply};
 ghost use Rattle.nr_blocks.specs.declared.genesis.Genesis.{Genesis};
 ghost use Rattle.nr_chunk.specs.Amounts.{tokens};
 ghost use Rattle.nr_chunk.specs.Chain.{Chain, IsChain, rules_of};
@@ -22,10 +22,12 @@ pub fn chunk_laws()
     ensures tokens { (x : Chain) → IsChain x → IsKeptBy (rules_of x) (tokens x) }
 {}
 
-/// A sound genesis is a start, and its supply is all that this start has in tokens. It does nothing when it runs.
+/// A sound genesis is a start, and all that this start has in tokens is its supply: what its accounts have together. It
+/// does nothing when it runs.
 pub fn genesis_laws()
     ensures start { (c : Config) (g : Genesis) → AreSoundEntries c g.entries → IsStart c (genesis_start g) }
-    ensures supply { (c : Config) (g : Genesis) → IsSoundGenesis c g → g.supply ≡ start_tokens c (genesis_start g) }
+    ensures supply { (c : Config) (g : Genesis) → AreSoundEntries c g.entries
+        → start_tokens c (genesis_start g) ≡ supply g.entries }
 {}
 
 /// A chunk on the part of a world that it touches comes to what it comes to on the whole world.

@@ -163,7 +163,8 @@ pub(crate) fn open<C: Caller<ChunkStore>>(
     requires whole { state.whole ≡ true }
     requires marks { state.marks ≡ [] }
     requires can { CanServe chain.now.config (begun (kept_of state) shard place) [] }
-    ensures opened { IfOk result (λ work. working_of work ≡ open_chunk chain.now.config (C.meaning chain.now.caller) (begun (kept_of state) shard place) txs.now) }
+    ensures opened { IfOk result (λ work. working_of work
+        ≡ open_chunk chain.now.config (C.meaning chain.now.caller) (begun (kept_of state) shard place) txs.now) }
     ensures ready { IfOk result IsReady }
 {
     chain.promise();

@@ -10,9 +10,9 @@ ghost use Rattle.nr_places.specs.Replay.{HoldsAlways, HoldsAtEnd, HoldsWhereReac
 ghost use Rattle.nr_records.specs.declared.receipt.Receipt.{Receipt};
 
 /// The chunks of a run keep receipts: whatever receipts have, as the count of one of them, was routed or was there
-/// before, and is with those that were executed, that are postponed or delayed, or that are in flight. A receipt that a
-/// datum sets free, of another shard or its own, passes from the postponed ones to those that were executed. At a
-/// genesis there is none. It does nothing when it runs.
+/// before, and is with those that were executed, that are postponed or delayed, or that are in flight. The start of a
+/// genesis has no receipts. A receipt that a datum sets free, of another shard or its own, passes from the postponed
+/// ones to those that were executed. It does nothing when it runs.
 pub fn places_laws()
     ensures genesis { (f : Receipt → ℕ) (g : Genesis) → start_receipts f (genesis_start g) ≡ 0 }
     ensures places { (x : Chain) → IsChain x → (f : Receipt → ℕ) → IsKeptBy (rules_of x) (places x f) }
