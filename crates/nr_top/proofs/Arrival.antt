@@ -1,18 +1,8 @@
 -- A run that comes to a chunk: the world that the shard then has is the serial run's behind it.
-use Rattle.std.proofs.Common.{◌≡◌, ℕ, zero, suc, ◌+◌, ◌<◌, ◌≤◌, Bool, true, false, cond, List, [], ◌∷◌, Option, Some, None, Result, Ok, Err, length, inl, inr, refl, sym, ap, subst, ◌∙◌, arith, add-one}
-use Rattle.std.specs.Prelude.{◌&&◌, IfOk, T, is_some, nat_le, nat_lt, slice_get}
-use Rattle.std.specs.Cmp.Lexicographic.{slice_cmp}
-use Rattle.std.specs.FinMap.{entries, entries_sorted}
-use Rattle.std.specs.FinMap.Entries.{is_sorted}
-use Rattle.std.specs.Ordering.{nat_cmp}
-use Rattle.std.specs.Option.{option_and_then, option_map}
-use Rattle.std.proofs.lemmas.Option.{slice_get_within}
-use Rattle.nr_blocks.specs.declared.block.Block.{Block}
-use Rattle.nr_chunk.specs.Chain.{Chain, chunk_in, rules_of, shards_of}
-use Rattle.nr_chunk.specs.Store.{StateStore}
-use Rattle.nr_columns.specs.Entries.{pairs_of}
-use Rattle.nr_columns.specs.declared.entry.Entry.{Entry}
-use Rattle.nr_contract.specs.declared.caller.ContractCaller.{ContractCaller}
+use Rattle.std.proofs.Common.{◌≡◌, ℕ, zero, suc, ◌+◌, ◌<◌, ◌≤◌, Bool, true, false, cond, List, Option, Some, None, length, inl, inr, refl, sym, ap, subst, ◌∙◌, arith, add-one}
+use Rattle.std.specs.Prelude.{is_some, nat_le}
+use Rattle.std.specs.Option.{option_map}
+use Rattle.nr_overlap.specs.CoreView.{CoreView}
 use Rattle.nr_overlap.specs.Held.{IsReached}
 use Rattle.nr_overlap.specs.Inside.{IsInside, actor}
 use Rattle.nr_overlap.specs.Moment.{report_at, world_at, world_in}
@@ -20,48 +10,21 @@ use Rattle.nr_overlap.specs.Moves.{moved, moved_by}
 use Rattle.nr_overlap.specs.Next.{IsNext, IsNextOf, left}
 use Rattle.nr_overlap.specs.Positions.{at, start, top, top_at}
 use Rattle.nr_overlap.specs.Rules.{Rules}
-use Rattle.nr_overlap.specs.Run.{ending, opening, run_of, whole_at}
+use Rattle.nr_overlap.specs.Run.{ending, opening, tried, whole_at}
 use Rattle.nr_overlap.specs.Serial.{sealing_at, world_after}
 use Rattle.nr_overlap.specs.declared.event.Event.{Event}
 use Rattle.nr_overlap.specs.declared.event.Event.TheVariants.{OpenChunk, TakeList, SealChunk, PublishLists}
 use Rattle.nr_overlap.specs.declared.position.Position.{Position}
 use Rattle.nr_overlap.specs.declared.position.Stage.{Stage}
 use Rattle.nr_overlap.specs.declared.position.Stage.TheVariants.{Idle, Opened, Sealed}
-use Rattle.nr_overlap.proofs.Basics.{and_left, and_right, gt_of, le_of, lt_of, same_or_not, true_or_false}
+use Rattle.nr_overlap.proofs.Basics.{gt_of, le_of, same_or_not, true_or_false}
 use Rattle.nr_overlap.proofs.Ended.{whole_run}
-use Rattle.nr_overlap.proofs.Founding.{at_replicate}
-use Rattle.nr_overlap.proofs.Reaching.{becomes}
+use Rattle.nr_overlap.proofs.Founding.{at_replicate, first_reached}
+use Rattle.nr_overlap.proofs.Reaching.{becomes, keeps_reached}
 use Rattle.nr_overlap.proofs.Running.{tries_made}
 use Rattle.nr_overlap.proofs.SerialLemmas.{sealing_there}
-use Rattle.nr_parts.specs.Cutting.{InOrder}
-use Rattle.nr_state.specs.declared.calls.Caller.{Ghosts}
-use Rattle.nr_triedef.specs.Root.{Contents}
-use Rattle.nr_top.specs.Arriving.{IsNextBefore, IsUpTo, Nears}
-use Rattle.nr_top.specs.Moments.{Chains, IsMoment, chain_of}
-use Rattle.nr_top.specs.Chunks.{has_chunk}
-use Rattle.nr_top.proofs.Standing.{tried_moment}
-
--- ---- a chunk of the run
-pub record IsChunk {W K L R : Type 0} (r : Rules W K L R) (s h : ℕ) : Type 0 where
-  pub shard : s < r.shards
-  pub positive : 0 < h
-  pub height : h ≤ r.heights
-  pub present : r.present s h ≡ true
-
-chunk_below : (x : Chain) (s h : ℕ) → (rules_of x).present s h ≡ true → (0 < h) × (h ≤ length x.blocks)
-chunk_below x s zero e = absurd cc
-chunk_below x s (suc h) e = by (slice_get x.blocks h) refl e
-  where
-    by : (o : Option Block) → slice_get x.blocks h ≡ o → is_some (option_and_then (chunk_in s) o) ≡ true → (0 < suc h) × (suc h ≤ length x.blocks)
-    by None f e = absurd cc
-    by (Some b) f e = (omega arith, let l = slice_get_within x.blocks h b f in omega (arith, l))
-
-pub is_chunk : (x : Chain) (s h : ℕ) → has_chunk x s h ≡ true → IsChunk (rules_of x) s h
-is_chunk x s h has =
-    let inside : nat_lt s (shards_of x) ≡ true = and_left (nat_lt s (shards_of x)) ((rules_of x).present s h) has in
-    let there : (rules_of x).present s h ≡ true = and_right (nat_lt s (shards_of x)) ((rules_of x).present s h) has in
-    let below = chunk_below x s h there in
-    record { shard = lt_of s (shards_of x) inside; positive = below.0; height = below.1; present = there }
+use Rattle.std.proofs.lemmas.List.{length-replicate}
+use Rattle.nr_top.specs.Arriving.{IsChunk, IsNextBefore, IsUpTo, Nears}
 
 number_top : (t : Stage) (n : ℕ) → n ≤ top_at t n
 number_top Idle n = omega arith
@@ -113,7 +76,7 @@ module _ {W K L R : Type 0} (r : Rules W K L R) (s h : ℕ) where
   -- at the end each chunk is
   pub sealed_at_end : (ps : List Position) → IsChunk r s h → report_at r ps s h ≡ None → ps ≡ ending r → ⊥
   sealed_at_end ps is none ended =
-      mapped_some (λ z. z.report) (sealing_at r s h) (sealed_there is) (sym ((whole_run r ps ended).report s h is.shard is.height) ∙ none)
+      mapped_some (λ z. z.report) (sealing_at r s h) (sealed_there is) (sym ((whole_run r ps ended).report s h is.inside is.below) ∙ none)
 
   -- ---- the world behind it
   up_to_world : (t : Stage) (n : ℕ) (p : Position) → p.stage ≡ t → p.number ≡ n → IsUpTo h t n → h ≤ top_at t n → world_at r s p ≡ Some (world_after r s h)
@@ -144,47 +107,49 @@ actor_inside n (TakeList d s h) is = is.0
 actor_inside n (SealChunk s) is = is
 actor_inside n (PublishLists s) is = is
 
-pub nears_first : {g : Ghosts ContractCaller StateStore} (core : Chains g) (s h : ℕ) → IsMoment core → core.positions ≡ opening (rules_of (chain_of core)) → has_chunk (chain_of core) s h ≡ true → Nears core core s h
-nears_first core s h is first has =
-    let chunk = is_chunk (chain_of core) s h has in
-    let here : at core.positions s ≡ start = ap (λ (ps : List Position). at ps s) first ∙ at_replicate (shards_of (chain_of core)) s in
-    record { chain = refl; moment = is; place = subst (λ (p : Position). IsUpTo h p.stage p.number) (sym here) (omega arith) }
-
-pub nears_next : {g : Ghosts ContractCaller StateStore} (old mid new : Chains g) (s h : ℕ) (e : Event) → has_chunk (chain_of old) s h ≡ true → Nears old mid s h → IsNextBefore (rules_of (chain_of mid)) mid.positions s h (Some e)
-    → new ≡ whole_at mid (run_of (rules_of (chain_of mid)) mid.positions (e ∷ [])) → Nears old new s h
-nears_next old mid new s h e has nears next made =
-    let r = rules_of (chain_of mid) in
-    let ps : List Position = mid.positions in
-    let chunk : IsChunk r s h = is_chunk (chain_of mid) s h (ap (λ (x : Chain). has_chunk x s h) nears.chain ∙ has) in
-    let qs : new.positions ≡ moved ps e = ap (λ (v : Chains _). v.positions) made ∙ tries_made r ps e next.1.enabled in
-    let inside : actor e < length ps = omega (arith, actor_inside r.shards e next.1.inside, nears.moment.reached.count) in
-    record {
-      chain = ap chain_of made ∙ nears.chain;
-      moment = tried_moment mid new e nears.moment next.1.inside made;
-      place = subst (λ (t : List Position). IsUpTo h (at t s).stage (at t s).number) (sym qs) (step_up r s h ps e nears.moment.reached chunk next.0 nears.place inside);
-    }
-
--- the end is nearer
-pub nears_closer : {g : Ghosts ContractCaller StateStore} (old mid new : Chains g) (s h : ℕ) (e : Event) → Nears old mid s h → IsNextBefore (rules_of (chain_of mid)) mid.positions s h (Some e)
-    → new ≡ whole_at mid (run_of (rules_of (chain_of mid)) mid.positions (e ∷ [])) → left (rules_of (chain_of old)) new.positions < left (rules_of (chain_of old)) mid.positions
-nears_closer old mid new s h e nears next made =
-    let r = rules_of (chain_of mid) in
-    let qs : new.positions ≡ moved mid.positions e = ap (λ (v : Chains _). v.positions) made ∙ tries_made r mid.positions e next.1.enabled in
-    subst (λ (x : Chain). left (rules_of x) new.positions < left (rules_of x) mid.positions) nears.chain
-    (subst (λ (t : List Position). left r t < left r mid.positions) (sym qs) next.1.closer)
-
 -- the next event, where there is one before the chunk is sealed
-pub next_before : {W K L R : Type 0} (r : Rules W K L R) (ps : List Position) (s h : ℕ) (o : Option Event) → IsChunk r s h → report_at r ps s h ≡ None → IsNextOf r ps o → IsNextBefore r ps s h o
-next_before r ps s h None is none ended = absurd (sealed_at_end r s h ps is none ended)
-next_before r ps s h (Some e) is none next = (none, next)
+pub next_before : {W K L R : Type 0} (r : Rules W K L R) (s h : ℕ) (ps : List Position) (o : Option Event) → IsChunk r s h → report_at r ps s h ≡ None → IsNextOf r ps o → IsNextBefore r s h ps o
+next_before r s h ps None is none ended = absurd (sealed_at_end r s h ps is none ended)
+next_before r s h ps (Some e) is none next = (none, next)
 
-pub nears_world : {g : Ghosts ContractCaller StateStore} (old new : Chains g) (s h : ℕ) → Nears old new s h → is_some (report_at (rules_of (chain_of new)) new.positions s h) ≡ true
-    → world_at (rules_of (chain_of old)) s (at new.positions s) ≡ Some (world_after (rules_of (chain_of old)) s h)
-nears_world old new s h nears some =
-    subst (λ (x : Chain). world_at (rules_of x) s (at new.positions s) ≡ Some (world_after (rules_of x) s h)) nears.chain
-    (arrived (rules_of (chain_of new)) s h new.positions nears.place some)
+-- ---- on the way
+module _ {W K L R P : Type 0} (r : Rules W K L R) (s h : ℕ) where
+  pub nears_first : (core : CoreView P) → core.lost ≡ false → core.positions ≡ opening r → Nears r s h core core
+  nears_first core whole first =
+      let here : (j : ℕ) → at core.positions j ≡ start = λ j. ap (λ (ps : List Position). at ps j) first ∙ at_replicate r.shards j in
+      record {
+        phases = refl;
+        whole = whole;
+        reached = first_reached r core.positions (ap length first ∙ length-replicate r.shards start) here;
+        place = subst (λ (p : Position). IsUpTo h p.stage p.number) (sym (here s)) (omega arith);
+      }
 
--- ---- the entries of a map are in the order of their keys
-pub in_order : {E : Type 0} (r : Result (List Entry) E) (m : Contents) → IfOk r (λ es. pairs_of es ≡ entries m) → IfOk r InOrder
-in_order (Ok es) m e = subst (λ (l : List (List ℕ × List ℕ)). T (is_sorted (slice_cmp nat_cmp) l)) (sym e) (entries_sorted m)
-in_order (Err f) m e = tt
+  moves : (mid new : CoreView P) (e : Event) → IsNextBefore r s h mid.positions (Some e) → new ≡ whole_at mid (tried r mid.positions e) → new.positions ≡ moved mid.positions e
+  moves mid new e next made = ap (λ (v : CoreView P). v.positions) made ∙ tries_made r mid.positions e next.1.enabled
+
+  pub nears_next : (old mid new : CoreView P) (e : Event) → IsChunk r s h → Nears r s h old mid → IsNextBefore r s h mid.positions (Some e) → new ≡ whole_at mid (tried r mid.positions e) → Nears r s h old new
+  nears_next old mid new e chunk nears next made =
+      let ps : List Position = mid.positions in
+      let qs : new.positions ≡ moved ps e = moves mid new e next made in
+      let inside : actor e < length ps = omega (arith, actor_inside r.shards e next.1.inside, nears.reached.count) in
+      record {
+        phases = ap (λ (v : CoreView P). v.phases) made ∙ nears.phases;
+        whole = ap (λ (v : CoreView P). v.lost) made;
+        reached = subst (IsReached r) (sym qs) (keeps_reached r ps e nears.reached next.1.inside next.1.enabled);
+        place = subst (λ (t : List Position). IsUpTo h (at t s).stage (at t s).number) (sym qs) (step_up r s h ps e nears.reached chunk next.0 nears.place inside);
+      }
+
+  -- the end is nearer
+  pub nears_closer : (mid new : CoreView P) (e : Event) → IsNextBefore r s h mid.positions (Some e) → new ≡ whole_at mid (tried r mid.positions e) → left r new.positions < left r mid.positions
+  nears_closer mid new e next made = subst (λ (t : List Position). left r t < left r mid.positions) (sym (moves mid new e next made)) next.1.closer
+
+  pub nears_world : (old new : CoreView P) → Nears r s h old new → IsNextBefore r s h new.positions None → world_at r s (at new.positions s) ≡ Some (world_after r s h)
+  nears_world old new nears some = arrived r s h new.positions nears.place some
+
+-- the same, by the rules of where the run then is
+pub nears_step : {W K L R P : Type 0} (rules : P → Rules W K L R) (s h : ℕ) (old mid new : CoreView P) (e : Event) → IsChunk (rules old.phases) s h → Nears (rules old.phases) s h old mid
+    → IsNextBefore (rules mid.phases) s h mid.positions (Some e) → new ≡ whole_at mid (tried (rules mid.phases) mid.positions e) → Nears (rules old.phases) s h old new
+nears_step {W} {K} {L} {R} rules s h old mid new e chunk nears next made =
+    let same : rules mid.phases ≡ rules old.phases = ap rules nears.phases in
+    nears_next (rules old.phases) s h old mid new e chunk nears (subst (λ (r : Rules W K L R). IsNextBefore r s h mid.positions (Some e)) same next)
+    (subst (λ (r : Rules W K L R). new ≡ whole_at mid (tried r mid.positions e)) same made)

@@ -6,6 +6,7 @@ pub mod Standing
 pub mod Drives
 pub mod Digesting
 pub mod Arrival
+pub mod Entered
 pub mod PartAsking
 pub mod PartLoading
 pub mod PartAnswers

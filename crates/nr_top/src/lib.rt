@@ -11,6 +11,7 @@ mod part_files;
 mod refused;
 mod root_word;
 mod run;
+mod run_to;
 mod schedule;
 mod state_after;
 mod status;
