@@ -4,3 +4,4 @@ pub mod Tallied
 pub mod Lent
 pub mod OverChunk
 pub mod Localized
+pub mod Started

@@ -112,9 +112,10 @@ pub chunk_is_local : (c : Config) (call : World → CallContext → Called) → 
 chunk_is_local c call local = record {
   worked = λ x k txs lists keyed all. work_is_local c call local x k txs lists keyed all;
   sealed = λ x boundaries shards w shard place txs lists keyed all.
-      seal_is_local c call local x boundaries shards w.world (worked c call (begun w shard place) txs lists)
-      (worked c call (begun (record w { world = part_of x w.world }) shard place) txs lists)
-      (work_is_local c call local x (begun w shard place) txs lists keyed all);
+      seal_is_local c call local x boundaries shards w.world
+      (worked c call (begun w shard place) txs (w.carried ∷ lists))
+      (worked c call (begun (record w { world = part_of x w.world }) shard place) txs (w.carried ∷ lists))
+      (work_is_local c call local x (begun w shard place) txs (w.carried ∷ lists) keyed all);
 }
 
 -- ---- the accounts of a list hold the list

@@ -187,7 +187,7 @@ result_of boundaries k =
 abbrev pub seal_chunk : List (List ℕ) → ℕ → Working → Sealing Kept (List Receipt) ChunkResult
 seal_chunk boundaries shards k =
     record {
-      world = record { config = k.config; world = k.world };
+      world = record { config = k.config; world = k.world; carried = [] };
       report = result_of boundaries k;
       lists = parts boundaries shards k.outgoing;
     }

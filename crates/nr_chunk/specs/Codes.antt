@@ -15,10 +15,14 @@ use Rattle.nr_state.specs.declared.place.Place.{Place}
 use Rattle.nr_state.specs.contracts.place.Place as place
 
 abbrev pub kept_code : Coded Kept
-kept_code = code_by (Config × World) (coded× (coded_list coded_ℕ) world_code) (λ k. (k.config, k.world)) (λ p. record {
-  config = p.0;
-  world = p.1;
-}) (λ _. refl)
+kept_code =
+    code_by (Config × (World × List Receipt))
+    (coded× (coded_list coded_ℕ) (coded× world_code (coded_list receipt.the_row.coded)))
+    (λ k. (k.config, (k.world, k.carried))) (λ p. record {
+      config = p.0;
+      world = p.1.0;
+      carried = p.1.1;
+    }) (λ _. refl)
 
 abbrev Where : Type 0
 Where = Bool × (Config × (ShardId × (Place × World)))

@@ -42,6 +42,8 @@ pub record IsGoodWorld (c : Config) (w : Kept) : Type 0 where
   pub config : w.config ≡ c
   pub valid : IsValidWorld c w.world
   pub small : IsSmall w.world
+  -- what its next chunk takes
+  pub carried : AreGood c w.carried
 
 -- ---- a chunk at work, apart from its configuration and its world's validity
 pub record IsFine (c : Config) (k : Working) : Type 0 where

@@ -6,9 +6,10 @@ use Rattle.std.specs.Prelude.{slice_get, sum_by, nat_le}
 use Rattle.std.specs.Option.{option_map}
 use Rattle.std.proofs.lemmas.List.{get_or-replicate}
 use Rattle.std.proofs.lemmas.List.Sums.{sum_by-cons}
-use Rattle.nr_chunk.specs.Chain.{Chain, IsChain, rules_of, working_tokens}
+use Rattle.nr_chunk.specs.Chain.{Chain, IsChain, IsCountable, kept_tokens, rules_of, working_tokens}
 use Rattle.nr_chunk.specs.Goodness.{AreGood, IsGoodWork, IsGoodWorld}
-use Rattle.nr_chunk.specs.Lawful.{good_after, good_working, sealed_list, sealed_tokens}
+use Rattle.nr_chunk.specs.GoodReceipts.{are_bounded}
+use Rattle.nr_chunk.specs.Lawful.{few_after, good_after, good_working, sealed_list, sealed_tokens}
 use Rattle.nr_chunk.specs.Views.{Kept, Working}
 use Rattle.nr_config.specs.Config.{Config}
 use Rattle.nr_overlap.specs.Held.{IsReached, IsInChunk, HasTaken}
@@ -121,11 +122,21 @@ module _ (x : Chain) where
 
   pub record IsGoodMoment (ps : List Position) : Type 0 where
     pub worlds : (s : ℕ) (w : Kept) → s < r.shards → world_at r s (at ps s) ≡ Some w → IsGoodWorld c w
+    pub few : (s : ℕ) (w : Kept) → s < r.shards → world_at r s (at ps s) ≡ Some w → kept_tokens c w ≤ 2 ^ 127
     pub works : (s : ℕ) (k : Working) → s < r.shards → working_at r s (at ps s) ≡ Some k → IsGoodWork c k
     pub room : (s : ℕ) (k : Working) → s < r.shards → working_at r s (at ps s) ≡ Some k → working_tokens c k ≤ 2 ^ 127
     pub lists : (s h d : ℕ) (list : List Receipt) → s < r.shards → flight_at r ps s h d ≡ Some list → AreGood c list
     pub small : (s h d : ℕ) (list : List Receipt) → s < r.shards → flight_at r ps s h d ≡ Some list
         → list_tokens c list ≤ 2 ^ 127
+
+  -- where a shard has a world it can be counted
+  pub countable : (ps : List Position) → IsGoodMoment ps → (s : ℕ) (w : Kept) → s < r.shards
+      → world_at r s (at ps s) ≡ Some w → IsCountable c w
+  countable ps good s w l e = record {
+    valid = (good.worlds s w l e).valid;
+    bounded = are_bounded c w.carried (good.worlds s w l e).carried;
+    room = good.few s w l e;
+  }
 
   module _ (is : IsChain x) where
     -- ---- the lists of a chunk
@@ -164,14 +175,18 @@ module _ (x : Chain) where
     ]
 
     -- ---- a moment
+    abbrev IsFew : Kept → Type 0
+    IsFew w = IsGoodWorld c w × (kept_tokens c w ≤ 2 ^ 127)
+
+    after : (s h : ℕ) → s < r.shards → h ≤ r.heights → IsFew (world_after r s h)
+    after s h l high = (good_after x is s h l high, few_after x is s h l high)
+
     good_world_in : (s : ℕ) (t : Stage) (n : ℕ) (w : Kept) → s < r.shards → IsInChunk r s t n
-        → world_in r s t n ≡ Some w → IsGoodWorld c w
-    good_world_in s Idle n w l inside e =
-        subst (IsGoodWorld c) (some_alike (world_after r s n) w e) (good_after x is s n l inside)
+        → world_in r s t n ≡ Some w → IsFew w
+    good_world_in s Idle n w l inside e = subst IsFew (some_alike (world_after r s n) w e) (after s n l inside)
     good_world_in s Opened n w l inside e = absurd (nothing w e)
     good_world_in s Sealed n w l inside e =
-        subst (IsGoodWorld c) (some_alike (world_after r s (n + 1)) w e)
-        (good_after x is s (n + 1) l (omega (arith, inside.0)))
+        subst IsFew (some_alike (world_after r s (n + 1)) w e) (after s (n + 1) l (omega (arith, inside.0)))
 
     good_working_in : (s : ℕ) (t : Stage) (n taken : ℕ) (k : Working) → s < r.shards → IsInChunk r s t n
         → HasTaken r s t n taken → working_in r s t n taken ≡ Some k → IsGoodWork c k × (working_tokens c k ≤ 2 ^ 127)
@@ -183,13 +198,18 @@ module _ (x : Chain) where
 
     pub good_during : (ps : List Position) → IsReached r ps → IsGoodMoment ps
     good_during ps reached = record {
-      worlds = λ s w l e. good_world_in s (at ps s).stage (at ps s).number w l (reached.in_chunk s l) e;
+      worlds = λ s w l e. (here s w l e).0;
+      few = λ s w l e. (here s w l e).1;
       works = λ s k l e. (at_work s k l e).0;
       room = λ s k l e. (at_work s k l e).1;
       lists = λ s h d list l e. (in_flight s h d list l e).0;
       small = λ s h d list l e. (in_flight s h d list l e).1;
     }
       where
+        here : (s : ℕ) (w : Kept) → s < r.shards → world_at r s (at ps s) ≡ Some w
+            → IsGoodWorld c w × (kept_tokens c w ≤ 2 ^ 127)
+        here s w l e = good_world_in s (at ps s).stage (at ps s).number w l (reached.in_chunk s l) e
+
         at_work : (s : ℕ) (k : Working) → s < r.shards → working_at r s (at ps s) ≡ Some k
             → IsGoodWork c k × (working_tokens c k ≤ 2 ^ 127)
         at_work s k l e =

@@ -2,10 +2,13 @@ pub mod Views
 pub mod Codes
 pub mod Refused
 pub mod Chunk
+pub mod Start
+pub mod Starts
 pub mod Chain
 pub mod Serving
 pub mod Store
 pub mod Works
+pub mod Runs
 pub mod Amounts
 pub mod Tallies
 pub mod Served
@@ -17,6 +20,7 @@ pub mod Promised
 pub mod Routed
 pub mod GenesisSums
 pub mod Prices
+pub mod StartSums
 pub mod Lawful
 pub mod Lasting
 pub mod Locality

@@ -1,5 +1,5 @@
 -- What a chunk touches, and that it comes to the same on the touched part of a world. A law of this project's own.
-use Rattle.std.specs.Prelude.{◌≡◌, ℕ, Bool, true, List, ◌++◌, map, fold}
+use Rattle.std.specs.Prelude.{◌≡◌, ℕ, Bool, true, List, ◌∷◌, ◌++◌, map, fold}
 use Rattle.std.specs.List.{AllByRecursion, flat_map, list_any}
 use Rattle.std.specs.Str.{bytes_eq}
 use Rattle.nr_chunk.specs.Chunk.{begun, open_chunk, take_list, seal_chunk}
@@ -18,7 +18,7 @@ use Rattle.nr_state.specs.Keyed.{IsKeyed}
 use Rattle.nr_state.specs.Scopes.{all_of, over, part_of}
 
 -- ---- the accounts that a chunk touches: the signers of its transactions, the receivers of the delayed receipts and of
--- the receipts that it takes
+-- the receipts that it takes, carried ones first
 abbrev pub touched : World → List Transaction → List Receipt → List (List ℕ)
 touched w txs taken =
     map (λ (tx : Transaction). tx.signer) txs
@@ -32,14 +32,14 @@ is_in ids id = list_any (bytes_eq id) ids
 abbrev pub HasAll : (List ℕ → Bool) → List (List ℕ) → Type 0
 HasAll x ids = AllByRecursion (λ id. x id ≡ true) ids
 
--- ---- a chunk that was opened and took lists, and that was sealed
+-- ---- a chunk that was opened and took lists, what is carried before others, and that was sealed
 abbrev pub worked : Config → (World → CallContext → Called) → Working → List Transaction → List (List Receipt) → Working
 worked c call k txs lists = fold (take_list c call) (open_chunk c call k txs) lists
 
 abbrev pub run_chunk : Config → (World → CallContext → Called) → List (List ℕ) → ℕ → Kept → ShardId → Place
     → List Transaction → List (List Receipt) → Sealing Kept (List Receipt) ChunkResult
 run_chunk c call boundaries shards w shard place txs lists =
-    seal_chunk boundaries shards (worked c call (begun w shard place) txs lists)
+    seal_chunk boundaries shards (worked c call (begun w shard place) txs (w.carried ∷ lists))
 
 -- ---- the same from a world and from its part: all but the world, and the world is the new one of the part, and
 -- elsewhere as it was
@@ -64,6 +64,6 @@ pub record IsLocalChunk (c : Config) (call : World → CallContext → Called) :
   pub sealed : (x : List ℕ → Bool) (boundaries : List (List ℕ)) (shards : ℕ) (w : Kept) (shard : ShardId)
       (place : Place)
       (txs : List Transaction) (lists : List (List Receipt)) → IsKeyed w.world
-      → HasAll x (touched w.world txs (flat_map (λ list. list) lists))
+      → HasAll x (touched w.world txs (w.carried ++ flat_map (λ list. list) lists))
       → IsSameSeal x w.world (run_chunk c call boundaries shards w shard place txs lists)
       (run_chunk c call boundaries shards (record w { world = part_of x w.world }) shard place txs lists)

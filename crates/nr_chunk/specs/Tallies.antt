@@ -2,7 +2,7 @@
 -- executed, postponed, delayed and are in flight. This project's own.
 use Rattle.std.specs.Prelude.{ℕ, ◌+◌, Bool, true, false, List, [], ◌∷◌, length, count_by}
 use Rattle.std.specs.FinMap.{len}
-use Rattle.nr_chunk.specs.Views.{Working}
+use Rattle.nr_chunk.specs.Views.{Kept, Working}
 use Rattle.nr_chunk.specs.declared.tally.Tally.{Tally}
 use Rattle.nr_config.specs.Config.{Config}
 use Rattle.nr_records.specs.declared.chunk_result.ChunkLine.{ChunkLine}
@@ -29,13 +29,23 @@ is_execution l = false
 abbrev pub executions : List ChunkLine → ℕ
 executions lines = count_by is_execution lines
 
-abbrev pub tally_world : Config → World → Tally
-tally_world c w =
+abbrev pub tally_state : Config → World → Tally
+tally_state c w =
     record {
       accounts = accounts_tokens w;
       receipts = waiting_tokens c w;
       burnt = 0;
       places = five 0 0 (len w.postponed) (length w.delayed) 0;
+    }
+
+-- what a shard carries between its chunks is in flight
+abbrev pub tally_world : Config → Kept → Tally
+tally_world c w =
+    record {
+      accounts = accounts_tokens w.world;
+      receipts = waiting_tokens c w.world + list_tokens c w.carried;
+      burnt = 0;
+      places = five 0 0 (len w.world.postponed) (length w.world.delayed) (length w.carried);
     }
 
 -- a chunk at work has routed its local receipts alone

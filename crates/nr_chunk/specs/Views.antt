@@ -7,10 +7,12 @@ use Rattle.nr_records.specs.declared.receipt.Receipt.{Receipt}
 use Rattle.nr_state.specs.World.{World}
 use Rattle.nr_state.specs.declared.place.Place.{Place}
 
--- a shard between its chunks: its world, and the configuration under which its state is kept
+-- a shard between its chunks: its world, the configuration under which its state is kept, and the receipts that its
+-- next chunk takes at the end of its opening, which are none behind a seal
 pub record Kept : Type 0 where
   pub config : Config
   pub world : World
+  pub carried : List Receipt
 
 -- a chunk at work
 pub record Working : Type 0 where

@@ -1,8 +1,12 @@
 //! What holds of every chunk of a run.
 
+ghost use Rattle.std.specs.Prelude.{◌≡◌};
+ghost use Rattle.nr_blocks.specs.Genesis.{AreSoundEntries, supply};
+ghost use Rattle.nr_blocks.specs.declared.genesis.Genesis.{Genesis};
 ghost use Rattle.nr_chunk.specs.Amounts.{tokens};
 ghost use Rattle.nr_chunk.specs.Chain.{Chain, IsChain, rules_of};
 ghost use Rattle.nr_chunk.specs.Locality.{IsLocalChunk};
+ghost use Rattle.nr_chunk.specs.Start.{IsStart, genesis_start, start_tokens};
 ghost use Rattle.nr_config.specs.Config.{Config};
 ghost use Rattle.nr_overlap.specs.Balance.{IsKeptBy};
 ghost use Rattle.nr_state.specs.Calls.{Called};
@@ -16,6 +20,14 @@ ghost use Rattle.nr_state.specs.declared.calls.CallContext.{CallContext};
 /// the lists that it sends, or burnt. It does nothing when it runs.
 pub fn chunk_laws()
     ensures tokens { (x : Chain) → IsChain x → IsKeptBy (rules_of x) (tokens x) }
+{}
+
+/// A sound genesis is a start, and all that this start has in tokens is its supply: what its accounts have together. It
+/// does nothing when it runs.
+pub fn genesis_laws()
+    ensures start { (c : Config) (g : Genesis) → AreSoundEntries c g.entries → IsStart c (genesis_start g) }
+    ensures supply { (c : Config) (g : Genesis) → AreSoundEntries c g.entries
+        → start_tokens c (genesis_start g) ≡ supply g.entries }
 {}
 
 /// A chunk on the part of a world that it touches comes to what it comes to on the whole world.

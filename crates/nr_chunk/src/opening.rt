@@ -4,7 +4,7 @@ ghost use Rattle.std.specs.Prelude.{◌≡◌, ◌≢◌, ◌+◌, ◌<◌, ◌^
 ghost use Rattle.nr_chunk.specs.Chunk.{begun, with_line, put_aside, is_local, with_converted, convert_next, convert_all, open_chunk};
 ghost use Rattle.nr_chunk.specs.Refused.{refused};
 ghost use Rattle.nr_chunk.specs.Serving.{CanServe};
-ghost use Rattle.nr_chunk.specs.Works.{working_of, IsReady};
+ghost use Rattle.nr_chunk.specs.Works.{kept_of, working_of, IsReady};
 ghost use Rattle.nr_txconvert.specs.Conversion.{transaction_hash};
 ghost use Rattle.nr_txconvert.specs.declared.fault.TxFault.TheVariants.{Memory};
 
@@ -23,7 +23,7 @@ use nr_txconvert::{Converted, TxFault, convert_hashed};
 use std::alloc::{AllocError, Global};
 
 fn begin(alloc: Global, state: State, shard: ShardId, place: Place) -> Work
-    ensures begun { working_of result ≡ begun (record { config = state.config; world = state.world }) shard place }
+    ensures begun { working_of result ≡ begun (kept_of state) shard place }
     ensures state { result.state ≡ state }
 {
     Work {
@@ -162,8 +162,9 @@ pub(crate) fn open<C: Caller<ChunkStore>>(
 ) -> Result<Work, AllocError>
     requires whole { state.whole ≡ true }
     requires marks { state.marks ≡ [] }
-    requires can { CanServe chain.now.config (begun (record { config = state.config; world = state.world }) shard place) [] }
-    ensures opened { IfOk result (λ work. working_of work ≡ open_chunk chain.now.config (C.meaning chain.now.caller) (begun (record { config = state.config; world = state.world }) shard place) txs.now) }
+    requires can { CanServe chain.now.config (begun (kept_of state) shard place) [] }
+    ensures opened { IfOk result (λ work. working_of work
+        ≡ open_chunk chain.now.config (C.meaning chain.now.caller) (begun (kept_of state) shard place) txs.now) }
     ensures ready { IfOk result IsReady }
 {
     chain.promise();

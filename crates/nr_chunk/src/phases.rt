@@ -1,8 +1,9 @@
 //! The phases of a chain's chunks.
 
-ghost use Rattle.std.specs.Prelude.{◌≡◌, ◌+◌, ◌<◌, true, IfOk, OnOk, length};
+ghost use Rattle.std.specs.Prelude.{◌≡◌, ◌+◌, ◌<◌, ◌≤◌, true, IfOk, OnOk, length};
 ghost use Rattle.std.specs.Option.{option_copied};
-ghost use Rattle.nr_chunk.specs.Chain.{Chain, chain_with, block_at, chunk_in, chunk_at, time_of, price_in, place_at};
+ghost use Rattle.nr_chunk.specs.Chain.{Chain, block_at, chunk_in, chunk_at, time_of, price_in, place_at};
+ghost use Rattle.nr_chunk.specs.Runs.{chain_in};
 
 use crate::chain::ChainRun;
 use crate::chunk_work::ChunkWork;
@@ -11,7 +12,7 @@ use crate::opening::open;
 use crate::sealing::seal;
 use crate::serving::serve_all;
 use crate::state::ChunkStore;
-use nr_blocks::{Block, fill};
+use nr_blocks::Block;
 use nr_bytes::List;
 use nr_config::entries::GAS_PRICE;
 use nr_ids::{Height, ShardId};
@@ -68,31 +69,34 @@ fn price(blocks: &[Block], height: Height, usual: u64) -> u64
 }
 
 fn place_at<C: Caller<ChunkStore>>(chain: &ChainRun<C>, height: Height) -> Place
-    ensures { result ≡ place_at (chain_with chain.now.config chain.now.genesis chain.now.blocks (C.meaning chain.now.caller)) height.0 }
+    requires { height.0 ≤ length chain.now.blocks }
+    ensures { result ≡ place_at (chain_in chain.now) height.0 }
 {
     let blocks = chain.blocks.inner();
+    let below = chain.grounds.below();
     Place {
-        height,
+        height: Height(below + height.0),
         timestamp: timestamp(blocks, height),
         price: price(blocks, height, chain.config.entry(GAS_PRICE)),
     }
 }
 
 impl<C: Caller<ChunkStore>> Phases for ChainRun<C> {
-    ghost use Rattle.nr_chunk.specs.Chain.{chain_with, rules_of, IsChain, CanOpen, CanTake, CanSeal};
+    ghost use Rattle.nr_chunk.specs.Chain.{rules_of, IsChain, CanOpen, CanTake, CanSeal};
     ghost use Rattle.nr_chunk.specs.Lawful.{laws_of};
+    ghost use Rattle.nr_chunk.specs.Runs.{chain_in};
 
-    ghost is_run = { λ x. IsChain (chain_with x.config x.genesis x.blocks (C.meaning x.caller)) };
+    ghost is_run = { λ x. IsChain (chain_in x) };
 
-    ghost rules = { λ x. rules_of (chain_with x.config x.genesis x.blocks (C.meaning x.caller)) };
+    ghost rules = { λ x. rules_of (chain_in x) };
 
-    ghost can_open = { λ x. CanOpen (chain_with x.config x.genesis x.blocks (C.meaning x.caller)) };
+    ghost can_open = { λ x. CanOpen (chain_in x) };
 
-    ghost can_take = { λ x. CanTake (chain_with x.config x.genesis x.blocks (C.meaning x.caller)) };
+    ghost can_take = { λ x. CanTake (chain_in x) };
 
-    ghost can_seal = { λ x. CanSeal (chain_with x.config x.genesis x.blocks (C.meaning x.caller)) };
+    ghost can_seal = { λ x. CanSeal (chain_in x) };
 
-    ghost laws = { λ x is. laws_of (chain_with x.config x.genesis x.blocks (C.meaning x.caller)) is };
+    ghost laws = { λ x is. laws_of (chain_in x) is };
 
     type World = ChunkWorld;
 
@@ -104,7 +108,7 @@ impl<C: Caller<ChunkStore>> Phases for ChainRun<C> {
 
     fn shards(&self) -> u32 {
         self.known();
-        self.genesis.layout.shards()
+        self.grounds.layout().shards()
     }
 
     fn heights(&self) -> u64 {
@@ -116,9 +120,8 @@ impl<C: Caller<ChunkStore>> Phases for ChainRun<C> {
     }
 
     fn begin(&self, alloc: Global, shard: ShardId) -> Result<ChunkWorld, AllocError> {
-        let store = ChunkStore::new(alloc);
-        let state = fill(alloc, &self.genesis, shard, store, &self.config)?;
-        Ok(ChunkWorld { state })
+        let (state, carried) = self.grounds.begin(alloc, shard)?;
+        Ok(ChunkWorld { state, carried })
     }
 
     fn open_chunk(
@@ -129,8 +132,10 @@ impl<C: Caller<ChunkStore>> Phases for ChainRun<C> {
         world: ChunkWorld,
     ) -> Result<ChunkWork, AllocError> {
         let place = place_at(self, height);
+        self.known();
         let txs = chunk_at(self.blocks.inner(), shard, height).unwrap_or(&[]);
-        let work = open(alloc, self, world.state, shard, place, txs)?;
+        let mut work = open(alloc, self, world.state, shard, place, txs)?;
+        serve_all(alloc, &mut work, self, world.carried)?;
         Ok(ChunkWork { work, whole: true })
     }
 
@@ -151,9 +156,10 @@ impl<C: Caller<ChunkStore>> Phases for ChainRun<C> {
         alloc: Global,
         working: ChunkWork,
     ) -> Result<(ChunkWorld, ChunkResult, List<List<Receipt>>), AllocError> {
-        let sealed = seal(alloc, &self.genesis.layout, working.work)?;
+        let sealed = seal(alloc, self.grounds.layout(), working.work)?;
         let world = ChunkWorld {
             state: sealed.state,
+            carried: List::of(Vec::new(alloc)),
         };
         Ok((world, sealed.result, sealed.lists))
     }

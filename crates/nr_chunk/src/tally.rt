@@ -1,8 +1,9 @@
 //! What the parts of a run hold.
 
 ghost use Rattle.std.specs.Prelude.{◌≡◌, ◌+◌, ◌≤◌, ◌<◌, ◌^◌, true, IfOk, count_by, sum_by, length};
-ghost use Rattle.nr_chunk.specs.Chain.{AreBounded, working_tokens};
-ghost use Rattle.nr_chunk.specs.Tallies.{is_sent, executions, tally_world, tally_working, tally_report, tally_list};
+ghost use Rattle.nr_chunk.specs.Chain.{AreBounded, IsCountable, working_tokens};
+ghost use Rattle.nr_chunk.specs.Tallies.{is_sent, executions, tally_list, tally_report, tally_state};
+ghost use Rattle.nr_chunk.specs.Tallies.{tally_working, tally_world};
 ghost use Rattle.nr_state.specs.Tokens.{list_tokens};
 ghost use Rattle.nr_state.specs.Valid.{IsBounded, IsValidWorld};
 ghost use Rattle.nr_state.specs.World.{account_tokens};
@@ -93,7 +94,7 @@ fn sent(lines: &[ChunkLine]) -> u64
 fn tally_state(alloc: Global, config: &Config, state: &State) -> Result<Tally, AllocError>
     requires whole { state.now.whole ≡ true }
     requires valid { IsValidWorld config.now state.now.world }
-    ensures { IfOk result (λ tally. tally ≡ tally_world config.now state.now.world) }
+    ensures { IfOk result (λ tally. tally ≡ tally_state config.now state.now.world) }
 {
     let postponed = postponed(alloc, state)?;
     let delayed = delayed(alloc, state)?;
@@ -115,16 +116,23 @@ fn tally_state(alloc: Global, config: &Config, state: &State) -> Result<Tally, A
 }
 
 impl<C: Caller<ChunkStore>> ChainRun<C> {
-    /// What a world holds.
+    /// What a world holds, what its shard carries with it.
     ///
     /// # Errors
     ///
     /// Where memory runs out.
     pub fn tally_world(&self, alloc: Global, world: &ChunkWorld) -> Result<Tally, AllocError>
-        requires valid { IsValidWorld self.now.config world.now.world }
-        ensures { IfOk result (λ tally. tally ≡ tally_world self.now.config world.now.world) }
+        requires { IsCountable self.now.config world.now }
+        ensures { IfOk result (λ tally. tally ≡ tally_world self.now.config world.now) }
     {
-        tally_state(alloc, &self.config, &world.state)
+        let held = tally_state(alloc, &self.config, &world.state)?;
+        let carried = world.carried.inner();
+        let [_, _, postponed, delayed, _] = held.places;
+        Ok(Tally {
+            receipts: held.receipts + tokens_in(&self.config, carried),
+            places: [0, 0, postponed, delayed, carried.len() as u64],
+            ..held
+        })
     }
 
     /// What a chunk at work holds, receipts that it made and that aren't sealed with it.

@@ -1,7 +1,8 @@
 -- Entries of a trie as pairs of bytes. This project's own.
-use Rattle.std.specs.Prelude.{ℕ, List, [], ◌∷◌, map, Option, Some, None}
-use Rattle.std.specs.FinMap.{get}
+use Rattle.std.specs.Prelude.{◌≡◌, ℕ, List, [], ◌∷◌, map, Option, Some, None}
+use Rattle.std.specs.FinMap.{get, entries, from_entries}
 use Rattle.nr_triedef.specs.Root.{Contents}
+use Rattle.nr_columns.specs.View.{IsLaid}
 use Rattle.nr_columns.specs.declared.entry.Entry.{Entry}
 
 -- the keys with their values
@@ -16,3 +17,13 @@ paired key (Some value) = (key, value) ∷ []
 -- a key with its value, where it is there
 abbrev pub pair_at : Contents → List ℕ → List (List ℕ × List ℕ)
 pair_at c key = paired key (get c key)
+
+-- ---- what entries stand for
+-- the contents that hold them; of two with one key the first counts
+abbrev pub contents_of : List Entry → Contents
+contents_of es = from_entries (pairs_of es)
+
+-- they are those of columns and nothing else, each key once and in the order of the keys' bytes
+pub record AreLaidEntries (es : List Entry) : Type 0 where
+  pub laid : IsLaid (contents_of es)
+  pub order : entries (contents_of es) ≡ pairs_of es

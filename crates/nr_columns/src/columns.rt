@@ -4,10 +4,11 @@ ghost use Rattle.std.specs.Prelude.{◌≡◌, ℕ, ◌+◌, ◌<◌, ◌≤◌,
 ghost use Rattle.std.specs.FinMap as map;
 ghost use Rattle.nr_triedef.specs.Root.{root_of};
 ghost use Rattle.nr_columns.specs.Columns.{no_columns, laid_columns};
-ghost use Rattle.nr_columns.specs.Entries.{pairs_of};
+ghost use Rattle.nr_columns.specs.Entries.{contents_of, pairs_of};
+ghost use Rattle.nr_columns.specs.View.{IsLaid, columns_in};
 
 use crate::entry::Entry;
-use crate::lists::entries_at;
+use crate::lists::{entries_at, set_each};
 use nr_bytes::List;
 use nr_triedef::{NodeHash, Steps, Store};
 use std::alloc::{AllocError, Global};
@@ -40,6 +41,30 @@ impl<S: Store> Model for Columns<S> {
     ghost view = { λ s. columns_view (S.contents s.store) (S.marks s.store) (S.spare s.store) };
 
     ghost invariant = { λ s. AreLaid (S.contents s.store) (S.marks s.store) };
+}
+
+impl<S: Store + Drop> Columns<S> {
+    /// The columns that entries stand for, over an empty store.
+    ///
+    /// # Errors
+    ///
+    /// Where memory runs out. The store is let go.
+    pub fn from_entries(
+        alloc: Global,
+        store: S,
+        entries: &List<Entry>,
+    ) -> Result<Columns<S>, AllocError>
+        requires empty { S.contents store ≡ map.empty }
+        requires marks { S.marks store ≡ [] }
+        requires laid { IsLaid (contents_of entries.now) }
+        ensures columns { IfOk result (λ found. found.columns ≡ columns_in (contents_of entries.now)) }
+        ensures marks { IfOk result (λ found. found.marks ≡ []) }
+        ensures spare { IfOk result (λ found. found.spare ≡ S.spare store) }
+    {
+        let mut store = store;
+        set_each(&mut store, entries.inner())?;
+        Ok(Columns { alloc, store })
+    }
 }
 
 impl<S: Store> Columns<S> {

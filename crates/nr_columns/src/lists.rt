@@ -4,7 +4,7 @@ ghost use Rattle.std.specs.Prelude.{◌≡◌, IfOk, OnOk};
 ghost use Rattle.std.specs.FinMap as map;
 ghost use Rattle.std.specs.List.{fold, flat_map};
 ghost use Rattle.nr_columns.specs.View.{IsLaid};
-ghost use Rattle.nr_columns.specs.Entries.{pairs_of, pair_at};
+ghost use Rattle.nr_columns.specs.Entries.{contents_of, pairs_of, pair_at};
 
 use crate::entry::Entry;
 use nr_bytes::Blob;
@@ -40,4 +40,20 @@ pub(crate) fn entries_at<S: Store>(
         }
     }
     Ok(found)
+}
+
+/// Puts entries into an empty store, the last first.
+pub(crate) fn set_each<S: Store>(store: &mut S, entries: &[Entry]) -> Result<(), AllocError>
+    requires { S.contents store.old ≡ map.empty }
+    ensures ok { OnOk result (S.contents store.new ≡ contents_of entries.now) }
+    ensures marks { S.marks store.new ≡ S.marks store.old }
+    ensures spare { S.spare store.new ≡ S.spare store.old }
+{
+    let mut left = entries.len();
+    while left > 0 {
+        left -= 1;
+        let entry = &entries[left];
+        store.set(entry.key.inner(), entry.value.inner())?;
+    }
+    Ok(())
 }

@@ -6,12 +6,12 @@ use Rattle.std.proofs.lemmas.List.Sums.{sum_by-append}
 use Rattle.nr_chunk.specs.Chain.{Chain, rules_of}
 use Rattle.nr_chunk.specs.Views.{Kept, Working}
 use Rattle.nr_overlap.specs.Balance.{sum_below, if_some}
-use Rattle.nr_overlap.specs.Moment.{working_at, report_at, flight_at}
+use Rattle.nr_overlap.specs.Moment.{world_at, working_at, report_at, flight_at}
 use Rattle.nr_overlap.specs.Positions.{at}
 use Rattle.nr_overlap.specs.Rules.{Rules}
 use Rattle.nr_overlap.specs.declared.position.Position.{Position}
 use Rattle.nr_overlap.proofs.Sums.{sum_same}
-use Rattle.nr_places.specs.Moments.{each_below, where_some, done_by, flying_by, flying}
+use Rattle.nr_places.specs.Moments.{carried_in, each_below, where_some, done_by, flying_by, flying}
 use Rattle.nr_records.specs.declared.chunk_result.ChunkResult.{ChunkResult}
 use Rattle.nr_records.specs.declared.receipt.Receipt.{Receipt}
 
@@ -83,14 +83,18 @@ module _ (m : List Receipt → ℕ) (is : IsMeasure m) where
         is.both (where_some (so_far s (at ps s).number (at ps s).taken) (working_at r s (at ps s))) (each_below r.heights (λ h. where_some (whole s h) (report_at r ps s (h + 1))))
         ∙ ap (λ t. begun_by so_far s + t) (measure_each r.heights (λ h. where_some (whole s h) (report_at r ps s (h + 1)))))
 
-    pub measure_flying : m (flying x ps) ≡ sum_below r.shards (λ s. sum_below r.heights (λ h. sum_below r.shards (λ d. if_some m (flight_at r ps s (h + 1) d))))
+    abbrev pub carried_by : ℕ → ℕ
+    carried_by s = m (carried_in (world_at r s (at ps s)))
+
+    pub measure_flying : m (flying x ps) ≡ sum_below r.shards (λ s. carried_by s + sum_below r.heights (λ h. sum_below r.shards (λ d. if_some m (flight_at r ps s (h + 1) d))))
     measure_flying =
         measure_each r.shards (flying_by x ps)
-        ∙ sum_same r.shards (λ s. sum_below r.heights (λ h. sum_below r.shards (λ d. if_some m (flight_at r ps s (h + 1) d)))) (λ s. m (flying_by x ps s)) (λ s l.
-        measure_each r.heights (λ h. each_below r.shards (λ d. unwrap_or (flight_at r ps s (h + 1) d) []))
+        ∙ sum_same r.shards (λ s. carried_by s + sum_below r.heights (λ h. sum_below r.shards (λ d. if_some m (flight_at r ps s (h + 1) d)))) (λ s. m (flying_by x ps s)) (λ s l.
+        is.both (carried_in (world_at r s (at ps s))) (each_below r.heights (λ h. each_below r.shards (λ d. unwrap_or (flight_at r ps s (h + 1) d) [])))
+        ∙ ap (λ t. carried_by s + t) (measure_each r.heights (λ h. each_below r.shards (λ d. unwrap_or (flight_at r ps s (h + 1) d) []))
         ∙ sum_same r.heights (λ h. sum_below r.shards (λ d. if_some m (flight_at r ps s (h + 1) d))) (λ h. m (each_below r.shards (λ d. unwrap_or (flight_at r ps s (h + 1) d) []))) (λ h j.
         measure_each r.shards (λ d. unwrap_or (flight_at r ps s (h + 1) d) [])
-        ∙ sum_same r.shards (λ d. if_some m (flight_at r ps s (h + 1) d)) (λ d. m (unwrap_or (flight_at r ps s (h + 1) d) [])) (λ d k. flown (flight_at r ps s (h + 1) d))))
+        ∙ sum_same r.shards (λ d. if_some m (flight_at r ps s (h + 1) d)) (λ d. m (unwrap_or (flight_at r ps s (h + 1) d) [])) (λ d k. flown (flight_at r ps s (h + 1) d)))))
       where
         flown : (o : Option (List Receipt)) → m (unwrap_or o []) ≡ if_some m o
         flown None = is.none

@@ -25,7 +25,7 @@ use Rattle.nr_overlap.proofs.Sums.{sum_none, sum_same}
 use Rattle.nr_places.proofs.Adding.{IsAdditive, additive_at}
 use Rattle.nr_places.proofs.Counting.{lengths, measure_each, measure_done, measure_flying, without_none}
 use Rattle.nr_places.proofs.Lines.{IsCounted, all_sent, counted_at, same_ran}
-use Rattle.nr_places.specs.Moments.{where_some, waiting_in, waiting_by, routed_at, routed_in, routed, executed, postponed, delayed, flying}
+use Rattle.nr_places.specs.Moments.{carried_in, where_some, waiting_in, waiting_by, routed_at, routed_in, routed, executed, postponed, delayed, flying}
 use Rattle.nr_places.specs.Places.{executed_at, executed_in}
 use Rattle.nr_places.specs.Totals.{tally_below, shard_tally, report_tally, list_tally, tally_of, tally_at}
 use Rattle.nr_records.specs.declared.chunk_result.ChunkResult.{ChunkResult}
@@ -88,11 +88,11 @@ module _ (x : Chain) (is : IsChain x) (ps : List Position) (reached : IsReached 
       of_done held (λ s h. 0)
       ∙ sum_same r.shards held (λ s. held s + sum_below r.heights (λ h. 0)) (λ s l. without_none (held s) (sum_below r.heights (λ h. 0)) (no_lists r.heights))
 
-  -- of lists in flight alone
-  of_flying : (flies : ℕ → ℕ → ℕ → ℕ) → sum_below r.shards (λ s. 0 + sum_below r.heights (λ h. 0 + sum_below r.shards (flies s h))) ≡ sum_below r.shards (λ s. sum_below r.heights (λ h. sum_below r.shards (flies s h)))
-  of_flying flies =
-      sum_same r.shards (λ s. sum_below r.heights (λ h. sum_below r.shards (flies s h))) (λ s. 0 + sum_below r.heights (λ h. 0 + sum_below r.shards (flies s h)))
-      (λ s l. nothing_before (sum_below r.heights (λ h. 0 + sum_below r.shards (flies s h))) ∙ sum_same r.heights (λ h. sum_below r.shards (flies s h)) (λ h. 0 + sum_below r.shards (flies s h)) (λ h j. nothing_before (sum_below r.shards (flies s h))))
+  -- of what is in flight
+  of_flying : (held : ℕ → ℕ) (flies : ℕ → ℕ → ℕ → ℕ) → sum_below r.shards (λ s. held s + sum_below r.heights (λ h. 0 + sum_below r.shards (flies s h))) ≡ sum_below r.shards (λ s. held s + sum_below r.heights (λ h. sum_below r.shards (flies s h)))
+  of_flying held flies =
+      sum_same r.shards (λ s. held s + sum_below r.heights (λ h. sum_below r.shards (flies s h))) (λ s. held s + sum_below r.heights (λ h. 0 + sum_below r.shards (flies s h)))
+      (λ s l. ap (λ t. held s + t) (sum_same r.heights (λ h. sum_below r.shards (flies s h)) (λ h. 0 + sum_below r.shards (flies s h)) (λ h j. nothing_before (sum_below r.shards (flies s h)))))
     where
       nothing_before : (n : ℕ) → 0 + n ≡ n
       nothing_before n = omega arith
@@ -121,10 +121,10 @@ module _ (x : Chain) (is : IsChain x) (ps : List Position) (reached : IsReached 
   delayed_held s Opened n k = refl
   delayed_held s Sealed n k = refl
 
-  none_held : (s : ℕ) (t : Stage) (n k : ℕ) → count 4 (shard_tally c (world_in r s t n) (working_in r s t n k)) ≡ 0
-  none_held s Idle n k = refl
-  none_held s Opened n k = refl
-  none_held s Sealed n k = refl
+  carried_held : (s : ℕ) (t : Stage) (n k : ℕ) → count 4 (shard_tally c (world_in r s t n) (working_in r s t n k)) ≡ length (carried_in (world_in r s t n))
+  carried_held s Idle n k = refl
+  carried_held s Opened n k = refl
+  carried_held s Sealed n k = refl
 
   -- ---- a chunk that is sealed
   by_chunk : (g : Tally → ℕ) → IsAdditive g → (list : List Receipt) (s h : ℕ) → (r.present s (h + 1) ≡ true → g (report_tally (Some (r.seals (last_work r s h)).report)) ≡ length list)
@@ -149,12 +149,12 @@ module _ (x : Chain) (is : IsChain x) (ps : List Position) (reached : IsReached 
   routed_sealed s h l below = by_chunk (count 0) adds_0 (routed_in x s h) s h (λ there.
       let k : Working = last_work r s h in
       let counted = in_chunk s h l below there in
-      (λ i. counted.local i + all_sent x.boundaries k.lines k.outgoing counted.sent i) ∙ sym (length-append (routed_at x s h) k.outgoing))
+      (λ i. counted.local i + all_sent x.start.boundaries k.lines k.outgoing counted.sent i) ∙ sym (length-append (routed_at x s h) k.outgoing))
 
   executed_sealed : (s h : ℕ) → s < r.shards → h < r.heights → count 1 (report_tally (report_at r ps s (h + 1))) ≡ length (where_some (executed_in x s h) (report_at r ps s (h + 1)))
   executed_sealed s h l below = by_chunk (count 1) adds_1 (executed_in x s h) s h (λ there.
       let k : Working = last_work r s h in
-      same_ran x.boundaries k.lines k.outgoing ∙ (in_chunk s h l below there).ran)
+      same_ran x.start.boundaries k.lines k.outgoing ∙ (in_chunk s h l below there).ran)
 
   -- ---- a list in flight
   flies : (o : Option (List Receipt)) → count 4 (list_tally c o) ≡ if_some (λ (list : List Receipt). length list) o
@@ -197,9 +197,10 @@ module _ (x : Chain) (is : IsChain x) (ps : List Position) (reached : IsReached 
   flying_counts : count 4 (tally_at x ps) ≡ length (flying x ps)
   flying_counts =
       let fly : ℕ → ℕ → ℕ → ℕ = λ s h d. if_some (λ (list : List Receipt). length list) (flight_at r ps s (h + 1) d) in
-      additive_at (count 4) adds_4 x ps (λ s. 0) (λ s h. 0) fly
-      (λ s l. none_held s (at ps s).stage (at ps s).number (at ps s).taken) (λ s h l below. none_of (λ o. count 4 (report_tally o)) refl (λ y. refl) (report_at r ps s (h + 1))) (λ s h d. flies (flight_at r ps s (h + 1) d))
-      ∙ of_flying fly ∙ sym (measure_flying (λ list. length list) lengths x ps)
+      let held : ℕ → ℕ = λ s. length (carried_in (world_in r s (at ps s).stage (at ps s).number)) in
+      additive_at (count 4) adds_4 x ps held (λ s h. 0) fly
+      (λ s l. carried_held s (at ps s).stage (at ps s).number (at ps s).taken) (λ s h l below. none_of (λ o. count 4 (report_tally o)) refl (λ y. refl) (report_at r ps s (h + 1))) (λ s h d. flies (flight_at r ps s (h + 1) d))
+      ∙ of_flying held fly ∙ sym (measure_flying (λ list. length list) lengths x ps)
 
   pub all_counts : (tally_at x ps).places ≡ five (length (routed x ps)) (length (executed x ps)) (length (postponed x ps)) (length (delayed x ps)) (length (flying x ps))
   all_counts = five_of r.shards (tally_of x ps) ∙ (λ i. five (routed_counts i) (executed_counts i) (postponed_counts i) (delayed_counts i) (flying_counts i))

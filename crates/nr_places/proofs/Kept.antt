@@ -3,9 +3,9 @@ use Rattle.std.proofs.Common.{◌≡◌, ℕ, suc, ◌+◌, ◌-◌, List, [], �
 use Rattle.std.specs.Prelude.{slice_get, sum_by, unwrap_or}
 use Rattle.std.proofs.lemmas.List.Sums.{sum_by-append}
 use Rattle.nr_chunk.proofs.Converted.{CanGo}
-use Rattle.nr_chunk.specs.Chain.{Chain, IsChain, CanOpen, CanTake, CanSeal, chunk_at, opened, place_at, rules_of}
+use Rattle.nr_chunk.specs.Chain.{Chain, IsChain, CanOpen, CanTake, CanSeal, chunk_at, opened, opened_first, place_at, rules_of}
 use Rattle.nr_chunk.specs.Chunk.{begun, serve_all, take_list}
-use Rattle.nr_chunk.specs.Lawful.{laws_of}
+use Rattle.nr_chunk.specs.Lawful.{can_take_carried, laws_of}
 use Rattle.nr_chunk.specs.Prices.{place_fits}
 use Rattle.nr_chunk.specs.Promised.{promise_of, pays_of}
 use Rattle.nr_chunk.specs.Routed.{routed_all}
@@ -17,7 +17,7 @@ use Rattle.nr_overlap.specs.Lawful.{AreLawful}
 use Rattle.nr_overlap.specs.Rules.{Rules}
 use Rattle.nr_overlap.specs.Serial.{due_after, last_work, list_to, sealing_at, with_list, work, world_after}
 use Rattle.nr_overlap.proofs.SerialLemmas.{work_first, work_next}
-use Rattle.nr_places.specs.Places.{waiting, executes_all, executes_list, executes_due, executes_opened, converted_at, executed_at, executed_in, places}
+use Rattle.nr_places.specs.Places.{waiting, executes_all, executes_list, executes_due, executes_opened, converted_at, executed_at, executed_in, executes_carried, places}
 use Rattle.nr_places.proofs.Opening.{opened_waits}
 use Rattle.nr_places.proofs.Waiting.{all_wait}
 use Rattle.nr_records.specs.declared.chunk_result.ChunkResult.{ChunkResult}
@@ -25,7 +25,7 @@ use Rattle.nr_records.specs.declared.receipt.Receipt.{Receipt}
 
 -- ---- what was executed, a step at a time
 module _ (x : Chain) where
-  pub executed_first : (s h : ℕ) → executed_at x s h 0 ≡ executes_opened x (converted_at x s h)
+  pub executed_first : (s h : ℕ) → executed_at x s h 0 ≡ executes_opened x (converted_at x s h) ++ executes_carried x s h (world_after (rules_of x) s h)
   unfolding executed_at
   executed_first s h = refl
 
@@ -43,7 +43,7 @@ module _ (x : Chain) where
 
 -- a chunk that begins can convert its transactions
 pub begun_goes : (x : Chain) → IsChain x → (s h : ℕ) (w : Kept) → CanOpen x s h w → CanGo x.config (record { working = begun w (record { 0 = s }) (place_at x h); local = [] })
-begun_goes x is s h w can = (record { config = can.config; valid = can.valid; coming = tt; room = omega (arith, can.valid.tokens) }, place_fits x is h)
+begun_goes x is s h w can = (record { config = can.good.config; valid = can.good.valid; coming = tt; room = omega (arith, can.good.valid.tokens) }, place_fits x is h)
 
 module _ (x : Chain) (is : IsChain x) (f : Receipt → ℕ) where
   abbrev c : Config
@@ -67,8 +67,11 @@ module _ (x : Chain) (is : IsChain x) (f : Receipt → ℕ) where
       let w : Kept = world_after r s h in
       let k : Working = begun w (record { 0 = s }) (place_at x (h + 1)) in
       let held : waiting f (work r s h 0).world ≡ waiting f (opened x s (h + 1) w).world = ap (λ (k : Working). waiting f k.world) (work_first r s h) in
-      let done : sum_by f (executed_at x s h 0) ≡ sum_by f (executes_opened x (converted_at x s h)) = ap (λ (q : List Receipt). sum_by f q) (executed_first x s h) in
-      omega (arith, held, done, opened_waits x promise pays f k (unwrap_or (chunk_at x s (h + 1)) []) (begun_goes x is s (h + 1) w can))
+      let k1 : Working = opened_first x s (h + 1) w in
+      let done : sum_by f (executed_at x s h 0) ≡ sum_by f (executes_opened x (converted_at x s h) ++ executes_all x k1 w.carried) = ap (λ (q : List Receipt). sum_by f q) (executed_first x s h) in
+      let taken = all_wait x promise f w.carried k1 (can_take_carried x is s (h + 1) w can) in
+      let parts = sum_by-append f (executes_opened x (converted_at x s h)) (executes_all x k1 w.carried) in
+      omega (arith, held, done, taken, parts, opened_waits x promise pays f k (unwrap_or (chunk_at x s (h + 1)) []) (begun_goes x is s (h + 1) w can))
 
   -- ---- taking
   takes_at : (s h n : ℕ) (pair : ℕ × ℕ) (list : List Receipt) → slice_get (due_after r s h) n ≡ Some pair → list_to r (sealing_at r pair.1 pair.0) s ≡ Some list → CanTake x (work r s h n) list
@@ -89,7 +92,7 @@ module _ (x : Chain) (is : IsChain x) (f : Receipt → ℕ) where
       let done : sum_by f (executed_in x s (h + 1 - 1)) ≡ sum_by f (executed_in x s h) = ap (λ t. sum_by f (executed_in x s t)) back in
       let local : sum_by f (converted_at x s (h + 1 - 1)).local ≡ sum_by f (converted_at x s h).local = ap (λ t. sum_by f (converted_at x s t).local) back in
       let sent : sum_by f (last_work r s (h + 1 - 1)).outgoing ≡ sum_by f (last_work r s h).outgoing = ap (λ t. sum_by f (last_work r s t).outgoing) back in
-      omega (arith, done, local, sent, routed_all f x.boundaries (last_work r s h).outgoing)
+      omega (arith, done, local, sent, routed_all f x.start.boundaries (last_work r s h).outgoing)
 
   -- ---- the whole
   pub places_kept : IsKeptBy (rules_of x) (places x f)

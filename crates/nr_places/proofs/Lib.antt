@@ -7,5 +7,6 @@ pub mod Counting
 pub mod Adding
 pub mod Counts
 pub mod Sums
+pub mod Founded
 pub mod Placed
 pub mod Replay

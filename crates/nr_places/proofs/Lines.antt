@@ -6,7 +6,7 @@ use Rattle.std.proofs.lemmas.List.Sums.{sum_by-append, sum_by-cons, sum_by_push}
 use Rattle.std.proofs.lemmas.Option.{slice_get_cases}
 use Rattle.nr_chunk.specs.Chain.{Chain, IsChain, CanOpen, CanTake, CanSeal, chunk_at, place_at, rules_of}
 use Rattle.nr_chunk.specs.Chunk.{Opening, begun, with_line, told, clashed, late, has_gas, run, by_offer, offered_to, serve, serve_all, serve_queue, served_local, without_front, is_local, with_converted, put_aside, by_conversion, convert_next, open_chunk, take_list, sent}
-use Rattle.nr_chunk.specs.Lawful.{laws_of}
+use Rattle.nr_chunk.specs.Lawful.{can_take_carried, laws_of}
 use Rattle.nr_chunk.specs.Promised.{promise_of, pays_of}
 use Rattle.nr_chunk.specs.Refused.{refused}
 use Rattle.nr_chunk.specs.Served.{can_first, can_go_on, can_front, run_action}
@@ -218,8 +218,12 @@ module _ (x : Chain) (is : IsChain x) where
       let ready : CanServe x.config o.working o.local = (all_go x.config (pays_of x.config) (unwrap_or (chunk_at x s (h + 1)) []) (record { working = k; local = [] }) (begun_goes x is s (h + 1) (world_after r s h) can)).0 in
       let both : Tells o.working k2 (executes_opened x o) =
       and_then o.working k1 k2 (executes_all x o.working o.local) (executes_delayed x k1) (all_tell x promise o.local o.working ready) (queue_tells x promise k1.world.delayed k1 (all_can x promise o.local o.working ready) refl) in
-      subst (λ (t : Working). IsCounted t o.local (executed_at x s h 0)) (sym (work_first r s h)) (subst (IsCounted k2 o.local) (sym (executed_first x s h))
-      (record { local = both.local ∙ made.local; sent = both.sent ∙ made.sent; ran = omega (arith, both.ran, made.ran) }))
+      let list : List Receipt = (world_after r s h).carried in
+      let k3 : Working = serve_all x.config x.call k2 list in
+      let all : Tells o.working k3 (executes_opened x o ++ executes_all x k2 list) =
+      and_then o.working k2 k3 (executes_opened x o) (executes_all x k2 list) both (all_tell x promise list k2 (can_take_carried x is s (h + 1) (world_after r s h) can)) in
+      subst (λ (t : Working). IsCounted t o.local (executed_at x s h 0)) (sym (work_first r s h)) (subst (IsCounted k3 o.local) (sym (executed_first x s h))
+      (record { local = all.local ∙ made.local; sent = all.sent ∙ made.sent; ran = omega (arith, all.ran, made.ran) }))
 
   counted_next : (s h n : ℕ) → s < r.shards → h < r.heights → r.present s (h + 1) ≡ true → (pair : ℕ × ℕ) → slice_get (due_after r s h) n ≡ Some pair
       → IsCounted (work r s h n) (converted_at x s h).local (executed_at x s h n) → IsCounted (work r s h (n + 1)) (converted_at x s h).local (executed_at x s h (suc n))

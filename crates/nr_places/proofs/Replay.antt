@@ -28,7 +28,7 @@ use Rattle.nr_places.proofs.Kept.{places_kept}
 use Rattle.nr_places.proofs.Placed.{places_add_up}
 use Rattle.nr_places.proofs.Sums.{tokens_add_up}
 use Rattle.nr_places.specs.Moments.{routed, executed, postponed, delayed, flying}
-use Rattle.nr_places.specs.Places.{places}
+use Rattle.nr_places.specs.Places.{places, start_receipts}
 use Rattle.nr_places.specs.Replay.{Holds, HoldsAtEnd, HoldsIn, HoldsWhereReached, PlacesAddUp, cut_by}
 use Rattle.nr_records.specs.declared.chunk_result.ChunkResult.{ChunkResult}
 use Rattle.nr_records.specs.declared.receipt.Receipt.{Receipt}
@@ -67,17 +67,18 @@ module _ (x : Chain) (is : IsChain x) where
   holds_where : (ps : List Position) → IsReached r ps → AddsUp r (tokens x) ps → ((f : Receipt → ℕ) → AddsUp r (places x f) ps) → Holds x ps
   holds_where ps reached tokens_add places_add =
       let counts = all_counts x is ps reached in
-      let all = places_add_up x ps (λ q. 1) (places_add (λ q. 1)) in
+      let all = places_add_up x ps (λ q. 1) is (places_add (λ q. 1)) in
+      let first : ℕ = start_receipts (λ q. 1) x.start in
       record {
         tokens = tokens_add_up x ps is tokens_add;
-        places = λ f. places_add_up x ps f (places_add f);
+        places = λ f. places_add_up x ps f is (places_add f);
         counts = counts;
-        printed = subst PlacesAddUp (sym counts) (ones (routed x ps) (executed x ps) (postponed x ps) (delayed x ps) (flying x ps) all);
+        printed = subst (PlacesAddUp first) (sym counts) (ones first (routed x ps) (executed x ps) (postponed x ps) (delayed x ps) (flying x ps) all);
       }
     where
-      ones : (a b c d e : List Receipt) → sum_by (λ q. 1) a ≡ sum_by (λ q. 1) b + sum_by (λ q. 1) c + sum_by (λ q. 1) d + sum_by (λ q. 1) e
-          → length a ≡ length b + length c + length d + length e
-      ones a b c d e all = omega (arith, all, as_ones a, as_ones b, as_ones c, as_ones d, as_ones e)
+      ones : (first : ℕ) (a b c d e : List Receipt) → first + sum_by (λ q. 1) a ≡ sum_by (λ q. 1) b + sum_by (λ q. 1) c + sum_by (λ q. 1) d + sum_by (λ q. 1) e
+          → first + length a ≡ length b + length c + length d + length e
+      ones first a b c d e all = omega (arith, all, as_ones a, as_ones b, as_ones c, as_ones d, as_ones e)
 
   pub holds_at : (ps : List Position) → IsReached r ps → AllAddsUp r ps → Holds x ps
   holds_at ps reached adds = holds_where ps reached (adds (tokens x) (tokens_kept x is)) (λ f. adds (places x f) (places_kept x is f))

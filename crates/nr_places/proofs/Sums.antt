@@ -2,17 +2,17 @@
 use Rattle.std.proofs.Common.{◌≡◌, ℕ, ◌+◌, Bool, true, false, cond, List, Option, Some, None, refl, sym, ap, ◌∙◌, arith}
 use Rattle.std.specs.Prelude.{nat_le}
 use Rattle.std.specs.Option.{option_map}
-use Rattle.nr_blocks.specs.Genesis.{supply}
 use Rattle.nr_chunk.specs.Amounts.{tokens}
 use Rattle.nr_chunk.specs.Chain.{Chain, IsChain, rules_of}
-use Rattle.nr_chunk.specs.GenesisSums.{first_tokens}
+use Rattle.nr_chunk.specs.Start.{start_tokens}
+use Rattle.nr_chunk.specs.StartSums.{start_sum}
 use Rattle.nr_chunk.specs.Views.{Kept, Working}
 use Rattle.nr_chunk.specs.declared.tally.Tally.{Tally}
 use Rattle.nr_overlap.specs.Balance.{AddsUp, Amount, held_in_all, held_by as holding, if_some, made_by, made_in_all, making, sealed_by as sealing, sum_below}
 use Rattle.nr_overlap.specs.Moment.{took, shown, world_in, working_in, working_at, report_at, flight_at}
 use Rattle.nr_overlap.specs.Positions.{at, top}
 use Rattle.nr_overlap.specs.Rules.{Rules, Sealing}
-use Rattle.nr_overlap.specs.Serial.{list_to, work}
+use Rattle.nr_overlap.specs.Serial.{list_to, work, world_after}
 use Rattle.nr_overlap.specs.declared.position.Position.{Position}
 use Rattle.nr_overlap.specs.declared.position.Stage.{Stage}
 use Rattle.nr_overlap.specs.declared.position.Stage.TheVariants.{Idle, Opened, Sealed}
@@ -88,13 +88,16 @@ module _ (x : Chain) (ps : List Position) where
   abbrev m : Amount Kept Working (List Receipt) ChunkResult
   m = tokens x
 
+  between : (a w l : ℕ) → a + (w + l) + 0 ≡ ((a + w) + l) + 0
+  between a w l = omega arith
+
   held_in : (s : ℕ) (t : Stage) (n k : ℕ) → total (shard_tally x.config (world_in r s t n) (working_in r s t n k)) ≡ if_some m.world (world_in r s t n) + if_some (m.working s n k) (working_in r s t n k)
-  held_in s Idle n k = refl
+  held_in s Idle n k = let w : Kept = world_after r s n in between (accounts_tokens w.world) (waiting_tokens x.config w.world) (list_tokens x.config w.carried)
   held_in s Opened n k = let w : Working = work r s n k in parts (accounts_tokens w.world) (waiting_tokens x.config w.world) (list_tokens x.config w.outgoing) w.burnt
     where
       parts : (a w o b : ℕ) → a + (w + o) + b ≡ 0 + (((a + w) + o) + b)
       parts a w o b = omega arith
-  held_in s Sealed n k = refl
+  held_in s Sealed n k = let w : Kept = world_after r s (n + 1) in between (accounts_tokens w.world) (waiting_tokens x.config w.world) (list_tokens x.config w.carried)
 
   reported : (s h : ℕ) (o : Option ChunkResult) → total (report_tally o) ≡ if_some (m.report s h) o
   reported s h None = refl
@@ -122,10 +125,10 @@ module _ (x : Chain) (ps : List Position) where
       ∙ sum_none r.shards (λ s. making r m ps s + sum_below r.heights (λ h. made_by r m ps s (h + 1))) (λ s l.
       both_none (making r m ps s) (sum_below r.heights (λ h. made_by r m ps s (h + 1))) (no_part (working_at r s (at ps s))) (sum_none r.heights (λ h. made_by r m ps s (h + 1)) (λ h j. no_part (report_at r ps s (h + 1)))))
 
-  pub tokens_add_up : IsChain x → AddsUp r m ps → total (tally_at x ps) ≡ supply x.entries
+  pub tokens_add_up : IsChain x → AddsUp r m ps → total (tally_at x ps) ≡ start_tokens x.config x.start
   tokens_add_up is adds =
-      as_first (total (tally_at x ps)) (held_in_all r m ps) (sum_below r.shards (λ s. m.world (r.begins s))) (made_in_all r m ps) (supply x.entries)
-      tally_total adds none_made (first_tokens x.boundaries x.config x.entries is.entries)
+      as_first (total (tally_at x ps)) (held_in_all r m ps) (sum_below r.shards (λ s. m.world (r.begins s))) (made_in_all r m ps) (start_tokens x.config x.start)
+      tally_total adds none_made (start_sum x.config x.start is.start)
     where
       as_first : (total all first made supply : ℕ) → total ≡ all → all ≡ first + made → made ≡ 0 → first ≡ supply → total ≡ supply
       as_first total all first made supply e f g h = omega (arith, e, f, g, h)

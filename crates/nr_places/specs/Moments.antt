@@ -27,6 +27,11 @@ waiting_in f (Some w) working = f w.world
 waiting_in f None (Some k) = f k.world
 waiting_in f None None = []
 
+-- those that a shard carries between its chunks
+abbrev pub carried_in : Option Kept → List Receipt
+carried_in None = []
+carried_in (Some w) = w.carried
+
 module _ (x : Chain) where
   -- by the chunk after a height: the receipts for its own shard's signers when they are converted, and those that go out when it is sealed
   abbrev pub routed_at : ℕ → ℕ → List Receipt
@@ -57,9 +62,9 @@ module _ (x : Chain) (ps : List Position) where
   abbrev pub delayed : List Receipt
   delayed = each_below (rules_of x).shards (waiting_by (λ w. w.delayed))
 
-  -- those of the lists that were sealed and not taken
+  -- those that are carried, and those of the lists that were sealed and not taken
   abbrev pub flying_by : ℕ → List Receipt
-  flying_by s = each_below (rules_of x).heights (λ h. each_below (rules_of x).shards (λ d. unwrap_or (flight_at (rules_of x) ps s (h + 1) d) []))
+  flying_by s = carried_in (world_at (rules_of x) s (at ps s)) ++ each_below (rules_of x).heights (λ h. each_below (rules_of x).shards (λ d. unwrap_or (flight_at (rules_of x) ps s (h + 1) d) []))
 
   abbrev pub flying : List Receipt
   flying = each_below (rules_of x).shards flying_by

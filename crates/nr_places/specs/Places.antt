@@ -1,8 +1,9 @@
 -- Where the receipts of a run are: executed, postponed, delayed or in flight. After the Nomicon, Runtime Specification (Receipts); the amounts are this project's.
 use Rattle.std.specs.Prelude.{◌≡◌, ℕ, zero, suc, ◌+◌, ◌-◌, true, false, cond, List, [], ◌∷◌, ◌++◌, Option, Some, None, length, slice_get, sum_by, unwrap_or}
-use Rattle.nr_chunk.specs.Chain.{Chain, rules_of, chunk_at, place_at}
+use Rattle.nr_chunk.specs.Chain.{Chain, rules_of, chunk_at, opened_first, place_at}
 use Rattle.nr_chunk.specs.Chunk.{Opening, begun, has_gas, serve, served_local, convert_all, without_front}
 use Rattle.nr_chunk.specs.Serving.{CanServe}
+use Rattle.nr_chunk.specs.Start.{Start}
 use Rattle.nr_chunk.specs.Views.{Kept, Working}
 use Rattle.nr_join.specs.Keeping.{leaving}
 use Rattle.nr_join.specs.Offering.{offer}
@@ -18,6 +19,10 @@ use Rattle.nr_state.specs.World.{World}
 -- an amount that receipts have, of those that wait in a world
 abbrev pub waiting : (Receipt → ℕ) → World → ℕ
 waiting f w = postponed_sum f w + delayed_sum f w
+
+-- and of those of a start, that wait or are carried
+abbrev pub start_receipts : (Receipt → ℕ) → Start → ℕ
+start_receipts f s = sum_by (waiting f) s.worlds + sum_by (sum_by f) s.carried
 
 module _ (x : Chain) where
   -- ---- the receipts that are executed: those that run or clash, and data that are stored, used or lost
@@ -64,9 +69,13 @@ module _ (x : Chain) where
   executes_due s h n None = []
   executes_due s h n (Some due) = executes_list (work (rules_of x) s h n) (list_to (rules_of x) (sealing_at (rules_of x) due.1 due.0) s)
 
+  -- and of what its shard carries
+  abbrev pub executes_carried : ℕ → ℕ → Kept → List Receipt
+  executes_carried s h w = executes_all (opened_first x s (h + 1) w) w.carried
+
   -- by the chunk after a height, when it has taken n lists
   unfoldable pub executed_at : ℕ → ℕ → ℕ → List Receipt
-  executed_at s h zero = executes_opened (converted_at s h)
+  executed_at s h zero = executes_opened (converted_at s h) ++ executes_carried s h (world_after (rules_of x) s h)
   executed_at s h (suc n) = executed_at s h n ++ executes_due s h n (slice_get (due_after (rules_of x) s h) n)
 
   -- and when it has taken all
@@ -76,7 +85,7 @@ module _ (x : Chain) where
   -- ---- the places: postponed, delayed, executed, in flight. One is made where it is routed: a local one when it is converted, others when their chunk is sealed.
   abbrev pub places : (Receipt → ℕ) → Amount Kept Working (List Receipt) ChunkResult
   places f = record {
-    world = λ w. waiting f w.world;
+    world = λ w. waiting f w.world + sum_by f w.carried;
     working = λ s h n k. waiting f k.world + sum_by f (executed_at s h n);
     list = sum_by f;
     report = λ s h r. sum_by f (executed_in s (h - 1));

@@ -37,7 +37,7 @@ tally_below (suc n) f = plus (tally_below n f) (f n)
 -- ---- of what stands
 -- the world of a shard, or its chunk at work
 abbrev pub shard_tally : Config → Option Kept → Option Working → Tally
-shard_tally c (Some w) working = tally_world c w.world
+shard_tally c (Some w) working = tally_world c w
 shard_tally c None (Some k) = tally_working c k
 shard_tally c None None = nothing
 

@@ -2,8 +2,8 @@
 use Rattle.std.proofs.Common.{◌≡◌, ℕ, List, ◌++◌, Option, refl, sym, ap, subst, ◌∙◌}
 use Rattle.std.specs.Global.{Box, Vec}
 use Rattle.sha2.specs.Sha256.{sha256}
-use Rattle.nr_blocks.specs.Genesis.{supply}
 use Rattle.nr_chunk.specs.Chain.{Chain, rules_of}
+use Rattle.nr_chunk.specs.Start.{start_tokens}
 use Rattle.nr_chunk.specs.declared.tally.Tally.{Tally}
 use Rattle.nr_overlap.specs.Balance.{sum_below}
 use Rattle.nr_overlap.specs.Run.{ending}
@@ -22,9 +22,9 @@ use Rattle.nr_replay.proofs.Shown.{count_is, text_is}
 
 -- y is the chain x, and so much it had at first
 module _ (x y : Chain) (rows : List (Vec (Option (Box ChunkResult)))) (shards heights supplied : ℕ) (tally : Tally) (same : x ≡ y)
-    (shards_are : shards ≡ (rules_of x).shards) (heights_are : heights ≡ (rules_of x).heights) (first : supplied ≡ supply y.entries) where
-  supplied_is : supplied ≡ supply x.entries
-  supplied_is = first ∙ ap (λ (z : Chain). supply z.entries) (sym same)
+    (shards_are : shards ≡ (rules_of x).shards) (heights_are : heights ≡ (rules_of x).heights) (first : supplied ≡ start_tokens y.config y.start) where
+  supplied_is : supplied ≡ start_tokens x.config x.start
+  supplied_is = first ∙ ap (λ (z : Chain). start_tokens z.config z.start) (sym same)
 
   pub is_written : (text end : List ℕ) (chunks : ℕ) → AreRows (rules_of x) rows → tally ≡ tally_at x (ending (rules_of x))
       → text ≡ text_below heights (λ h. text_below shards (λ s. report_text (cell rows s h)))

@@ -8,4 +8,4 @@ use Rattle.nr_state.specs.declared.calls.Caller.{Ghosts}
 
 -- whatever the caller's traits are
 abbrev pub chain_in : {g : Ghosts ContractCaller StateStore} → ChainRun ContractCaller g → Chain
-chain_in run = chain_with run.config run.genesis run.blocks (call run.caller)
+chain_in run = chain_with run.config run.grounds.start run.blocks (call run.caller)

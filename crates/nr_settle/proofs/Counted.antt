@@ -3,9 +3,9 @@ use Rattle.std.proofs.Common.{◌≡◌, ℕ, ◌+◌, ◌-◌, ◌^◌, ◌<◌
 use Rattle.std.specs.Prelude.{sum_by}
 use Rattle.std.specs.List.{AllByRecursion}
 use Rattle.std.specs.Option.{option_map, option_to_list}
-use Rattle.nr_chunk.specs.Chain.{AreBounded, Chain, IsChain, rules_of}
+use Rattle.nr_chunk.specs.Chain.{AreBounded, Chain, IsChain, IsCountable, rules_of}
 use Rattle.nr_chunk.specs.GoodReceipts.{are_bounded}
-use Rattle.nr_chunk.specs.Lasting.{IsGoodMoment, good_during, reached_end}
+use Rattle.nr_chunk.specs.Lasting.{IsGoodMoment, countable, good_during, reached_end}
 use Rattle.nr_chunk.specs.Tallies.{tally_list, tally_report, tally_world}
 use Rattle.nr_chunk.specs.Views.{Kept, Working}
 use Rattle.nr_chunk.specs.declared.tally.Tally.{Tally}
@@ -28,7 +28,6 @@ use Rattle.nr_places.specs.Totals.{list_tally, plus, report_tally, shard_tally, 
 use Rattle.nr_records.specs.declared.chunk_result.ChunkResult.{ChunkResult}
 use Rattle.nr_records.specs.declared.receipt.Receipt.{Receipt}
 use Rattle.nr_state.specs.Tokens.{list_tokens}
-use Rattle.nr_state.specs.Valid.{IsValidWorld}
 use Rattle.nr_workers.specs.Outcome.{last_worlds, left_at, left_by_height, left_by_source, left_list, lists_left, reports_by_shard, reports_to}
 use Rattle.nr_workers.specs.Outcome as outcome
 use Rattle.nr_settle.specs.Shown.{report_of}
@@ -56,7 +55,7 @@ module _ (x : Chain) where
   -- ---- the totals
   module _ (g : Tally → ℕ) (is : IsAdditive g) where
     held : ℕ → ℕ
-    held s = g (tally_world c (world_after r s r.heights).world)
+    held s = g (tally_world c (world_after r s r.heights))
 
     sealed : ℕ → ℕ → ℕ
     sealed s h = g (report_tally (report_of r s (h + 1)))
@@ -64,11 +63,11 @@ module _ (x : Chain) where
     flies : ℕ → ℕ → ℕ → ℕ
     flies s h d = g (list_tally c (flight_at r ps s (h + 1) d))
 
-    worlds_are : g (sum_of (λ w. tally_world c w.world) (last_worlds r)) ≡ sum_below r.shards held
+    worlds_are : g (sum_of (λ w. tally_world c w) (last_worlds r)) ≡ sum_below r.shards held
     unfolding held
     worlds_are =
-        sum_of_is g is (λ w. tally_world c w.world) (last_worlds r)
-        ∙ sum_range (λ w. g (tally_world c w.world)) (λ s. world_after r s r.heights) r.shards 0
+        sum_of_is g is (λ w. tally_world c w) (last_worlds r)
+        ∙ sum_range (λ w. g (tally_world c w)) (λ s. world_after r s r.heights) r.shards 0
         ∙ sum_same r.shards held (λ s. held (0 + s)) (λ s l. ap held (omega arith))
 
     told : (o : Option ChunkResult) → if_some (λ y. g (tally_report y)) o ≡ g (report_tally o)
@@ -142,9 +141,9 @@ module _ (x : Chain) where
     abbrev all_in : Tally → Tally → Tally → ℕ
     all_in w y l = g (plus (plus w y) l)
 
-    pub adds_up : all_in (sum_of (λ w. tally_world c w.world) (last_worlds r)) (sum_rows (reports_by_shard r)) (sum_of (λ l. tally_list c l.3) (lists_left r)) ≡ g (tally_at x ps)
+    pub adds_up : all_in (sum_of (λ w. tally_world c w) (last_worlds r)) (sum_rows (reports_by_shard r)) (sum_of (λ l. tally_list c l.3) (lists_left r)) ≡ g (tally_at x ps)
     adds_up =
-        let w : Tally = sum_of (λ w. tally_world c w.world) (last_worlds r) in
+        let w : Tally = sum_of (λ w. tally_world c w) (last_worlds r) in
         let y : Tally = sum_rows (reports_by_shard r) in
         let l : Tally = sum_of (λ (l : Sent). tally_list c l.3) (lists_left r) in
         is.both (plus w y) l
@@ -153,18 +152,18 @@ module _ (x : Chain) where
         ∙ sym (at_end ∙ in_one)
 
   -- what all of it holds
-  pub tally_is : (w y l all : Tally) → w ≡ sum_of (λ w. tally_world c w.world) (last_worlds r) → y ≡ sum_rows (reports_by_shard r) → l ≡ sum_of (λ l. tally_list c l.3) (lists_left r)
+  pub tally_is : (w y l all : Tally) → w ≡ sum_of (λ w. tally_world c w) (last_worlds r) → y ≡ sum_rows (reports_by_shard r) → l ≡ sum_of (λ l. tally_list c l.3) (lists_left r)
       → all ≡ plus (plus w y) l → all ≡ tally_at x ps
   tally_is w y l all e f g h = h ∙ (λ i. plus (plus (e i) (f i)) (g i))
-      ∙ alike (plus (sum_of (λ w. tally_world c w.world) (last_worlds r)) (sum_rows (reports_by_shard r))) (sum_of (λ (l : Sent). tally_list c l.3) (lists_left r)) r.shards (tally_of x ps) (λ g is. adds_up g is)
+      ∙ alike (plus (sum_of (λ w. tally_world c w) (last_worlds r)) (sum_rows (reports_by_shard r))) (sum_of (λ (l : Sent). tally_list c l.3) (lists_left r)) r.shards (tally_of x ps) (λ g is. adds_up g is)
 
   -- ---- it can be counted
   module _ (is : IsChain x) where
     good : IsGoodMoment x ps
     good = good_during x is ps (reached_end r)
 
-    pub valid_worlds : AllByRecursion (λ w. IsValidWorld c w.world) (last_worlds r)
-    valid_worlds = all_range (λ (w : Kept). IsValidWorld c w.world) (λ s. world_after r s r.heights) r.shards 0 (λ s l. (good.worlds (0 + s) (world_after r (0 + s) r.heights) (omega (arith, l)) (whole.world (0 + s) (omega (arith, l)))).valid)
+    pub countable_worlds : AllByRecursion (IsCountable c) (last_worlds r)
+    countable_worlds = all_range (IsCountable c) (λ s. world_after r s r.heights) r.shards 0 (λ s l. countable x ps good (0 + s) (world_after r (0 + s) r.heights) (omega (arith, l)) (whole.world (0 + s) (omega (arith, l))))
 
     of_left : (P : List Receipt → Type 0) → ((s h d : ℕ) (list : List Receipt) → s < r.shards → flight_at r ps s h d ≡ Some list → P list) → AllByRecursion (λ l. P l.3) (lists_left r)
     of_left P have =

@@ -1,7 +1,8 @@
 //! What a run by threads came to.
 
 ghost use Rattle.std.specs.Prelude.{◌≡◌, IfOk};
-ghost use Rattle.nr_chunk.specs.Chain.{chain_with, rules_of};
+ghost use Rattle.nr_chunk.specs.Chain.{rules_of};
+ghost use Rattle.nr_chunk.specs.Runs.{chain_in};
 ghost use Rattle.nr_overlap.specs.Run.{ending};
 ghost use Rattle.nr_places.specs.Totals.{tally_at};
 ghost use Rattle.nr_workers.specs.Outcome.{last_worlds, lists_left, reports_by_shard};
@@ -40,11 +41,11 @@ fn settle<C: Caller<ChunkStore>>(
     worlds: List<ChunkWorld>,
     left: List<(ShardId, Height, ShardId, List<Receipt>)>,
 ) -> Result<Ended, AllocError>
-    requires reports { reports ≡ reports_by_shard (rules_of (chain_with chain.now.config chain.now.genesis chain.now.blocks (C.meaning chain.now.caller))) }
-    requires worlds { worlds ≡ last_worlds (rules_of (chain_with chain.now.config chain.now.genesis chain.now.blocks (C.meaning chain.now.caller))) }
-    requires left { left ≡ lists_left (rules_of (chain_with chain.now.config chain.now.genesis chain.now.blocks (C.meaning chain.now.caller))) }
-    ensures rows { let x = chain_with chain.now.config chain.now.genesis chain.now.blocks (C.meaning chain.now.caller) in IfOk result (λ ended. AreRows (rules_of x) ended.rows.items) }
-    ensures tally { let x = chain_with chain.now.config chain.now.genesis chain.now.blocks (C.meaning chain.now.caller) in IfOk result (λ ended. ended.tally ≡ tally_at x (ending (rules_of x))) }
+    requires reports { reports ≡ reports_by_shard (rules_of (chain_in chain.now)) }
+    requires worlds { worlds ≡ last_worlds (rules_of (chain_in chain.now)) }
+    requires left { left ≡ lists_left (rules_of (chain_in chain.now)) }
+    ensures rows { let x = chain_in chain.now in IfOk result (λ ended. AreRows (rules_of x) ended.rows.items) }
+    ensures tally { let x = chain_in chain.now in IfOk result (λ ended. ended.tally ≡ tally_at x (ending (rules_of x))) }
 {
     let _ = chain.shards();
     let held = sum_worlds(alloc, chain, worlds.inner())?;
@@ -70,8 +71,8 @@ pub fn run_to_end<
     W: Watch + Send + Sync,
     G: Gate + Sync,
 >(rt: &R, alloc: Global, gate: &G, run: &Serial<Watched<C, W>>) -> Result<Ended, AllocError>
-    ensures rows { let x = chain_with run.now.0.chain.config run.now.0.chain.genesis run.now.0.chain.blocks (C.meaning run.now.0.chain.caller) in IfOk result (λ ended. AreRows (rules_of x) ended.rows.items) }
-    ensures tally { let x = chain_with run.now.0.chain.config run.now.0.chain.genesis run.now.0.chain.blocks (C.meaning run.now.0.chain.caller) in IfOk result (λ ended. ended.tally ≡ tally_at x (ending (rules_of x))) }
+    ensures rows { let x = chain_in run.now.0.chain in IfOk result (λ ended. AreRows (rules_of x) ended.rows.items) }
+    ensures tally { let x = chain_in run.now.0.chain in IfOk result (λ ended. ended.tally ≡ tally_at x (ending (rules_of x))) }
 {
     let Finished {
         reports,

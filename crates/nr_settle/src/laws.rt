@@ -1,6 +1,6 @@
 //! What holds while the threads of a run are at work.
 
-ghost use Rattle.nr_chunk.specs.Chain.{chain_with};
+ghost use Rattle.nr_chunk.specs.Runs.{chain_in};
 ghost use Rattle.nr_settle.specs.Running.{HoldsWhileRunning};
 
 use crate::watched::{Watch, Watched};
@@ -12,7 +12,7 @@ use nr_state::Caller;
 /// views, some list of events leads to positions with the numbers and claims of the views and each shard's own stage,
 /// and what holds of each moment of a replay holds there. It does nothing when it runs.
 pub fn running_law<C: Caller<ChunkStore>, W: Watch>(run: &Serial<Watched<C, W>>)
-    ensures running { HoldsWhileRunning run.now (λ x. chain_with x.chain.config x.chain.genesis x.chain.blocks (C.meaning x.chain.caller)) }
+    ensures running { HoldsWhileRunning run.now (λ x. chain_in x.chain) }
 {
     let _run = run;
 }

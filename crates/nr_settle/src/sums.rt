@@ -2,11 +2,10 @@
 
 ghost use Rattle.std.specs.Prelude.{◌≡◌, ◌+◌, ◌^◌, ◌<◌, ◌≤◌, true, length, IfOk};
 ghost use Rattle.std.specs.List.{AllByRecursion};
-ghost use Rattle.nr_chunk.specs.Chain.{AreBounded};
+ghost use Rattle.nr_chunk.specs.Chain.{AreBounded, IsCountable};
 ghost use Rattle.nr_chunk.specs.Tallies.{tally_list, tally_report, tally_world};
 ghost use Rattle.nr_places.specs.Totals.{plus, nothing};
 ghost use Rattle.nr_state.specs.Tokens.{list_tokens};
-ghost use Rattle.nr_state.specs.Valid.{IsValidWorld};
 ghost use Rattle.nr_settle.specs.Sums.{sum_of, sum_on, sum_rows};
 
 use nr_bytes::List;
@@ -23,8 +22,8 @@ pub(crate) fn sum_worlds<C: Caller<ChunkStore>>(
     chain: &ChainRun<C>,
     worlds: &[ChunkWorld],
 ) -> Result<Tally, AllocError>
-    requires { AllByRecursion (λ w. IsValidWorld chain.now.config w.world) worlds.now }
-    ensures { IfOk result (λ sum. sum ≡ sum_of (λ w. tally_world chain.now.config w.world) worlds.now) }
+    requires { AllByRecursion (IsCountable chain.now.config) worlds.now }
+    ensures { IfOk result (λ sum. sum ≡ sum_of (λ w. tally_world chain.now.config w) worlds.now) }
 {
     let mut sum = no_tally();
     for world in worlds {

@@ -31,20 +31,21 @@ pub struct Watched<C: Caller<ChunkStore>, W: Watch> {
 }
 
 impl<C: Caller<ChunkStore>, W: Watch> Phases for Watched<C, W> {
-    ghost use Rattle.nr_chunk.specs.Chain.{chain_with, rules_of, IsChain, CanOpen, CanTake, CanSeal};
+    ghost use Rattle.nr_chunk.specs.Chain.{rules_of, IsChain, CanOpen, CanTake, CanSeal};
+    ghost use Rattle.nr_chunk.specs.Runs.{chain_in};
     ghost use Rattle.nr_chunk.specs.Lawful.{laws_of};
 
-    ghost is_run = { λ x. IsChain (chain_with x.chain.config x.chain.genesis x.chain.blocks (C.meaning x.chain.caller)) };
+    ghost is_run = { λ x. IsChain (chain_in x.chain) };
 
-    ghost rules = { λ x. rules_of (chain_with x.chain.config x.chain.genesis x.chain.blocks (C.meaning x.chain.caller)) };
+    ghost rules = { λ x. rules_of (chain_in x.chain) };
 
-    ghost can_open = { λ x. CanOpen (chain_with x.chain.config x.chain.genesis x.chain.blocks (C.meaning x.chain.caller)) };
+    ghost can_open = { λ x. CanOpen (chain_in x.chain) };
 
-    ghost can_take = { λ x. CanTake (chain_with x.chain.config x.chain.genesis x.chain.blocks (C.meaning x.chain.caller)) };
+    ghost can_take = { λ x. CanTake (chain_in x.chain) };
 
-    ghost can_seal = { λ x. CanSeal (chain_with x.chain.config x.chain.genesis x.chain.blocks (C.meaning x.chain.caller)) };
+    ghost can_seal = { λ x. CanSeal (chain_in x.chain) };
 
-    ghost laws = { λ x is. laws_of (chain_with x.chain.config x.chain.genesis x.chain.blocks (C.meaning x.chain.caller)) is };
+    ghost laws = { λ x is. laws_of (chain_in x.chain) is };
 
     type World = ChunkWorld;
 

@@ -25,3 +25,4 @@ pub mod OverAwaiting
 pub mod OverEntries
 pub mod ValidPart
 pub mod WorldsRead
+pub mod EntryWorlds

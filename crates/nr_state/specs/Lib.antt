@@ -16,3 +16,4 @@ pub mod Scopes
 pub mod Local
 pub mod Keyed
 pub mod Entries
+pub mod FromEntries

@@ -4,10 +4,12 @@ ghost use Rattle.std.specs.Prelude.{◌≡◌, ◌+◌, ◌<◌, ◌≤◌, ◌�
 ghost use Rattle.std.specs.FinMap as map;
 ghost use Rattle.nr_triedef.specs.Root.{root_of};
 ghost use Rattle.nr_columns.specs.Entries.{pairs_of};
+ghost use Rattle.nr_state.specs.FromEntries.{AreWholeEntries, world_from};
 ghost use Rattle.nr_state.specs.World.{no_world};
 ghost use Rattle.nr_state.specs.Flat.{flat};
 
 use nr_bytes::List;
+use nr_columns::laws::laid_laws;
 use nr_columns::{Columns, Entry};
 use nr_config::Config;
 use nr_triedef::{NodeHash, Steps, Store};
@@ -48,6 +50,37 @@ impl<S: Store> Model for ShardState<S> {
     ghost invariant = { λ s. IsState s.columns s.whole };
 }
 
+impl<S: Store + Drop> ShardState<S> {
+    /// The world that trie entries stand for, over an empty store.
+    ///
+    /// # Errors
+    ///
+    /// Where memory runs out. The store is let go.
+    pub fn from_entries(
+        alloc: Global,
+        store: S,
+        config: &Config,
+        entries: &List<Entry>,
+    ) -> Result<ShardState<S>, AllocError>
+        requires empty { S.contents store ≡ map.empty }
+        requires marks { S.marks store ≡ [] }
+        requires entries { AreWholeEntries entries.now }
+        ensures world { IfOk result (λ state. state.world ≡ world_from entries.now) }
+        ensures marks { IfOk result (λ state. state.marks ≡ []) }
+        ensures spare { IfOk result (λ state. state.spare ≡ S.spare store) }
+        ensures config { IfOk result (λ state. state.config ≡ config.now) }
+        ensures whole { IfOk result (λ state. state.whole ≡ true) }
+    {
+        let columns = Columns::from_entries(alloc, store, entries)?;
+        Ok(ShardState {
+            columns,
+            config: *config,
+            alloc,
+            whole: true,
+        })
+    }
+}
+
 impl<S: Store> ShardState<S> {
     /// An empty world, over an empty store.
     pub fn new(alloc: Global, store: S, config: &Config) -> ShardState<S>
@@ -77,8 +110,12 @@ impl<S: Store> ShardState<S> {
     /// All trie entries of the world, in the order of their keys' bytes.
     pub fn entries(&self) -> Result<List<Entry>, AllocError>
         requires { self.now.whole ≡ true }
-        ensures { IfOk result (λ found. pairs_of found ≡ map.entries (flat self.now.world)) }
+        ensures entries { IfOk result (λ found. pairs_of found ≡ map.entries (flat self.now.world)) }
+        // The world can be made of them again.
+        ensures whole { IfOk result AreWholeEntries }
+        ensures world { IfOk result (λ found. world_from found ≡ self.now.world) }
     {
+        laid_laws(&self.columns);
         self.columns.entries()
     }
 

@@ -9,6 +9,7 @@ use nr_blocks::{fill, read_genesis};
 use nr_config::Config;
 use nr_ids::{AccountId, Hash32, ShardId};
 use nr_records::Account;
+use nr_state::ShardState;
 use nr_store::PlainStore;
 use std::alloc::{AllocError, Global};
 use std::test::Fail;
@@ -68,6 +69,26 @@ fn state_of(alloc: Global, file: &[u8], shard: u32) -> Result<State, AllocError>
 fn the_first_state_has_its_root(rt: HostRuntime) -> Result<(), Fail> {
     let mut state = state_of(rt.alloc(), &ONE_ACCOUNT, 0)?;
     assert!(rt; has_root(&mut state, &ITS_ROOT)?);
+    Ok(())
+}
+
+/// A state that is made of the entries of one.
+fn made_again(alloc: Global, state: &State) -> Result<State, AllocError>
+    requires { state.now.whole ≡ true }
+    ensures { IfOk result (λ state. state.whole ≡ true) }
+{
+    let entries = state.entries()?;
+    let store = PlainStore::new(alloc);
+    let state = ShardState::from_entries(alloc, store, &Config::free(), &entries)?;
+    Ok(state)
+}
+
+#[test]
+fn a_state_made_of_its_entries_has_its_root(rt: HostRuntime) -> Result<(), Fail> {
+    let alloc = rt.alloc();
+    let state = state_of(alloc, &ONE_ACCOUNT, 0)?;
+    let mut again = made_again(alloc, &state)?;
+    assert!(rt; has_root(&mut again, &ITS_ROOT)?);
     Ok(())
 }
 

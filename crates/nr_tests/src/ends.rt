@@ -4,7 +4,7 @@ use nr_top::Status;
 use std::test::Fail;
 
 /// Each answer, with the exit status and the line that are its own.
-const ENDS: [(Status, u8, &str); 9] = [
+const ENDS: [(Status, u8, &str); 11] = [
     (Status::Done, 0, "0"),
     (Status::Usage, 1, "1"),
     (Status::Config { kind: 4, entry: 33 }, 2, "2 4 33"),
@@ -23,6 +23,8 @@ const ENDS: [(Status, u8, &str); 9] = [
     (Status::WriteFault, 6, "6"),
     (Status::NoMemory, 7, "7"),
     (Status::Schedule { kind: 1, line: 23 }, 8, "8 1 23"),
+    (Status::Proof { kind: 1, line: 2 }, 10, "10 1 2"),
+    (Status::NoItem { count: 5 }, 11, "11 5"),
 ];
 
 #[test]

@@ -16,9 +16,15 @@ mod ends;
 #[cfg(test)]
 mod faulty;
 #[cfg(test)]
+mod four_parts;
+#[cfg(test)]
 mod lengths;
 #[cfg(test)]
+mod parts;
+#[cfg(test)]
 mod pieces;
+#[cfg(test)]
+mod proving;
 #[cfg(test)]
 mod refused;
 #[cfg(test)]

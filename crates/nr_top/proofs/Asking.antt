@@ -1,18 +1,32 @@
 -- Which files the plan of a command asks for.
-use Rattle.std.proofs.Common.{ℕ, ◌+◌, true, false, cond, List, [], ◌∷◌, ◌++◌, length, Option, Some, None}
+use Rattle.std.proofs.Common.{ℕ, ◌+◌, true, false, cond, List, [], ◌∷◌, ◌++◌, length, Option, Some, None, Result, Ok, Err, subst}
+use Rattle.std.proofs.lemmas.List.{append-nil}
 use Rattle.nr_blocks.specs.Judging.{blocks_read, genesis_read}
 use Rattle.nr_blocks.specs.declared.genesis.Genesis.{Genesis}
 use Rattle.nr_chunk.specs.Chain.{Chain, shards_of}
 use Rattle.nr_config.specs.Config.{Config, free}
 use Rattle.nr_config.specs.Reading.{configuration}
+use Rattle.nr_ids.specs.declared.key.Hash32.{Hash32}
+use Rattle.nr_outproof.specs.Proofs.{proof_of}
+use Rattle.nr_outproof.specs.Items.{items}
+use Rattle.nr_outproof.specs.Texts.{proof_read}
+use Rattle.nr_outproof.specs.declared.fault.ProofFault.{ProofFault}
+use Rattle.nr_outproof.specs.declared.proof.Proof.{Proof}
+use Rattle.nr_records.specs.declared.chunk_result.ChunkResult.{ChunkResult}
 use Rattle.nr_shell.specs.Plans.{Plan, Answer, Asks, and_then, file_plan}
 use Rattle.nr_shell.proofs.Ends.{file_asks, reading_asks, then_asks}
-use Rattle.nr_top.specs.Plans.{blocks_plan, blocks_status, by_blocks_bytes, by_chain, by_config, by_config_bytes, by_genesis, by_genesis_bytes, by_schedule_bytes, chain_files, chain_plan, config_files, config_plan, config_status, files_of, genesis_plan, genesis_status, plan, replay_plan, schedule_files, schedule_plan, schedule_status}
+use Rattle.nr_top.specs.Plans.{blocks_plan, blocks_status, by_blocks_bytes, by_chain, by_config, by_config_bytes, by_genesis, by_genesis_bytes, by_schedule_bytes, chain_files, chain_plan, config_files, config_plan, config_status, files_of, genesis_plan, genesis_status, plan, prove_plan, replay_plan, schedule_files, schedule_plan, schedule_status, verify_plan}
+use Rattle.nr_top.specs.Chunks.{result_at}
+use Rattle.nr_top.specs.Proving.{by_chunk, by_item, by_proof, by_proof_bytes, by_proof_read, roots_text}
+use Rattle.nr_top.specs.Roots.{root_in}
 use Rattle.nr_top.specs.Run.{chain, check_text, run_text}
 use Rattle.nr_top.specs.Schedule.{schedule_read}
+use Rattle.nr_top.specs.StateParts.{cut_answer}
+use Rattle.nr_top.proofs.PartAsking.{check_part_asks, cut_asks, join_parts_asks}
 use Rattle.nr_top.specs.declared.status.Status.{Status}
-use Rattle.nr_top.specs.declared.status.Status.TheVariants.{Config as faulty_config, Genesis as faulty_genesis, Blocks as faulty_blocks, Schedule as faulty_schedule}
-use Rattle.nr_words.specs.Command.{Command, Replay, Generate, Names, is_free}
+use Rattle.nr_top.specs.declared.status.Status.TheVariants.{Config as faulty_config, Genesis as faulty_genesis, Blocks as faulty_blocks, Schedule as faulty_schedule, Proof as faulty_proof}
+use Rattle.nr_words.specs.Command.{Command, Replay, Generate, Roots, Prove, Verify, Cut, CheckPart, JoinParts, Names, is_free}
+use Rattle.nr_words.specs.declared.words.ChunkItem.{ChunkItem}
 
 -- a file, behind whose bytes no other is asked for
 file_alone : {A : Type 0} (name : List ℕ) (limit : ℕ) (long : Status) (next : List ℕ → Plan A Status) → ((bytes : List ℕ) → Asks [] (next bytes)) → Asks (name ∷ []) (and_then (file_plan name limit long) next)
@@ -54,7 +68,38 @@ replay_asks : (names : Names) (schedule : Option (List ℕ)) → Asks (chain_fil
 replay_asks names None = then_asks (chain_files names) [] (chain_plan names) (λ x. Answer (run_text x)) (chain_asks names) (λ x. tt)
 replay_asks names (Some file) = then_asks (chain_files names) (file ∷ []) (chain_plan names) (by_chain file) (chain_asks names) (by_chain_asks file)
 
+-- the chain, behind whose files no other is asked for
+chain_alone : (names : Names) (next : Chain → Plan (List ℕ) Status) → ((x : Chain) → Asks [] (next x)) → Asks (chain_files names) (and_then (chain_plan names) next)
+chain_alone names next more =
+    subst (λ (files : List (List ℕ)). Asks files (and_then (chain_plan names) next)) (append-nil (chain_files names))
+    (then_asks (chain_files names) [] (chain_plan names) next (chain_asks names) more)
+
+proof_asks : (count : ℕ) (p : Option Proof) → Asks [] (by_proof count p)
+proof_asks count None = tt
+proof_asks count (Some p) = tt
+
+chunk_asks : (item : ChunkItem) (y : Option ChunkResult) → Asks [] (by_chunk item y)
+chunk_asks item None = tt
+chunk_asks item (Some y) = proof_asks (length (items item.kind y)) (proof_of y item.kind item.place)
+
+prove_asks : (names : Names) (item : ChunkItem) → Asks (chain_files names) (prove_plan names item)
+prove_asks names item = chain_alone names (by_item item) (λ x. chunk_asks item (result_at x item.shard item.height))
+
+proof_read_asks : (root : Hash32) (r : Result Proof ProofFault) → Asks [] (by_proof_read root r)
+proof_read_asks root (Ok p) = tt
+proof_read_asks root (Err f) = tt
+
+verify_asks : (root name : List ℕ) → Asks (name ∷ []) (verify_plan root name)
+verify_asks root name =
+    file_alone name 268435456 (faulty_proof 0 0) (by_proof_bytes (root_in root)) (λ b. proof_read_asks (root_in root) (proof_read b))
+
 pub plan_asks : (asked : Option Command) → Asks (files_of asked) (plan asked)
 plan_asks None = tt
 plan_asks (Some (Replay names)) = replay_asks names names.schedule
 plan_asks (Some (Generate start shards blocks)) = tt
+plan_asks (Some (Roots names)) = chain_alone names (λ x. Answer (roots_text x)) (λ x. tt)
+plan_asks (Some (Prove names item)) = prove_asks names item
+plan_asks (Some (Verify root name)) = verify_asks root name
+plan_asks (Some (Cut names part)) = chain_alone names (cut_answer part) (cut_asks part)
+plan_asks (Some (CheckPart word file)) = check_part_asks word file
+plan_asks (Some (JoinParts word count prefix)) = join_parts_asks word count prefix

@@ -3,8 +3,8 @@ use Rattle.std.proofs.Common.{◌≡◌, ℕ, ◌+◌, ◌<◌, ◌≤◌, suc, 
 use Rattle.std.specs.Prelude.{OnOk, codes, slice_get}
 use Rattle.std.proofs.lemmas.List.{drop_all}
 use Rattle.std.proofs.lemmas.Option.{get_or_from_slice_get, slice_get_within}
-use Rattle.nr_blocks.specs.Genesis.{supply}
 use Rattle.nr_chunk.specs.Chain.{Chain, rules_of}
+use Rattle.nr_chunk.specs.Start.{start_tokens}
 use Rattle.nr_overlap.specs.Inside.{IsInside}
 use Rattle.nr_overlap.specs.Moves.{moved, refusal}
 use Rattle.nr_overlap.specs.Next.{left, IsNext, IsNextOf}
@@ -174,7 +174,7 @@ along_end a b all n along past = along_last a b all (subst (Along a b all) (drop
 checked_by : Chain → List Position → List Line → ℕ → List ℕ
 checked_by x ps lines n = let r = rules_of x in let es = events_of r ps lines in events_text r ps es ++ totals_text (totals_of n (tally_at x (run_of r ps es)))
 
-is_checked : (x : Chain) (lines : List Line) → checked_by x (opening (rules_of x)) lines (supply x.entries) ≡ check_text x lines
+is_checked : (x : Chain) (lines : List Line) → checked_by x (opening (rules_of x)) lines (start_tokens x.config x.start) ≡ check_text x lines
 unfolding check_text checked_by
 is_checked x lines = refl
 
@@ -189,7 +189,7 @@ checked_so a b lines totals out n none drives counted written =
     ∙ ap (λ (t : Totals). events_text r ps (events_of r ps lines) ++ totals_text t) (counted ∙ ap (λ (v : Chains _). totals_of n (tally_at (chain_of v) v.positions)) drives.core)
 
 pub checked_text : (a b : Driven) (x : Chain) (lines : List Line) (totals : Totals) (out : List ℕ) (n : ℕ) → chain_of a.core ≡ x → a.core.positions ≡ opening (rules_of (chain_of a.core)) → a.text ≡ []
-    → Drives a b (events_of (rules_of (chain_of a.core)) a.core.positions lines) → n ≡ supply x.entries → totals ≡ totals_of n (tally_at (chain_of b.core) b.core.positions) → out ≡ b.text ++ totals_text totals
+    → Drives a b (events_of (rules_of (chain_of a.core)) a.core.positions lines) → n ≡ start_tokens x.config x.start → totals ≡ totals_of n (tally_at (chain_of b.core) b.core.positions) → out ≡ b.text ++ totals_text totals
     → out ≡ check_text x lines
 checked_text a b x lines totals out n same first none drives given counted written =
     checked_so a b lines totals out n none drives counted written

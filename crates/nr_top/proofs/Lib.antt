@@ -5,4 +5,12 @@ pub mod Onward
 pub mod Standing
 pub mod Drives
 pub mod Digesting
+pub mod Arrival
+pub mod Entered
+pub mod PartAsking
+pub mod PartLoading
+pub mod PartAnswers
 pub mod Asking
+pub mod Digests
+pub mod Present
+pub mod Named

@@ -1,8 +1,8 @@
 -- A core at its moments, and what it shows there.
 use Rattle.std.proofs.Common.{◌≡◌, ℕ, ◌^◌, ◌<◌, ◌≤◌, true, false, List, [], Option, Some, None, refl, sym, ap, subst}
-use Rattle.nr_chunk.specs.Chain.{Chain, IsChain, AreBounded, rules_of, working_tokens}
+use Rattle.nr_chunk.specs.Chain.{Chain, IsChain, IsCountable, AreBounded, rules_of, working_tokens}
 use Rattle.nr_chunk.specs.GoodReceipts.{are_bounded}
-use Rattle.nr_chunk.specs.Lasting.{IsGoodMoment, good_during, reached_by, reached_end, tried_reached}
+use Rattle.nr_chunk.specs.Lasting.{IsGoodMoment, countable as can_count, good_during, reached_by, reached_end, tried_reached}
 use Rattle.nr_chunk.specs.Store.{StateStore}
 use Rattle.nr_chunk.specs.Views.{Kept, Working}
 use Rattle.nr_config.specs.Config.{Config}
@@ -54,8 +54,8 @@ module _ {g : Ghosts ContractCaller StateStore} (core : Chains g) (is : IsMoment
   good : IsGoodMoment x core.positions
   good = good_during x is.chain core.positions is.reached
 
-  pub valid_world : (s : ℕ) (w : Kept) → s < (rules_of x).shards → world_at (rules_of x) s (at core.positions s) ≡ Some w → IsValidWorld c w.world
-  valid_world s w l e = (good.worlds s w l e).valid
+  pub countable_world : (s : ℕ) (w : Kept) → s < (rules_of x).shards → world_at (rules_of x) s (at core.positions s) ≡ Some w → IsCountable c w
+  countable_world s w l e = can_count x core.positions good s w l e
 
   -- a chunk at work
   pub record CanCount (k : Working) : Type 0 where

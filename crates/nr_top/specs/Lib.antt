@@ -6,8 +6,13 @@ pub mod Run
 pub mod Generated
 pub mod Moments
 pub mod Driving
+pub mod Arriving
 pub mod Hashing
 pub mod Works
+pub mod Chunks
+pub mod Roots
+pub mod Proving
+pub mod StateParts
 pub mod Plans
 pub mod Answers
 pub mod Exit

@@ -14,7 +14,7 @@ abbrev pub Chains : Ghosts ContractCaller StateStore → Type 0
 Chains g = CoreView (ChainRun ContractCaller g)
 
 abbrev pub chain_of : {g : Ghosts ContractCaller StateStore} → Chains g → Chain
-chain_of core = chain_with core.phases.config core.phases.genesis core.phases.blocks (call core.phases.caller)
+chain_of core = chain_with core.phases.config core.phases.grounds.start core.phases.blocks (call core.phases.caller)
 
 -- a sound chain, no want of memory, and positions that steps lead to
 pub record IsMoment {g : Ghosts ContractCaller StateStore} (core : Chains g) : Type 0 where

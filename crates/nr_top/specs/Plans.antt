@@ -1,7 +1,9 @@
 -- What each command does, as a plan: the files that it asks for in their order, and what it answers or refuses. This
 -- project's own commands and limits.
 use Rattle.std.specs.Prelude.{ℕ, ◌+◌, List, [], ◌∷◌, ◌++◌, cond, length, Option, Some, None}
-use Rattle.nr_words.specs.Command.{Command, Replay, Generate, Names, is_free}
+use Rattle.nr_words.specs.Command.{Command, Replay, Generate, Roots, Prove, Verify, Cut, CheckPart, JoinParts, Names, is_free}
+use Rattle.nr_words.specs.declared.words.ChunkItem.{ChunkItem}
+use Rattle.nr_words.specs.declared.words.StatePart.{StatePart}
 use Rattle.nr_config.specs.Config.{Config, free}
 use Rattle.nr_config.specs.Reading.{configuration}
 use Rattle.nr_config.specs.declared.fault.ConfigFault.{ConfigFault}
@@ -16,14 +18,17 @@ use Rattle.nr_blocks.specs.declared.genesis.Genesis.{Genesis}
 use Rattle.nr_chunk.specs.Chain.{Chain, shards_of}
 use Rattle.nr_shell.specs.Plans.{Plan, Answer, Refuse, and_then, by_reading, file_plan}
 use Rattle.nr_top.specs.Generated.{generated_text}
+use Rattle.nr_top.specs.Proving.{by_item, by_proof_bytes, roots_text}
+use Rattle.nr_top.specs.Roots.{root_in}
 use Rattle.nr_top.specs.Run.{chain, check_text, run_text}
 use Rattle.nr_top.specs.Schedule.{schedule_read}
+use Rattle.nr_top.specs.StateParts.{check_part_plan, cut_answer, join_parts_plan, part_names}
 use Rattle.nr_top.specs.declared.chain.ChainFiles.{ChainFiles}
 use Rattle.nr_top.specs.declared.schedule.Line.{Line}
 use Rattle.nr_top.specs.declared.schedule.ScheduleFault.{ScheduleFault}
 use Rattle.nr_top.specs.declared.schedule.ScheduleFault.TheVariants as schedule
 use Rattle.nr_top.specs.declared.status.Status.{Status}
-use Rattle.nr_top.specs.declared.status.Status.TheVariants.{Usage, Config as faulty_config, Genesis as faulty_genesis, Blocks as faulty_blocks, Schedule as faulty_schedule, NoMemory}
+use Rattle.nr_top.specs.declared.status.Status.TheVariants.{Usage, Config as faulty_config, Genesis as faulty_genesis, Blocks as faulty_blocks, Schedule as faulty_schedule, Proof as faulty_proof, NoMemory}
 
 -- ---- the configuration: the built-in one, or that of a file of at most 1 MiB; its faults, by kind and entry
 abbrev pub config_status : ConfigFault → Status
@@ -112,10 +117,32 @@ abbrev pub replay_plan : Names → Option (List ℕ) → Plan (List ℕ) Status
 replay_plan names None = run_plan names
 replay_plan names (Some file) = check_plan names file
 
+-- `roots`
+abbrev pub roots_plan : Names → Plan (List ℕ) Status
+roots_plan names = and_then (chain_plan names) (λ x. Answer (roots_text x))
+
+-- `prove`
+abbrev pub prove_plan : Names → ChunkItem → Plan (List ℕ) Status
+prove_plan names item = and_then (chain_plan names) (by_item item)
+
+-- `verify`, over a file of at most 256 MiB
+abbrev pub verify_plan : List ℕ → List ℕ → Plan (List ℕ) Status
+verify_plan root name = and_then (file_plan name 268435456 (faulty_proof 0 0)) (by_proof_bytes (root_in root))
+
+-- `part`
+abbrev pub part_plan : Names → StatePart → Plan (List ℕ) Status
+part_plan names part = and_then (chain_plan names) (cut_answer part)
+
 -- `gen` asks for no file
 abbrev pub command_plan : Command → Plan (List ℕ) Status
 command_plan (Replay names) = replay_plan names names.schedule
 command_plan (Generate start shards blocks) = Answer (generated_text start shards blocks)
+command_plan (Roots names) = roots_plan names
+command_plan (Prove names item) = prove_plan names item
+command_plan (Verify root name) = verify_plan root name
+command_plan (Cut names part) = part_plan names part
+command_plan (CheckPart word file) = check_part_plan word file
+command_plan (JoinParts word count prefix) = join_parts_plan word count prefix
 
 -- words that are no command are refused
 abbrev pub plan : Option Command → Plan (List ℕ) Status
@@ -137,3 +164,9 @@ abbrev pub files_of : Option Command → List (List ℕ)
 files_of None = []
 files_of (Some (Replay names)) = chain_files names ++ schedule_files names.schedule
 files_of (Some (Generate start shards blocks)) = []
+files_of (Some (Roots names)) = chain_files names
+files_of (Some (Prove names item)) = chain_files names
+files_of (Some (Verify root name)) = name ∷ []
+files_of (Some (Cut names part)) = chain_files names
+files_of (Some (CheckPart word file)) = file ∷ []
+files_of (Some (JoinParts word count prefix)) = part_names prefix count

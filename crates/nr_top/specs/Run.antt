@@ -3,6 +3,7 @@ use Rattle.std.specs.Prelude.{ℕ, zero, suc, ◌+◌, List, [], ◌++◌}
 use Rattle.nr_blocks.specs.declared.block.Block.{Block}
 use Rattle.nr_blocks.specs.declared.genesis.Genesis.{Genesis}
 use Rattle.nr_chunk.specs.Chain.{Chain, chain_with, rules_of}
+use Rattle.nr_chunk.specs.Start.{genesis_start}
 use Rattle.nr_config.specs.Config.{Config}
 use Rattle.nr_contract.specs.Contract.{call}
 use Rattle.nr_overlap.specs.Moment.{report_at}
@@ -15,7 +16,7 @@ use Rattle.nr_top.specs.Totals.{totals_at}
 use Rattle.nr_top.specs.declared.schedule.Line.{Line}
 
 abbrev pub chain : Config → Genesis → List Block → Chain
-chain c g bs = chain_with c g bs (call c)
+chain c g bs = chain_with c (genesis_start g) bs (call c)
 
 -- ---- the text of the chunks that are sealed
 -- the text of each number below n, one after another

@@ -1,7 +1,7 @@
 -- The totals of a run at any moment: the supply, and the sums of the tallies of all that stands. This project's own.
 use Rattle.std.specs.Prelude.{◌≡◌, ℕ, ◌+◌, List}
-use Rattle.nr_blocks.specs.Genesis.{supply}
 use Rattle.nr_chunk.specs.Chain.{Chain}
+use Rattle.nr_chunk.specs.Start.{start_tokens}
 use Rattle.nr_chunk.specs.declared.tally.Tally.{Tally}
 use Rattle.nr_overlap.specs.declared.position.Position.{Position}
 use Rattle.nr_places.specs.Replay.{PlacesAddUp}
@@ -13,9 +13,9 @@ abbrev pub totals_of : ℕ → Tally → Totals
 totals_of supply t = record { supply = supply; accounts = t.accounts; receipts = t.receipts; burnt = t.burnt; places = t.places }
 
 abbrev pub totals_at : Chain → List Position → Totals
-totals_at x ps = totals_of (supply x.entries) (tally_at x ps)
+totals_at x ps = totals_of (start_tokens x.config x.start) (tally_at x ps)
 
 -- what the accounts have, what receipts hold and what was burnt are together the supply, and as many receipts were routed as are executed, postponed, delayed and in flight
 pub record AddUp (t : Totals) : Type 0 where
   pub tokens : t.accounts + t.receipts + t.burnt ≡ t.supply
-  pub places : PlacesAddUp t.places
+  pub places : PlacesAddUp 0 t.places

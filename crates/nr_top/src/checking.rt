@@ -15,7 +15,7 @@ ghost use Rattle.nr_top.specs.Moments.{chain_of};
 ghost use Rattle.nr_top.specs.Run.{chain, check_text};
 ghost use Rattle.nr_top.specs.Schedule.{IsThere, AreThere};
 
-use crate::run::{Run, add_report, begin, totals};
+use crate::run::{Run, add_report, begin, supply_of, totals};
 use crate::schedule::Line;
 use nr_blocks::{Block, Genesis};
 use nr_bytes::{Blob, List};
@@ -215,7 +215,7 @@ pub(crate) fn check(
     requires inside { AreThere (length genesis.layout + 1) lines.now }
     ensures { IfOk result (λ text. text ≡ check_text (chain config genesis blocks) lines.now) }
 {
-    let supply = genesis.supply;
+    let supply = supply_of(&config, &genesis);
     let mut driven = driven_from(alloc, config, genesis, blocks)?;
     add_lines(alloc, &mut driven, lines)?;
     let totals = totals(alloc, &driven.core, supply)?;

@@ -7,18 +7,30 @@ ghost use Rattle.nr_top.specs.Works.{IsRight, Runs};
 ghost use Rattle.nr_words.specs.Words.{CanRun, command_in, names_in};
 
 mod check;
+mod check_part;
 mod generate;
+mod join_parts;
+mod part;
+mod prove;
+mod roots;
 mod run;
+mod verify;
 
 use crate::status::Status;
 use crate::work::Work;
 use check::check_text;
+use check_part::check_part_text;
 use generate::generate_text;
+use join_parts::join_parts_text;
 use nr_bytes::{Blob, Shelf};
 use nr_shell::Stop;
 use nr_words::{FileNames, Words};
+use part::part_text;
+use prove::prove_text;
+use roots::roots_text;
 use run::run_text;
 use std::alloc::{AllocError, Global};
+use verify::verify_text;
 
 /// The text of a replay, to its end or by a schedule.
 fn replay_text<F: Fn(Work) -> Result<Blob, AllocError>, S: Shelf>(
@@ -65,5 +77,15 @@ pub(crate) fn text_of<F: Fn(Work) -> Result<Blob, AllocError>, S: Shelf>(
             shards,
             blocks,
         } => generate_text(run, *start, *shards, *blocks),
+        Words::ChunkRoots(files) => roots_text(alloc, files, shelf),
+        Words::ProveItem { files, item } => prove_text(alloc, files, *item, shelf),
+        Words::VerifyProof { root, proof } => verify_text(alloc, root, proof, shelf),
+        Words::CutPart { files, part } => part_text(alloc, files, *part, shelf),
+        Words::CheckPartFile { root, file } => check_part_text(alloc, root, file, shelf),
+        Words::JoinPartFiles {
+            root,
+            count,
+            prefix,
+        } => join_parts_text(alloc, root, *count, prefix, shelf),
     }
 }

@@ -15,7 +15,7 @@ ghost use Rattle.nr_top.specs.Run.{chunks_text, height_text};
 ghost use Rattle.nr_words.specs.Words.{CanGenerate};
 ghost use Rattle.nr_top.specs.Totals.{totals_at};
 
-use crate::run::{Run, run, totals};
+use crate::run::{Run, run, supply_of, totals};
 use nr_bytes::Blob;
 use nr_config::Config;
 use nr_gen::generate;
@@ -95,8 +95,9 @@ fn run_generated(
     ensures totals { IfOk result (λ made. made.1 ≡ totals_at (chain_of made.0) made.0.positions) }
 {
     let (genesis, blocks) = generate(alloc, start, shards, blocks)?;
-    let supply = genesis.supply;
-    let core = run(alloc, Config::generated(), genesis, blocks)?;
+    let config = Config::generated();
+    let supply = supply_of(&config, &genesis);
+    let core = run(alloc, config, genesis, blocks)?;
     let totals = totals(alloc, &core, supply)?;
     Ok((core, totals))
 }

@@ -1,17 +1,19 @@
 //! What holds of every run, and of every command.
 
-ghost use Rattle.std.specs.Prelude.{◌≡◌, ◌++◌, ℕ, List, Option};
+ghost use Rattle.std.specs.Prelude.{◌≡◌, ◌+◌, ◌++◌, ℕ, List, Option, Some, is_some};
 ghost use Rattle.nr_blocks.specs.declared.block.Block.{Block};
 ghost use Rattle.nr_blocks.specs.declared.genesis.Genesis.{Genesis};
-ghost use Rattle.nr_chunk.specs.Chain.{IsChain, rules_of};
+ghost use Rattle.nr_chunk.specs.Chain.{Chain, IsChain, rules_of};
 ghost use Rattle.nr_config.specs.Config.{Config};
 ghost use Rattle.nr_overlap.specs.Inside.{AreInside};
 ghost use Rattle.nr_overlap.specs.Next.{left};
 ghost use Rattle.nr_overlap.specs.Run.{ending, opening, run_of};
 ghost use Rattle.nr_overlap.specs.declared.event.Event.{Event};
+ghost use Rattle.nr_records.specs.declared.chunk_result.ChunkResult.{ChunkResult};
 ghost use Rattle.nr_shell.specs.Plans.{LeadsBy, Plan};
 ghost use Rattle.nr_top.specs.Checking.{events_left};
 ghost use Rattle.nr_top.specs.Plans.{files_of, plan};
+ghost use Rattle.nr_top.specs.Chunks.{has_chunk, result_at};
 ghost use Rattle.nr_top.specs.Run.{chain};
 ghost use Rattle.nr_top.specs.Totals.{AddUp, totals_at};
 ghost use Rattle.nr_top.specs.declared.status.Status.{Status};
@@ -32,4 +34,13 @@ pub fn totals_law()
 pub fn asked_law()
     ensures { (held : List ℕ → Option (List ℕ)) (asked : Option Command) (names : List (List ℕ)) (q : Plan (List ℕ) Status)
         → LeadsBy held names (plan asked) q → (rest : List (List ℕ)) × (files_of asked ≡ names ++ rest) }
+{}
+
+/// A run to its end has the result of a chunk exactly where the chain has the chunk, and it states the chunk's shard
+/// and height. So `roots` has a line for each of these chunks and for no other, and `prove` says exactly of the others
+/// that there is no such chunk. It does nothing when it runs.
+pub fn chunks_law()
+    ensures there { (x : Chain) (shard height : ℕ) → is_some (result_at x shard height) ≡ has_chunk x shard height }
+    ensures named { (x : Chain) (shard height : ℕ) (y : ChunkResult) → result_at x shard height ≡ Some y
+        → (y.shard.0 ≡ shard) × (y.height.0 ≡ x.start.below + height) }
 {}

@@ -4,16 +4,22 @@ ghost use Rattle.std.specs.Prelude.{◌≡◌, true};
 ghost use Rattle.nr_blocks.specs.declared.fault.BlocksFault.TheVariants as blocks;
 ghost use Rattle.nr_blocks.specs.declared.fault.GenesisFault.TheVariants as genesis;
 ghost use Rattle.nr_config.specs.declared.fault.ConfigFault.TheVariants as config;
+ghost use Rattle.nr_outproof.specs.declared.fault.ProofFault.TheVariants as proof;
+ghost use Rattle.nr_parts.specs.declared.fault.PartFault.TheVariants as part;
 ghost use Rattle.nr_shell.specs.Answers.{StopsBy};
 ghost use Rattle.nr_top.specs.Answers.{refuses};
 ghost use Rattle.nr_top.specs.Plans.{blocks_status, config_status, genesis_status, schedule_status};
+ghost use Rattle.nr_top.specs.Proving.{proof_status};
+ghost use Rattle.nr_top.specs.StateParts.{part_status};
 ghost use Rattle.nr_top.specs.declared.schedule.ScheduleFault.TheVariants as schedule;
-ghost use Rattle.nr_top.specs.declared.status.Status.TheVariants.{Genesis as faulty_genesis};
+ghost use Rattle.nr_top.specs.declared.status.Status.TheVariants.{Genesis as faulty_genesis, Parts as faulty_parts};
 
 use crate::schedule::ScheduleFault;
 use crate::status::Status;
 use nr_blocks::{BlocksFault, GenesisFault};
 use nr_config::ConfigFault;
+use nr_outproof::ProofFault;
+use nr_parts::PartFault;
 use nr_shell::Stop;
 
 fn genesis_refusal(kind: u32, a: u64, b: u64, c: u64) -> Status
@@ -76,5 +82,40 @@ pub(crate) fn schedule_stop(fault: ScheduleFault) -> Stop<Status>
     match fault {
         ScheduleFault::NoLine { line } => Stop::Refused(Status::Schedule { kind: 1, line }),
         ScheduleFault::Memory => Stop::Memory,
+    }
+}
+
+/// Why a faulty proof stops the command.
+pub(crate) fn proof_stop(fault: ProofFault) -> Stop<Status>
+    ensures { StopsBy refuses proof.Memory proof_status fault result }
+{
+    match fault {
+        ProofFault::Form { line } => Stop::Refused(Status::Proof { kind: 1, line }),
+        ProofFault::Memory => Stop::Memory,
+    }
+}
+
+fn parts_refusal(kind: u32, a: u64) -> Status
+    ensures value { result ≡ faulty_parts kind a }
+    ensures refuses { refuses result ≡ true }
+{
+    Status::Parts { kind, a }
+}
+
+/// Why the part at a position, or parts that don't join, stop the command.
+pub(crate) fn part_stop(position: u64, fault: PartFault) -> Stop<Status>
+    ensures { StopsBy refuses part.Memory (part_status position) fault result }
+{
+    match fault {
+        PartFault::Spelling { at } => Stop::Refused(parts_refusal(1, at)),
+        PartFault::Numbers { .. } => Stop::Refused(parts_refusal(2, position)),
+        PartFault::Root { .. } => Stop::Refused(parts_refusal(3, position)),
+        PartFault::Missing { .. } => Stop::Refused(parts_refusal(4, position)),
+        PartFault::BadText { .. } => Stop::Refused(parts_refusal(5, position)),
+        PartFault::Entries { index } => Stop::Refused(parts_refusal(6, index)),
+        PartFault::Order { number } => Stop::Refused(parts_refusal(7, u64::from(number))),
+        PartFault::Whole { .. } => Stop::Refused(parts_refusal(8, 0)),
+        PartFault::TooMany => Stop::Refused(parts_refusal(9, position)),
+        PartFault::Memory => Stop::Memory,
     }
 }

@@ -3,6 +3,7 @@
 ghost use Rattle.std.specs.Prelude.{◌≡◌, ◌+◌, ◌++◌, IfOk, OnOk};
 ghost use Rattle.nr_blocks.specs.Genesis.{IsSoundGenesis};
 ghost use Rattle.nr_chunk.specs.Chain.{rules_of};
+ghost use Rattle.nr_chunk.specs.Start.{genesis_start, start_tokens};
 ghost use Rattle.nr_overlap.specs.Moment.{report_at};
 ghost use Rattle.nr_overlap.specs.Run.{ending, opening};
 ghost use Rattle.nr_top.specs.Moments.{IsMoment, chain_of};
@@ -15,6 +16,7 @@ use crate::tally::tally_all;
 use nr_blocks::{Block, Genesis};
 use nr_bytes::{Blob, List};
 use nr_chunk::ChainRun;
+use nr_chunk::laws::genesis_laws;
 use nr_config::Config;
 use nr_contract::ContractCaller;
 use nr_ids::{Height, ShardId};
@@ -100,6 +102,15 @@ fn chunks_text(alloc: Global, core: &Run) -> Result<Blob, AllocError>
     Ok(text)
 }
 
+/// The supply of a genesis, which is all that its start has in tokens.
+pub(crate) fn supply_of(config: &Config, genesis: &Genesis) -> u128
+    requires { IsSoundGenesis config.now genesis.now }
+    ensures { result ≡ start_tokens config.now (genesis_start genesis.now) }
+{
+    genesis_laws();
+    genesis.supply
+}
+
 /// The totals, where there was this much at first.
 pub(crate) fn totals(alloc: Global, core: &Run, supply: u128) -> Result<Totals, AllocError>
     requires moment { IsMoment core.now }
@@ -131,7 +142,7 @@ pub(crate) fn report(
     requires sound { IsSoundGenesis config genesis }
     ensures { IfOk result (λ text. text ≡ run_text (chain config genesis blocks)) }
 {
-    let supply = genesis.supply;
+    let supply = supply_of(&config, &genesis);
     let core = run(alloc, config, genesis, blocks)?;
     let mut text = chunks_text(alloc, &core)?;
     let totals = totals(alloc, &core, supply)?;

@@ -38,10 +38,10 @@ pub enum Status {
     NoItem { count: u64 },
     /// Parts of a state are refused. The kind is 0 where a file is longer than 256 MiB, and else the
     /// number of the fault that `nr_parts` gives: 1 a field can't be read, 2 the part's numbers are out of
-    /// range, 3 another root, 4 a text is missing, 5 a text is no node's, 6 the entries aren't those of the
-    /// walk, 7 a part out of order, 8 another root of the whole, 9 too many nodes. `a` is the place of a
-    /// field, the index of an entry, the position of a part out of order, and else the part's position,
-    /// from 0.
+    /// range, 3 another root, 4 a text is missing, 5 a text is no node's, or not one that can stand there,
+    /// 6 the entries aren't those of the walk, 7 a part out of order, 8 another root of the whole, 9 too
+    /// many nodes. `a` is the place of a field, the index of an entry, the position of a part out of order,
+    /// 0 where the whole has another root, and else the part's position, from 0.
     Parts { kind: u32, a: u64 },
     /// A file could not be read.
     ReadFault,

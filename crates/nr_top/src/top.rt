@@ -93,13 +93,28 @@ pub fn serve<F: Fn(Work) -> Result<Blob, AllocError>, S: Shelf, K: Sink>(
 /// chain that these numbers generate, under the built-in configuration for such chains, and writes the
 /// numbers, how many chunks were sealed, the SHA-256 digest of the report, and the totals.
 ///
+/// `roots CONFIG GENESIS BLOCKS` runs a chain and writes for each chunk the roots of its outcomes and of its
+/// receipts. `prove CONFIG GENESIS BLOCKS HEIGHT SHARD KIND PLACE` runs it and writes the proof that a chunk has
+/// an item at a place, where KIND is `outcome` or `receipt`. `verify ROOT PROOF` writes `valid` where the proof of
+/// a file is accepted against a root, and else `invalid`.
+///
+/// `part CONFIG GENESIS BLOCKS HEIGHT SHARD COUNT NUMBER` runs a chain until a chunk is sealed, and writes the file
+/// of one of so many parts of the state that its shard then has. `checkpart ROOT FILE` writes the number and the
+/// count of the part of a file and how many entries it has, if it is accepted against a root.
+/// `joinparts ROOT COUNT PREFIX` writes the root and how many entries all parts have, if the parts of so many files,
+/// named by the prefix and the numbers from 0 on, are accepted and together have the root.
+///
 /// # Answers
 ///
 /// - `Done`: the text was written whole.
-/// - `Usage`: the words are none of `run CONFIG GENESIS BLOCKS`, `check CONFIG GENESIS BLOCKS SCHEDULE`
-///   and `gen NUMBER SHARDS BLOCKS`, where no word is empty or begins with `-` and the numbers are
-///   decimal without leading zeros, up to 2^64 - 1, from 1 to 16 and from 1 to 256. Nothing was
-///   loaded or written.
+/// - `Usage`: the words are none of `run CONFIG GENESIS BLOCKS`, `check CONFIG GENESIS BLOCKS SCHEDULE`,
+///   `gen NUMBER SHARDS BLOCKS`, `roots CONFIG GENESIS BLOCKS`,
+///   `prove CONFIG GENESIS BLOCKS HEIGHT SHARD KIND PLACE`, `verify ROOT PROOF`,
+///   `part CONFIG GENESIS BLOCKS HEIGHT SHARD COUNT NUMBER`, `checkpart ROOT FILE` and
+///   `joinparts ROOT COUNT PREFIX`. There no word is empty or begins with `-`, and numbers are decimal without
+///   leading zeros: NUMBER of `gen`, HEIGHT and PLACE up to 2^64 - 1, SHARD up to 2^32 - 1, SHARDS from 1 to 16 and
+///   BLOCKS of `gen` from 1 to 256, COUNT from 1 to 10,000 and NUMBER of `part` below it; the word of ROOT is 64
+///   digits of base 16 in lower case. Nothing was loaded or written.
 /// - `Config`: the configuration's file is longer than 1 MiB (kind 0), or its first fault, by the kind
 ///   and the entry that `nr_config::Config::read` gives. Nothing was written.
 /// - `Genesis`: the genesis is longer than 64 MiB (kind 0), or its first fault, by the kind and the
@@ -108,12 +123,20 @@ pub fn serve<F: Fn(Work) -> Result<Blob, AllocError>, S: Shelf, K: Sink>(
 ///   number that `Status` says; `nr_blocks::read_blocks` gives it. Nothing was written.
 /// - `Schedule`: the schedule is longer than 1 MiB (kind 0), or has a line of none of the forms or with
 ///   a shard that isn't there (kind 1), by the first such line. Nothing was written.
+/// - `Proof`: the proof is longer than 256 MiB (kind 0), or has a line that isn't of the form or lacks one
+///   (kind 1), by the first such line; `nr_outproof::read_proof` gives it. Nothing was written.
+/// - `NoItem`: the chain has no such chunk (count 0), or the chunk has no item of the kind at the place; it has
+///   as many as the count. Nothing was written.
+/// - `Parts`: the file of a part is longer than 256 MiB (kind 0), or parts are refused, by the first fault and the
+///   number that `Status` says; `nr_parts::read_part`, `check_part` and `join_parts` give it. Nothing was written.
 /// - `ReadFault`: a file could not be read. Nothing was written.
 /// - `WriteFault`: the sink failed. A front of the text was written.
 /// - `NoMemory`: memory ran out. It counts as that where a total doesn't fit its number of 64 or 128
 ///   bits. Nothing was written.
 ///
-/// Of several refusals the first in this order comes: `Usage`, `Config`, `Genesis`, `Blocks`, `Schedule`.
+/// Of several refusals the first in this order comes: `Usage`, `Config`, `Genesis`, `Blocks`, `Schedule`,
+/// `Proof`, `NoItem`. Of `joinparts` each file is loaded and read before the next one, then the order of the parts is
+/// looked at, then each part by itself, and last the whole.
 /// A file is loaded after all before it has passed; `gen` loads none. Where the shelf tells its files, the plan has one
 /// end (`nr_shell::plan_law`), so the answer is that end's, unless a file is unread, memory runs out or the sink fails.
 pub fn serial<S: Shelf, K: Sink>(

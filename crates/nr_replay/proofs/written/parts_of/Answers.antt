@@ -4,6 +4,7 @@ use Rattle.nr_contract.specs.contracts.caller.ContractCaller as C
 use Rattle.nr_replay.proofs.Crossing.{caller_send, caller_sync}
 use Rattle.std.proofs.Common.{List, Option, ap, ◌∙◌}
 use Rattle.std.specs.Global.{Box, Vec}
+use Rattle.nr_chunk.specs.StartSums.{supply_is}
 use Rattle.nr_overlap.specs.Balance.{sum_below}
 use Rattle.nr_records.specs.declared.chunk_result.ChunkResult.{ChunkResult}
 use Rattle.nr_settle.specs.Shown.{cell}
@@ -27,7 +28,7 @@ returns g c =
     c.in_ok-chunks.ensures
     ∙ ap (λ (rows : List (Vec (Option (Box ChunkResult)))). sum_below heights.result (λ h. sum_below shards.result (λ s. one_if_there (cell rows s h)))) c.deref-2.ensures.value in
     is_written x (chain c.args.config c.args.genesis c.args.blocks) ended.ended.rows.items shards.result heights.result c.args.genesis.supply
-    ended.ended.tally c.begin-run.ensures shards.ensures.count heights.ensures c.requires.tokens
+    ended.ended.tally c.begin-run.ensures shards.ensures.count heights.ensures (supply_is c.args.config c.args.genesis c.requires)
     c.in_ok-text.text c.in_ok-end.end c.in_ok-chunks.chunks ended.ensures.rows ended.ensures.tally text c.in_ok-end.ensures chunks
 
 pub run_to_end-requires-send-C : goal.run_to_end-requires-send-C

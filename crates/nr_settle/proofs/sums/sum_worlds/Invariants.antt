@@ -8,6 +8,6 @@ use Rattle.nr_settle.proofs.sums.sum_worlds.Given as goal
 -- the sum so far, and what is left behind it
 abbrev pub invariant-loop-world : goal.invariant-loop-world
 invariant-loop-world g l = record {
-  sum : sum_on (λ w. tally_world l.chain.config w.world) l.sum (drop l.world-index l.worlds) ≡ sum_of (λ w. tally_world l.chain.config w.world) l.worlds;
+  sum : sum_on (λ w. tally_world l.chain.config w) l.sum (drop l.world-index l.worlds) ≡ sum_of (λ w. tally_world l.chain.config w) l.worlds;
   left : AllByRecursion (λ w. IsValidWorld l.chain.config w.world) (drop l.world-index l.worlds);
 }

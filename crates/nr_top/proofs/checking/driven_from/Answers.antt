@@ -8,7 +8,7 @@ use Rattle.nr_top.proofs.checking.driven_from.Goals as goal
 
 pub returns-clause-driven : goal.returns-clause-driven
 returns-clause-driven c =
-    let count : c.shards.result ≡ (rules_of (chain_of c.in_ok-core.core)).shards = c.shards.ensures.count ∙ ap (λ p. length p.genesis.layout + 1) c.phases.ensures in
+    let count : c.shards.result ≡ (rules_of (chain_of c.in_ok-core.core)).shards = c.shards.ensures.count ∙ ap (λ p. length p.grounds.start.boundaries + 1) c.phases.ensures in
     record {
       moment = c.in_ok-core.ensures.moment;
       published = c.in_ok-published.ensures.items_if_clones_equal (λ y e. e) ∙ ap (λ n. replicate n 0) count ∙ sym (numbers_first (rules_of (chain_of c.in_ok-core.core)).shards) ∙ ap numbers (sym c.in_ok-core.ensures.first);

@@ -1,15 +1,15 @@
 use Rattle.std.proofs.Common.{sym, ap, subst, ◌∙◌, ◌≡◌, ◌≤◌, ◌^◌, true}
 use Rattle.std.specs.Option.{option_copied}
-use Rattle.nr_chunk.specs.Chain.{AreBounded, rules_of, working_tokens}
+use Rattle.nr_chunk.specs.Chain.{AreBounded, IsCountable, rules_of, working_tokens}
 use Rattle.nr_overlap.specs.Positions.{at}
 use Rattle.nr_state.specs.Valid.{IsValidWorld}
 use Rattle.nr_top.specs.Moments.{chain_of}
-use Rattle.nr_top.proofs.Standing.{countable, holds_some, valid_world}
+use Rattle.nr_top.proofs.Standing.{countable, countable_world, holds_some}
 use Rattle.nr_top.proofs.tally.held_by.Goals as goal
 
 pub tally_world-requires : goal.tally_world-requires
 tally_world-requires c =
-    record { valid = subst (λ p. IsValidWorld p.config c.in-Some.world.now.world) (sym c.phases.ensures) (valid_world c.args.core.now c.requires.moment c.args.shard.0 c.in-Some.world.now c.requires.inside (sym c.world.ensures ∙ ap (λ o. option_copied o) c.in-Some.is)) }
+    subst (λ p. IsCountable p.config c.in-Some.world.now) (sym c.phases.ensures) (countable_world c.args.core.now c.requires.moment c.args.shard.0 c.in-Some.world.now c.requires.inside (sym c.world.ensures ∙ ap (λ o. option_copied o) c.in-Some.is))
 
 pub tally_working-requires-clause-whole : goal.tally_working-requires-clause-whole
 tally_working-requires-clause-whole c =

@@ -1,0 +1,88 @@
+-- A shard without accounts, and a refund of 1 that it carries, are a start.
+use Rattle.std.proofs.Common.{◌≡◌, ℕ, ◌+◌, List, [], ◌∷◌, length, refl, sym, ap, subst, ◌∙◌, arith}
+use Rattle.std.proofs.lemmas.List.Sums.{sum_by-cons}
+use Rattle.nr_actions.proofs.Made.{refund_bounded, refund_holds}
+use Rattle.nr_actions.specs.Refunds.{deposit_refund}
+use Rattle.nr_blocks.specs.Genesis.{AreSoundEntries, genesis_world}
+use Rattle.nr_blocks.specs.declared.genesis.Genesis.{Genesis}
+use Rattle.nr_chunk.specs.Goodness.{IsGood, IsSmall}
+use Rattle.nr_chunk.specs.Start.{IsStart, genesis_start}
+use Rattle.nr_chunk.specs.StartSums.{genesis_is, genesis_tokens}
+use Rattle.nr_chunk.specs.Starts.{IsSoundStart}
+use Rattle.nr_chunk.specs.declared.start.FirstState.TheVariants as first
+use Rattle.nr_chunk.specs.declared.start.Resumed.{Resumed}
+use Rattle.nr_columns.specs.declared.entry.Entry.{Entry}
+use Rattle.nr_config.specs.Config.{Config}
+use Rattle.nr_fees.specs.Fees.{receipt_tokens}
+use Rattle.nr_ids.specs.declared.key.Hash32.{Hash32}
+use Rattle.nr_records.specs.declared.receipt.Receipt.{Receipt}
+use Rattle.nr_state.specs.FromEntries.{AreWholeEntries, world_from}
+use Rattle.nr_state.specs.Tokens.{list_tokens, world_tokens}
+use Rattle.nr_state.specs.Valid.{IsValidWorld}
+use Rattle.nr_state.specs.World.{World, no_world}
+
+module _ (c : Config) where
+  -- ---- a world without accounts is that of a genesis without entries
+  abbrev none : Genesis
+  none = record { layout = []; entries = []; supply = 0 }
+
+  sound : AreSoundEntries c []
+  sound = record { apart = refl; owned = refl; usage = refl; code_hash = refl; bounded = omega arith }
+
+  start : IsStart c (genesis_start none)
+  start = genesis_is c none sound
+
+  is_none : genesis_world [] ≡ no_world
+  unfolding genesis_world
+  is_none = refl
+
+  no_tokens : world_tokens c no_world ≡ 0
+  no_tokens =
+      omega (
+        arith,
+        genesis_tokens c none sound,
+        sum_by-cons (world_tokens c) (genesis_world []) [],
+        sum_by-cons (list_tokens c) [] [],
+        ap (world_tokens c) is_none,
+      )
+
+  valid : IsValidWorld c no_world
+  valid = subst (IsValidWorld c) is_none start.valid.0
+
+  small : IsSmall no_world
+  small = subst IsSmall is_none start.small.0
+
+  -- ---- with what it carries
+  module _ (to : List ℕ) (id : Hash32) where
+    abbrev refund : Receipt
+    refund = deposit_refund to id 1
+
+    good : IsGood c refund
+    good = record { bounded = refund_bounded c to id 1; calls = (omega arith, tt) }
+
+    abbrev cut : List (List ℕ) → List Entry → Resumed
+    cut layout entries =
+        record { layout = layout; below = 1; worlds = entries ∷ []; carried = (refund ∷ []) ∷ [] }
+
+    pub is_sound : (layout : List (List ℕ)) (entries : List Entry) → length layout + 1 ≡ 1 → AreWholeEntries entries
+        → world_from entries ≡ no_world → IsSoundStart c (first.Resumed (cut layout entries))
+    is_sound layout entries alone whole world = record {
+      start = record {
+        worlds = sym alone;
+        lists = sym alone;
+        valid = (subst (IsValidWorld c) (sym world) valid, tt);
+        small = (subst IsSmall (sym world) small, tt);
+        good = ((good, tt), tt);
+        few =
+            omega (
+              arith,
+              sum_by-cons (world_tokens c) (world_from entries) [],
+              ap (world_tokens c) world,
+              no_tokens,
+              sum_by-cons (list_tokens c) (refund ∷ []) [],
+              sum_by-cons (receipt_tokens c) refund [],
+              refund_holds c to id 1,
+            );
+      };
+      fills = (whole, tt);
+    }

@@ -1,0 +1,154 @@
+//! A chain of one shard that is cut in two by hand.
+
+ghost use Rattle.std.specs.Prelude.{◌≡◌, ◌+◌, length, IfOk};
+ghost use Rattle.nr_blocks.specs.Genesis.{IsSoundGenesis};
+ghost use Rattle.nr_chunk.specs.Starts.{IsSoundStart};
+ghost use Rattle.nr_chunk.specs.declared.start.FirstState.TheVariants as first;
+ghost use Rattle.nr_state.specs.FromEntries.{AreWholeEntries, world_from};
+ghost use Rattle.nr_state.specs.World.{no_world};
+
+use nr_actions::deposit_refund;
+use nr_blocks::{Block, Genesis, read_blocks, read_genesis};
+use nr_bytes::List;
+use nr_chunk::{ChainRun, ChunkStore, Resumed};
+use nr_config::Config;
+use nr_contract::ContractCaller;
+use nr_ids::{AccountId, Hash32, Height, ShardId};
+use nr_layout::Layout;
+use nr_overlap::{Core, run_serially};
+use nr_records::ChunkLine;
+use nr_state::{Entry, ShardState};
+use std::alloc::{AllocError, Global};
+use std::test::Fail;
+
+type Run = Core<ChainRun<ContractCaller>>;
+
+/// An account x.alice that has 1, with a full key.
+const GENESIS: [u8; 150] = *b"\
+    NRG1\0\0\0\0\x02\0\0\0\0\x07\0\0\0x.alice\x01\0\0\0\0\0\0\0\0\0\0\0\0\0\0\0\0\0\0\0\0\0\
+    \0\0\0\0\0\0\0\0\0\0\0\0\0\0\0\0\0\0\0\0\0\0\0\0\0\0\0\0\0\0\0\0\0\0\0\0\0\0\0\0\0\0\xb6\
+    \0\0\0\0\0\0\0\x02\x07\0\0\0x.alice\0\xb2\xb2\xb2\xb2\xb2\xb2\xb2\xb2\xb2\xb2\xb2\xb2\
+    \xb2\xb2\xb2\xb2\xb2\xb2\xb2\xb2\xb2\xb2\xb2\xb2\xb2\xb2\xb2\xb2\xb2\xb2\xb2\xb2\0\0\0\0\
+    \0\0\0\0\x01\
+";
+
+/// In block 1 she deletes it, and what it had goes to bob, who isn't there. Block 2 has an empty chunk.
+const BLOCKS: [u8; 165] = *b"\
+    NRB1\x02\0\0\0\x01\0\0\0\0\0\0\0\0\0\0\0\0\0\0\0\x01\0\0\0\x01\x01\0\0\0\x07\0\0\0x.alic\
+    e\0\xb2\xb2\xb2\xb2\xb2\xb2\xb2\xb2\xb2\xb2\xb2\xb2\xb2\xb2\xb2\xb2\xb2\xb2\xb2\xb2\xb2\
+    \xb2\xb2\xb2\xb2\xb2\xb2\xb2\xb2\xb2\xb2\xb2\x01\0\0\0\0\0\0\0\x07\0\0\0x.alice\0\0\0\0\
+    \0\0\0\0\0\0\0\0\0\0\0\0\0\0\0\0\0\0\0\0\0\0\0\0\0\0\0\0\x01\0\0\0\x07\x03\0\0\0bob\x02\
+    \0\0\0\0\0\0\0\0\0\0\0\0\0\0\0\x01\0\0\0\x01\0\0\0\0\
+";
+
+/// A block with an empty chunk.
+const LAST: [u8; 33] = *b"\
+    NRB1\x01\0\0\0\x01\0\0\0\0\0\0\0\0\0\0\0\0\0\0\0\x01\0\0\0\x01\0\0\0\0\
+";
+
+/// The account id of these bytes.
+fn id_of(alloc: Global, bytes: &[u8]) -> Result<AccountId, AllocError> {
+    AccountId::parse(alloc, bytes).map_err(|_| AllocError)
+}
+
+fn blocks_of(alloc: Global, bytes: &[u8]) -> Result<List<Block>, AllocError> {
+    read_blocks(alloc, bytes, 1).map_err(|_| AllocError)
+}
+
+fn genesis(alloc: Global, config: &Config) -> Result<Genesis, AllocError>
+    ensures { IfOk result (IsSoundGenesis config.now) }
+{
+    let Ok(genesis) = read_genesis(alloc, &GENESIS, config) else {
+        return Err(AllocError);
+    };
+    Ok(genesis)
+}
+
+/// A chain that is run to its end.
+fn ended(alloc: Global, chain: ChainRun<ContractCaller>) -> Result<Run, AllocError> {
+    let mut core = Core::new(alloc, chain)?;
+    run_serially(&mut core)?;
+    Ok(core)
+}
+
+/// Both blocks over the genesis.
+fn whole(alloc: Global) -> Result<Run, AllocError> {
+    let config = Config::free();
+    let genesis = genesis(alloc, &config)?;
+    let caller = ContractCaller::new(&config);
+    let blocks = blocks_of(alloc, &BLOCKS)?;
+    ended(alloc, ChainRun::new(config, genesis, blocks, caller))
+}
+
+/// The receipt that the first chunk sent last.
+fn sent_last(run: &Run) -> Option<Hash32> {
+    match run.report(ShardId(0), Height(1))?.lines.inner().last() {
+        Some(ChunkLine::Sent { receipt_id, .. }) => Some(*receipt_id),
+        _ => None,
+    }
+}
+
+/// No boundaries.
+fn one_shard(alloc: Global, config: &Config) -> Result<Layout, AllocError>
+    ensures { IfOk result (λ layout. length layout + 1 ≡ 1) }
+{
+    let Genesis { layout, .. } = genesis(alloc, config)?;
+    if layout.shards() != 1 {
+        return Err(AllocError);
+    }
+    Ok(layout)
+}
+
+/// The trie entries of a world without accounts.
+fn no_entries(alloc: Global, config: &Config) -> Result<List<Entry>, AllocError>
+    ensures whole { IfOk result AreWholeEntries }
+    ensures world { IfOk result (λ entries. world_from entries ≡ no_world) }
+{
+    let state = ShardState::new(alloc, ChunkStore::new(alloc), config);
+    state.entries()
+}
+
+/// One shard without accounts, whose next chunk takes a refund of 1 with this id.
+fn cut(alloc: Global, config: &Config, id: Hash32) -> Result<Resumed, AllocError>
+    ensures sound { IfOk result (λ cut. IsSoundStart config.now (first.Resumed cut)) }
+    ensures below { IfOk result (λ cut. cut.below ≡ 1) }
+{
+    let entries = no_entries(alloc, config)?;
+    let refund = deposit_refund(alloc, id_of(alloc, b"bob")?, id, 1)?;
+    let carried = List::of(vec![in alloc; refund]?);
+    Ok(Resumed {
+        layout: one_shard(alloc, config)?,
+        below: 1,
+        worlds: List::of(vec![in alloc; entries]?),
+        carried: List::of(vec![in alloc; carried]?),
+    })
+}
+
+/// The second block, over what the first one leaves.
+fn rest(alloc: Global, id: Hash32) -> Result<Run, AllocError> {
+    let config = Config::free();
+    let caller = ContractCaller::new(&config);
+    let blocks = blocks_of(alloc, &LAST)?;
+    let cut = cut(alloc, &config, id)?;
+    ended(alloc, ChainRun::resume((config, caller), cut, blocks))
+}
+
+/// Whether the second chunk is the same, and burns what the refund brings.
+fn is_same(alloc: Global) -> Result<bool, AllocError> {
+    let whole = whole(alloc)?;
+    let Some(id) = sent_last(&whole) else {
+        return Ok(false);
+    };
+    let rest = rest(alloc, id)?;
+    let shard = ShardId(0);
+    match (whole.report(shard, Height(2)), rest.report(shard, Height(1))) {
+        (Some(whole), Some(rest)) => Ok(whole == rest && rest.burnt == 1),
+        _ => Ok(false),
+    }
+}
+
+#[test]
+fn a_chain_goes_on_where_it_was_cut(rt: HostRuntime) -> Result<(), Fail> {
+    assert!(rt; is_same(rt.alloc())?);
+    Ok(())
+}
