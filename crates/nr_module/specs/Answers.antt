@@ -31,10 +31,13 @@ stop_status Unread = ReadFault
 stop_status Memory = NoMemory
 stop_status (Refused status) = status
 
--- The line that tells an end of a plan, and whether it is a sound one: that of a right verdict on what the files give,
--- or `long` where the module's file is too long.
+-- the line of a right verdict on bytes, and whether it is a sound one
+abbrev pub TellsVerdict : Question → List ℕ → Bool → Type 0
+TellsVerdict q line sound = (v : Verdict) × IsVerdict q v × (line ≡ verdict_text v) × (sound ≡ is_sound v)
+
+-- the line that tells an end of a plan: that of a verdict on what the files give, or `long` for a file that is too long
 abbrev pub Tells : Plan Question Status → List ℕ → Bool → Type 0
-Tells (Answer q) line sound = (v : Verdict) × IsVerdict q v × (line ≡ verdict_text v) × (sound ≡ is_sound v)
+Tells (Answer q) line sound = TellsVerdict q line sound
 Tells (Refuse status) line sound = (status ≡ Faulty) × (line ≡ codes "long" ++ 10 ∷ []) × (sound ≡ false)
 Tells (Ask name limit long by_bytes) line sound = ⊥
 

@@ -26,11 +26,11 @@ forms =
 
 -- ---- what the words of a form are
 abbrev pub check_of : List Value → Option Names
-check_of (Text config ∷ Text file ∷ []) = Some (record { config = config; file = file; task = Check })
+check_of (Text config ∷ Text name ∷ []) = Some (record { config = config; file = name; task = Check })
 check_of values = None
 
 abbrev pub run_of : List Value → Option Names
-run_of (Text config ∷ Text file ∷ Text method ∷ Number gas ∷ []) = Some (record { config = config; file = file; task = Run method gas })
+run_of (Text config ∷ Text name ∷ Text method ∷ Number gas ∷ []) = Some (record { config = config; file = name; task = Run method gas })
 run_of values = None
 
 abbrev pub found_command : List ℕ × List Value → Option Names

@@ -2,8 +2,8 @@
 
 ghost use Rattle.std.specs.Prelude.{◌≡◌, ◌≢◌, IfOk, string_bytes};
 ghost use Rattle.nr_bytes.specs.Outside.{Rose};
-ghost use Rattle.nr_shell.specs.Plans.{Answer, Refuse};
-ghost use Rattle.nr_module.specs.Answers.{Tells, Told};
+ghost use Rattle.nr_shell.specs.Plans.{Refuse};
+ghost use Rattle.nr_module.specs.Answers.{Tells, TellsVerdict, Told};
 ghost use Rattle.nr_module.specs.Lines.{ends_well, is_sound};
 ghost use Rattle.nr_module.specs.Plans.{question_in};
 ghost use Rattle.nr_module.specs.declared.status.Status.TheVariants.{Faulty, ReadFault, Sound, WriteFault};
@@ -48,7 +48,7 @@ fn is_sound(verdict: &Verdict) -> bool
 ///
 /// Where memory runs out.
 pub(crate) fn verdict_line(alloc: Global, question: &Question<'_>) -> Result<Line, AllocError>
-    ensures { IfOk result (λ line. Tells (Answer (question_in question.now)) (string_bytes line.text) line.is_sound) }
+    ensures { IfOk result (λ line. TellsVerdict (question_in question.now) (string_bytes line.text) line.is_sound) }
 {
     let verdict = judge(alloc, question)?;
     let text = verdict_text(alloc, verdict)?;
