@@ -7,14 +7,14 @@ use Rattle.nr_shell.specs.Plans.{Plan}
 use Rattle.nr_shell.specs.declared.stop.Stop.{Stop}
 use Rattle.nr_shell.specs.declared.stop.Stop.TheVariants.{Unread, Memory, Refused}
 use Rattle.nr_module.specs.Answers.{Serves, Tells, Told, refuses, stop_status}
-use Rattle.nr_module.specs.Plans.{Question}
+use Rattle.nr_module.specs.Plans.{Due}
 use Rattle.nr_module.specs.declared.status.Status.{Status}
 use Rattle.nr_module.specs.declared.status.Status.TheVariants.{Sound, Faulty, Usage, Config, ReadFault, WriteFault, NoMemory}
 use Rattle.nr_module.specs.declared.telling.Line.{Line}
 
-module _ (plan : Plan Question Status) (held : List ℕ → Option (List ℕ)) (asked asks : List (List ℕ)) (took takes : Option (List ℕ)) where
+module _ (plan : Plan Due Status) (held : List ℕ → Option (List ℕ)) (asked asks : List (List ℕ)) (took takes : Option (List ℕ)) where
   -- a line that tells an end was written, or a front of it, or memory didn't suffice for it
-  pub told_end : (end : Plan Question Status) (line : Result Line AllocError) (status : Status) → Comes held asked asks plan end → IfOk line (λ l. Tells end (string_bytes l.text) l.is_sound) → Told line status took takes
+  pub told_end : (end : Plan Due Status) (line : Result Line AllocError) (status : Status) → Comes held asked asks plan end → IfOk line (λ l. Tells end (string_bytes l.text) l.is_sound) → Told line status took takes
       → Serves status plan held asked asks took takes
   told_end end (Ok l) Sound comes tells told =
       record { end = end; line = string_bytes l.text; comes = comes; tells = subst (λ (b : Bool). Tells end (string_bytes l.text) b) told.0 tells; grew = told.1 }
@@ -33,7 +33,7 @@ module _ (plan : Plan Question Status) (held : List ℕ → Option (List ℕ)) (
   never status is not = let wrong : ⊥ = cc in wrong
 
   -- a command stopped before it had a line, and not at a module's file that is too long
-  pub stopped_end : {X : Type 0} (view : X → Question) (stop : Stop Status) → stop ≢ Refused Faulty → Answers refuses view held asked asks (Err stop) plan → takes ≡ took
+  pub stopped_end : {X : Type 0} (view : X → Due) (stop : Stop Status) → stop ≢ Refused Faulty → Answers refuses view held asked asks (Err stop) plan → takes ≡ took
       → Serves (stop_status stop) plan held asked asks took takes
   stopped_end view Unread other answers same = (answers, same)
   stopped_end view Memory other answers same = (answers, same)

@@ -8,7 +8,7 @@ use Rattle.nr_shell.specs.Writing.{GrewInPart}
 use Rattle.nr_shell.specs.declared.stop.Stop.{Stop}
 use Rattle.nr_shell.specs.declared.stop.Stop.TheVariants.{Unread, Memory, Refused}
 use Rattle.nr_module.specs.Lines.{is_sound, verdict_text}
-use Rattle.nr_module.specs.Plans.{Question}
+use Rattle.nr_module.specs.Plans.{Question, Due, Judge, Write}
 use Rattle.nr_module.specs.Verdicts.{IsVerdict}
 use Rattle.nr_module.specs.declared.status.Status.{Status}
 use Rattle.nr_module.specs.declared.status.Status.TheVariants.{Sound, Faulty, Usage, Config, ReadFault, WriteFault, NoMemory}
@@ -35,25 +35,30 @@ stop_status (Refused status) = status
 abbrev pub TellsVerdict : Question → List ℕ → Bool → Type 0
 TellsVerdict q line sound = (v : Verdict) × IsVerdict q v × (line ≡ verdict_text v) × (sound ≡ is_sound v)
 
--- the line that tells an end of a plan: that of a verdict on what the files give, or `long` for a file that is too long
-abbrev pub Tells : Plan Question Status → List ℕ → Bool → Type 0
-Tells (Answer q) line sound = TellsVerdict q line sound
+-- a text, which is well
+abbrev pub TellsText : List ℕ → List ℕ → Bool → Type 0
+TellsText text line sound = (line ≡ text) × (sound ≡ true)
+
+-- what tells an end of a plan: the line of a verdict on what the files give, a text, or `long` for a file that is too long
+abbrev pub Tells : Plan Due Status → List ℕ → Bool → Type 0
+Tells (Answer (Judge q)) line sound = TellsVerdict q line sound
+Tells (Answer (Write text)) line sound = TellsText text line sound
 Tells (Refuse status) line sound = (status ≡ Faulty) × (line ≡ codes "long" ++ 10 ∷ []) × (sound ≡ false)
 Tells (Ask name limit long by_bytes) line sound = ⊥
 
 -- a line that tells the end to which the files lead was written
-pub record Writes (sound : Bool) (plan : Plan Question Status) (held : List ℕ → Option (List ℕ)) (asked asks : List (List ℕ))
+pub record Writes (sound : Bool) (plan : Plan Due Status) (held : List ℕ → Option (List ℕ)) (asked asks : List (List ℕ))
     (took takes : Option (List ℕ)) : Type 0 where
-  pub end : Plan Question Status
+  pub end : Plan Due Status
   pub line : List ℕ
   pub comes : Comes held asked asks plan end
   pub tells : Tells end line sound
   pub grew : Grew took takes line
 
 -- or a front of it
-pub record Begins (plan : Plan Question Status) (held : List ℕ → Option (List ℕ)) (asked asks : List (List ℕ))
+pub record Begins (plan : Plan Due Status) (held : List ℕ → Option (List ℕ)) (asked asks : List (List ℕ))
     (took takes : Option (List ℕ)) : Type 0 where
-  pub end : Plan Question Status
+  pub end : Plan Due Status
   pub line : List ℕ
   pub sound : Bool
   pub comes : Comes held asked asks plan end
@@ -62,7 +67,7 @@ pub record Begins (plan : Plan Question Status) (held : List ℕ → Option (Lis
 
 -- The answer is right for the plan and the files, only files of the plan were asked for, in their order, and the sink
 -- took what belongs to it.
-abbrev pub Serves : Status → Plan Question Status → (List ℕ → Option (List ℕ)) → List (List ℕ) → List (List ℕ)
+abbrev pub Serves : Status → Plan Due Status → (List ℕ → Option (List ℕ)) → List (List ℕ) → List (List ℕ)
     → Option (List ℕ) → Option (List ℕ) → Type 0
 Serves Sound plan held asked asks took takes = Writes true plan held asked asks took takes
 Serves Faulty plan held asked asks took takes = Writes false plan held asked asks took takes

@@ -1,3 +1,4 @@
+pub mod Help
 pub mod Command
 pub mod Plans
 pub mod Counter

@@ -3,7 +3,7 @@ use Rattle.std.specs.Prelude.{ℕ, List, [], ◌∷◌, ◌++◌, Option, Some, 
 use Rattle.nr_config.specs.Config.{Config}
 use Rattle.nr_configfile.specs.Plans.{config_files, config_plan}
 use Rattle.nr_shell.specs.Plans.{Plan, Answer, Refuse, and_then, file_plan}
-use Rattle.nr_module.specs.Command.{Names, Task, task_in}
+use Rattle.nr_module.specs.Command.{Command, OfModule, OfText, Names, Task, task_in}
 use Rattle.nr_module.specs.declared.question.Question.{Question as LentQuestion}
 use Rattle.nr_module.specs.declared.status.Status.{Status}
 use Rattle.nr_module.specs.declared.status.Status.TheVariants.{Faulty, Usage, Config as faulty_config}
@@ -14,23 +14,33 @@ pub record Question : Type 0 where
   pub task : Task
   pub bytes : List ℕ
 
+-- what a plan comes to: bytes that are to be judged, or a text that is to be written
+pub data Due : Type 0 where
+  Judge : Question → Due
+  Write : List ℕ → Due
+
 abbrev pub question_in : LentQuestion → Question
 question_in q = record { config = q.config; task = task_in q.work; bytes = q.bytes.items }
 
--- the module's file, of at most 64 MiB
-abbrev pub by_config : Names → Config → Plan Question Status
-by_config names c =
-    and_then (file_plan names.file 67108864 Faulty) (λ bytes. Answer (record { config = c; task = names.task; bytes = bytes }))
+abbrev pub due_in : LentQuestion → Due
+due_in q = Judge (question_in q)
 
-abbrev pub command_plan : Names → Plan Question Status
-command_plan names = and_then (config_plan faulty_config names.config) (by_config names)
+-- the module's file, of at most 64 MiB
+abbrev pub by_config : Names → Config → Plan Due Status
+by_config names c =
+    and_then (file_plan names.file 67108864 Faulty) (λ bytes. Answer (Judge (record { config = c; task = names.task; bytes = bytes })))
+
+abbrev pub module_plan : Names → Plan Due Status
+module_plan names = and_then (config_plan faulty_config names.config) (by_config names)
 
 -- words that are no command are refused
-abbrev pub plan : Option Names → Plan Question Status
+abbrev pub plan : Option Command → Plan Due Status
 plan None = Refuse Usage
-plan (Some names) = command_plan names
+plan (Some (OfModule names)) = module_plan names
+plan (Some (OfText text)) = Answer (Write text)
 
 -- the files of a command in their order, each of which it asks for once
-abbrev pub files_of : Option Names → List (List ℕ)
+abbrev pub files_of : Option Command → List (List ℕ)
 files_of None = []
-files_of (Some names) = config_files names.config ++ names.file ∷ []
+files_of (Some (OfModule names)) = config_files names.config ++ names.file ∷ []
+files_of (Some (OfText text)) = []

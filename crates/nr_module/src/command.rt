@@ -2,8 +2,10 @@
 
 ghost use Rattle.std.specs.Prelude.{◌≡◌, IfOk, map, option_map};
 ghost use Rattle.nr_words.specs.Words.{found_in, table_in, texts, value_in};
-ghost use Rattle.nr_module.specs.Command.{check_of, command, forms, found_command, names_in, run_of};
+ghost use Rattle.nr_module.specs.Command.{check_of, command, command_in, found_command, run_of};
+ghost use Rattle.nr_module.specs.Help.{forms};
 
+use crate::help::{help_text, version_text};
 use nr_words::{Form, Found, Place, Value, read_words};
 use std::alloc::{AllocError, Global};
 
@@ -24,7 +26,16 @@ pub(crate) struct FileNames<'a> {
     pub(crate) work: Work<'a>,
 }
 
-/// `check CONFIG FILE`, and `run CONFIG FILE METHOD GAS` with a number below 2^64.
+/// The words of a command.
+#[derive(Clone, Copy, Debug)]
+pub(crate) enum Words<'a> {
+    /// `check CONFIG FILE` or `run CONFIG FILE METHOD GAS`
+    Module(FileNames<'a>),
+    /// `help` or `version`, by the text that it writes
+    Text(&'a str),
+}
+
+/// `check CONFIG FILE`, `run CONFIG FILE METHOD GAS` with a number below 2^64, `help` and `version`.
 const FORMS: &[Form] = &[
     Form {
         verb: "check",
@@ -43,6 +54,14 @@ const FORMS: &[Form] = &[
             },
         ],
     },
+    Form {
+        verb: "help",
+        places: &[],
+    },
+    Form {
+        verb: "version",
+        places: &[],
+    },
 ];
 
 fn forms() -> &'static [Form]
@@ -52,22 +71,22 @@ fn forms() -> &'static [Form]
 }
 
 /// The check of a module.
-fn check_of<'a>(values: &[Value<'a>]) -> Option<FileNames<'a>>
-    ensures { option_map names_in result ≡ check_of (map value_in values.now) }
+fn check_of<'a>(values: &[Value<'a>]) -> Option<Words<'a>>
+    ensures { option_map command_in result ≡ check_of (map value_in values.now) }
 {
     match values {
-        [Value::Text(config), Value::Text(file)] => Some(FileNames {
+        [Value::Text(config), Value::Text(file)] => Some(Words::Module(FileNames {
             config,
             file,
             work: Work::Check,
-        }),
+        })),
         _ => None,
     }
 }
 
 /// The run of a method.
-fn run_of<'a>(values: &[Value<'a>]) -> Option<FileNames<'a>>
-    ensures { option_map names_in result ≡ run_of (map value_in values.now) }
+fn run_of<'a>(values: &[Value<'a>]) -> Option<Words<'a>>
+    ensures { option_map command_in result ≡ run_of (map value_in values.now) }
 {
     match values {
         [
@@ -75,28 +94,30 @@ fn run_of<'a>(values: &[Value<'a>]) -> Option<FileNames<'a>>
             Value::Text(file),
             Value::Text(method),
             Value::Number(gas),
-        ] => Some(FileNames {
+        ] => Some(Words::Module(FileNames {
             config,
             file,
             work: Work::Run { method, gas: *gas },
-        }),
+        })),
         _ => None,
     }
 }
 
 /// The command that a form with its values is.
-fn found_command<'a>(found: &Found<'a>) -> Option<FileNames<'a>>
-    ensures { option_map names_in result ≡ found_command (found_in found.now) }
+fn found_command<'a>(found: &Found<'a>) -> Option<Words<'a>>
+    ensures { option_map command_in result ≡ found_command (found_in found.now) }
 {
     let values = found.values.as_slice();
     match found.verb {
         "check" => check_of(values),
         "run" => run_of(values),
+        "help" => Some(Words::Text(help_text())),
+        "version" => Some(Words::Text(version_text())),
         _ => None,
     }
 }
 
-/// The command that the words are, `check CONFIG FILE` or `run CONFIG FILE METHOD GAS`.
+/// The command that the words are: `check CONFIG FILE`, `run CONFIG FILE METHOD GAS`, `help` or `version`.
 ///
 /// # Errors
 ///
@@ -104,8 +125,8 @@ fn found_command<'a>(found: &Found<'a>) -> Option<FileNames<'a>>
 pub(crate) fn command_of(
     alloc: Global,
     words: &[String],
-) -> Result<Option<FileNames<'_>>, AllocError>
-    ensures { IfOk result (λ read. option_map names_in read ≡ command (texts words.now)) }
+) -> Result<Option<Words<'_>>, AllocError>
+    ensures { IfOk result (λ read. option_map command_in read ≡ command (texts words.now)) }
 {
     match read_words(alloc, "near_module", forms(), words)? {
         Some(found) => Ok(found_command(&found)),

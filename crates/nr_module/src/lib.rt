@@ -5,6 +5,7 @@
 mod command;
 mod counter;
 mod exit;
+mod help;
 mod judging;
 mod laws;
 mod printed;

@@ -3,7 +3,7 @@
 ghost use Rattle.nr_shell.specs.Answers.{Follows};
 ghost use Rattle.nr_module.specs.Answers.{refuses};
 ghost use Rattle.nr_module.specs.Command.{names_in};
-ghost use Rattle.nr_module.specs.Plans.{by_config, command_plan, question_in};
+ghost use Rattle.nr_module.specs.Plans.{by_config, module_plan, due_in};
 
 use crate::command::{FileNames, Work};
 use crate::status::Status;
@@ -31,7 +31,7 @@ fn with_file<'a, S: Shelf>(
     names: &FileNames<'a>,
     shelf: &mut S,
 ) -> Result<Question<'a>, Stop<Status>>
-    ensures { Follows refuses question_in (S.held shelf.old) (S.held shelf.new)
+    ensures { Follows refuses due_in (S.held shelf.old) (S.held shelf.new)
         (S.asked shelf.old) (S.asked shelf.new) (S.faults shelf.old) (S.faults shelf.new)
         result (by_config (names_in names.now) config) }
 {
@@ -56,9 +56,9 @@ pub(crate) fn question_of<'a, S: Shelf>(
     names: &FileNames<'a>,
     shelf: &mut S,
 ) -> Result<Question<'a>, Stop<Status>>
-    ensures { Follows refuses question_in (S.held shelf.old) (S.held shelf.new)
+    ensures { Follows refuses due_in (S.held shelf.old) (S.held shelf.new)
         (S.asked shelf.old) (S.asked shelf.new) (S.faults shelf.old) (S.faults shelf.new)
-        result (command_plan (names_in names.now)) }
+        result (module_plan (names_in names.now)) }
 {
     match config_of::<Status, S>(alloc, names.config, shelf) {
         Ok(config) => with_file(alloc, config, names, shelf),

@@ -3,7 +3,7 @@
 ghost use Rattle.std.specs.Prelude.{◌≡◌, ◌≢◌, IfOk, string_bytes};
 ghost use Rattle.nr_bytes.specs.Outside.{Rose};
 ghost use Rattle.nr_shell.specs.Plans.{Refuse};
-ghost use Rattle.nr_module.specs.Answers.{Tells, TellsVerdict, Told};
+ghost use Rattle.nr_module.specs.Answers.{Tells, TellsText, TellsVerdict, Told};
 ghost use Rattle.nr_module.specs.Lines.{ends_well, is_sound};
 ghost use Rattle.nr_module.specs.Plans.{question_in};
 ghost use Rattle.nr_module.specs.declared.status.Status.TheVariants.{Faulty, ReadFault, Sound, WriteFault};
@@ -52,8 +52,10 @@ pub(crate) fn verdict_line(alloc: Global, question: &Question<'_>) -> Result<Lin
 {
     let verdict = judge(alloc, question)?;
     let text = verdict_text(alloc, verdict)?;
-    let is_sound = is_sound(&verdict);
-    Ok(Line { text, is_sound })
+    Ok(Line {
+        text,
+        is_sound: is_sound(&verdict),
+    })
 }
 
 /// The line of a module's file that is too long.
@@ -68,6 +70,21 @@ pub(crate) fn long_line(alloc: Global) -> Result<Line, AllocError>
     Ok(Line {
         text,
         is_sound: false,
+    })
+}
+
+/// A text that is written as it is.
+///
+/// # Errors
+///
+/// Where memory runs out.
+pub(crate) fn text_line(alloc: Global, text: &str) -> Result<Line, AllocError>
+    ensures { IfOk result (λ line. TellsText text.now (string_bytes line.text) line.is_sound) }
+{
+    let text = String::from_str(alloc, text)?;
+    Ok(Line {
+        text,
+        is_sound: true,
     })
 }
 

@@ -1,17 +1,17 @@
 //! The top call.
 
-ghost use Rattle.std.specs.Prelude.{◌≡◌, ◌≢◌, option_map};
+ghost use Rattle.std.specs.Prelude.{◌≡◌, ◌≢◌, Some};
 ghost use Rattle.nr_bytes.specs.Outside.{Rose};
 ghost use Rattle.nr_words.specs.Words.{texts};
 ghost use Rattle.nr_module.specs.Answers.{Serves, stop_status};
-ghost use Rattle.nr_module.specs.Command.{command, names_in};
-ghost use Rattle.nr_module.specs.Plans.{command_plan, plan};
+ghost use Rattle.nr_module.specs.Command.{command, command_in, names_in};
+ghost use Rattle.nr_module.specs.Plans.{module_plan, plan};
 ghost use Rattle.nr_module.specs.declared.status.Status.TheVariants.{Faulty, ReadFault, Sound, WriteFault};
 
-use crate::command::{FileNames, command_of};
+use crate::command::{FileNames, Words, command_of};
 use crate::question::question_of;
 use crate::status::Status;
-use crate::telling::{long_line, tell, verdict_line};
+use crate::telling::{long_line, tell, text_line, verdict_line};
 use nr_bytes::{Shelf, Sink};
 use nr_shell::Stop;
 use std::alloc::Global;
@@ -27,14 +27,14 @@ fn stop_status(stop: Stop<Status>) -> Status
     }
 }
 
-/// Does what a command asks for.
+/// Does what a command asks for with a module.
 fn serve_names<S: Shelf, K: Sink>(
     alloc: Global,
     names: &FileNames<'_>,
     shelf: &mut S,
     sink: &mut K,
 ) -> Status
-    ensures serves { Serves result (command_plan (names_in names.now)) (S.held shelf.old)
+    ensures serves { Serves result (module_plan (names_in names.now)) (S.held shelf.old)
         (S.asked shelf.old) (S.asked shelf.new) (K.taken sink.old) (K.taken sink.new) }
     ensures untouched { result ≢ Sound → result ≢ Faulty → result ≢ WriteFault → sink.new ≡ sink.old }
     ensures read_fault { result ≡ ReadFault → Rose (S.faults shelf.old) (S.faults shelf.new) }
@@ -47,10 +47,30 @@ fn serve_names<S: Shelf, K: Sink>(
     }
 }
 
+/// Does what a command asks for.
+fn serve_command<S: Shelf, K: Sink>(
+    alloc: Global,
+    command: &Words<'_>,
+    shelf: &mut S,
+    sink: &mut K,
+) -> Status
+    ensures serves { Serves result (plan (Some (command_in command.now))) (S.held shelf.old)
+        (S.asked shelf.old) (S.asked shelf.new) (K.taken sink.old) (K.taken sink.new) }
+    ensures untouched { result ≢ Sound → result ≢ Faulty → result ≢ WriteFault → sink.new ≡ sink.old }
+    ensures read_fault { result ≡ ReadFault → Rose (S.faults shelf.old) (S.faults shelf.new) }
+    ensures write_fault { result ≡ WriteFault → Rose (K.faults sink.old) (K.faults sink.new) }
+{
+    match command {
+        Words::Module(names) => serve_names(alloc, names, shelf, sink),
+        Words::Text(text) => tell(text_line(alloc, text), sink),
+    }
+}
+
 /// Does what the words ask for: `check CONFIG FILE` decodes and validates the module of a file, and
 /// writes a line that says what it is; `run CONFIG FILE METHOD GAS` runs a method of it besides, and
 /// writes how the run ended. CONFIG is `free`, the built-in configuration, or the name of a file. GAS
-/// is a decimal number below 2^64 without leading zeros.
+/// is a decimal number below 2^64 without leading zeros. `help` writes the words of the commands, and
+/// `version` the program's name and version.
 ///
 /// The line is `ok`; `decode KIND AT` with the kind of the first fault (1 `Short`, 2 `Leb`,
 /// 3 `Section`, 4 `Opcode`, 5 `Float`, 6 `Utf8`, 7 `TooMany`) and its place; `valid KIND FUNC PLACE`
@@ -64,8 +84,9 @@ fn serve_names<S: Shelf, K: Sink>(
 ///
 /// # Answers
 ///
-/// - `Sound`: the line `ok` or `end BURNT` was written. `Faulty`: another line was written.
-/// - `Usage`: the words are neither of the two, or one is empty or begins with `-`. Nothing was
+/// - `Sound`: the line `ok` or `end BURNT` was written, or what `help` or `version` writes. `Faulty`:
+///   another line was written.
+/// - `Usage`: the words are none of these commands, or one is empty or begins with `-`. Nothing was
 ///   loaded or written.
 /// - `Config`: the configuration's file is longer than 1 MiB (kind 0), or its first fault, by the kind
 ///   and the entry that `nr_config::Config::read` gives. Nothing was written.
@@ -92,7 +113,7 @@ pub fn check_module<S: Shelf, K: Sink>(
     ensures write_fault { result ≡ WriteFault → Rose (K.faults sink.old) (K.faults sink.new) }
 {
     match command_of(alloc, words) {
-        Ok(Some(names)) => serve_names(alloc, &names, shelf, sink),
+        Ok(Some(command)) => serve_command(alloc, &command, shelf, sink),
         Ok(None) => Status::Usage,
         Err(_) => Status::NoMemory,
     }

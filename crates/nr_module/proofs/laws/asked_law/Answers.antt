@@ -7,4 +7,4 @@ pub returns-clause-front : goal.returns-clause-front
 returns-clause-front c = λ held asked names q leads. way_asks held names (files_of asked) (plan asked) q (plan_asks asked) leads
 
 pub returns-clause-all : goal.returns-clause-all
-returns-clause-all c = λ held asked names question leads. answer_asks held names (files_of asked) (plan asked) question (plan_asks asked) leads
+returns-clause-all c = λ held asked names due leads. answer_asks held names (files_of asked) (plan asked) due (plan_asks asked) leads
