@@ -122,10 +122,7 @@ fn found_command<'a>(found: &Found<'a>) -> Option<Words<'a>>
 /// # Errors
 ///
 /// Where memory runs out.
-pub(crate) fn command_of(
-    alloc: Global,
-    words: &[String],
-) -> Result<Option<Words<'_>>, AllocError>
+pub(crate) fn command_of(alloc: Global, words: &[String]) -> Result<Option<Words<'_>>, AllocError>
     ensures { IfOk result (λ read. option_map command_in read ≡ command (texts words.now)) }
 {
     match read_words(alloc, "near_module", forms(), words)? {

@@ -64,7 +64,8 @@ fn help_and_version_load_nothing(rt: HostRuntime) -> Result<(), Fail> {
     near_module version\n\
     CONFIG is free or the name of a file, and GAS a number from 0 to 18446744073709551615.\n";
     assert!(rt; answers(alloc, &["help"], &[], Status::Sound, help)?);
-    assert!(rt; answers(alloc, &["version"], &[], Status::Sound, "near_module 0.1.0\n")?);
+    let version = "near_module 0.1.0\n";
+    assert!(rt; answers(alloc, &["version"], &[], Status::Sound, version)?);
     assert!(rt; answers(alloc, &["help", "run"], &[], Status::Usage, "")?);
     Ok(())
 }
