@@ -1,5 +1,5 @@
 -- Which files the plan of a command asks for.
-use Rattle.std.proofs.Common.{[], ◌∷◌, List, ℕ, Option, Some, None}
+use Rattle.std.proofs.Common.{[], ◌∷◌, Option, Some, None}
 use Rattle.nr_config.specs.Config.{Config}
 use Rattle.nr_configfile.specs.Plans.{config_files, config_plan}
 use Rattle.nr_configfile.proofs.Asking.{config_asks}

@@ -1,19 +1,17 @@
--- From the end of a plan to the answer of the top call.
-use Rattle.std.proofs.Common.{◌≡◌, ℕ, Bool, true, false, List, Option, Result, Ok, Err, IfOk, refl, sym, ap, subst}
-use Rattle.std.specs.Prelude.{◌≢◌, string_bytes}
+-- From the end of a plan to the answer of the top call: the line that tells it was written, or a front of it, or memory
+-- didn't suffice for it.
+use Rattle.std.proofs.Common.{ℕ, Bool, List, Option, Result, Ok, Err, IfOk, sym, subst}
+use Rattle.std.specs.Prelude.{string_bytes}
 use Rattle.std.specs.declared.alloc.AllocError.{AllocError}
-use Rattle.nr_shell.specs.Answers.{Answers, Comes}
+use Rattle.nr_shell.specs.Answers.{Comes}
 use Rattle.nr_shell.specs.Plans.{Plan}
-use Rattle.nr_shell.specs.declared.stop.Stop.{Stop}
-use Rattle.nr_shell.specs.declared.stop.Stop.TheVariants.{Unread, Memory, Refused}
-use Rattle.nr_module.specs.Answers.{Serves, Tells, Told, refuses, stop_status}
+use Rattle.nr_module.specs.Answers.{Serves, Tells, Told}
 use Rattle.nr_module.specs.Plans.{Due}
 use Rattle.nr_module.specs.declared.status.Status.{Status}
 use Rattle.nr_module.specs.declared.status.Status.TheVariants.{Sound, Faulty, Usage, Config, ReadFault, WriteFault, NoMemory}
 use Rattle.nr_module.specs.declared.telling.Line.{Line}
 
 module _ (plan : Plan Due Status) (held : List ℕ → Option (List ℕ)) (asked asks : List (List ℕ)) (took takes : Option (List ℕ)) where
-  -- a line that tells an end was written, or a front of it, or memory didn't suffice for it
   pub told_end : (end : Plan Due Status) (line : Result Line AllocError) (status : Status) → Comes held asked asks plan end → IfOk line (λ l. Tells end (string_bytes l.text) l.is_sound) → Told line status took takes
       → Serves status plan held asked asks took takes
   told_end end (Ok l) Sound comes tells told =
@@ -28,19 +26,3 @@ module _ (plan : Plan Due Status) (held : List ℕ → Option (List ℕ)) (asked
   told_end end (Ok l) NoMemory comes tells told = absurd told
   told_end end (Err fault) status comes tells told =
       subst (λ (s : Status). Serves s plan held asked asks took takes) (sym told.0) (record { rest = end; comes = comes }, told.1)
-
-  never : (status : Status) → refuses status ≡ true → false ≡ refuses status → ⊥
-  never status is not = let wrong : ⊥ = cc in wrong
-
-  -- a command stopped before it had a line, and not at a module's file that is too long
-  pub stopped_end : {X : Type 0} (view : X → Due) (stop : Stop Status) → stop ≢ Refused Faulty → Answers refuses view held asked asks (Err stop) plan → takes ≡ took
-      → Serves (stop_status stop) plan held asked asks took takes
-  stopped_end view Unread other answers same = (answers, same)
-  stopped_end view Memory other answers same = (answers, same)
-  stopped_end view (Refused Usage) other answers same = (answers.1, same)
-  stopped_end view (Refused (Config kind entry)) other answers same = (answers.1, same)
-  stopped_end view (Refused Faulty) other answers same = absurd (other refl)
-  stopped_end view (Refused Sound) other answers same = absurd (never Sound answers.0 refl)
-  stopped_end view (Refused ReadFault) other answers same = absurd (never ReadFault answers.0 refl)
-  stopped_end view (Refused WriteFault) other answers same = absurd (never WriteFault answers.0 refl)
-  stopped_end view (Refused NoMemory) other answers same = absurd (never NoMemory answers.0 refl)

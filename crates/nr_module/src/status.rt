@@ -4,7 +4,7 @@ use nr_configfile::ConfigRefusal;
 #[derive(Clone, Copy, Debug, PartialEq, Eq)]
 pub enum Status {
     /// The module is valid or its method's run came to its end, and the line `ok` or `end BURNT` was
-    /// written.
+    /// written; or the text of `help` or `version` was.
     Sound,
     /// The line that says why not was written.
     Faulty,

@@ -1,4 +1,4 @@
-use Rattle.std.proofs.Common.{◌≡◌, ◌∙◌, Bool, true, false, sym, ap, subst}
+use Rattle.std.proofs.Common.{◌≡◌, true, false, sym, ap}
 use Rattle.nr_config.specs.Config.{Config}
 use Rattle.nr_shell.specs.Plans.{Answer}
 use Rattle.nr_shell.proofs.Leading.{judge_follows, read_follows, stop_follows}

@@ -1,4 +1,3 @@
-use Rattle.std.proofs.Common.{refl}
 use Rattle.nr_module.proofs.telling.verdict_line.Goals as goal
 
 pub returns : goal.returns

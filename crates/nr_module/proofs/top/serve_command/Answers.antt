@@ -1,6 +1,4 @@
 use Rattle.nr_shell.proofs.Leading.{stays}
-use Rattle.nr_module.specs.Command.{command_in}
-use Rattle.nr_module.specs.Plans.{plan}
 use Rattle.nr_module.proofs.Ending.{told_end}
 use Rattle.nr_module.proofs.top.serve_command.Goals as goal
 
