@@ -1,4 +1,4 @@
--- The lines of a report, and the JSON object that stands for each (RFC 8259). This project's own.
+-- The lines that programs write, and the JSON object that stands for each (RFC 8259). This project's own.
 use Rattle.std.specs.Prelude.{◌≡◌, ℕ, Bool, true, false, List, [], ◌∷◌, ◌++◌, cond, Option, Some, None, codes}
 use Rattle.nr_explain.specs.Words.{pieces, is_dash}
 use Rattle.nr_explain.specs.Forms.{Kind, Word, Figure, Number, Amount, Hash, Bytes, Entry, Field, Form, form_of, word, figure, number, amount, hash, bytes}
@@ -21,6 +21,16 @@ gas_and_burnt = number (codes "gas") ∷ amount (codes "burnt") ∷ []
 
 abbrev pub run : List ℕ → Form → Form
 run how fields = line (codes "run") ∷ hash (codes "receipt_id") ∷ status how ∷ fields
+
+-- what a proof states of an item of this kind
+abbrev pub proof : List ℕ → Form
+proof kind =
+    line (codes "proof") ∷ word kind (codes "kind") ∷ number (codes "height") ∷ number (codes "shard")
+    ∷ number (codes "place") ∷ number (codes "count") ∷ []
+
+-- how many entries a part or a whole state has
+abbrev pub holds_entries : Form
+holds_entries = word (codes "entries") (codes "holds") ∷ number (codes "entries") ∷ []
 
 -- a step that was not made, with its reason's number
 abbrev pub refused_step : List ℕ → Field → Field → Form
@@ -69,6 +79,15 @@ lines =
     ∷ refused_step (codes "5") first second
     ∷ refused_step (codes "6") zero_first zero_second
     ∷ refused_step (codes "7") first zero_second
+    ∷ (line (codes "roots") ∷ number (codes "height") ∷ number (codes "shard") ∷ hash (codes "outcome_root") ∷ hash (codes "receipt_root") ∷ [])
+    ∷ proof (codes "outcome")
+    ∷ proof (codes "receipt")
+    ∷ (line (codes "item") ∷ bytes (codes "bytes") ∷ [])
+    ∷ (line (codes "path") ∷ hash (codes "hash") ∷ [])
+    ∷ (line (codes "valid") ∷ [])
+    ∷ (line (codes "invalid") ∷ [])
+    ∷ (line (codes "part") ∷ number (codes "number") ∷ number (codes "count") ∷ holds_entries)
+    ∷ (line (codes "root") ∷ hash (codes "root") ∷ holds_entries)
     ∷ []
 
 -- ---- objects

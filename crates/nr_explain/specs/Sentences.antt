@@ -45,7 +45,8 @@ programs =
     ∷ (figure (codes "5") (codes "A file could not be read.") ∷ [])
     ∷ (figure (codes "6") (codes "The output could not be written whole.") ∷ [])
     ∷ (figure (codes "7") (codes "Memory ran out.") ∷ [])
-    ∷ (figure (codes "11") (codes "There is no such item: the chunk is missing, or has only ") ∷ number (codes " of them.") ∷ [])
+    ∷ (figure (codes "11") (codes "There is no such chunk, or it has no item of the kind.") ∷ zero_told ∷ [])
+    ∷ (figure (codes "11") (codes "There is no item at that place: the chunk has only ") ∷ number (codes " of the kind.") ∷ [])
     ∷ []
 
 unfoldable pub configurations : List Form

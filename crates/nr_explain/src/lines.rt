@@ -1,4 +1,4 @@
-//! The lines of a report, and the JSON object that stands for each.
+//! The lines that programs write, and the JSON object that stands for each.
 
 ghost use Rattle.std.specs.Prelude.{◌≡◌, ◌∷◌, [], ◌++◌, map, IfOk, OnOk, Some, None};
 ghost use Rattle.nr_explain.specs.Words.{pieces};
@@ -11,7 +11,7 @@ use crate::numbers::is_dash;
 use std::alloc::AllocError;
 
 /// The forms, with a member's name for each word.
-static LINES: [&[Field]; 29] = [
+static LINES: [&[Field]; 38] = [
     fields![
         Word("chunk"): "line", Number: "height", Number: "shard", Hash: "state_root", Number: "gas",
         Amount: "burnt"
@@ -62,10 +62,31 @@ static LINES: [&[Field]; 29] = [
     fields![Word("no"): "line", Figure("5"): "number", Number: "first", Number: "second"],
     fields![Word("no"): "line", Figure("6"): "number", Figure("0"): "first", Figure("0"): "second"],
     fields![Word("no"): "line", Figure("7"): "number", Number: "first", Figure("0"): "second"],
+    fields![
+        Word("roots"): "line", Number: "height", Number: "shard", Hash: "outcome_root",
+        Hash: "receipt_root"
+    ],
+    fields![
+        Word("proof"): "line", Word("outcome"): "kind", Number: "height", Number: "shard",
+        Number: "place", Number: "count"
+    ],
+    fields![
+        Word("proof"): "line", Word("receipt"): "kind", Number: "height", Number: "shard",
+        Number: "place", Number: "count"
+    ],
+    fields![Word("item"): "line", Bytes: "bytes"],
+    fields![Word("path"): "line", Hash: "hash"],
+    fields![Word("valid"): "line"],
+    fields![Word("invalid"): "line"],
+    fields![
+        Word("part"): "line", Number: "number", Number: "count", Word("entries"): "holds",
+        Number: "entries"
+    ],
+    fields![Word("root"): "line", Hash: "root", Word("entries"): "holds", Number: "entries"],
 ];
 
 #[tactic(auto, unfolding(crate::specs::Lines::lines))]
-fn lines() -> &'static [&'static [Field]; 29]
+fn lines() -> &'static [&'static [Field]; 38]
     ensures { map (λ f. form_in f.now) result.now ≡ lines }
 {
     &LINES

@@ -27,8 +27,9 @@ impl From<AllocError> for ReportFault {
     }
 }
 
-/// A report as JSON: an object for each line, each with a line feed behind it. Hashes, bytes and
-/// numbers of 128 bits are texts, and numbers of 64 bits are numbers.
+/// A report, or what another command of a chain writes, as JSON: an object for each line, each with a
+/// line feed behind it. Hashes, bytes and numbers of 128 bits are texts, and numbers of 64 bits are
+/// numbers.
 ///
 /// # Errors
 ///

@@ -13,14 +13,16 @@ use nr_bytes::Blob;
 use std::alloc::{AllocError, Global};
 
 // What is said behind each number that a program prints, by its status.
-static PROGRAMS: [&[Field]; 5] = [
+static PROGRAMS: [&[Field]; 6] = [
     fields![Figure("1"): "The words are no command."],
     fields![Figure("5"): "A file could not be read."],
     fields![Figure("6"): "The output could not be written whole."],
     fields![Figure("7"): "Memory ran out."],
     fields![
-        Figure("11"): "There is no such item: the chunk is missing, or has only ",
-        Number: " of them."
+        Figure("11"): "There is no such chunk, or it has no item of the kind.", Figure("0"): ""
+    ],
+    fields![
+        Figure("11"): "There is no item at that place: the chunk has only ", Number: " of the kind."
     ],
 ];
 
@@ -223,7 +225,7 @@ static STATE_PARTS: [&[Field]; 10] = [
 ];
 
 #[tactic(auto, unfolding(crate::specs::Sentences::programs))]
-fn programs() -> &'static [&'static [Field]; 5]
+fn programs() -> &'static [&'static [Field]; 6]
     ensures { map (λ f. form_in f.now) result.now ≡ programs }
 {
     &PROGRAMS

@@ -16,6 +16,10 @@ use Rattle.nr_explain.specs.declared.report.ReportFault.TheVariants as report
 use Rattle.nr_json.specs.Blocks.{blocks_json, blocks_of}
 use Rattle.nr_json.specs.Genesis.{genesis_json, genesis_of}
 use Rattle.nr_json.specs.declared.genesis.StatedGenesis.{StatedGenesis}
+use Rattle.nr_outproof.specs.Texts.{proof_read}
+use Rattle.nr_outproof.specs.declared.proof.Proof.{Proof}
+use Rattle.nr_parts.specs.Files.{part_in}
+use Rattle.nr_parts.specs.declared.part.Part.{Part}
 use Rattle.std.specs.Prelude.{◌≢◌}
 use Rattle.std.proofs.lemmas.Bool.{le-ltb, lt-ltb}
 use Rattle.std.proofs.lemmas.List.{append-nil}
@@ -28,10 +32,11 @@ use Rattle.nr_config.specs.declared.fault.ConfigFault.{ConfigFault}
 use Rattle.nr_config.specs.declared.fault.ConfigFault.TheVariants as config_faults
 use Rattle.nr_bytes.specs.declared.shelf.LoadFault.TheVariants.{TooLong}
 use Rattle.nr_files.specs.Answers.{AsksFront, Tells, TellsText, Refuses, AnswersAs, Writes, Answers, Stops, Stopped, Prepares, Configures}
-use Rattle.nr_files.specs.Due.{Due, Bytes, Json, IsTextOf, value_in, made_blocks, shown_blocks, judged, made_genesis, shown_genesis, shown_report, due, of_bytes, file_limit}
+use Rattle.nr_files.specs.Due.{Due, Bytes, Json, IsTextOf, value_in, made_blocks, shown_blocks, judged, made_genesis, shown_genesis, shown_part, shown_proof, shown_report, due, of_bytes, file_limit}
 use Rattle.nr_files.specs.Filling.{filled, stated}
 use Rattle.nr_files.specs.Input.{Configured, By, Bars, Unknown, config_status, by_reading, by_config_bytes, config_limit}
-use Rattle.nr_files.specs.Lines.{fault_line, genesis_line, no_json, report_line, unread_line, too_long}
+use Rattle.nr_files.specs.Lines.{fault_line, genesis_line, no_json, part_line, proof_line, report_line, unread_line, too_long}
+use Rattle.nr_files.specs.Shown.{part_json, proof_json}
 use Rattle.nr_files.specs.declared.command.Work.{Work}
 use Rattle.nr_files.specs.declared.status.Status.{Status}
 use Rattle.nr_files.specs.declared.status.Status.TheVariants as status
@@ -249,6 +254,15 @@ pub report_refused : (bytes : List ℕ) (s : Status) (fault : ReportFault) → T
 unfolding shown_report
 report_refused bytes s fault tells no_memory is =
     refuses_on s (with_fault report_line (report_json bytes)) (λ text. written text) (told_fault s report_line fault report.Memory (report_json bytes) tells no_memory is)
+
+-- ---- a part, and a proof
+pub part_shown : (bytes : List ℕ) (p : Part) (json : Data) (text : List ℕ) → with_fault part_line (part_in bytes) ≡ Ok p → json ≡ part_json p → IsTextOf json text → Writes text (shown_part bytes)
+unfolding shown_part
+part_shown bytes p json text one is shown = (Json (part_json p), rw one refl, subst (λ (d : Data). IsTextOf d text) is shown)
+
+pub proof_shown : (bytes : List ℕ) (p : Proof) (json : Data) (text : List ℕ) → with_fault proof_line (proof_read bytes) ≡ Ok p → json ≡ proof_json p → IsTextOf json text → Writes text (shown_proof bytes)
+unfolding shown_proof
+proof_shown bytes p json text one is shown = (Json (proof_json p), rw one refl, subst (λ (d : Data). IsTextOf d text) is shown)
 
 -- ---- a sentence asks for no file
 pub asks_no_file : (old : List (List ℕ)) (o : Option (List ℕ)) → AsksFront old old (files_of (of_sentence o))

@@ -1,11 +1,11 @@
--- The words of the command line: `blocks JSON`, `genesis CONFIG JSON`, `show blocks FILE` or `show genesis CONFIG FILE`. The commands are this project's own.
+-- The words of the command line: `blocks JSON`, `genesis CONFIG JSON`, `show genesis CONFIG FILE`, or `show blocks`, `show report`, `show part` or `show proof` with FILE. The commands are this project's own.
 use Rattle.std.specs.Prelude.{ℕ, List, [], ◌∷◌, ◌++◌, map, Bool, false, cond, not, ◌&&◌, ◌==◌, Option, Some, None, codes, string_bytes}
 use Rattle.std.specs.Global.{Global}
 use Rattle.std.specs.Str.{bytes_eq}
 use Rattle.std.specs.declared.string.String.{String}
 use Rattle.nr_files.specs.declared.command.Request.{Request as LentRequest}
 use Rattle.nr_files.specs.declared.command.Work.{Work}
-use Rattle.nr_files.specs.declared.command.Work.TheVariants.{MakeBlocks, MakeGenesis, ShowBlocks, ShowGenesis, ShowReport}
+use Rattle.nr_files.specs.declared.command.Work.TheVariants.{MakeBlocks, MakeGenesis, ShowBlocks, ShowGenesis, ShowReport, ShowPart, ShowProof}
 use Rattle.nr_explain.specs.Sentences.{explained}
 
 abbrev pub texts : List (String Global) → List (List ℕ)
@@ -35,12 +35,23 @@ is_free word = bytes_eq word free_word
 abbrev pub two_words : List ℕ → List ℕ → Option Request
 two_words verb file = cond (bytes_eq verb (codes "blocks") && is_plain file) (request_of MakeBlocks free_word file) None
 
+-- what is shown of a file by no configuration
+abbrev pub shown_by : List ℕ → Option Work
+shown_by what =
+    cond (bytes_eq what (codes "blocks")) (Some ShowBlocks)
+    (cond (bytes_eq what (codes "report")) (Some ShowReport)
+    (cond (bytes_eq what (codes "part")) (Some ShowPart)
+    (cond (bytes_eq what (codes "proof")) (Some ShowProof) None)))
+
+abbrev pub shown_request : Option Work → List ℕ → Option Request
+shown_request None file = None
+shown_request (Some work) file = request_of work free_word file
+
 abbrev pub three_words : List ℕ → List ℕ → List ℕ → Option Request
 three_words verb second file =
     cond (is_plain file)
     (cond (bytes_eq verb (codes "genesis") && is_plain second) (request_of MakeGenesis second file)
-    (cond (bytes_eq verb (codes "show") && bytes_eq second (codes "blocks")) (request_of ShowBlocks free_word file)
-    (cond (bytes_eq verb (codes "show") && bytes_eq second (codes "report")) (request_of ShowReport free_word file) None)))
+    (cond (bytes_eq verb (codes "show")) (shown_request (shown_by second) file) None))
     None
 
 abbrev pub four_words : List ℕ → List ℕ → List ℕ → List ℕ → Option Request

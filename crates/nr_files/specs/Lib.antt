@@ -2,6 +2,7 @@ pub mod Command
 pub mod Input
 pub mod Lines
 pub mod Filling
+pub mod Shown
 pub mod Due
 pub mod Answers
 pub mod Exit

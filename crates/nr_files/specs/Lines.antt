@@ -7,6 +7,10 @@ use Rattle.nr_json.specs.declared.fault.JsonFault.{JsonFault}
 use Rattle.nr_json.specs.declared.fault.JsonFault.TheVariants as json
 use Rattle.nr_records.specs.declared.fault.RecordFault.{RecordFault}
 use Rattle.nr_records.specs.declared.fault.RecordFault.TheVariants as record_faults
+use Rattle.nr_outproof.specs.declared.fault.ProofFault.{ProofFault}
+use Rattle.nr_outproof.specs.declared.fault.ProofFault.TheVariants as proof
+use Rattle.nr_parts.specs.declared.fault.PartFault.{PartFault}
+use Rattle.nr_parts.specs.declared.fault.PartFault.TheVariants as part
 use Rattle.nr_blocks.specs.declared.fault.GenesisFault.{GenesisFault}
 use Rattle.nr_blocks.specs.declared.fault.GenesisFault.TheVariants as genesis
 
@@ -44,6 +48,27 @@ unread_line record_faults.Memory = []
 abbrev pub report_line : ReportFault → List ℕ
 report_line (report.NoLine line) = codes "line " ++ decimal line ++ codes " is no line of a report"
 report_line report.Memory = []
+
+-- ---- a proof
+abbrev pub proof_line : ProofFault → List ℕ
+proof_line (proof.Form line) = codes "line " ++ decimal line ++ codes " is not what a proof has there"
+proof_line proof.Memory = []
+
+-- ---- a part of a state, which is read without being checked
+abbrev pub no_part : List ℕ
+no_part = codes "the file is no part of a state"
+
+abbrev pub part_line : PartFault → List ℕ
+part_line (part.Spelling at) = at_line at
+part_line (part.Numbers count number) = no_part
+part_line (part.Root found) = no_part
+part_line (part.Missing hash) = no_part
+part_line (part.BadText hash) = no_part
+part_line (part.Entries index) = no_part
+part_line (part.Order number) = no_part
+part_line (part.Whole found) = no_part
+part_line part.TooMany = no_part
+part_line part.Memory = []
 
 -- ---- entries that don't hold together
 abbrev pub entry_line : ℕ → List ℕ → List ℕ

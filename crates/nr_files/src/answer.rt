@@ -5,20 +5,27 @@ ghost use Rattle.serde_json.specs.View.{view};
 ghost use Rattle.nr_bytes.specs.Answers.{Gives};
 ghost use Rattle.nr_records.specs.Reading.{all_of};
 ghost use Rattle.nr_blocks.specs.Judging.{with_fault, genesis_read};
+ghost use Rattle.nr_outproof.specs.Texts.{proof_read};
+ghost use Rattle.nr_parts.specs.Files.{part_in};
 ghost use Rattle.nr_files.specs.Answers.{AnswersAs, Answers};
-ghost use Rattle.nr_files.specs.Due.{IsTextOf, value_in, made_blocks, shown_blocks, judged, made_genesis, shown_genesis, shown_report, of_bytes};
-ghost use Rattle.nr_files.specs.Lines.{fault_line, genesis_line, unread_line};
+ghost use Rattle.nr_files.specs.Due.{IsTextOf, value_in, made_blocks, shown_blocks, judged, made_genesis, shown_genesis, shown_part, shown_proof, shown_report, of_bytes};
+ghost use Rattle.nr_files.specs.Lines.{fault_line, genesis_line, part_line, proof_line, unread_line};
 ghost use Rattle.nr_files.specs.declared.status.Status.TheVariants.{NoMemory};
 
 use crate::command::Work;
 use crate::filling::{genesis_bytes, stated};
+use crate::shown::{part_json, proof_json};
 use crate::status::Status;
-use crate::telling::{faulty, genesis_status, json_status, report_status, unread_status};
+use crate::telling::{
+    faulty, genesis_status, json_status, part_status, proof_status, report_status, unread_status,
+};
 use nr_blocks::{BlocksFile, Genesis, read_genesis};
 use nr_bytes::Blob;
 use nr_config::Config;
 use nr_explain::show_report;
 use nr_json::{Form, StatedGenesis};
+use nr_outproof::{Proof, read_proof};
+use nr_parts::{Part, read_part};
 use nr_records::{Spelled, decode, encode};
 use serde_json::Value;
 use std::alloc::Global;
@@ -65,16 +72,24 @@ fn spelling_of<T: Spelled>(alloc: Global, value: &T) -> Result<Blob, Status>
     }
 }
 
+/// The text of a JSON value.
+fn value_text(alloc: Global, json: &Value) -> Result<Blob, Status>
+    ensures ok { IfOk result (λ bytes. IsTextOf (view json.now) bytes) }
+    ensures err { OnErr result (result ≡ Err NoMemory) }
+{
+    match json.to_vec_pretty(alloc) {
+        Ok(text) => Ok(Blob::of(text)),
+        Err(_) => Err(Status::NoMemory),
+    }
+}
+
 /// The text of a record's JSON value.
 fn text_of<T: Form>(alloc: Global, value: &T) -> Result<Blob, Status>
     ensures ok { IfOk result (λ bytes. IsTextOf (T.json value.now) bytes) }
     ensures err { OnErr result (result ≡ Err NoMemory) }
 {
-    let Ok(json) = value.to_json(alloc) else {
-        return Err(Status::NoMemory);
-    };
-    match json.to_vec_pretty(alloc) {
-        Ok(text) => Ok(Blob::of(text)),
+    match value.to_json(alloc) {
+        Ok(json) => value_text(alloc, &json),
         Err(_) => Err(Status::NoMemory),
     }
 }
@@ -153,6 +168,50 @@ fn shown_report(alloc: Global, bytes: &[u8]) -> Result<Blob, Status>
     }
 }
 
+/// The part of a file.
+fn part_of(alloc: Global, bytes: &[u8]) -> Result<Part, Status>
+    ensures { AnswersAs (λ x. x) result (with_fault part_line (part_in bytes.now)) }
+{
+    match read_part(alloc, bytes) {
+        Ok(part) => Ok(part),
+        Err(fault) => Err(part_status(alloc, fault)),
+    }
+}
+
+#[tactic(auto, using(crate::proofs::Steps::refuses_on), unfolding(crate::specs::Due::shown_part))]
+fn shown_part(alloc: Global, bytes: &[u8]) -> Result<Blob, Status>
+    ensures { Answers result (shown_part bytes.now) }
+{
+    let part = part_of(alloc, bytes)?;
+    let Ok(json) = part_json(alloc, &part) else {
+        return Err(Status::NoMemory);
+    };
+    let text = value_text(alloc, &json)?;
+    Ok(text)
+}
+
+/// The proof of a file.
+fn proof_of(alloc: Global, bytes: &[u8]) -> Result<Proof, Status>
+    ensures { AnswersAs (λ x. x) result (with_fault proof_line (proof_read bytes.now)) }
+{
+    match read_proof(alloc, bytes) {
+        Ok(proof) => Ok(proof),
+        Err(fault) => Err(proof_status(alloc, fault)),
+    }
+}
+
+#[tactic(auto, using(crate::proofs::Steps::refuses_on), unfolding(crate::specs::Due::shown_proof))]
+fn shown_proof(alloc: Global, bytes: &[u8]) -> Result<Blob, Status>
+    ensures { Answers result (shown_proof bytes.now) }
+{
+    let proof = proof_of(alloc, bytes)?;
+    let Ok(json) = proof_json(alloc, &proof) else {
+        return Err(Status::NoMemory);
+    };
+    let text = value_text(alloc, &json)?;
+    Ok(text)
+}
+
 /// What some bytes ask for.
 pub(crate) fn of_bytes(
     alloc: Global,
@@ -168,5 +227,7 @@ pub(crate) fn of_bytes(
         Work::ShowBlocks => shown_blocks(alloc, bytes),
         Work::ShowGenesis => shown_genesis(alloc, config, bytes),
         Work::ShowReport => shown_report(alloc, bytes),
+        Work::ShowPart => shown_part(alloc, bytes),
+        Work::ShowProof => shown_proof(alloc, bytes),
     }
 }

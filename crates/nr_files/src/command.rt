@@ -1,7 +1,7 @@
 //! The words of the command line.
 
 ghost use Rattle.std.specs.Prelude.{◌≡◌, option_map};
-ghost use Rattle.nr_files.specs.Command.{texts, is_plain, two_words, three_words, four_words, command, request_in, is_free, numbers_of};
+ghost use Rattle.nr_files.specs.Command.{texts, is_plain, two_words, three_words, four_words, shown_by, shown_request, command, request_in, is_free, numbers_of};
 
 /// What is done with a file.
 #[derive(Clone, Copy, Debug)]
@@ -16,6 +16,10 @@ pub(crate) enum Work {
     ShowGenesis,
     /// The report of a file is written as JSON.
     ShowReport,
+    /// The part of a state in a file is written as JSON.
+    ShowPart,
+    /// The proof in a file is written as JSON.
+    ShowProof,
 }
 
 /// What is done, under which configuration (`free`, or the name of a file), and with which file.
@@ -50,6 +54,32 @@ fn two_words<'a>(verb: &str, file: &'a str) -> Option<Request<'a>>
     }
 }
 
+/// What is shown of a file by no configuration.
+fn shown_by(what: &str) -> Option<Work>
+    ensures { result ≡ shown_by what.now }
+{
+    match what {
+        "blocks" => Some(Work::ShowBlocks),
+        "report" => Some(Work::ShowReport),
+        "part" => Some(Work::ShowPart),
+        "proof" => Some(Work::ShowProof),
+        _ => None,
+    }
+}
+
+fn shown_request<'a>(work: Option<Work>, file: &'a str) -> Option<Request<'a>>
+    ensures { option_map request_in result ≡ shown_request work file.now }
+{
+    match work {
+        Some(work) => Some(Request {
+            work,
+            config: "free",
+            file,
+        }),
+        None => None,
+    }
+}
+
 fn three_words<'a>(verb: &str, second: &'a str, file: &'a str) -> Option<Request<'a>>
     ensures { option_map request_in result ≡ three_words verb.now second.now file.now }
 {
@@ -63,19 +93,8 @@ fn three_words<'a>(verb: &str, second: &'a str, file: &'a str) -> Option<Request
             file,
         });
     }
-    if verb == "show" && second == "blocks" {
-        return Some(Request {
-            work: Work::ShowBlocks,
-            config: "free",
-            file,
-        });
-    }
-    if verb == "show" && second == "report" {
-        return Some(Request {
-            work: Work::ShowReport,
-            config: "free",
-            file,
-        });
+    if verb == "show" {
+        return shown_request(shown_by(second), file);
     }
     None
 }

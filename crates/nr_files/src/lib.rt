@@ -9,6 +9,7 @@ mod counting;
 mod exit;
 mod filling;
 mod laws;
+mod shown;
 mod status;
 mod telling;
 mod top;

@@ -2,18 +2,22 @@
 
 ghost use Rattle.std.specs.Prelude.{◌≡◌, IfOk, string_bytes};
 ghost use Rattle.nr_files.specs.Answers.{Tells, TellsText};
-ghost use Rattle.nr_files.specs.Lines.{subject, fault_line, at_line, too_long, unread_line, entry_line, genesis_line, report_line, usage_words};
+ghost use Rattle.nr_files.specs.Lines.{subject, fault_line, at_line, too_long, unread_line, entry_line, genesis_line, part_line, proof_line, report_line, usage_words};
 ghost use Rattle.nr_files.specs.declared.status.Status.TheVariants.{NoMemory};
 ghost use Rattle.nr_json.specs.declared.fault.JsonFault.TheVariants as json;
 ghost use Rattle.nr_records.specs.declared.fault.RecordFault.TheVariants as record_faults;
 ghost use Rattle.nr_blocks.specs.declared.fault.GenesisFault.TheVariants as genesis;
 ghost use Rattle.nr_explain.specs.declared.report.ReportFault.TheVariants as report;
+ghost use Rattle.nr_outproof.specs.declared.fault.ProofFault.TheVariants as proof;
+ghost use Rattle.nr_parts.specs.declared.fault.PartFault.TheVariants as part;
 
 use crate::status::Status;
 use nr_blocks::GenesisFault;
 use nr_bytes::Text;
 use nr_explain::ReportFault;
 use nr_json::{JsonFault, Wrong};
+use nr_outproof::ProofFault;
+use nr_parts::PartFault;
 use nr_records::RecordFault;
 use std::alloc::{AllocError, Global};
 use std::fmt::Write;
@@ -116,6 +120,46 @@ pub(crate) fn report_status(alloc: Global, fault: ReportFault) -> Status
     match fault {
         ReportFault::NoLine { line } => told(report_text(alloc, line)),
         ReportFault::Memory => Status::NoMemory,
+    }
+}
+
+fn proof_text(alloc: Global, line: u64) -> Result<String, AllocError>
+    ensures { IfOk result (λ text. string_bytes text ≡ proof_line (proof.Form line)) }
+{
+    let mut text = String::new(alloc);
+    write!(text, "line {line} is not what a proof has there")?;
+    Ok(text)
+}
+
+/// The line of a text that is no proof.
+#[tactic(auto, using(crate::proofs::Steps::tells_text))]
+pub(crate) fn proof_status(alloc: Global, fault: ProofFault) -> Status
+    ensures tells { Tells result (proof_line fault) }
+    ensures memory { fault ≡ proof.Memory → result ≡ NoMemory }
+{
+    match fault {
+        ProofFault::Form { line } => told(proof_text(alloc, line)),
+        ProofFault::Memory => Status::NoMemory,
+    }
+}
+
+/// The line of a file that is no part of a state. The faults of a part that was read don't come up.
+#[tactic(auto, using(crate::proofs::Steps::tells_text))]
+pub(crate) fn part_status(alloc: Global, fault: PartFault) -> Status
+    ensures tells { Tells result (part_line fault) }
+    ensures memory { fault ≡ part.Memory → result ≡ NoMemory }
+{
+    match fault {
+        PartFault::Spelling { at } => told(at_text(alloc, at)),
+        PartFault::Numbers { .. }
+        | PartFault::Root { .. }
+        | PartFault::Missing { .. }
+        | PartFault::BadText { .. }
+        | PartFault::Entries { .. }
+        | PartFault::Order { .. }
+        | PartFault::Whole { .. }
+        | PartFault::TooMany => faulty(alloc, "the file is no part of a state"),
+        PartFault::Memory => Status::NoMemory,
     }
 }
 

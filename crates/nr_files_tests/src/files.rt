@@ -54,6 +54,45 @@ const GENESIS_HEX: &str =
     6c6963650001010101010101010101010101010101010101010101010101010101010101010000000000000000\
     01";
 
+/// A part of two, with one entry and one text.
+const PART: &[u8] = b"NRP111111111111111111111111111111111\x02\0\0\0\x01\0\0\0\
+    \x01\0\0\0\x01\0\0\0k\x02\0\0\0v\0\x01\0\0\0\x01\0\0\0\xff";
+
+/// This part as it is shown.
+const PART_JSON: &str = "{
+  \"count\": 2,
+  \"entries\": [
+    {
+      \"key\": \"6b\",
+      \"value\": \"7600\"
+    }
+  ],
+  \"number\": 1,
+  \"root\": \"3131313131313131313131313131313131313131313131313131313131313131\",
+  \"texts\": [
+    \"ff\"
+  ]
+}";
+
+/// The proof of an item.
+const PROOF: &str = "proof receipt 1 2 3 4
+item 00ff
+path 2222222222222222222222222222222222222222222222222222222222222222
+";
+
+/// This proof as it is shown.
+const PROOF_JSON: &str = "{
+  \"count\": 4,
+  \"height\": 1,
+  \"item\": \"00ff\",
+  \"kind\": \"receipt\",
+  \"path\": [
+    \"2222222222222222222222222222222222222222222222222222222222222222\"
+  ],
+  \"place\": 3,
+  \"shard\": 2
+}";
+
 /// How a command over one file ends, and what is written.
 fn ended(alloc: Global, words: &[&str], file: &[u8]) -> Result<(Status, Vec<u8>), Fail> {
     let mut texts = Vec::new(alloc);
@@ -73,6 +112,43 @@ fn refuses(alloc: Global, words: &[&str], text: &str, line: &str) -> Result<bool
     let (status, written) = ended(alloc, words, text.as_bytes())?;
     let told = format!(in alloc; "{status}")?;
     Ok(status.exit_status() == 20 && told.as_str() == line && written.is_empty())
+}
+
+#[test]
+fn a_part_and_a_proof_are_shown(rt: HostRuntime) -> Result<(), Fail> {
+    let alloc = rt.alloc();
+    let rows: [(&str, &[u8], &str); 2] = [
+        ("part", PART, PART_JSON),
+        ("proof", PROOF.as_bytes(), PROOF_JSON),
+    ];
+    for (what, file, json) in rows {
+        let (shown, text) = ended(alloc, &["show", what, "F"], file)?;
+        assert_eq!(rt; shown.exit_status(), 0);
+        assert_eq!(rt; text.as_slice(), json.as_bytes());
+    }
+    Ok(())
+}
+
+#[test]
+fn other_parts_and_proofs_are_refused(rt: HostRuntime) -> Result<(), Fail> {
+    let alloc = rt.alloc();
+    let rows: [(&str, &str, &str); 5] = [
+        ("part", "", "the field at byte 0 can't be read"),
+        ("part", "NRP2", "the field at byte 0 can't be read"),
+        ("part", "NRP1root", "the field at byte 4 can't be read"),
+        ("proof", "", "line 1 is not what a proof has there"),
+        (
+            "proof",
+            "proof receipt 1 2 3 4\nitem\n",
+            "line 2 is not what a proof has there",
+        ),
+    ];
+    for (what, text, line) in rows {
+        assert!(rt; refuses(alloc, &["show", what, "F"], text, line)?, "{text}");
+    }
+    let (unknown, _) = ended(alloc, &["show", "parts", "F"], PART)?;
+    assert_eq!(rt; unknown.exit_status(), 1);
+    Ok(())
 }
 
 #[test]

@@ -40,6 +40,22 @@ fn statuses_have_sentences(rt: HostRuntime) -> Result<(), Fail> {
             "8 1 3",
             "The schedule is refused: line 3 (from 1) is no step, or names a shard that is not there.",
         ),
+        (
+            "10 1 3",
+            "The proof is refused: line 3 (from 1) has not the form that a proof has there.",
+        ),
+        (
+            "11 0",
+            "There is no such chunk, or it has no item of the kind.",
+        ),
+        (
+            "11 5",
+            "There is no item at that place: the chunk has only 5 of the kind.",
+        ),
+        (
+            "13 7 1",
+            "The state parts are refused: part 1 (from 0) has another number, or another count of parts.",
+        ),
     ] {
         assert_eq!(rt; told(rt.alloc(), line)?.as_slice(), sentence.as_bytes());
     }
@@ -62,6 +78,10 @@ fn other_numbers_have_none(rt: HostRuntime) -> Result<(), Fail> {
         "2 4 011",
         "4 1 18446744073709551616",
         "8 1 -3",
+        "10 0 1",
+        "11",
+        "13 8 1",
+        "13 10 0",
     ] {
         assert_eq!(rt; told(rt.alloc(), line)?.len(), 0);
     }
@@ -88,6 +108,32 @@ no 2 5 1
 }
 
 #[test]
+fn what_other_commands_write_is_shown(rt: HostRuntime) -> Result<(), Fail> {
+    let text =
+        b"roots 1 2 0b0b0b0b0b0b0b0b0b0b0b0b0b0b0b0b0b0b0b0b0b0b0b0b0b0b0b0b0b0b0b0b 0c0c0c0c0c0c0c0c0c0c0c0c0c0c0c0c0c0c0c0c0c0c0c0c0c0c0c0c0c0c0c0c
+proof receipt 1 2 3 18446744073709551615
+item -
+path 0b0b0b0b0b0b0b0b0b0b0b0b0b0b0b0b0b0b0b0b0b0b0b0b0b0b0b0b0b0b0b0b
+valid
+invalid
+part 3 10000 entries 7
+root 0b0b0b0b0b0b0b0b0b0b0b0b0b0b0b0b0b0b0b0b0b0b0b0b0b0b0b0b0b0b0b0b entries 0
+";
+    let json =
+        b"{\"line\":\"roots\",\"height\":1,\"shard\":2,\"outcome_root\":\"0b0b0b0b0b0b0b0b0b0b0b0b0b0b0b0b0b0b0b0b0b0b0b0b0b0b0b0b0b0b0b0b\",\"receipt_root\":\"0c0c0c0c0c0c0c0c0c0c0c0c0c0c0c0c0c0c0c0c0c0c0c0c0c0c0c0c0c0c0c0c\"}
+{\"line\":\"proof\",\"kind\":\"receipt\",\"height\":1,\"shard\":2,\"place\":3,\"count\":18446744073709551615}
+{\"line\":\"item\",\"bytes\":\"\"}
+{\"line\":\"path\",\"hash\":\"0b0b0b0b0b0b0b0b0b0b0b0b0b0b0b0b0b0b0b0b0b0b0b0b0b0b0b0b0b0b0b0b\"}
+{\"line\":\"valid\"}
+{\"line\":\"invalid\"}
+{\"line\":\"part\",\"number\":3,\"count\":10000,\"holds\":\"entries\",\"entries\":7}
+{\"line\":\"root\",\"root\":\"0b0b0b0b0b0b0b0b0b0b0b0b0b0b0b0b0b0b0b0b0b0b0b0b0b0b0b0b0b0b0b0b\",\"holds\":\"entries\",\"entries\":0}
+";
+    assert_eq!(rt; show_report(rt.alloc(), text)?.inner(), json.as_slice());
+    Ok(())
+}
+
+#[test]
 fn the_first_faulty_line_is_named(rt: HostRuntime) -> Result<(), Fail> {
     for (text, line) in [
         (b"ok\nok\nno 8 0 0\nok\n".as_slice(), 3),
@@ -98,6 +144,7 @@ fn the_first_faulty_line_is_named(rt: HostRuntime) -> Result<(), Fail> {
             1,
         ),
         (b"log abc\n".as_slice(), 1),
+        (b"valid\nproof outcomes 1 0 0 1\n".as_slice(), 2),
     ] {
         match show_report(rt.alloc(), text) {
             Ok(_) => assert!(rt; false),

@@ -6,7 +6,7 @@ use Rattle.std.specs.List.{slice_get}
 use Rattle.std.proofs.lemmas.List.{length-map}
 use Rattle.std.proofs.lemmas.Option.{slice_get_within}
 use Rattle.nr_records.specs.declared.chunk_result.ChunkResult.{ChunkResult}
-use Rattle.nr_outproof.specs.declared.kind.ProofKind.{ProofKind}
+use Rattle.nr_words.specs.declared.kind.ProofKind.{ProofKind}
 use Rattle.nr_outproof.specs.declared.proof.Proof.{Proof}
 use Rattle.nr_outproof.specs.Items.{items}
 use Rattle.nr_outproof.specs.Tree.{leaf_top, leaf_tops, path_of, digest}

@@ -4,8 +4,8 @@ use Rattle.std.proofs.lemmas.List.{take_at, drop_at, length-append}
 use Rattle.nr_bytes.specs.Numbers.{little, number}
 use Rattle.nr_bytes.proofs.Numbers.{length-little, number-little}
 use Rattle.nr_ids.specs.declared.key.Hash32.{Hash32}
-use Rattle.nr_outproof.specs.declared.kind.ProofKind.{ProofKind}
-use Rattle.nr_outproof.specs.declared.kind.ProofKind.TheVariants.{Outcome, Receipt}
+use Rattle.nr_words.specs.declared.kind.ProofKind.{ProofKind}
+use Rattle.nr_words.specs.declared.kind.ProofKind.TheVariants.{Outcome, Receipt}
 use Rattle.nr_outproof.specs.declared.levels.Side.{Side}
 use Rattle.nr_outproof.specs.declared.levels.Side.TheVariants.{Left, Right}
 use Rattle.nr_ids.specs.declared.number.Height.{Height}

@@ -17,12 +17,14 @@ use Rattle.hex.proofs.HexLemmas.{decode_of-even, decode_of-ok}
 use Rattle.nr_ids.specs.declared.key.Hash32.{Hash32}
 use Rattle.nr_report.specs.Lines.{Words, line, hash_word, bytes_word}
 use Rattle.nr_words.specs.Command.{has_no_leading_zero, is_digit, is_numeral, number_in}
+use Rattle.nr_words.specs.Forms.{is_hex_digit}
+use Rattle.nr_words.specs.Kinds.{kind_word}
 use Rattle.nr_outproof.specs.declared.fault.ProofFault.{ProofFault}
-use Rattle.nr_outproof.specs.declared.kind.ProofKind.{ProofKind}
-use Rattle.nr_outproof.specs.declared.kind.ProofKind.TheVariants.{Outcome, Receipt}
+use Rattle.nr_words.specs.declared.kind.ProofKind.{ProofKind}
+use Rattle.nr_words.specs.declared.kind.ProofKind.TheVariants.{Outcome, Receipt}
 use Rattle.nr_outproof.specs.declared.proof.Proof.{Proof}
 use Rattle.nr_outproof.specs.declared.reading.Head.{Head}
-use Rattle.nr_outproof.specs.Texts.{behind_head, by_lines, bytes_in, hash_in, hash_of, hash_word_in, head_by, head_in, hex_in, is_lower_digit, item_in, item_line, item_word, kind_in, kind_word, last_piece, number_32, number_64, path_from, path_line, pieces, proof_read, proof_text, with_hash, with_head, with_item, with_path, word_behind}
+use Rattle.nr_outproof.specs.Texts.{behind_head, by_lines, bytes_in, hash_in, hash_of, hash_word_in, head_by, head_in, hex_in, item_in, item_line, item_word, kind_in, last_piece, number_32, number_64, path_from, path_line, pieces, proof_read, proof_text, with_hash, with_head, with_item, with_path, word_behind}
 
 -- ---- values
 some_same : {X : Type 0} (x y : X) → ◌≡◌ {A = Option X} (Some x) (Some y) → x ≡ y
@@ -123,7 +125,7 @@ letter_only c v d e =
     let back : 97 + (c - 97) ≡ c = omega (arith, low) in
     ap (slice_index lower_digits) place ∙ letter_at (c - 97) (omega (arith, low, high)) ∙ back
 
-digit_only : (c v : ℕ) → is_lower_digit c ≡ true → hex_digit_value c ≡ Some v → slice_index lower_digits v ≡ c
+digit_only : (c v : ℕ) → is_hex_digit c ≡ true → hex_digit_value c ≡ Some v → slice_index lower_digits v ≡ c
 digit_only c v = by (is_digit c) refl
   where
     by : (t : Bool) → is_digit c ≡ t → (t || (nat_le 97 c && nat_le c 102)) ≡ true → hex_digit_value c ≡ Some v → slice_index lower_digits v ≡ c
@@ -141,13 +143,13 @@ digit_read c i None v e = absurd cc
 two_more : (x a y b : ℕ) (xs rest : List ℕ) → x ≡ a → y ≡ b → xs ≡ rest → x ∷ y ∷ xs ≡ a ∷ b ∷ rest
 two_more x a y b xs rest e f g = ap (λ (w : ℕ). w ∷ y ∷ xs) e ∙ ap (λ (w : ℕ). a ∷ w ∷ xs) f ∙ ap (λ (w : List ℕ). a ∷ b ∷ w) g
 
-pairs_only : (i : ℕ) (word bytes : List ℕ) → list_all is_lower_digit word ≡ true → decode_pairs i word ≡ Ok bytes → encode_lower bytes ≡ word
+pairs_only : (i : ℕ) (word bytes : List ℕ) → list_all is_hex_digit word ≡ true → decode_pairs i word ≡ Ok bytes → encode_lower bytes ≡ word
 unfolding decode_pairs encode_with
 pairs_only i [] bytes all e = ap (λ (w : List ℕ). encode_lower w) (sym (ok_same [] bytes e))
 pairs_only i (a ∷ []) bytes all e = absurd cc
 pairs_only i (a ∷ b ∷ rest) bytes all e =
-    let first = and_parts (is_lower_digit a) (list_all is_lower_digit (b ∷ rest)) all in
-    let second = and_parts (is_lower_digit b) (list_all is_lower_digit rest) first.1 in
+    let first = and_parts (is_hex_digit a) (list_all is_hex_digit (b ∷ rest)) all in
+    let second = and_parts (is_hex_digit b) (list_all is_hex_digit rest) first.1 in
     let pair = bind_ok (pair_value a b i) _ bytes e in
     let h = bind_ok (value_at a i) _ pair.0 pair.1 in
     let l = bind_ok (value_at b (i + 1)) _ pair.0 h.2 in
@@ -168,7 +170,7 @@ pairs_only i (a ∷ b ∷ rest) bytes all e =
 hex_only : (word bytes : List ℕ) → hex_in word ≡ Some bytes → encode_lower bytes ≡ word
 unfolding hex_in
 hex_only word bytes e =
-    let c = cond_some (list_all is_lower_digit word) (result_ok (decode_of word)) bytes e in
+    let c = cond_some (list_all is_hex_digit word) (result_ok (decode_of word)) bytes e in
     let d = ok_from (decode_of word) bytes c.1 in
     let even = (decode_of-ok word bytes d).0 in
     pairs_only 0 word bytes c.0 (sym (decode_of-even word even) ∙ d)

@@ -7,7 +7,7 @@ use Rattle.std.proofs.lemmas.List.Sums.{sum_by-cons}
 use Rattle.std.proofs.lemmas.Option.{slice_get-map, slice_get-get_or, none-some}
 use Rattle.nr_ids.specs.declared.key.Hash32.{Hash32}
 use Rattle.nr_records.specs.declared.chunk_result.ChunkLine.{ChunkLine}
-use Rattle.nr_outproof.specs.declared.kind.ProofKind.{ProofKind}
+use Rattle.nr_words.specs.declared.kind.ProofKind.{ProofKind}
 use Rattle.nr_outproof.specs.Items.{is_of, item_in, line_item}
 use Rattle.nr_outproof.specs.Leaves.{leaves_in}
 use Rattle.nr_outproof.specs.Tree.{leaf_top, leaf_tops}

@@ -11,11 +11,13 @@ use Rattle.nr_bytes.specs.Numbers.{IsBytes}
 use Rattle.nr_ids.specs.declared.key.Hash32.{Hash32}
 use Rattle.nr_report.specs.Lines.{Words, line, hash_word, bytes_word}
 use Rattle.nr_words.specs.Command.{has_no_leading_zero, is_digit, is_numeral, number_in}
-use Rattle.nr_outproof.specs.declared.kind.ProofKind.{ProofKind}
-use Rattle.nr_outproof.specs.declared.kind.ProofKind.TheVariants.{Outcome, Receipt}
+use Rattle.nr_words.specs.Forms.{is_hex_digit}
+use Rattle.nr_words.specs.Kinds.{kind_word}
+use Rattle.nr_words.specs.declared.kind.ProofKind.{ProofKind}
+use Rattle.nr_words.specs.declared.kind.ProofKind.TheVariants.{Outcome, Receipt}
 use Rattle.nr_outproof.specs.declared.proof.Proof.{Proof}
 use Rattle.nr_outproof.specs.declared.reading.Head.{Head}
-use Rattle.nr_outproof.specs.Texts.{FitsProof, bytes_in, hash_in, hash_of, head_in, head_line, hex_in, is_lower_digit, item_in, item_line, item_word, kind_in, kind_word, path_from, path_line, pieces, proof_read, proof_text, with_hash, with_head, with_item, with_path, hash_word_in, word_behind}
+use Rattle.nr_outproof.specs.Texts.{FitsProof, bytes_in, hash_in, hash_of, head_in, head_line, hex_in, item_in, item_line, item_word, kind_in, path_from, path_line, pieces, proof_read, proof_text, with_hash, with_head, with_item, with_path, hash_word_in, word_behind}
 use Rattle.nr_outproof.proofs.TextLines.{head_is_read, item_is_read, next_line, last_line}
 
 -- ---- words without spaces and line feeds
@@ -72,7 +74,7 @@ decimal_plain : (n : ℕ) → n < 2 ^ 64 → IsPlain (decimal n)
 decimal_plain n small = all_plain is_digit digit_plain (decimal n) (digits_are n small)
 
 -- ---- hexadecimal
-lower_is : (d : ℕ) → d < 16 → is_lower_digit (slice_index lower_digits d) ≡ true
+lower_is : (d : ℕ) → d < 16 → is_hex_digit (slice_index lower_digits d) ≡ true
 lower_is zero lt = refl
 lower_is (suc zero) lt = refl
 lower_is (suc (suc zero)) lt = refl
@@ -91,15 +93,15 @@ lower_is (suc (suc (suc (suc (suc (suc (suc (suc (suc (suc (suc (suc (suc (suc z
 lower_is (suc (suc (suc (suc (suc (suc (suc (suc (suc (suc (suc (suc (suc (suc (suc zero))))))))))))))) lt = refl
 lower_is (suc (suc (suc (suc (suc (suc (suc (suc (suc (suc (suc (suc (suc (suc (suc (suc d)))))))))))))))) lt = absurd (omega arith)
 
-all_lower : (bytes : List ℕ) → IsBytes bytes → list_all is_lower_digit (encode_lower bytes) ≡ true
+all_lower : (bytes : List ℕ) → IsBytes bytes → list_all is_hex_digit (encode_lower bytes) ≡ true
 unfolding encode_with
 all_lower [] fits = refl
 all_lower (b ∷ bytes) fits =
     let low : b < 256 = fits 0 in
     let first = lower_is (b / 16) (omega arith) in
     let second = lower_is (b % 16) (omega arith) in
-    and_from (is_lower_digit (slice_index lower_digits (b / 16))) (list_all is_lower_digit (slice_index lower_digits (b % 16) ∷ encode_lower bytes)) first
-    (and_from (is_lower_digit (slice_index lower_digits (b % 16))) (list_all is_lower_digit (encode_lower bytes)) second (all_lower bytes (λ i. fits (suc i))))
+    and_from (is_hex_digit (slice_index lower_digits (b / 16))) (list_all is_hex_digit (slice_index lower_digits (b % 16) ∷ encode_lower bytes)) first
+    (and_from (is_hex_digit (slice_index lower_digits (b % 16))) (list_all is_hex_digit (encode_lower bytes)) second (all_lower bytes (λ i. fits (suc i))))
 
 hex_back : (bytes : List ℕ) → IsBytes bytes → hex_in (encode_lower bytes) ≡ Some bytes
 unfolding hex_in
@@ -109,16 +111,16 @@ or_parts : (x y : Bool) → cond x true y ≡ true → (x ≡ true) ⊎ (y ≡ t
 or_parts true y e = inl refl
 or_parts false y e = inr e
 
-lower_plain : (b : ℕ) → is_lower_digit b ≡ true → plain b ≡ true
+lower_plain : (b : ℕ) → is_hex_digit b ≡ true → plain b ≡ true
 lower_plain b h = by (is_digit b) (nat_le 97 b) refl refl h
   where
-    by : (d low : Bool) → is_digit b ≡ d → nat_le 97 b ≡ low → is_lower_digit b ≡ true → plain b ≡ true
+    by : (d low : Bool) → is_digit b ≡ d → nat_le 97 b ≡ low → is_hex_digit b ≡ true → plain b ≡ true
     by true low e f g = digit_plain b e
     by false true e f g = let l = leb-true 97 b f in plain_is b (λ q. absurd (omega (arith, q, l))) (λ q. absurd (omega (arith, q, l)))
     by false false e f g = absurd (grind arith)
 
 hex_plain : (bytes : List ℕ) → IsBytes bytes → IsPlain (encode_lower bytes)
-hex_plain bytes fits = all_plain is_lower_digit lower_plain (encode_lower bytes) (all_lower bytes fits)
+hex_plain bytes fits = all_plain is_hex_digit lower_plain (encode_lower bytes) (all_lower bytes fits)
 
 -- ---- words in a line
 abbrev spaced : Words → List ℕ

@@ -7,7 +7,7 @@ use Rattle.nr_records.specs.declared.chunk_result.RunStatus.TheVariants.{Value, 
 use Rattle.nr_records.specs.declared.chunk_result.Outcome.{Outcome}
 use Rattle.nr_records.specs.declared.chunk_result.ChunkLine.{ChunkLine}
 use Rattle.nr_records.specs.declared.chunk_result.ChunkLine.TheVariants.{TxOk, TxRefused, Run, Postponed, Received, Lost, Late, Sent}
-use Rattle.nr_outproof.specs.declared.kind.ProofKind.{ProofKind}
+use Rattle.nr_words.specs.declared.kind.ProofKind.{ProofKind}
 use Rattle.nr_outproof.specs.Items.{is_of}
 
 abbrev pub FitsStatus : RunStatus → Type 0

@@ -11,8 +11,8 @@ use Rattle.nr_records.specs.declared.chunk_result.Outcome.{Outcome}
 use Rattle.nr_records.specs.declared.chunk_result.ChunkLine.{ChunkLine}
 use Rattle.nr_records.specs.declared.chunk_result.ChunkLine.TheVariants.{TxOk, TxRefused, Run, Postponed, Received, Lost, Late, Sent}
 use Rattle.nr_records.specs.declared.chunk_result.ChunkResult.{ChunkResult}
-use Rattle.nr_outproof.specs.declared.kind.ProofKind.{ProofKind}
-use Rattle.nr_outproof.specs.declared.kind.ProofKind.TheVariants.{Outcome as OfOutcome, Receipt as OfReceipt}
+use Rattle.nr_words.specs.declared.kind.ProofKind.{ProofKind}
+use Rattle.nr_words.specs.declared.kind.ProofKind.TheVariants.{Outcome as OfOutcome, Receipt as OfReceipt}
 
 -- how a receipt ended: an ordinal, and what it says follows
 abbrev pub status_bytes : RunStatus → List ℕ

@@ -2,7 +2,7 @@
 use Rattle.std.specs.Prelude.{List}
 use Rattle.nr_ids.specs.declared.key.Hash32.{Hash32}
 use Rattle.nr_records.specs.declared.chunk_result.ChunkLine.{ChunkLine}
-use Rattle.nr_outproof.specs.declared.kind.ProofKind.{ProofKind}
+use Rattle.nr_words.specs.declared.kind.ProofKind.{ProofKind}
 use Rattle.nr_outproof.specs.Items.{item_in}
 use Rattle.nr_outproof.specs.Tree.{leaf_tops}
 

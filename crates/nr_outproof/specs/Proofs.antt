@@ -8,8 +8,8 @@ use Rattle.nr_ids.specs.declared.key.Hash32.{Hash32}
 use Rattle.nr_records.specs.declared.chunk_result.ChunkResult.{ChunkResult}
 use Rattle.nr_outproof.specs.declared.explaining.Explained.{Explained}
 use Rattle.nr_outproof.specs.declared.explaining.Explained.TheVariants.{Same, Collision}
-use Rattle.nr_outproof.specs.declared.kind.ProofKind.{ProofKind}
-use Rattle.nr_outproof.specs.declared.kind.ProofKind.TheVariants.{Outcome, Receipt}
+use Rattle.nr_words.specs.declared.kind.ProofKind.{ProofKind}
+use Rattle.nr_words.specs.declared.kind.ProofKind.TheVariants.{Outcome, Receipt}
 use Rattle.nr_outproof.specs.declared.proof.Proof.{Proof}
 use Rattle.nr_outproof.specs.Items.{items}
 use Rattle.nr_outproof.specs.Tree.{digest, leaf_text, leaf_top, leaf_tops, top_of, way_of, path_of, climb, IsOnWay, IsInside}

@@ -1,5 +1,5 @@
 -- The text of a proof: a line of what it states, one of the item, and one of each top beside the way. This project's own.
-use Rattle.std.specs.Prelude.{◌≡◌, ◌<◌, ◌^◌, ℕ, ◌+◌, ◌==◌, ◌||◌, ◌&&◌, nat_le, List, [], ◌∷◌, ◌++◌, length, Bool, cond, Option, Some, None, Result, Ok, Err, codes, decimal}
+use Rattle.std.specs.Prelude.{◌≡◌, ◌<◌, ◌^◌, ℕ, ◌+◌, ◌==◌, List, [], ◌∷◌, ◌++◌, length, Bool, cond, Option, Some, None, Result, Ok, Err, codes, decimal}
 use Rattle.std.specs.List.{AllByRecursion, flat_map, list_all, slice_split}
 use Rattle.std.specs.Result.{result_ok}
 use Rattle.std.specs.Str.{bytes_eq}
@@ -7,19 +7,17 @@ use Rattle.hex.specs.Hex.{decode_of}
 use Rattle.nr_bytes.specs.Numbers.{IsBytes}
 use Rattle.nr_ids.specs.declared.key.Hash32.{Hash32}
 use Rattle.nr_report.specs.Lines.{line, hash_word, bytes_word}
-use Rattle.nr_words.specs.Command.{is_digit, number_in}
-use Rattle.nr_outproof.specs.declared.kind.ProofKind.{ProofKind}
-use Rattle.nr_outproof.specs.declared.kind.ProofKind.TheVariants.{Outcome, Receipt}
+use Rattle.nr_words.specs.Command.{number_in}
+use Rattle.nr_words.specs.Forms.{is_hex_digit}
+use Rattle.nr_words.specs.Kinds.{kind_word}
+use Rattle.nr_words.specs.declared.kind.ProofKind.{ProofKind}
+use Rattle.nr_words.specs.declared.kind.ProofKind.TheVariants.{Outcome, Receipt}
 use Rattle.nr_outproof.specs.declared.proof.Proof.{Proof}
 use Rattle.nr_outproof.specs.declared.reading.Head.{Head}
 use Rattle.nr_outproof.specs.declared.fault.ProofFault.{ProofFault}
 use Rattle.nr_outproof.specs.declared.fault.ProofFault.TheVariants.{Form}
 
 -- ---- the text of a proof
-abbrev pub kind_word : ProofKind → List ℕ
-kind_word Outcome = codes "outcome"
-kind_word Receipt = codes "receipt"
-
 abbrev pub head_line : Proof → List ℕ
 head_line p = line (codes "proof" ∷ kind_word p.kind ∷ decimal p.height.0 ∷ decimal p.shard.0 ∷ decimal p.place ∷ decimal p.count ∷ [])
 
@@ -47,14 +45,11 @@ abbrev pub pieces : ℕ → List ℕ → List (List ℕ)
 pieces separator bytes = slice_split (λ b. b == separator) bytes
 
 abbrev pub kind_in : List ℕ → Option ProofKind
-kind_in word = cond (bytes_eq word (codes "outcome")) (Some Outcome) (cond (bytes_eq word (codes "receipt")) (Some Receipt) None)
-
-abbrev pub is_lower_digit : ℕ → Bool
-is_lower_digit b = is_digit b || (nat_le 97 b && nat_le b 102)
+kind_in word = cond (bytes_eq word (kind_word Outcome)) (Some Outcome) (cond (bytes_eq word (kind_word Receipt)) (Some Receipt) None)
 
 -- bytes in lower-case hexadecimal
 unfoldable pub hex_in : List ℕ → Option (List ℕ)
-hex_in word = cond (list_all is_lower_digit word) (result_ok (decode_of word)) None
+hex_in word = cond (list_all is_hex_digit word) (result_ok (decode_of word)) None
 
 -- the same, with a dash for none
 unfoldable pub bytes_in : List ℕ → Option (List ℕ)

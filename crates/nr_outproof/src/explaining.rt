@@ -10,7 +10,6 @@ ghost use Rattle.nr_outproof.specs.declared.explaining.Explained.TheVariants.{Co
 
 use crate::hashing::{joined, joined_text, leaf_text, leaf_top};
 use crate::items::item_at;
-use crate::kind::ProofKind;
 use crate::levels::{Side, path_of, way_of};
 use crate::proof::Proof;
 use crate::proving::{chunk_text, leaf_tops};
@@ -18,6 +17,7 @@ use crate::verifying::stated_text;
 use nr_bytes::Blob;
 use nr_ids::Hash32;
 use nr_records::ChunkResult;
+use nr_words::ProofKind;
 use std::alloc::{AllocError, Global};
 
 /// What stands behind a proof that was accepted.

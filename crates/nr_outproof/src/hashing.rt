@@ -4,10 +4,10 @@ ghost use Rattle.std.specs.Prelude.{◌≡◌, ◌++◌, IfOk};
 ghost use Rattle.nr_outproof.specs.Tree.{joined, joined_text, leaf_text, leaf_top, pair_text, pair_top, digest};
 ghost use Rattle.nr_outproof.specs.Proofs.{FitsRoot, kind_byte, root_text};
 
-use crate::kind::ProofKind;
 use crate::levels::Side;
 use nr_bytes::{Blob, Writer};
 use nr_ids::{Hash32, Height, ShardId};
+use nr_words::ProofKind;
 use sha2::{Digest, Sha256};
 use std::alloc::{AllocError, Global};
 

@@ -8,10 +8,10 @@ ghost use Rattle.nr_ids.specs.Keys.{hash_bytes, IsHash};
 ghost use Rattle.nr_outproof.specs.Fitting.{FitsLine, FitsStatus, FitsRun};
 ghost use Rattle.nr_outproof.specs.Items.{is_of, is_sent, items, line_item, run_bytes, status_bytes};
 
-use crate::kind::ProofKind;
 use nr_bytes::{Blob, Writer};
 use nr_ids::{Hash32, ShardId};
 use nr_records::{ChunkLine, ChunkResult, Outcome, RunStatus, Spelled};
+use nr_words::ProofKind;
 use std::alloc::{AllocError, Global};
 
 fn is_sent(line: &ChunkLine) -> bool

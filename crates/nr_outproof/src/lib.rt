@@ -8,7 +8,6 @@ mod explaining;
 mod fault;
 mod hashing;
 mod items;
-mod kind;
 mod laws;
 mod levels;
 mod proof;
@@ -19,8 +18,8 @@ mod writing;
 
 pub use explaining::{Explained, explain};
 pub use fault::ProofFault;
-pub use kind::ProofKind;
 pub use laws::{item_laws, text_laws, tree_laws};
+pub use nr_words::ProofKind;
 pub use proof::Proof;
 pub use proving::{chunk_root, item_count, prove};
 pub use reading::read_proof;

@@ -1,6 +1,6 @@
-use crate::kind::ProofKind;
 use nr_bytes::{Blob, List};
 use nr_ids::{Hash32, Height, ShardId};
+use nr_words::ProofKind;
 
 /// That an item stands at a place among the items of a chunk.
 #[derive(Debug, Drop)]

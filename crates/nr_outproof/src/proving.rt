@@ -10,12 +10,12 @@ ghost use Rattle.nr_outproof.specs.Tree.{leaf_tops};
 
 use crate::hashing::{digest, leaf_top, root_text};
 use crate::items::{is_of, item_at, item_of};
-use crate::kind::ProofKind;
 use crate::levels::{path_of, top_of};
 use crate::proof::Proof;
 use nr_bytes::{Blob, List};
 use nr_ids::Hash32;
 use nr_records::{ChunkLine, ChunkResult};
+use nr_words::ProofKind;
 use std::alloc::{AllocError, Global};
 
 /// Adds the top of a line, where it is an item of the kind.

@@ -5,16 +5,16 @@ ghost use Rattle.std.specs.List.{list_all};
 ghost use Rattle.std.specs.Option.{option_copied};
 ghost use Rattle.std.specs.Str.{bytes_eq};
 ghost use Rattle.nr_bytes.specs.Answers.{Gives, GivesAs};
-ghost use Rattle.nr_outproof.specs.Texts.{bytes_in, hash_in, hash_of, head_by, head_in, head_of, hex_in, is_lower_digit, item_in, kind_in, behind_head, path_from, pieces, proof_read, word_behind};
+ghost use Rattle.nr_outproof.specs.Texts.{bytes_in, hash_in, hash_of, head_by, head_in, head_of, hex_in, item_in, kind_in, behind_head, path_from, pieces, proof_read, word_behind};
+ghost use Rattle.nr_words.specs.Forms.{is_hex_digit};
 ghost use Rattle.nr_outproof.specs.declared.fault.ProofFault.TheVariants.{Memory};
 
 use crate::fault::ProofFault;
-use crate::kind::ProofKind;
 use crate::proof::Proof;
 use hex::FromHexError;
 use nr_bytes::{Blob, List};
 use nr_ids::{Hash32, Height, ShardId};
-use nr_words::number_in;
+use nr_words::{ProofKind, is_hex_digit, number_in};
 use std::alloc::{AllocError, Global};
 
 /// What the first line of a proof states.
@@ -56,16 +56,10 @@ fn kind_in(word: &[u8]) -> Option<ProofKind>
     }
 }
 
-fn is_lower_digit(byte: u8) -> bool
-    ensures { result ≡ is_lower_digit byte }
+fn all_hex_digits(word: &[u8]) -> bool
+    ensures { result ≡ list_all is_hex_digit word.now }
 {
-    (48 <= byte && byte <= 57) || (97 <= byte && byte <= 102)
-}
-
-fn all_lower_digits(word: &[u8]) -> bool
-    ensures { result ≡ list_all is_lower_digit word.now }
-{
-    word.iter().all(|byte| is_lower_digit(*byte))
+    word.iter().all(|byte| is_hex_digit(*byte))
 }
 
 /// The bytes that a word spells in lower-case hexadecimal.
@@ -73,7 +67,7 @@ fn all_lower_digits(word: &[u8]) -> bool
 fn hex_in(alloc: Global, word: &[u8]) -> Result<Option<Blob>, AllocError>
     ensures { IfOk result (λ bytes. bytes ≡ hex_in word.now) }
 {
-    if !all_lower_digits(word) {
+    if !all_hex_digits(word) {
         return Ok(None);
     }
     match hex::decode(alloc, word) {

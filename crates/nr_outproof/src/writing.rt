@@ -3,9 +3,8 @@
 ghost use Rattle.std.specs.Prelude.{◌≡◌, ◌++◌, IfOk, OnErr, OnOk, string_bytes};
 ghost use Rattle.std.specs.List.{flat_map};
 ghost use Rattle.nr_report.specs.Lines.{bytes_word, hash_word};
-ghost use Rattle.nr_outproof.specs.Texts.{head_line, item_line, kind_word, path_line, proof_text};
+ghost use Rattle.nr_outproof.specs.Texts.{head_line, item_line, path_line, proof_text};
 
-use crate::kind::ProofKind;
 use crate::proof::Proof;
 use nr_bytes::Blob;
 use nr_ids::Hash32;
@@ -32,19 +31,10 @@ fn byte_digits(alloc: Global, bytes: &[u8]) -> Result<String, AllocError>
     }
 }
 
-fn kind_word(kind: ProofKind) -> &'static str
-    ensures { result.now ≡ kind_word kind }
-{
-    match kind {
-        ProofKind::Outcome => "outcome",
-        ProofKind::Receipt => "receipt",
-    }
-}
-
 fn print_head(proof: &Proof, text: &mut String) -> Result<(), AllocError>
     ensures { OnOk result (string_bytes text.new ≡ string_bytes text.old ++ head_line proof.now) }
 {
-    let kind = kind_word(proof.kind);
+    let kind = proof.kind.word();
     let height = proof.height.0;
     let shard = proof.shard.0;
     let place = proof.place;

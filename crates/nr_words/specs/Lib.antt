@@ -1,5 +1,6 @@
 pub mod Numbers
 pub mod Forms
+pub mod Kinds
 pub mod Command
 pub mod Words
 pub mod Parsing

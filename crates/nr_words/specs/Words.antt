@@ -1,20 +1,22 @@
 -- Words as lent texts. This project's own.
-use Rattle.std.specs.Prelude.{ℕ, ◌≤◌, List, map, string_bytes}
+use Rattle.std.specs.Prelude.{◌≡◌, ℕ, ◌<◌, ◌≤◌, ◌^◌, List, true, map, string_bytes}
 use Rattle.std.specs.Global.{Global}
 use Rattle.std.specs.declared.string.String.{String}
 use Rattle.std.specs.declared.vec.Vec.{Vec}
 use Rattle.std.specs.Option.{option_copied}
-use Rattle.nr_words.specs.Command.{Command, Replay, Generate, Names}
-use Rattle.nr_words.specs.Forms.{Form, Place, Value, file, number, digits, one_of, Text, Number, Digits, Choice}
+use Rattle.nr_words.specs.Command.{Command, Replay, Generate, Roots, Prove, Verify, Cut, CheckPart, JoinParts, Names}
+use Rattle.nr_words.specs.Forms.{Form, Place, Value, file, number, digits, one_of, Text, Number, Digits, Choice, is_digest}
 use Rattle.nr_words.specs.declared.forms.Form.{Form as LentForm}
 use Rattle.nr_words.specs.declared.forms.Found.{Found}
 use Rattle.nr_words.specs.declared.forms.Place.{Place as LentPlace}
 use Rattle.nr_words.specs.declared.forms.Place.TheVariants as place
 use Rattle.nr_words.specs.declared.forms.Value.{Value as LentValue}
 use Rattle.nr_words.specs.declared.forms.Value.TheVariants as lent
+use Rattle.nr_words.specs.declared.words.ChunkItem.{ChunkItem}
 use Rattle.nr_words.specs.declared.words.FileNames.{FileNames}
+use Rattle.nr_words.specs.declared.words.StatePart.{StatePart}
 use Rattle.nr_words.specs.declared.words.Words.{Words}
-use Rattle.nr_words.specs.declared.words.Words.TheVariants.{ReplayFiles, GenerateInput}
+use Rattle.nr_words.specs.declared.words.Words.TheVariants.{ReplayFiles, GenerateInput, ChunkRoots, ProveItem, VerifyProof, CutPart, CheckPartFile, JoinPartFiles}
 
 abbrev pub texts : List (String Global) → List (List ℕ)
 texts words = map (λ word. string_bytes word) words
@@ -56,7 +58,14 @@ names_in n = record { config = n.config.now; genesis = n.genesis.now; blocks = n
 abbrev pub command_in : Words → Command
 command_in (ReplayFiles names) = Replay (names_in names)
 command_in (GenerateInput start shards blocks) = Generate start shards blocks
+command_in (ChunkRoots files) = Roots (names_in files)
+command_in (ProveItem files item) = Prove (names_in files) item
+command_in (VerifyProof root proof) = Verify root.now proof.now
+command_in (CutPart files part) = Cut (names_in files) part
+command_in (CheckPartFile root part) = CheckPart root.now part.now
+command_in (JoinPartFiles root count prefix) = JoinParts root.now count prefix.now
 
+-- ---- what is known of the values of a command
 -- numbers from which a chain can be generated: 1 to 16 shards and 1 to 256 blocks
 pub record CanGenerate (shards blocks : ℕ) : Type 0 where
   pub some_shards : 1 ≤ shards
@@ -64,6 +73,31 @@ pub record CanGenerate (shards blocks : ℕ) : Type 0 where
   pub some_blocks : 1 ≤ blocks
   pub few_blocks : blocks ≤ 256
 
+-- numbers of 64, 32 and 64 bits
+pub record CanProve (item : ChunkItem) : Type 0 where
+  pub height : item.height < 2 ^ 64
+  pub shard : item.shard < 2 ^ 32
+  pub place : item.place < 2 ^ 64
+
+-- numbers of 64 and 32 bits, and one of 1 to 10,000 parts
+pub record CanCut (part : StatePart) : Type 0 where
+  pub height : part.height < 2 ^ 64
+  pub shard : part.shard < 2 ^ 32
+  pub few_parts : part.count ≤ 10000
+  pub is_part : part.number < part.count
+
+-- a root of 64 digits, and 1 to 10,000 parts
+pub record CanJoin (root : List ℕ) (count : ℕ) : Type 0 where
+  pub digest : is_digest root ≡ true
+  pub some_parts : 1 ≤ count
+  pub few_parts : count ≤ 10000
+
 abbrev pub CanRun : Words → Type 0
 CanRun (ReplayFiles names) = Unit {0}
 CanRun (GenerateInput start shards blocks) = CanGenerate shards blocks
+CanRun (ChunkRoots files) = Unit {0}
+CanRun (ProveItem files item) = CanProve item
+CanRun (VerifyProof root proof) = is_digest root.now ≡ true
+CanRun (CutPart files part) = CanCut part
+CanRun (CheckPartFile root part) = is_digest root.now ≡ true
+CanRun (JoinPartFiles root count prefix) = CanJoin root.now count

@@ -76,7 +76,8 @@ pub(crate) fn name_of(place: &Place) -> &'static str
     }
 }
 
-fn is_hex_digit(byte: u8) -> bool
+/// Whether a byte is a digit of base 16, in lower case.
+pub fn is_hex_digit(byte: u8) -> bool
     ensures { result ≡ is_hex_digit byte }
 {
     is_digit(byte) || (97 <= byte && byte <= 102)

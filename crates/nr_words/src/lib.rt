@@ -2,15 +2,17 @@
 #![tactic(auto)]
 
 mod forms;
+mod kind;
 mod numbers;
 mod parsers;
 mod reading;
 mod words;
 
-pub use forms::{Form, Found, Place, Value};
+pub use forms::{Form, Found, Place, Value, is_hex_digit};
+pub use kind::ProofKind;
 pub use numbers::number_in;
 pub use reading::read_words;
-pub use words::{FileNames, Words, is_free, replay_command, serial_command};
+pub use words::{ChunkItem, FileNames, StatePart, Words, is_free, replay_command, serial_command};
 
 #[cfg(test)]
 mod tests;
