@@ -14,7 +14,7 @@ use Rattle.nr_overlap.specs.Run.{ending}
 use Rattle.nr_overlap.specs.Serial.{sealing_at}
 use Rattle.nr_overlap.specs.declared.position.Position.{Position}
 use Rattle.nr_overlap.proofs.Basics.{is_le, is_lt, lt_of}
-use Rattle.nr_overlap.proofs.Flights.{chunk_or_not}
+use Rattle.nr_overlap.proofs.Flights.{chunk_or_not, shown_past}
 use Rattle.nr_overlap.proofs.SerialLemmas.{sealing_first, sealing_there}
 use Rattle.nr_top.specs.Chunks.{has_chunk, result_at}
 
@@ -36,8 +36,9 @@ module _ {W K L R : Type 0} (r : Rules W K L R) where
       by false = refl
 
   absent : (s h : ℕ) → r.shards ≤ s → 0 < h → report_at r (ending r) s h ≡ None
-  absent s zero l positive = absurd (omega (arith, positive))
-  absent s (suc h) l positive = ap (λ (p : Position). option_map (λ z. z.report) (shown r s p (suc h))) (past_places r.shards s (end_at r.heights) l)
+  absent s h l positive =
+      ap (λ (p : Position). option_map (λ z. z.report) (shown r s p h)) (past_places r.shards s (end_at r.heights) l)
+      ∙ ap (option_map (λ z. z.report)) (shown_past r s h start positive)
 
   -- behind a result stands a chunk of a shard that is there
   result_present : (s h : ℕ) → IsSome (report_at r (ending r) s h) → (s < r.shards) × (r.present s h ≡ true)
