@@ -1,4 +1,4 @@
--- The totals of a run at any moment: the supply, and the sums of the tallies of all that stands. This project's own.
+-- The totals of a run at any moment: the supply, which is all that its start has in tokens, and the sums of the tallies of all that stands. This project's own.
 use Rattle.std.specs.Prelude.{◌≡◌, ℕ, ◌+◌, List}
 use Rattle.nr_chunk.specs.Chain.{Chain}
 use Rattle.nr_chunk.specs.Start.{start_tokens}
@@ -15,7 +15,10 @@ totals_of supply t = record { supply = supply; accounts = t.accounts; receipts =
 abbrev pub totals_at : Chain → List Position → Totals
 totals_at x ps = totals_of (start_tokens x.config x.start) (tally_at x ps)
 
--- what the accounts have, what receipts hold and what was burnt are together the supply, and as many receipts were routed as are executed, postponed, delayed and in flight
-pub record AddUp (t : Totals) : Type 0 where
-  pub tokens : t.accounts + t.receipts + t.burnt ≡ t.supply
+-- the totals of a run over a genesis with this supply: that is the supply that they tell; what the accounts have, what
+-- receipts hold and what was burnt are together as much; and as many receipts were routed as are executed, postponed,
+-- delayed and in flight
+pub record AddUp (given : ℕ) (t : Totals) : Type 0 where
+  pub supply : t.supply ≡ given
+  pub tokens : t.accounts + t.receipts + t.burnt ≡ given
   pub places : PlacesAddUp 0 t.places

@@ -1,6 +1,7 @@
 //! What holds of every run, and of every command.
 
 ghost use Rattle.std.specs.Prelude.{◌≡◌, ◌+◌, ◌++◌, ℕ, List, Option, Some, is_some};
+ghost use Rattle.nr_blocks.specs.Genesis.{AreSoundEntries, supply};
 ghost use Rattle.nr_blocks.specs.declared.block.Block.{Block};
 ghost use Rattle.nr_blocks.specs.declared.genesis.Genesis.{Genesis};
 ghost use Rattle.nr_chunk.specs.Chain.{Chain, IsChain, rules_of};
@@ -19,13 +20,17 @@ ghost use Rattle.nr_top.specs.Totals.{AddUp, totals_at};
 ghost use Rattle.nr_top.specs.declared.status.Status.{Status};
 ghost use Rattle.nr_words.specs.Command.{Command};
 
-/// The totals add up: what the accounts have, what receipts hold and what was burnt are together the
-/// supply of the genesis, and as many receipts were routed as are executed, postponed, delayed and in
-/// flight. So it is of a run, and wherever the events of a schedule lead. From there the events of `rest`
-/// lead to the end. It does nothing when it runs.
+/// The totals tell the supply of the genesis, and add up: what the accounts have, what receipts hold and what was burnt
+/// are together this supply, and as many receipts were routed as are executed, postponed, delayed and in flight. So it
+/// is of a run, and wherever the events of a schedule lead. From there the events of `rest` lead to the end. It does
+/// nothing when it runs.
 pub fn totals_law()
-    ensures run { (c : Config) (g : Genesis) (bs : List Block) → IsChain (chain c g bs) → AddUp (totals_at (chain c g bs) (ending (rules_of (chain c g bs)))) }
-    ensures check { (c : Config) (g : Genesis) (bs : List Block) → IsChain (chain c g bs) → (es : List Event) → AreInside (rules_of (chain c g bs)).shards es → AddUp (totals_at (chain c g bs) (run_of (rules_of (chain c g bs)) (opening (rules_of (chain c g bs))) es)) }
+    ensures run { (c : Config) (g : Genesis) (bs : List Block) → AreSoundEntries c g.entries → let x = chain c g bs in
+        IsChain x → AddUp (supply g.entries) (totals_at x (ending (rules_of x))) }
+    ensures check { (c : Config) (g : Genesis) (bs : List Block) → AreSoundEntries c g.entries → let x = chain c g bs in
+        let r = rules_of x in
+        IsChain x → (es : List Event) → AreInside r.shards es
+        → AddUp (supply g.entries) (totals_at x (run_of r (opening r) es)) }
     ensures rest { (c : Config) (g : Genesis) (bs : List Block) (es : List Event) → let r = rules_of (chain c g bs) in AreInside r.shards es → let ps = run_of r (opening r) es in run_of r ps (events_left r (left r ps) ps) ≡ ending r }
 {}
 
