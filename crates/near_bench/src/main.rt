@@ -11,11 +11,15 @@
 //! The words `module FILE TURNS` decode and validate the module in a file TURNS times, and print
 //! whether it was valid each time. The words `machine FILE METHOD TURNS` decode it and run its method
 //! TURNS times, and print how many instructions ran in all.
+//!
+//! The words `tree root ITEMS TURNS` and `tree proof ITEMS TURNS` make the root of a chunk that sent so many receipts,
+//! or the proof of the one in the middle, TURNS times, and print how many turns were done.
 #![tactic(auto)]
 
 mod machine;
 mod module;
 mod stores;
+mod tree;
 
 use std::alloc::Global;
 use std::io;
@@ -73,6 +77,15 @@ fn run_machine<R: Files + Print>(
     ExitCode::from(0)
 }
 
+fn make_tree<R: Print>(rt: &R, alloc: Global, task: tree::Task) -> ExitCode {
+    if tree::run(alloc, task).is_err() {
+        return ExitCode::from(7);
+    }
+    let turns = task.turns;
+    let _ = println!(rt; "{turns}");
+    ExitCode::from(0)
+}
+
 fn main(rt: HostRuntime) -> ExitCode {
     let Ok(words) = words_of(&rt, rt.alloc()) else {
         return ExitCode::from(1);
@@ -82,6 +95,9 @@ fn main(rt: HostRuntime) -> ExitCode {
     }
     if let Some((file, method, turns)) = machine_of(&words) {
         return run_machine(&rt, rt.alloc(), file, method, turns);
+    }
+    if let Some(task) = tree::task_of(&words) {
+        return make_tree(&rt, rt.alloc(), task);
     }
     let Some(task) = stores::task_of(&words) else {
         return ExitCode::from(1);

@@ -1,6 +1,6 @@
 //! What has a JSON form, and the members of an object.
 
-ghost use Rattle.std.specs.Prelude.{◌≡◌, IfOk, OnErr, OnOk};
+ghost use Rattle.std.specs.Prelude.{◌≡◌, IfOk, OnOk};
 ghost use Rattle.nr_bytes.specs.Answers.{Gives};
 ghost use Rattle.serde_json.specs.Data.{put as with_member};
 ghost use Rattle.serde_json.specs.View.{view, members_view};
@@ -75,19 +75,14 @@ pub(crate) fn optional<T: Form>(
     }
 }
 
-/// Puts a member into an object, in place of one that has the name.
-///
-/// # Errors
-///
-/// Where there is no memory for it; the object is then as it was.
-pub fn put<T: Form>(
+/// Puts a member into an object.
+pub(crate) fn put<T: Form>(
     object: &mut Map<String, Value>,
     alloc: Global,
     name: &str,
     field: &T,
 ) -> Result<(), AllocError>
-    ensures ok { OnOk result (members_view object.new.entries ≡ with_member name.now (T.json field.now) (members_view object.old.entries)) }
-    ensures err { OnErr result (object.new.entries ≡ object.old.entries) }
+    ensures { OnOk result (members_view object.new.entries ≡ with_member name.now (T.json field.now) (members_view object.old.entries)) }
 {
     let value = field.to_json(alloc)?;
     serde_json::put(object, alloc, name, value)

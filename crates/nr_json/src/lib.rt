@@ -18,6 +18,6 @@ mod transaction;
 mod variants;
 
 pub use fault::{JsonFault, Wrong};
-pub use form::{Form, put};
+pub use form::Form;
 pub use genesis::{StatedAccount, StatedEntry, StatedGenesis};
 pub use laws::form_laws;

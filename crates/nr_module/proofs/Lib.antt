@@ -1,4 +1,4 @@
-pub mod Growth
-pub mod Commands
-pub mod Steps
+-- Lemmas behind the answers.
 pub mod Runs
+pub mod Asking
+pub mod Ending

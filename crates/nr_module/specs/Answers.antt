@@ -1,84 +1,90 @@
--- Which answers of the top call are right for what was asked for, and what the sink then took.
-use Rattle.std.specs.Prelude.{◌≡◌, ℕ, List, [], ◌∷◌, ◌++◌, Option, Some, None, Result, Ok, Err}
+-- Which answers of the top call are right for a plan, and what the sink then took. This project's own.
+use Rattle.std.specs.Prelude.{◌≡◌, ℕ, Bool, true, false, List, [], ◌∷◌, ◌++◌, Option, Result, Ok, Err, codes, string_bytes}
+use Rattle.std.specs.declared.alloc.AllocError.{AllocError}
 use Rattle.nr_bytes.specs.Outside.{Grew}
-use Rattle.nr_config.specs.Config.{Config}
-use Rattle.nr_module.specs.Command.{Names, Task, config_files}
-use Rattle.nr_module.specs.Input.{Configured, By, Bars, Unknown, configured, Judges}
-use Rattle.nr_module.specs.Lines.{verdict_text}
+use Rattle.nr_shell.specs.Answers.{Breaks, Comes, Stops}
+use Rattle.nr_shell.specs.Plans.{Plan, Answer, Refuse, Ask}
+use Rattle.nr_shell.specs.Writing.{GrewInPart}
+use Rattle.nr_shell.specs.declared.stop.Stop.{Stop}
+use Rattle.nr_shell.specs.declared.stop.Stop.TheVariants.{Unread, Memory, Refused}
+use Rattle.nr_module.specs.Lines.{is_sound, verdict_text}
+use Rattle.nr_module.specs.Plans.{Question, Due, Judge, Write}
+use Rattle.nr_module.specs.Verdicts.{IsVerdict}
 use Rattle.nr_module.specs.declared.status.Status.{Status}
-use Rattle.nr_module.specs.declared.status.Status.TheVariants.{Sound, Faulty, Usage, Config as faulty_config, ReadFault, WriteFault, NoMemory}
-use Rattle.nr_module.specs.declared.verdict.Answer.{Answer}
-use Rattle.nr_module.specs.declared.verdict.Answer.TheVariants.{Good, NoMethod, Unmade, Ended, Trapped, Failed, OutOfGas}
+use Rattle.nr_module.specs.declared.status.Status.TheVariants.{Sound, Faulty, Usage, Config, ReadFault, WriteFault, NoMemory}
+use Rattle.nr_module.specs.declared.telling.Line.{Line}
 use Rattle.nr_module.specs.declared.verdict.Verdict.{Verdict}
-use Rattle.nr_module.specs.declared.verdict.Verdict.TheVariants.{Long, Undecoded, Invalid, Done}
 
--- What the sink holds grew by a front of these bytes, where it tells.
-abbrev pub GrewInPart : Option (List ℕ) → Option (List ℕ) → List ℕ → Type 0
-GrewInPart old new bytes = (front : List ℕ) × (rest : List ℕ) × (bytes ≡ front ++ rest) × Grew old new front
+-- a plan refuses words, a configuration, and a module's file that is too long
+abbrev pub refuses : Status → Bool
+refuses Sound = false
+refuses Faulty = true
+refuses Usage = true
+refuses (Config kind entry) = true
+refuses ReadFault = false
+refuses WriteFault = false
+refuses NoMemory = false
 
--- What the sink holds grew by the front of the bytes that stands before the rest.
-abbrev pub GrewSoFar : Option (List ℕ) → Option (List ℕ) → List ℕ → List ℕ → Type 0
-GrewSoFar old new bytes rest = (front : List ℕ) × (bytes ≡ front ++ rest) × Grew old new front
+-- the answer of a command that stopped before it had a line
+abbrev pub stop_status : Stop Status → Status
+stop_status Unread = ReadFault
+stop_status Memory = NoMemory
+stop_status (Refused status) = status
 
--- The names asked for grew by a front of these.
-abbrev pub AsksFront : List (List ℕ) → List (List ℕ) → List (List ℕ) → Type 0
-AsksFront old new files = (front : List (List ℕ)) × (rest : List (List ℕ)) × (files ≡ front ++ rest) × (new ≡ old ++ front)
+-- the line of a right verdict on bytes, and whether it is a sound one
+abbrev pub TellsVerdict : Question → List ℕ → Bool → Type 0
+TellsVerdict q line sound = (v : Verdict) × IsVerdict q v × (line ≡ verdict_text v) × (sound ≡ is_sound v)
 
-abbrev pub answer_status : Answer → Status
-answer_status Good = Sound
-answer_status (Ended burnt) = Sound
-answer_status (Trapped kind burnt) = Faulty
-answer_status (Failed kind burnt) = Faulty
-answer_status (OutOfGas burnt) = Faulty
-answer_status Unmade = Faulty
-answer_status NoMethod = Faulty
+-- a text, which is well
+abbrev pub TellsText : List ℕ → List ℕ → Bool → Type 0
+TellsText text line sound = (line ≡ text) × (sound ≡ true)
 
-abbrev pub status_of : Verdict → Status
-status_of (Done a) = answer_status a
-status_of Long = Faulty
-status_of (Undecoded fault) = Faulty
-status_of (Invalid fault) = Faulty
+-- what tells an end of a plan: the line of a verdict on what the files give, a text, or `long` for a file that is too long
+abbrev pub Tells : Plan Due Status → List ℕ → Bool → Type 0
+Tells (Answer (Judge q)) line sound = TellsVerdict q line sound
+Tells (Answer (Write text)) line sound = TellsText text line sound
+Tells (Refuse status) line sound = (status ≡ Faulty) × (line ≡ codes "long" ++ 10 ∷ []) × (sound ≡ false)
+Tells (Ask name limit long by_bytes) line sound = ⊥
 
--- the status is the refusal of the configuration, or of nothing that was given
-abbrev pub Stops : Status → Configured → Type 0
-Stops ReadFault given = Unit {0}
-Stops NoMemory given = Unit {0}
-Stops (faulty_config kind entry) (By c) = ⊥
-Stops (faulty_config kind entry) (Bars due) = due ≡ faulty_config kind entry
-Stops (faulty_config kind entry) Unknown = Unit {0}
-Stops Sound given = ⊥
-Stops Faulty given = ⊥
-Stops Usage given = ⊥
-Stops WriteFault given = ⊥
+-- a line that tells the end to which the files lead was written
+pub record Writes (sound : Bool) (plan : Plan Due Status) (held : List ℕ → Option (List ℕ)) (asked asks : List (List ℕ))
+    (took takes : Option (List ℕ)) : Type 0 where
+  pub end : Plan Due Status
+  pub line : List ℕ
+  pub comes : Comes held asked asks plan end
+  pub tells : Tells end line sound
+  pub grew : Grew took takes line
 
--- what is answered before the writing
-abbrev pub Prepares : Result Verdict Status → Task → Configured → Option (List ℕ) → Type 0
-Prepares (Ok v) task given held = Judges v task given held
-Prepares (Err status) task given held = Stops status given
+-- or a front of it
+pub record Begins (plan : Plan Due Status) (held : List ℕ → Option (List ℕ)) (asked asks : List (List ℕ))
+    (took takes : Option (List ℕ)) : Type 0 where
+  pub end : Plan Due Status
+  pub line : List ℕ
+  pub sound : Bool
+  pub comes : Comes held asked asks plan end
+  pub tells : Tells end line sound
+  pub grew : GrewInPart took takes line
 
-abbrev pub Configures : Result Config Status → Configured → Type 0
-Configures (Ok c) (By d) = c ≡ d
-Configures (Ok c) (Bars status) = ⊥
-Configures (Ok c) Unknown = Unit {0}
-Configures (Err status) given = Stops status given
+-- The answer is right for the plan and the files, only files of the plan were asked for, in their order, and the sink
+-- took what belongs to it.
+abbrev pub Serves : Status → Plan Due Status → (List ℕ → Option (List ℕ)) → List (List ℕ) → List (List ℕ)
+    → Option (List ℕ) → Option (List ℕ) → Type 0
+Serves Sound plan held asked asks took takes = Writes true plan held asked asks took takes
+Serves Faulty plan held asked asks took takes = Writes false plan held asked asks took takes
+Serves WriteFault plan held asked asks took takes = Begins plan held asked asks took takes
+Serves ReadFault plan held asked asks took takes = Breaks held asked asks plan × (takes ≡ took)
+Serves NoMemory plan held asked asks took takes = Stops held asked asks plan × (takes ≡ took)
+Serves Usage plan held asked asks took takes = Comes held asked asks plan (Refuse Usage) × (takes ≡ took)
+Serves (Config kind entry) plan held asked asks took takes =
+    Comes held asked asks plan (Refuse (Config kind entry)) × (takes ≡ took)
 
--- some verdict on the file is right, and it has this status and the sink took its line
-abbrev pub Told : Status → Names → (List ℕ → Option (List ℕ)) → Option (List ℕ) → Option (List ℕ) → Type 0
-Told status n held old new = (v : Verdict) × Judges v n.task (configured n.config (held n.config)) (held n.file) × (status_of v ≡ status) × Grew old new (verdict_text v)
-
--- The answer is right for the names that the words give and for the files, and the sink took what belongs to it.
-abbrev pub Serves : Status → Option Names → (List ℕ → Option (List ℕ)) → Option (List ℕ) → Option (List ℕ) → Type 0
-Serves Sound (Some n) held old new = Told Sound n held old new
-Serves Faulty (Some n) held old new = Told Faulty n held old new
-Serves WriteFault (Some n) held old new = (v : Verdict) × Judges v n.task (configured n.config (held n.config)) (held n.file) × GrewInPart old new (verdict_text v)
-Serves (faulty_config kind entry) (Some n) held old new = Stops (faulty_config kind entry) (configured n.config (held n.config)) × (new ≡ old)
-Serves ReadFault (Some n) held old new = new ≡ old
-Serves NoMemory (Some n) held old new = new ≡ old
-Serves Usage (Some n) held old new = ⊥
-Serves Usage None held old new = new ≡ old
-Serves status None held old new = ⊥
-
--- the files that the words ask for, in order
-abbrev pub files_of : Option Names → List (List ℕ)
-files_of None = []
-files_of (Some n) = config_files n.config ++ n.file ∷ []
+-- what the telling of a line comes to, where memory sufficed for it: the sink took it, or a front of it
+abbrev pub Told : Result Line AllocError → Status → Option (List ℕ) → Option (List ℕ) → Type 0
+Told (Ok line) Sound took takes = (line.is_sound ≡ true) × Grew took takes (string_bytes line.text)
+Told (Ok line) Faulty took takes = (line.is_sound ≡ false) × Grew took takes (string_bytes line.text)
+Told (Ok line) WriteFault took takes = GrewInPart took takes (string_bytes line.text)
+Told (Ok line) Usage took takes = ⊥
+Told (Ok line) (Config kind entry) took takes = ⊥
+Told (Ok line) ReadFault took takes = ⊥
+Told (Ok line) NoMemory took takes = ⊥
+Told (Err fault) status took takes = (status ≡ NoMemory) × (takes ≡ took)

@@ -1,32 +1,13 @@
--- How a program ends with an answer: its exit status, and the line that tells it. This project's own.
-use Rattle.std.specs.Prelude.{ℕ, List, [], ◌∷◌, ◌++◌, decimal}
+-- How a program ends with an answer: its exit status, and the numbers that it tells. This project's own.
+use Rattle.std.specs.Prelude.{ℕ, List, [], ◌∷◌}
 use Rattle.nr_module.specs.declared.status.Status.{Status}
 use Rattle.nr_module.specs.declared.status.Status.TheVariants.{Sound, Faulty, Usage, Config, ReadFault, WriteFault, NoMemory}
 
-abbrev pub exit_status : Status → ℕ
-exit_status Sound = 0
-exit_status Faulty = 20
-exit_status Usage = 1
-exit_status (Config kind entry) = 2
-exit_status ReadFault = 5
-exit_status WriteFault = 6
-exit_status NoMemory = 7
-
--- the numbers that it tells
-abbrev pub numbers : Status → List ℕ
-numbers Sound = []
-numbers Faulty = []
-numbers Usage = []
-numbers (Config kind entry) = kind ∷ entry ∷ []
-numbers ReadFault = []
-numbers WriteFault = []
-numbers NoMemory = []
-
--- in decimal, each with a space before it
-abbrev pub spaced : List ℕ → List ℕ
-spaced [] = []
-spaced (n ∷ ns) = 32 ∷ decimal n ++ spaced ns
-
--- the exit status and the numbers, parted by single spaces
-abbrev pub status_line : Status → List ℕ
-status_line status = decimal (exit_status status) ++ spaced (numbers status)
+abbrev pub told : Status → ℕ × List ℕ
+told Sound = (0, [])
+told Faulty = (20, [])
+told Usage = (1, [])
+told (Config kind entry) = (2, kind ∷ entry ∷ [])
+told ReadFault = (5, [])
+told WriteFault = (6, [])
+told NoMemory = (7, [])

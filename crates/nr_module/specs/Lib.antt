@@ -1,7 +1,9 @@
+pub mod Help
 pub mod Command
-pub mod Lines
+pub mod Plans
 pub mod Counter
 pub mod Running
-pub mod Input
+pub mod Verdicts
+pub mod Lines
 pub mod Answers
 pub mod Exit

@@ -1,5 +1,5 @@
--- The line that tells what a file is or how a run of a method ended, and the exit status that goes with it. This project's own.
-use Rattle.std.specs.Prelude.{ℕ, List, [], ◌∷◌, ◌++◌, codes, decimal}
+-- The line that tells what a file is or how a run of a method ended, and whether that is well. This project's own.
+use Rattle.std.specs.Prelude.{ℕ, Bool, true, false, List, [], ◌∷◌, ◌++◌, codes, decimal}
 use Rattle.nr_wasmbin.specs.declared.fault.DecodeFault.{DecodeFault}
 use Rattle.nr_wasmbin.specs.declared.fault.DecodeFault.TheVariants as decode
 use Rattle.nr_wasmvalid.specs.declared.fault.ValidFault.{ValidFault}
@@ -7,7 +7,7 @@ use Rattle.nr_wasmvalid.specs.declared.fault.ValidFault.TheVariants as valid
 use Rattle.nr_module.specs.declared.verdict.Answer.{Answer}
 use Rattle.nr_module.specs.declared.verdict.Answer.TheVariants.{Good, NoMethod, Unmade, Ended, Trapped, Failed, OutOfGas}
 use Rattle.nr_module.specs.declared.verdict.Verdict.{Verdict}
-use Rattle.nr_module.specs.declared.verdict.Verdict.TheVariants.{Long, Undecoded, Invalid, Done}
+use Rattle.nr_module.specs.declared.verdict.Verdict.TheVariants.{Undecoded, Invalid, Done}
 
 -- a kind and numbers in decimal behind a word, parted by single spaces
 abbrev pub decode_line : ℕ → ℕ → List ℕ
@@ -53,6 +53,20 @@ answer_text NoMethod = codes "method" ++ 10 ∷ []
 
 abbrev pub verdict_text : Verdict → List ℕ
 verdict_text (Done a) = answer_text a
-verdict_text Long = codes "long" ++ 10 ∷ []
 verdict_text (Undecoded fault) = decode_text fault
 verdict_text (Invalid fault) = valid_text fault
+
+-- ---- what is well: a valid module, whose method's run, if one was asked for, came to its end
+abbrev pub ends_well : Answer → Bool
+ends_well Good = true
+ends_well (Ended burnt) = true
+ends_well (Trapped kind burnt) = false
+ends_well (Failed kind burnt) = false
+ends_well (OutOfGas burnt) = false
+ends_well Unmade = false
+ends_well NoMethod = false
+
+abbrev pub is_sound : Verdict → Bool
+is_sound (Done a) = ends_well a
+is_sound (Undecoded fault) = false
+is_sound (Invalid fault) = false

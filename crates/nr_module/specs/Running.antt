@@ -9,8 +9,6 @@ use Rattle.nr_wasmexec.specs.declared.stop.RunStop.{RunStop}
 use Rattle.nr_wasmexec.specs.declared.stop.RunStop.TheVariants as stop
 use Rattle.nr_module.specs.Counter.{counter}
 use Rattle.nr_module.specs.declared.counter.Counter.{Counter}
-use Rattle.nr_module.specs.declared.status.Status.{Status}
-use Rattle.nr_module.specs.declared.status.Status.TheVariants.{NoMemory}
 use Rattle.nr_module.specs.declared.verdict.Answer.{Answer}
 use Rattle.nr_module.specs.declared.verdict.Answer.TheVariants.{NoMethod, Unmade, Ended, Trapped, Failed, OutOfGas}
 
@@ -31,20 +29,20 @@ over gas NeverFits = None
 over gas Unfinished = None
 
 -- the run comes to it after some number of steps
-abbrev pub Comes : MachineView → ℕ → Option ℕ → Answer → Type 0
-Comes m gas None a = a ≡ NoMethod
-Comes m gas (Some f) a = (n : ℕ) × (over gas (run_from m gas f n) ≡ Some a)
+abbrev pub RunsTo : MachineView → ℕ → Option ℕ → Answer → Type 0
+RunsTo m gas None a = a ≡ NoMethod
+RunsTo m gas (Some f) a = (n : ℕ) × (over gas (run_from m gas f n) ≡ Some a)
 
 -- the answer of a method's run, where the machine can be made
 abbrev pub IsRun : Result MachineView MakeFault → List ℕ → ℕ → Answer → Type 0
 IsRun (Err make.Segment) method gas a = a ≡ Unmade
 IsRun (Err make.Memory) method gas a = ⊥
-IsRun (Ok m) method gas a = Comes m gas (method_of m.program method) a
+IsRun (Ok m) method gas a = RunsTo m gas (method_of m.program method) a
 
--- what is answered for a run that ended so
-abbrev pub told : Result (Unit {0}) RunStop → ℕ → Result Answer Status
-told (Ok u) burnt = Ok (Ended burnt)
-told (Err (stop.Trap kind)) burnt = Ok (Trapped kind burnt)
-told (Err stop.GasExceeded) burnt = Ok (OutOfGas burnt)
-told (Err (stop.HostFault kind)) burnt = Ok (Failed kind burnt)
-told (Err stop.Memory) burnt = Err NoMemory
+-- the answer of a run that ended so and burnt so much gas; none where memory ran out
+abbrev pub told : Result (Unit {0}) RunStop → ℕ → Option Answer
+told (Ok u) burnt = Some (Ended burnt)
+told (Err (stop.Trap kind)) burnt = Some (Trapped kind burnt)
+told (Err stop.GasExceeded) burnt = Some (OutOfGas burnt)
+told (Err (stop.HostFault kind)) burnt = Some (Failed kind burnt)
+told (Err stop.Memory) burnt = None

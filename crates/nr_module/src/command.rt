@@ -1,8 +1,13 @@
 //! The words of the command line.
 
-ghost use Rattle.std.specs.Prelude.{◌≡◌, option_map};
-ghost use Rattle.std.specs.List.{list_all};
-ghost use Rattle.nr_module.specs.Command.{texts, is_plain, is_digit, has_no_leading_zero, is_numeral, gas_of, check_of, run_with, run_of, command, names_in, is_free};
+ghost use Rattle.std.specs.Prelude.{◌≡◌, IfOk, map, option_map};
+ghost use Rattle.nr_words.specs.Words.{found_in, table_in, texts, value_in};
+ghost use Rattle.nr_module.specs.Command.{check_of, command, command_in, found_command, run_of};
+ghost use Rattle.nr_module.specs.Help.{forms};
+
+use crate::help::{help_text, version_text};
+use nr_words::{Form, Found, Place, Value, read_words};
+use std::alloc::{AllocError, Global};
 
 /// What is done with a module.
 #[derive(Clone, Copy, Debug)]
@@ -21,130 +26,107 @@ pub(crate) struct FileNames<'a> {
     pub(crate) work: Work<'a>,
 }
 
-/// A word that isn't empty and doesn't begin with a dash.
-fn is_plain(word: &str) -> bool
-    ensures { result ≡ is_plain word.now }
-{
-    match word.as_bytes() {
-        [] => false,
-        [first, ..] => *first != b'-',
-    }
+/// The words of a command.
+#[derive(Clone, Copy, Debug)]
+pub(crate) enum Words<'a> {
+    /// `check CONFIG FILE` or `run CONFIG FILE METHOD GAS`
+    Module(FileNames<'a>),
+    /// `help` or `version`, by the text that it writes
+    Text(&'a str),
 }
 
-fn is_digit(byte: u8) -> bool
-    ensures { result ≡ is_digit byte }
+/// `check CONFIG FILE`, `run CONFIG FILE METHOD GAS` with a number below 2^64, `help` and `version`.
+const FORMS: &[Form] = &[
+    Form {
+        verb: "check",
+        places: &[Place::File("CONFIG"), Place::File("FILE")],
+    },
+    Form {
+        verb: "run",
+        places: &[
+            Place::File("CONFIG"),
+            Place::File("FILE"),
+            Place::File("METHOD"),
+            Place::Number {
+                name: "GAS",
+                least: 0,
+                most: 18_446_744_073_709_551_615,
+            },
+        ],
+    },
+    Form {
+        verb: "help",
+        places: &[],
+    },
+    Form {
+        verb: "version",
+        places: &[],
+    },
+];
+
+fn forms() -> &'static [Form]
+    ensures { table_in result.now ≡ forms }
 {
-    48 <= byte && byte <= 57
+    FORMS
 }
 
-// Not empty, and no zero before further digits.
-fn has_no_leading_zero(word: &[u8]) -> bool
-    ensures { result ≡ has_no_leading_zero word.now }
+/// The check of a module.
+fn check_of<'a>(values: &[Value<'a>]) -> Option<Words<'a>>
+    ensures { option_map command_in result ≡ check_of (map value_in values.now) }
 {
-    match word {
-        [] => false,
-        [_] => true,
-        [first, ..] => *first != b'0',
-    }
-}
-
-fn all_digits(word: &[u8]) -> bool
-    ensures { result ≡ list_all is_digit word.now }
-{
-    word.iter().all(|byte| is_digit(*byte))
-}
-
-/// Decimal digits without a leading zero.
-fn is_numeral(word: &[u8]) -> bool
-    ensures { result ≡ is_numeral word.now }
-{
-    has_no_leading_zero(word) && all_digits(word)
-}
-
-/// The number that a word spells, where it is below 2^64.
-fn gas_of(word: &str) -> Option<u64>
-    ensures { result ≡ gas_of word.now }
-{
-    if !is_numeral(word.as_bytes()) {
-        return None;
-    }
-    match word.parse::<u64>() {
-        Ok(number) => Some(number),
-        Err(_) => None,
-    }
-}
-
-fn check_of<'a>(verb: &str, config: &'a str, file: &'a str) -> Option<FileNames<'a>>
-    ensures { option_map names_in result ≡ check_of verb.now config.now file.now }
-{
-    if verb == "check" && is_plain(config) && is_plain(file) {
-        Some(FileNames {
+    match values {
+        [Value::Text(config), Value::Text(file)] => Some(Words::Module(FileNames {
             config,
             file,
             work: Work::Check,
-        })
-    } else {
-        None
-    }
-}
-
-fn run_with<'a>(
-    config: &'a str,
-    file: &'a str,
-    method: &'a str,
-    gas: Option<u64>,
-) -> Option<FileNames<'a>>
-    ensures { option_map names_in result ≡ run_with config.now file.now method.now gas }
-{
-    match gas {
-        None => None,
-        Some(gas) => Some(FileNames {
-            config,
-            file,
-            work: Work::Run { method, gas },
-        }),
-    }
-}
-
-fn run_of<'a>(
-    verb: &str,
-    config: &'a str,
-    file: &'a str,
-    method: &'a str,
-    gas: &str,
-) -> Option<FileNames<'a>>
-    ensures { option_map names_in result ≡ run_of verb.now config.now file.now method.now gas.now }
-{
-    if verb == "run" && is_plain(config) && is_plain(file) && is_plain(method) {
-        run_with(config, file, method, gas_of(gas))
-    } else {
-        None
-    }
-}
-
-/// What the words ask for, where they are `check CONFIG FILE` or `run CONFIG FILE METHOD GAS`.
-#[tactic(auto, unfolding(crate::specs::Command::command))]
-pub(crate) fn command_of(words: &[String]) -> Option<FileNames<'_>>
-    ensures { option_map names_in result ≡ command (texts words.now) }
-{
-    match words {
-        [verb, config, file] => check_of(verb.as_str(), config.as_str(), file.as_str()),
-        [_, _, _, _] => None,
-        [verb, config, file, method, gas] => run_of(
-            verb.as_str(),
-            config.as_str(),
-            file.as_str(),
-            method.as_str(),
-            gas.as_str(),
-        ),
-        [_, _, _, _, _, _, ..] => None,
+        })),
         _ => None,
     }
 }
 
-/// The word for the built-in configuration, which loads nothing.
-pub(crate) fn is_free(word: &str) -> bool
-    ensures { result ≡ is_free word.now }
+/// The run of a method.
+fn run_of<'a>(values: &[Value<'a>]) -> Option<Words<'a>>
+    ensures { option_map command_in result ≡ run_of (map value_in values.now) }
 {
-    word == "free"
+    match values {
+        [
+            Value::Text(config),
+            Value::Text(file),
+            Value::Text(method),
+            Value::Number(gas),
+        ] => Some(Words::Module(FileNames {
+            config,
+            file,
+            work: Work::Run { method, gas: *gas },
+        })),
+        _ => None,
+    }
+}
+
+/// The command that a form with its values is.
+fn found_command<'a>(found: &Found<'a>) -> Option<Words<'a>>
+    ensures { option_map command_in result ≡ found_command (found_in found.now) }
+{
+    let values = found.values.as_slice();
+    match found.verb {
+        "check" => check_of(values),
+        "run" => run_of(values),
+        "help" => Some(Words::Text(help_text())),
+        "version" => Some(Words::Text(version_text())),
+        _ => None,
+    }
+}
+
+/// The command that the words are: `check CONFIG FILE`, `run CONFIG FILE METHOD GAS`, `help` or `version`.
+///
+/// # Errors
+///
+/// Where memory runs out.
+pub(crate) fn command_of(alloc: Global, words: &[String]) -> Result<Option<Words<'_>>, AllocError>
+    ensures { IfOk result (λ read. option_map command_in read ≡ command (texts words.now)) }
+{
+    match read_words(alloc, "near_module", forms(), words)? {
+        Some(found) => Ok(found_command(&found)),
+        None => Ok(None),
+    }
 }

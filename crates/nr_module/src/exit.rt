@@ -1,7 +1,8 @@
 //! How a program ends with an answer.
 
 ghost use Rattle.std.specs.Prelude.{◌≡◌, Some};
-ghost use Rattle.nr_module.specs.Exit.{exit_status, status_line};
+ghost use Rattle.nr_shell.specs.Exit.{told_line};
+ghost use Rattle.nr_module.specs.Exit.{told};
 
 use crate::status::Status;
 use std::fmt;
@@ -10,7 +11,7 @@ impl Status {
     /// The exit status of a program that ends with this answer: 0 `Sound`, 20 `Faulty`, 1 `Usage`,
     /// 2 `Config`, 5 `ReadFault`, 6 `WriteFault` and 7 `NoMemory`.
     pub fn exit_status(&self) -> u8
-        ensures { result ≡ exit_status self.now }
+        ensures { result ≡ (told self.now).0 }
     {
         match self {
             Status::Sound => 0,
@@ -27,7 +28,7 @@ impl Status {
 /// The line that tells the answer: the exit status, and the kind and the entry of a configuration's
 /// fault, in decimal, parted by single spaces.
 impl fmt::Display for Status {
-    ghost output = { λ status. Some (status_line status) };
+    ghost output = { λ status. Some (told_line (told status)) };
 
     fn fmt<W: fmt::Write>(&self, f: &mut fmt::Formatter<W>) -> fmt::Result {
         let number = self.exit_status();

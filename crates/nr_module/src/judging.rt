@@ -1,83 +1,49 @@
-//! What a file is.
+//! What a module is that some bytes are, and how its work ended.
 
-ghost use Rattle.std.specs.Prelude.{◌≡◌, ◌≢◌, ◌++◌, ◌∷◌, ◌≤◌, [], ℕ, List, Err, IfOk, Ok, OnErr, length, IsErr};
-ghost use Rattle.nr_bytes.specs.Outside.{Rose};
+ghost use Rattle.std.specs.Prelude.{◌≡◌, IfOk, Ok};
 ghost use Rattle.nr_config.specs.Config.{max_code};
 ghost use Rattle.nr_wasmbin.specs.Modules.{decoded};
-ghost use Rattle.nr_module.specs.Command.{task_in};
-ghost use Rattle.nr_module.specs.Answers.{AsksFront, Prepares};
-ghost use Rattle.nr_module.specs.Input.{By, IsVerdict};
-ghost use Rattle.nr_module.specs.declared.status.Status.TheVariants.{NoMemory, ReadFault};
+ghost use Rattle.nr_module.specs.Plans.{question_in};
+ghost use Rattle.nr_module.specs.Verdicts.{IsVerdict};
 
-use crate::command::Work;
+use crate::question::Question;
 use crate::running::answer;
-use crate::status::Status;
 use crate::verdict::Verdict;
-use nr_bytes::{LoadFault, Shelf};
-use nr_config::Config;
 use nr_wasmbin::{DecodeFault, decode};
 use nr_wasmtypes::Module;
 use nr_wasmvalid::{ValidFault, validate};
-use std::alloc::Global;
+use std::alloc::{AllocError, Global};
 
-/// The most bytes of a file, 64 MiB.
-const FILE_LIMIT: usize = 67_108_864;
-
-/// What a module is that some bytes are.
+/// What a module is that was decoded.
 fn judge_module(
     alloc: Global,
-    bytes: &[u8],
+    question: &Question<'_>,
     module: Module,
-    config: &Config,
-    work: Work<'_>,
-) -> Result<Verdict, Status>
-    requires short { length bytes.now ≤ 67108864 }
-    requires is { decoded (max_code config.now) bytes.now ≡ Ok «module» }
-    ensures right { IfOk result (λ v. IsVerdict config.now (task_in work.entry) bytes.now v) }
-    ensures stops { OnErr result (result ≡ Err NoMemory) }
+) -> Result<Verdict, AllocError>
+    requires { decoded (max_code question.now.config) question.now.bytes.items ≡ Ok «module» }
+    ensures { IfOk result (λ verdict. IsVerdict (question_in question.now) verdict) }
 {
-    match validate(alloc, module, config) {
-        Ok(valid) => match answer(alloc, valid, config, work) {
-            Ok(answer) => Ok(Verdict::Done(answer)),
-            Err(status) => Err(status),
-        },
-        Err(ValidFault::Memory) => Err(Status::NoMemory),
+    match validate(alloc, module, &question.config) {
+        Ok(valid) => {
+            let answer = answer(alloc, valid, &question.config, question.work)?;
+            Ok(Verdict::Done(answer))
+        }
+        Err(ValidFault::Memory) => Err(AllocError),
         Err(fault) => Ok(Verdict::Invalid(fault)),
     }
 }
 
-/// What some bytes are.
-fn judge(alloc: Global, bytes: &[u8], config: &Config, work: Work<'_>) -> Result<Verdict, Status>
-    requires { length bytes.now ≤ 67108864 }
-    ensures right { IfOk result (λ v. IsVerdict config.now (task_in work.entry) bytes.now v) }
-    ensures stops { OnErr result (result ≡ Err NoMemory) }
+/// The verdict on the bytes of a file.
+///
+/// # Errors
+///
+/// Where memory runs out.
+pub(crate) fn judge(alloc: Global, question: &Question<'_>) -> Result<Verdict, AllocError>
+    ensures { IfOk result (λ verdict. IsVerdict (question_in question.now) verdict) }
 {
-    match decode(alloc, bytes, config) {
-        Ok(module) => judge_module(alloc, bytes, module, config, work),
-        Err(DecodeFault::Memory) => Err(Status::NoMemory),
+    match decode(alloc, &question.bytes, &question.config) {
+        Ok(module) => judge_module(alloc, question, module),
+        Err(DecodeFault::Memory) => Err(AllocError),
         Err(fault) => Ok(Verdict::Undecoded(fault)),
-    }
-}
-
-/// What a file is.
-#[tactic(auto, using(crate::proofs::Steps::file_read, crate::proofs::Steps::loaded_short))]
-pub(crate) fn judge_file<S: Shelf>(
-    alloc: Global,
-    config: &Config,
-    name: &str,
-    work: Work<'_>,
-    shelf: &mut S,
-) -> Result<Verdict, Status>
-    ensures prepares { Prepares result (task_in work.entry) (By config.now) (S.held shelf.old name.now) }
-    ensures asked { AsksFront (S.asked shelf.old) (S.asked shelf.new) (name.now ∷ []) }
-    ensures failed { result ≡ Err ReadFault → Rose (S.faults shelf.old) (S.faults shelf.new) }
-    ensures rises { S.faults shelf.old ≤ S.faults shelf.new }
-{
-    let mut bytes = Vec::new(alloc);
-    match shelf.load(alloc, name, FILE_LIMIT, &mut bytes) {
-        Ok(()) => judge(alloc, &bytes, config, work),
-        Err(LoadFault::Failed) => Err(Status::ReadFault),
-        Err(LoadFault::TooLong) => Ok(Verdict::Long),
-        Err(LoadFault::Memory) => Err(Status::NoMemory),
     }
 }

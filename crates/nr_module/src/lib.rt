@@ -3,18 +3,21 @@
 #![tactic(auto)]
 
 mod command;
-mod configuration;
 mod counter;
 mod exit;
+mod help;
 mod judging;
+mod laws;
 mod printed;
+mod question;
 mod running;
 mod status;
+mod telling;
 #[cfg(test)]
 mod tests;
 mod top;
 mod verdict;
-mod writing;
 
+pub use laws::asked_law;
 pub use status::Status;
 pub use top::check_module;

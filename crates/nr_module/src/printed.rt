@@ -83,13 +83,12 @@ fn answer_text(alloc: Global, answer: Answer) -> Result<String, AllocError>
     }
 }
 
-/// The line of a verdict: `ok`, `long`, `decode KIND AT`, `valid KIND FUNC PLACE`, or that of a run.
+/// The line of a verdict: `ok`, `decode KIND AT`, `valid KIND FUNC PLACE`, or that of a run.
 pub(crate) fn verdict_text(alloc: Global, verdict: Verdict) -> Result<String, AllocError>
     ensures { IfOk result (λ text. string_bytes text ≡ verdict_text verdict) }
 {
     match verdict {
         Verdict::Done(answer) => answer_text(alloc, answer),
-        Verdict::Long => String::from_str(alloc, "long\n"),
         Verdict::Undecoded(fault) => decode_text(alloc, fault),
         Verdict::Invalid(fault) => valid_text(alloc, fault),
     }

@@ -1,8 +1,10 @@
+use nr_configfile::ConfigRefusal;
+
 /// How a call ended.
 #[derive(Clone, Copy, Debug, PartialEq, Eq)]
 pub enum Status {
     /// The module is valid or its method's run came to its end, and the line `ok` or `end BURNT` was
-    /// written.
+    /// written; or the text of `help` or `version` was.
     Sound,
     /// The line that says why not was written.
     Faulty,
@@ -18,4 +20,17 @@ pub enum Status {
     WriteFault,
     /// Memory ran out.
     NoMemory,
+}
+
+impl ConfigRefusal for Status {
+    ghost use Rattle.nr_module.specs.Answers.{refuses};
+    ghost use Rattle.nr_module.specs.declared.status.Status.TheVariants.{Config};
+
+    ghost refuses = { refuses };
+
+    ghost refusal = { λ kind entry. Config kind entry };
+
+    fn of_config(kind: u32, entry: u32) -> Self {
+        Status::Config { kind, entry }
+    }
 }

@@ -30,7 +30,7 @@ fn answers(
         Vec::from_slice(alloc, module)?,
     ))?;
     let mut shelf = MemoryShelf::new(files, Vec::new(alloc));
-    let mut sink = MemorySink::new(alloc, 8, Vec::new(alloc), 64)?;
+    let mut sink = MemorySink::new(alloc, 8, Vec::new(alloc), 256)?;
     let ended = check_module(alloc, &texts, &mut shelf, &mut sink);
     Ok(ended == status && sink.bytes() == line.as_bytes())
 }
@@ -52,5 +52,20 @@ fn gas_has_no_leading_zeros(rt: HostRuntime) -> Result<(), Fail> {
     let alloc = rt.alloc();
     let run = ["run", "free", "M", "go", "0100"];
     assert!(rt; answers(alloc, &run, &CALLS_HOST, Status::Usage, "")?);
+    Ok(())
+}
+
+#[test]
+fn help_and_version_load_nothing(rt: HostRuntime) -> Result<(), Fail> {
+    let alloc = rt.alloc();
+    let help = "near_module check CONFIG FILE\n\
+    near_module run CONFIG FILE METHOD GAS\n\
+    near_module help\n\
+    near_module version\n\
+    CONFIG is free or the name of a file, and GAS a number from 0 to 18446744073709551615.\n";
+    assert!(rt; answers(alloc, &["help"], &[], Status::Sound, help)?);
+    let version = "near_module 0.1.0\n";
+    assert!(rt; answers(alloc, &["version"], &[], Status::Sound, version)?);
+    assert!(rt; answers(alloc, &["help", "run"], &[], Status::Usage, "")?);
     Ok(())
 }

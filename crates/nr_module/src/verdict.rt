@@ -20,13 +20,11 @@ pub(crate) enum Answer {
     NoMethod,
 }
 
-/// What a file is.
+/// What the bytes of a file are.
 #[derive(Clone, Copy, Debug)]
 pub(crate) enum Verdict {
     /// A module that decodes and is valid, with the answer of what was done with it.
     Done(Answer),
-    /// Longer than 64 MiB.
-    Long,
     /// No module, by its first fault.
     Undecoded(DecodeFault),
     /// A module that isn't valid, by its first breach.

@@ -69,3 +69,11 @@ module _ {A E : Type 0} (held : List ℕ → Option (List ℕ)) where
       let turn = turn_asks n files p leads.0 asks leads.1 in
       let more = way_asks ns turn.0 leads.0 q turn.2 leads.2 in
       (more.0, turn.1 ∙ ap (λ (xs : List (List ℕ)). n ∷ xs) more.1)
+
+  -- and where a plan comes to an answer, all of them
+  pub answer_asks : (names files : List (List ℕ)) (p : Plan A E) (a : A) → Asks files p → LeadsBy held names p (Answer a) → names ≡ files
+  answer_asks [] [] p a asks leads = refl
+  answer_asks [] (f ∷ files) p a asks leads = absurd (subst (λ (q : Plan A E). Asks (f ∷ files) q) leads asks)
+  answer_asks (n ∷ ns) files p a asks leads =
+      let turn = turn_asks n files p leads.0 asks leads.1 in
+      ap (λ (xs : List (List ℕ)). n ∷ xs) (answer_asks ns turn.0 leads.0 a turn.2 leads.2) ∙ sym turn.1

@@ -1,0 +1,28 @@
+-- Which verdicts on the bytes of a file are right, and the answer of what is done with a module. Modules by WebAssembly Core 1.0.
+use Rattle.std.specs.Prelude.{◌≡◌, ◌≢◌, Ok, Err}
+use Rattle.nr_config.specs.Config.{Config, max_code, max_pages}
+use Rattle.nr_wasmtypes.specs.declared.module.Module.{Module}
+use Rattle.nr_wasmbin.specs.Modules.{decoded}
+use Rattle.nr_wasmbin.specs.declared.fault.DecodeFault.TheVariants as decode
+use Rattle.nr_wasmvalid.specs.Modules.{IsValid, IsFirstBreach}
+use Rattle.nr_wasmvalid.specs.declared.fault.ValidFault.TheVariants as valid
+use Rattle.nr_wasmexec.specs.Making.{machine_of}
+use Rattle.nr_module.specs.Command.{Task, Check, Run}
+use Rattle.nr_module.specs.Plans.{Question}
+use Rattle.nr_module.specs.Running.{IsRun}
+use Rattle.nr_module.specs.declared.verdict.Answer.{Answer}
+use Rattle.nr_module.specs.declared.verdict.Answer.TheVariants.{Good}
+use Rattle.nr_module.specs.declared.verdict.Verdict.{Verdict}
+use Rattle.nr_module.specs.declared.verdict.Verdict.TheVariants.{Undecoded, Invalid, Done}
+
+-- the answer of what is done with a module that is valid
+abbrev pub IsAnswer : Config → Module → Task → Answer → Type 0
+IsAnswer c m Check a = a ≡ Good
+IsAnswer c m (Run method gas) a = IsRun (machine_of c m) method gas a
+
+-- what the bytes are: no module by their first fault, no valid one by its first breach, or a valid one with its answer
+abbrev pub IsVerdict : Question → Verdict → Type 0
+IsVerdict q (Undecoded fault) = (fault ≢ decode.Memory) × (decoded (max_code q.config) q.bytes ≡ Err fault)
+IsVerdict q (Invalid fault) =
+    (fault ≢ valid.Memory) × (m : Module) × (decoded (max_code q.config) q.bytes ≡ Ok m) × IsFirstBreach (max_pages q.config) m fault
+IsVerdict q (Done a) = (m : Module) × (decoded (max_code q.config) q.bytes ≡ Ok m) × IsValid (max_pages q.config) m × IsAnswer q.config m q.task a
