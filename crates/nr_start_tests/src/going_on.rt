@@ -16,7 +16,7 @@ use nr_contract::ContractCaller;
 use nr_ids::{AccountId, Hash32, Height, ShardId};
 use nr_layout::Layout;
 use nr_overlap::{Core, run_serially};
-use nr_records::ChunkLine;
+use nr_records::{ChunkLine, ChunkResult, Outcome, RunStatus};
 use nr_state::{Entry, ShardState};
 use std::alloc::{AllocError, Global};
 use std::test::Fail;
@@ -133,22 +133,54 @@ fn rest(alloc: Global, id: Hash32) -> Result<Run, AllocError> {
     ended(alloc, ChainRun::resume((config, caller), cut, blocks))
 }
 
-/// Whether the second chunk is the same, and burns what the refund brings.
-fn is_same(alloc: Global) -> Result<bool, AllocError> {
+/// What the second chunk reports: the refund finds no account, and what it brings is burnt.
+fn wanted(alloc: Global, id: Hash32) -> Result<ChunkResult, AllocError> {
+    let outcome = Outcome {
+        receipt_id: id,
+        status: RunStatus::Failure {
+            index: 0,
+            kind: 2,
+            part: 0,
+        },
+        gas: 0,
+        burnt: 1,
+        logs: List::of(Vec::new(alloc)),
+    };
+    Ok(ChunkResult {
+        height: Height(2),
+        shard: ShardId(0),
+        root: Hash32([0; 32]),
+        gas: 0,
+        burnt: 1,
+        local: 0,
+        lines: List::of(vec![in alloc; ChunkLine::Run(outcome)]?),
+    })
+}
+
+/// Whether a run has this report of a chunk.
+fn reports(run: &Run, height: Height, wanted: &ChunkResult) -> bool {
+    match run.report(ShardId(0), height) {
+        Some(report) => report == wanted,
+        None => false,
+    }
+}
+
+/// Whether the second chunk is the same in the whole run and behind the cut.
+fn is_same(alloc: Global) -> Result<[bool; 2], AllocError> {
     let whole = whole(alloc)?;
     let Some(id) = sent_last(&whole) else {
-        return Ok(false);
+        return Ok([false; 2]);
     };
+    let wanted = wanted(alloc, id)?;
     let rest = rest(alloc, id)?;
-    let shard = ShardId(0);
-    match (whole.report(shard, Height(2)), rest.report(shard, Height(1))) {
-        (Some(whole), Some(rest)) => Ok(whole == rest && rest.burnt == 1),
-        _ => Ok(false),
-    }
+    Ok([
+        reports(&whole, Height(2), &wanted),
+        reports(&rest, Height(1), &wanted),
+    ])
 }
 
 #[test]
 fn a_chain_goes_on_where_it_was_cut(rt: HostRuntime) -> Result<(), Fail> {
-    assert!(rt; is_same(rt.alloc())?);
+    assert_eq!(rt; is_same(rt.alloc())?, [true; 2]);
     Ok(())
 }
