@@ -7,7 +7,7 @@ use Rattle.nr_overlap.specs.Held.{IsReached}
 use Rattle.nr_overlap.specs.Inside.{IsInside, actor}
 use Rattle.nr_overlap.specs.Moment.{report_at, world_at, world_in}
 use Rattle.nr_overlap.specs.Moves.{moved, moved_by}
-use Rattle.nr_overlap.specs.Next.{IsNext, IsNextOf, left}
+use Rattle.nr_overlap.specs.Next.{IsNextOf, left}
 use Rattle.nr_overlap.specs.Positions.{at, start, top, top_at}
 use Rattle.nr_overlap.specs.Rules.{Rules}
 use Rattle.nr_overlap.specs.Run.{ending, opening, tried, whole_at}

@@ -1,4 +1,3 @@
-use Rattle.std.proofs.Common.{List, ℕ, subst}
 use Rattle.nr_shell.proofs.Leading.{judge_follows}
 use Rattle.nr_top.proofs.part_files.load_named.Goals as goal
 
