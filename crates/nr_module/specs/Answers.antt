@@ -39,7 +39,8 @@ TellsVerdict q line sound = (v : Verdict) × IsVerdict q v × (line ≡ verdict_
 abbrev pub TellsText : List ℕ → List ℕ → Bool → Type 0
 TellsText text line sound = (line ≡ text) × (sound ≡ true)
 
--- what tells an end of a plan: the line of a verdict on what the files give, a text, or `long` for a file that is too long
+-- what tells an end of a plan: the line of a verdict on what the files give, a text, or `long` for a file that is too
+-- long
 abbrev pub Tells : Plan Due Status → List ℕ → Bool → Type 0
 Tells (Answer (Judge q)) line sound = TellsVerdict q line sound
 Tells (Answer (Write text)) line sound = TellsText text line sound

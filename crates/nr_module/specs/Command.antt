@@ -1,4 +1,5 @@
--- The words of the command line: `check CONFIG FILE`, `run CONFIG FILE METHOD GAS`, `help` or `version`. The commands are this project's own.
+-- The words of the command line: `check CONFIG FILE`, `run CONFIG FILE METHOD GAS`, `help` or `version`. The commands are
+-- this project's own.
 use Rattle.std.specs.Prelude.{ℕ, List, [], ◌∷◌, cond, Option, Some, None, codes, option_and_then}
 use Rattle.std.specs.Str.{bytes_eq}
 use Rattle.nr_words.specs.Forms.{Value, Text, Number, read}
@@ -31,7 +32,8 @@ check_of (Text config ∷ Text name ∷ []) = Some (OfModule (record { config = 
 check_of values = None
 
 abbrev pub run_of : List Value → Option Command
-run_of (Text config ∷ Text name ∷ Text method ∷ Number gas ∷ []) = Some (OfModule (record { config = config; file = name; task = Run method gas }))
+run_of (Text config ∷ Text name ∷ Text method ∷ Number gas ∷ []) =
+    Some (OfModule (record { config = config; file = name; task = Run method gas }))
 run_of values = None
 
 abbrev pub found_command : List ℕ × List Value → Option Command

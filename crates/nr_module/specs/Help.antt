@@ -8,7 +8,8 @@ use Rattle.nr_words.specs.Forms.{Form, file, name_of, number}
 abbrev pub forms : List Form
 forms =
     form (codes "check") (file (codes "CONFIG") ∷ file (codes "FILE") ∷ [])
-    ∷ form (codes "run") (file (codes "CONFIG") ∷ file (codes "FILE") ∷ file (codes "METHOD") ∷ number (codes "GAS") 0 18446744073709551615 ∷ [])
+    ∷ form (codes "run") (file (codes "CONFIG") ∷ file (codes "FILE") ∷ file (codes "METHOD")
+    ∷ number (codes "GAS") 0 18446744073709551615 ∷ [])
     ∷ form (codes "help") [] ∷ form (codes "version") [] ∷ []
 
 -- the words of a form behind the program's name, parted by single spaces

@@ -28,7 +28,8 @@ due_in q = Judge (question_in q)
 -- the module's file, of at most 64 MiB
 abbrev pub by_config : Names → Config → Plan Due Status
 by_config names c =
-    and_then (file_plan names.file 67108864 Faulty) (λ bytes. Answer (Judge (record { config = c; task = names.task; bytes = bytes })))
+    and_then (file_plan names.file 67108864 Faulty)
+    (λ bytes. Answer (Judge (record { config = c; task = names.task; bytes = bytes })))
 
 abbrev pub module_plan : Names → Plan Due Status
 module_plan names = and_then (config_plan faulty_config names.config) (by_config names)

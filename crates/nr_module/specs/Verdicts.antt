@@ -1,4 +1,5 @@
--- Which verdicts on the bytes of a file are right, and the answer of what is done with a module. Modules by WebAssembly Core 1.0.
+-- Which verdicts on the bytes of a file are right, and the answer of what is done with a
+-- module. Modules by WebAssembly Core 1.0.
 use Rattle.std.specs.Prelude.{◌≡◌, ◌≢◌, Ok, Err}
 use Rattle.nr_config.specs.Config.{Config, max_code, max_pages}
 use Rattle.nr_wasmtypes.specs.declared.module.Module.{Module}
@@ -24,5 +25,8 @@ IsAnswer c m (Run method gas) a = IsRun (machine_of c m) method gas a
 abbrev pub IsVerdict : Question → Verdict → Type 0
 IsVerdict q (Undecoded fault) = (fault ≢ decode.Memory) × (decoded (max_code q.config) q.bytes ≡ Err fault)
 IsVerdict q (Invalid fault) =
-    (fault ≢ valid.Memory) × (m : Module) × (decoded (max_code q.config) q.bytes ≡ Ok m) × IsFirstBreach (max_pages q.config) m fault
-IsVerdict q (Done a) = (m : Module) × (decoded (max_code q.config) q.bytes ≡ Ok m) × IsValid (max_pages q.config) m × IsAnswer q.config m q.task a
+    (fault ≢ valid.Memory) × (m : Module) × (decoded (max_code q.config) q.bytes ≡ Ok m)
+    × IsFirstBreach (max_pages q.config) m fault
+IsVerdict q (Done a) =
+    (m : Module) × (decoded (max_code q.config) q.bytes ≡ Ok m) × IsValid (max_pages q.config) m
+    × IsAnswer q.config m q.task a
