@@ -1,11 +1,13 @@
 -- A shard without accounts, and a refund of 1 that it carries, are a start.
-use Rattle.std.proofs.Common.{◌≡◌, ℕ, ◌+◌, List, [], ◌∷◌, length, refl, sym, ap, subst, ◌∙◌, arith}
+use Rattle.std.proofs.Common.{◌≡◌, ℕ, ◌+◌, List, [], ◌∷◌, length, map, refl, sym, ap, subst, ◌∙◌, arith}
+use Rattle.std.specs.Prelude.{sum_by}
+use Rattle.std.specs.List.{AllByRecursion}
 use Rattle.std.proofs.lemmas.List.Sums.{sum_by-cons}
 use Rattle.nr_actions.proofs.Made.{refund_bounded, refund_holds}
 use Rattle.nr_actions.specs.Refunds.{deposit_refund}
 use Rattle.nr_blocks.specs.Genesis.{AreSoundEntries, genesis_world}
 use Rattle.nr_blocks.specs.declared.genesis.Genesis.{Genesis}
-use Rattle.nr_chunk.specs.Goodness.{IsGood, IsSmall}
+use Rattle.nr_chunk.specs.Goodness.{AreGood, IsGood, IsSmall}
 use Rattle.nr_chunk.specs.Start.{IsStart, genesis_start}
 use Rattle.nr_chunk.specs.StartSums.{genesis_is, genesis_tokens}
 use Rattle.nr_chunk.specs.Starts.{IsSoundStart}
@@ -13,7 +15,6 @@ use Rattle.nr_chunk.specs.declared.start.FirstState.TheVariants as first
 use Rattle.nr_chunk.specs.declared.start.Resumed.{Resumed}
 use Rattle.nr_columns.specs.declared.entry.Entry.{Entry}
 use Rattle.nr_config.specs.Config.{Config}
-use Rattle.nr_fees.specs.Fees.{receipt_tokens}
 use Rattle.nr_ids.specs.declared.key.Hash32.{Hash32}
 use Rattle.nr_records.specs.declared.receipt.Receipt.{Receipt}
 use Rattle.nr_state.specs.FromEntries.{AreWholeEntries, world_from}
@@ -60,29 +61,31 @@ module _ (c : Config) where
     good : IsGood c refund
     good = record { bounded = refund_bounded c to id 1; calls = (omega arith, tt) }
 
-    abbrev cut : List (List ℕ) → List Entry → Resumed
-    cut layout entries =
-        record { layout = layout; below = 1; worlds = entries ∷ []; carried = (refund ∷ []) ∷ [] }
-
-    pub is_sound : (layout : List (List ℕ)) (entries : List Entry) → length layout + 1 ≡ 1 → AreWholeEntries entries
-        → world_from entries ≡ no_world → IsSoundStart c (first.Resumed (cut layout entries))
-    is_sound layout entries alone whole world = record {
+    pub is_sound : (r : Resumed) (es : List Entry) → length r.layout + 1 ≡ 1 → AreWholeEntries es
+        → world_from es ≡ no_world → r.worlds ≡ es ∷ [] → r.carried ≡ (refund ∷ []) ∷ []
+        → IsSoundStart c (first.Resumed r)
+    is_sound r es alone whole world worlds carried = record {
       start = record {
-        worlds = sym alone;
-        lists = sym alone;
-        valid = (subst (IsValidWorld c) (sym world) valid, tt);
-        small = (subst IsSmall (sym world) small, tt);
-        good = ((good, tt), tt);
+        worlds = ap (λ (ws : List (List Entry)). length (map world_from ws)) worlds ∙ sym alone;
+        lists = ap (λ (ls : List (List Receipt)). length ls) carried ∙ sym alone;
+        valid =
+            subst (λ (ws : List (List Entry)). AllByRecursion (IsValidWorld c) (map world_from ws)) (sym worlds)
+            (subst (IsValidWorld c) (sym world) valid, tt);
+        small =
+            subst (λ (ws : List (List Entry)). AllByRecursion IsSmall (map world_from ws)) (sym worlds)
+            (subst IsSmall (sym world) small, tt);
+        good = subst (AllByRecursion (AreGood c)) (sym carried) ((good, tt), tt);
         few =
             omega (
               arith,
-              sum_by-cons (world_tokens c) (world_from entries) [],
+              ap (λ (ws : List (List Entry)). sum_by (world_tokens c) (map world_from ws)) worlds,
+              sum_by-cons (world_tokens c) (world_from es) [],
               ap (world_tokens c) world,
               no_tokens,
+              ap (λ (ls : List (List Receipt)). sum_by (list_tokens c) ls) carried,
               sum_by-cons (list_tokens c) (refund ∷ []) [],
-              sum_by-cons (receipt_tokens c) refund [],
               refund_holds c to id 1,
             );
       };
-      fills = (whole, tt);
+      fills = subst (AllByRecursion AreWholeEntries) (sym worlds) (whole, tt);
     }

@@ -1,6 +1,6 @@
 //! A chain of one shard that is cut in two by hand.
 
-ghost use Rattle.std.specs.Prelude.{◌≡◌, ◌+◌, length, IfOk};
+ghost use Rattle.std.specs.Prelude.{◌≡◌, ◌+◌, [], ◌∷◌, length, IfOk};
 ghost use Rattle.nr_blocks.specs.Genesis.{IsSoundGenesis};
 ghost use Rattle.nr_chunk.specs.Starts.{IsSoundStart};
 ghost use Rattle.nr_chunk.specs.declared.start.FirstState.TheVariants as first;
@@ -16,7 +16,7 @@ use nr_contract::ContractCaller;
 use nr_ids::{AccountId, Hash32, Height, ShardId};
 use nr_layout::Layout;
 use nr_overlap::{Core, run_serially};
-use nr_records::{ChunkLine, ChunkResult, Outcome, RunStatus};
+use nr_records::{ChunkLine, ChunkResult, Outcome, Receipt, RunStatus};
 use nr_state::{Entry, ShardState};
 use std::alloc::{AllocError, Global};
 use std::test::Fail;
@@ -108,19 +108,37 @@ fn no_entries(alloc: Global, config: &Config) -> Result<List<Entry>, AllocError>
     state.entries()
 }
 
+/// The worlds of one shard.
+fn worlds_of(alloc: Global, entries: List<Entry>) -> Result<List<List<Entry>>, AllocError>
+    ensures { IfOk result (λ worlds. worlds ≡ entries ∷ []) }
+{
+    Ok(List::of(vec![in alloc; entries]?))
+}
+
+/// One shard carries one receipt.
+fn carried_of(alloc: Global, receipt: Receipt) -> Result<List<List<Receipt>>, AllocError>
+    ensures { IfOk result (λ carried. carried ≡ (receipt ∷ []) ∷ []) }
+{
+    let list = List::of(vec![in alloc; receipt]?);
+    Ok(List::of(vec![in alloc; list]?))
+}
+
 /// One shard without accounts, whose next chunk takes a refund of 1 with this id.
 fn cut(alloc: Global, config: &Config, id: Hash32) -> Result<Resumed, AllocError>
     ensures sound { IfOk result (λ cut. IsSoundStart config.now (first.Resumed cut)) }
     ensures below { IfOk result (λ cut. cut.below ≡ 1) }
 {
+    let layout = one_shard(alloc, config)?;
     let entries = no_entries(alloc, config)?;
-    let refund = deposit_refund(alloc, id_of(alloc, b"bob")?, id, 1)?;
-    let carried = List::of(vec![in alloc; refund]?);
+    let bob = id_of(alloc, b"bob")?;
+    let refund = deposit_refund(alloc, bob, id, 1)?;
+    let worlds = worlds_of(alloc, entries)?;
+    let carried = carried_of(alloc, refund)?;
     Ok(Resumed {
-        layout: one_shard(alloc, config)?,
+        layout,
         below: 1,
-        worlds: List::of(vec![in alloc; entries]?),
-        carried: List::of(vec![in alloc; carried]?),
+        worlds,
+        carried,
     })
 }
 
