@@ -5,3 +5,4 @@ pub mod Lent
 pub mod OverChunk
 pub mod Localized
 pub mod Started
+pub mod Small

@@ -14,6 +14,7 @@ use nr_bytes::List;
 use nr_config::Config;
 use nr_config::entries::GAS_PRICE;
 use nr_join::laws::joining_laws;
+use nr_layout::Layout;
 use nr_receipt::laws::execution_laws;
 use nr_state::Caller;
 use nr_txconvert::laws::conversion_laws;
@@ -102,6 +103,13 @@ impl<C: Caller<ChunkStore>> ChainRun<C> {
             blocks,
             caller,
         }
+    }
+
+    /// The boundaries between the shards.
+    pub fn layout(&self) -> &Layout
+        ensures { result.now ≡ self.now.grounds.start.boundaries }
+    {
+        self.grounds.layout()
     }
 
     /// The configuration, and who runs the contracts.

@@ -8,7 +8,8 @@ use crate::state::State;
 use nr_bytes::List;
 use nr_columns::Entry;
 use nr_records::Receipt;
-use std::alloc::AllocError;
+use nr_state::listings;
+use std::alloc::{AllocError, Global};
 use std::marker::Model;
 
 /// A shard between its chunks. Contracts see its world, what it carries, and the configuration under which its state is
@@ -47,5 +48,23 @@ impl ChunkWorld {
         ensures world { IfOk result (λ found. world_from found ≡ self.now.world) }
     {
         self.state.entries()
+    }
+
+    /// What the shard's next chunk takes at the end of its opening.
+    pub fn carried(&self) -> &List<Receipt>
+        ensures { result.now ≡ self.now.carried }
+    {
+        &self.carried
+    }
+
+    /// All delayed receipts, the front first.
+    ///
+    /// # Errors
+    ///
+    /// Where memory runs out.
+    pub fn delayed(&self, alloc: Global) -> Result<List<Receipt>, AllocError>
+        ensures { IfOk result (λ found. found ≡ self.now.world.delayed) }
+    {
+        listings::delayed(alloc, &self.state)
     }
 }

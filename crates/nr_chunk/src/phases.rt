@@ -81,6 +81,23 @@ fn place_at<C: Caller<ChunkStore>>(chain: &ChainRun<C>, height: Height) -> Place
     }
 }
 
+impl<C: Caller<ChunkStore>> ChainRun<C> {
+    /// The block of a height.
+    pub fn block(&self, height: Height) -> Option<&Block>
+        ensures { option_copied result ≡ block_at (chain_in self.now) height.0 }
+    {
+        block_at(self.blocks.inner(), height)
+    }
+
+    /// Where the chunks of a height stand.
+    pub fn place(&self, height: Height) -> Place
+        requires { height.0 ≤ length self.now.blocks }
+        ensures { result ≡ place_at (chain_in self.now) height.0 }
+    {
+        place_at(self, height)
+    }
+}
+
 impl<C: Caller<ChunkStore>> Phases for ChainRun<C> {
     ghost use Rattle.nr_chunk.specs.Chain.{rules_of, IsChain, CanOpen, CanTake, CanSeal};
     ghost use Rattle.nr_chunk.specs.Lawful.{laws_of};

@@ -19,3 +19,6 @@ pub mod Ended
 pub mod Running
 pub mod Cutting
 pub mod Leading
+pub mod Onward
+pub mod Orders
+pub mod Last

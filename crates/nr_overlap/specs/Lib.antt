@@ -13,3 +13,4 @@ pub mod Next
 pub mod Whole
 pub mod Cut
 pub mod Led
+pub mod Outcome

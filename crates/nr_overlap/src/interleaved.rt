@@ -1,21 +1,24 @@
-ghost use Rattle.std.specs.Prelude.{◌≡◌, ℕ, MatchOption, ◌+◌, ◌<◌, false, true, IfOk, List, Option};
+ghost use Rattle.std.specs.Prelude.{◌≡◌, ◌<◌, false, IfOk, None};
 ghost use Rattle.std.specs.Option.{option_copied};
 ghost use Rattle.nr_overlap.specs.Moment.{world_at, working_at, report_at, flight_at};
-ghost use Rattle.nr_overlap.specs.Positions.{at, start};
-ghost use Rattle.nr_overlap.specs.Run.{Steps, opening, opened};
+ghost use Rattle.nr_overlap.specs.Positions.{at};
+ghost use Rattle.nr_overlap.specs.Outcome.{behind, last_worlds, lists_left, reports_by_shard};
+ghost use Rattle.nr_overlap.specs.Run.{Steps, ending, opening, opened};
 ghost use Rattle.nr_overlap.specs.Inside.{IsInside};
 ghost use Rattle.nr_overlap.specs.Held.{IsSerial, IsKept};
 ghost use Rattle.nr_overlap.specs.Balance.{AllAddsUp};
 ghost use Rattle.nr_overlap.specs.Next.{IsNextOf};
 
+use crate::closing::{close_held, close_rows};
 use crate::event::{Event, StepFault};
-use crate::next::next_of;
+use crate::next::{behind_of, next_of};
 use crate::phases::Phases;
 use crate::position::{Position, Stage};
 use crate::reads::{report_in_rows, slot_of, working_of, world_of};
 use crate::refusal::refusal;
 use crate::shards::{Held, Shards};
 use crate::steps::happen;
+use nr_bytes::List;
 use nr_ids::{Height, ShardId};
 use std::alloc::{AllocError, Global};
 use std::marker::Model;
@@ -45,6 +48,18 @@ impl<P: Phases> Model for Core<P> {
     ghost view = { λ c. record { phases = c.phases; positions = c.shards.positions.items; lost = c.lost } };
 
     ghost invariant = { λ c. (IsKept (P.rules c.phases) c.shards) × (P.is_run c.phases) × (c.lost ≡ false → IsSerial (P.rules c.phases) c.shards) };
+}
+
+/// A core whose run is over, taken apart: all that the serial run comes to.
+#[derive(Drop)]
+pub struct Closed<P: Phases> {
+    pub phases: P,
+    /// For each shard, in order of number, the reports of its chunks, in order of height.
+    pub reports: List<List<P::Report>>,
+    /// The last world of each shard, in order of number.
+    pub worlds: List<P::World>,
+    /// Each list that no chunk takes, with its source, its height and its destination, in order of these three.
+    pub left: List<(ShardId, Height, ShardId, P::Parcel)>,
 }
 
 /// All shards before their first chunk.
@@ -95,6 +110,44 @@ impl<P: Phases + Drop> Core<P> {
             lost: false,
         })
     }
+
+    /// Takes a core apart whose run is over: `behind` gives none.
+    ///
+    /// # Errors
+    ///
+    /// Where there is no memory for it, or a step met want of memory before. The phases are let go.
+    pub fn close(self) -> Result<Closed<P>, AllocError>
+        requires { self.positions ≡ ending (P.rules self.phases) }
+        ensures phases { IfOk result (λ closed. closed.phases ≡ self.phases) }
+        ensures reports { IfOk result (λ closed. closed.reports ≡ reports_by_shard (P.rules self.phases)) }
+        ensures worlds { IfOk result (λ closed. closed.worlds ≡ last_worlds (P.rules self.phases)) }
+        ensures left { IfOk result (λ closed. closed.left ≡ lists_left (P.rules self.phases)) }
+    {
+        let Core {
+            alloc,
+            phases,
+            shards,
+            lost,
+        } = self;
+        if lost {
+            return Err(AllocError);
+        }
+        let Shards {
+            positions: _,
+            held,
+            dues: _,
+            rows,
+        } = shards;
+        let worlds = close_held(alloc, &phases, held)?;
+        let mut left = Vec::new(alloc);
+        let reports = close_rows(alloc, &phases, rows, &mut left)?;
+        Ok(Closed {
+            phases,
+            reports,
+            worlds,
+            left: List::of(left),
+        })
+    }
 }
 
 impl<P: Phases> Core<P> {
@@ -143,6 +196,14 @@ impl<P: Phases> Core<P> {
         slot_of(row, height.0 as usize, dest.0 as usize)
     }
 
+    /// Where a shard stands. It stays where a step met want of memory.
+    pub fn position(&self, shard: ShardId) -> Position
+        requires inside { shard.0 < (P.rules self.now.phases).shards }
+        ensures { result ≡ at self.now.positions shard.0 }
+    {
+        self.shards.positions[shard.0 as usize]
+    }
+
     /// Makes a step, where it is enabled.
     ///
     /// # Errors
@@ -178,6 +239,15 @@ impl<P: Phases> Core<P> {
         ensures { IsNextOf (P.rules self.now.phases) self.now.positions result }
     {
         next_of(&self.phases, &self.shards)
+    }
+
+    /// The first shard whose published number isn't the last height, with that number; `None` exactly where there is no
+    /// such shard, and so all shards have published all heights. So it is also where a step met want of memory.
+    pub fn behind(&self) -> Option<(ShardId, Height)>
+        ensures is { result ≡ behind (P.rules self.now.phases) self.now.positions }
+        ensures over { result ≡ None → self.now.positions ≡ ending (P.rules self.now.phases) }
+    {
+        behind_of(&self.phases, &self.shards.positions)
     }
 
     /// Each amount that chunks keep adds up, at whatever heights and stages the shards stand: what worlds, working

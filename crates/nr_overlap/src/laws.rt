@@ -2,6 +2,7 @@
 
 ghost use Rattle.nr_overlap.specs.Cut.{CutsAreSerial};
 ghost use Rattle.nr_overlap.specs.Led.{ReachedAreLed};
+ghost use Rattle.nr_overlap.specs.Next.{NextIsNext};
 
 use crate::phases::Phases;
 
@@ -17,4 +18,11 @@ pub fn cut_law<P: Phases>(phases: &P)
 /// that some list of events leads to from the opening. It does nothing when it runs.
 pub fn reached_law<P: Phases>(phases: &P)
     ensures led { ReachedAreLed (P.rules phases.now) }
+{}
+
+/// Which event comes next is a function of positions: wherever steps can lead, it gives what `Core::next_event` answers,
+/// an enabled event or none exactly at the end, and one such event after another leads to the end. It does nothing when
+/// it runs.
+pub fn next_law<P: Phases>(phases: &P)
+    ensures next { NextIsNext (P.rules phases.now) }
 {}

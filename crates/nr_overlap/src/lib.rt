@@ -3,6 +3,7 @@
 //! it shows is what the serial run has: block after block.
 #![tactic(auto)]
 
+mod closing;
 mod due;
 mod event;
 mod interleaved;
@@ -18,7 +19,7 @@ mod steps;
 
 pub use due::due_list;
 pub use event::{Event, StepFault, Why};
-pub use interleaved::Core;
+pub use interleaved::{Closed, Core};
 pub use phases::Phases;
 pub use position::{Position, Stage};
 pub use run::{run_serially, step_all};

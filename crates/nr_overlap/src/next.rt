@@ -2,6 +2,8 @@
 
 ghost use Rattle.std.specs.Prelude.{◌≡◌, ◌<◌, ◌≤◌, ◌^◌, ℕ, length, slice_get, MatchOption, Option, Some, None};
 ghost use Rattle.nr_overlap.specs.Held.{IsSerial};
+ghost use Rattle.nr_overlap.specs.Outcome.{behind};
+ghost use Rattle.nr_overlap.specs.Positions.{at};
 ghost use Rattle.nr_overlap.specs.Next.{IsSlowest, event_at, take_or_seal, IsNextOf};
 
 use crate::event::Event;
@@ -76,4 +78,27 @@ pub(crate) fn next_of<P: Phases>(
     }
     let next = pair_at(&shards.dues[place], position.taken);
     Some(event_at(phases, ShardId(place as u32), position, next))
+}
+
+fn number_at(positions: &[Position], place: usize) -> u64
+    requires { place < length positions.now }
+    ensures { result ≡ (at positions.now place).number }
+{
+    positions[place].number
+}
+
+/// The first shard that hasn't published the last height, with how many it has published.
+pub(crate) fn behind_of<P: Phases>(phases: &P, positions: &[Position]) -> Option<(ShardId, Height)>
+    requires { length positions.now ≡ (P.rules phases.now).shards }
+    ensures { result ≡ behind (P.rules phases.now) positions.now }
+{
+    let _shards = phases.shards();
+    let heights = phases.heights();
+    for place in 0..positions.len() {
+        let number = number_at(positions, place);
+        if number != heights {
+            return Some((ShardId(place as u32), Height(number)));
+        }
+    }
+    None
 }

@@ -110,7 +110,7 @@ fn trim<L: Drop>(alloc: Global, lists: &mut Vec<Option<L>>)
 }
 
 /// Takes the list out of a slot, if it is there.
-fn take_cell<L: Drop>(lists: &mut Vec<Option<L>>, dest: usize) -> Option<L>
+pub(crate) fn take_cell<L: Drop>(lists: &mut Vec<Option<L>>, dest: usize) -> Option<L>
     ensures list { result ≡ cell lists.old.items dest }
     ensures gone { cell lists.new.items dest ≡ None }
     ensures others { (d : ℕ) → (d ≡ dest → ⊥) → cell lists.new.items d ≡ cell lists.old.items d }

@@ -1,11 +1,12 @@
-ghost use Rattle.std.specs.Prelude.{◌≡◌, IfOk, false};
+ghost use Rattle.std.specs.Prelude.{◌≡◌, ◌<◌, IfOk, false};
 
 use crate::bag::Bag;
 use crate::roll::Roll;
 use crate::roll_call::Name;
 use crate::small_chain::SmallChain;
+use nr_bytes::List;
 use nr_ids::{Height, ShardId};
-use nr_overlap::{Core, Event, Phases, StepFault, Why, run_serially, step_all};
+use nr_overlap::{Core, Event, Phases, Stage, StepFault, Why, run_serially, step_all};
 use std::alloc::{AllocError, Global};
 use std::test::Fail;
 
@@ -163,6 +164,73 @@ fn a_list_is_on_its_way(rt: HostRuntime) -> Result<(), Fail> {
     ];
     step_all(&mut core, &events)?;
     assert!(rt; shows_a_list_on_its_way(&core));
+    Ok(())
+}
+
+/// Whether a shard stands where it has published so many heights and is at this stage.
+fn stands(core: &Core<Roll>, shard: ShardId, number: u64, stage: Stage) -> bool
+    requires { shard.0 < core.now.phases.shards }
+{
+    let position = core.position(shard);
+    position.number == number && position.stage == stage
+}
+
+#[test]
+fn the_first_shard_behind_is_named(rt: HostRuntime) -> Result<(), Fail> {
+    let mut core = Core::new(rt.alloc(), roll(rt.alloc(), 2, &[&[true, true]], None)?)?;
+    assert!(rt; core.behind() == Some((A, Height(0))));
+    step_all(&mut core, &[Event::OpenChunk(A), Event::SealChunk(A)])?;
+    assert!(rt; stands(&core, A, 0, Stage::Sealed));
+    step_all(&mut core, &[Event::PublishLists(A)])?;
+    assert!(rt; stands(&core, A, 1, Stage::Idle));
+    assert!(rt; core.behind() == Some((B, Height(0))));
+    run_serially(&mut core)?;
+    assert!(rt; core.behind().is_none());
+    Ok(())
+}
+
+// Shard 1 has no chunk at heights 2 and 3.
+#[test]
+fn what_is_left_has_its_order(rt: HostRuntime) -> Result<(), Fail> {
+    let blocks: [&[bool]; 3] = [&[true, true], &[true, false], &[true, false]];
+    let mut core = Core::new(rt.alloc(), roll(rt.alloc(), 2, &blocks, None)?)?;
+    run_serially(&mut core)?;
+    let closed = core.close()?;
+    let left = [
+        (A, Height(1), B, name(1, 0)),
+        (A, Height(2), B, name(2, 0)),
+        (A, Height(3), A, name(3, 0)),
+        (A, Height(3), B, name(3, 0)),
+        (B, Height(1), B, name(1, 1)),
+    ];
+    assert!(rt; closed.left.inner() == left.as_slice());
+    Ok(())
+}
+
+/// Whether a shard's reports tell these names.
+fn told(reports: &[List<Name>], names: &[&[Name]]) -> bool {
+    let mut same = reports.len() == names.len();
+    for (report, names) in reports.iter().zip(names) {
+        same = same && report.inner() == *names;
+    }
+    same
+}
+
+#[test]
+fn reports_and_worlds_are_by_shard(rt: HostRuntime) -> Result<(), Fail> {
+    let blocks: [&[bool]; 3] = [&[true, true], &[true, false], &[true, false]];
+    let mut core = Core::new(rt.alloc(), roll(rt.alloc(), 2, &blocks, None)?)?;
+    run_serially(&mut core)?;
+    let closed = core.close()?;
+    let first: [&[Name]; 3] = [&[], &[name(1, 0), name(1, 1)], &[name(2, 0)]];
+    let reports = closed.reports.inner();
+    assert_eq!(rt; reports.len(), 2);
+    assert!(rt; reports.first().is_some_and(|row| told(row.inner(), &first)));
+    assert!(rt; reports.last().is_some_and(|row| told(row.inner(), &[&[]])));
+    let worlds = closed.worlds.inner();
+    assert_eq!(rt; worlds.len(), 2);
+    assert!(rt; worlds.first().is_some_and(|world| world.height == 3));
+    assert!(rt; worlds.last().is_some_and(|world| world.height == 1));
     Ok(())
 }
 

@@ -29,7 +29,7 @@ awaited_none = ap {A = List ((List ℕ × List ℕ) × Receipt)} (λ es. from_en
 missing_none : missing_in no_world ≡ empty
 missing_none = ap {A = List ((List ℕ × List ℕ) × Receipt)} (λ es. from_entries (map (λ e. (e.0, missing_inputs no_world e.1)) es)) (entries_empty pair_cmp)
 
-whole_none : IsWhole no_columns
+pub whole_none : IsWhole no_columns
 whole_none =
     record {
       derived = λ i. record no_columns { awaited = awaited_none i; missing = missing_none i };

@@ -92,7 +92,7 @@ module _ {K X : Type 0} {R : K → K → Ordering} (o : IsTotalOrder R) (exact :
       ∙ sym (get-entries m q))
 
   -- what holds of what is found holds of each entry
-  each_entry : (P : K → X → Type 0) (es : List (K × X)) → T (is_sorted R es)
+  pub each_entry : (P : K → X → Type 0) (es : List (K × X)) → T (is_sorted R es)
       → ((k : K) (x : X) → find R k es ≡ Some x → P k x) → AllByRecursion (λ e. P e.0 e.1) es
   each_entry P [] s h = tt
   each_entry P (e ∷ es) s h = (

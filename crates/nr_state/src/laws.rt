@@ -1,8 +1,10 @@
 //! What holds of every world. Each function here does nothing when it runs: its contract is the law.
 
-ghost use Rattle.std.specs.Prelude.{◌≡◌, ◌≤◌, ℕ, Bool, List, Option, Some, None, true, false, nat_lt};
+ghost use Rattle.std.specs.Prelude.{◌≡◌, ◌≤◌, ℕ, Bool, List, [], Option, Some, None, true, false, nat_lt};
 ghost use Rattle.std.specs.FinMap as map;
 ghost use Rattle.std.specs.List.{AllByRecursion, list_any};
+ghost use Rattle.nr_columns.specs.Entries.{contents_of, pairs_of};
+ghost use Rattle.nr_columns.specs.declared.entry.Entry.{Entry};
 ghost use Rattle.nr_config.specs.Config.{Config};
 ghost use Rattle.nr_ids.specs.declared.key.Hash32.{Hash32};
 ghost use Rattle.nr_ids.specs.declared.key.PublicKey.{PublicKey};
@@ -14,6 +16,7 @@ ghost use Rattle.nr_records.specs.declared.receipt.Receipt.{Receipt};
 ghost use Rattle.nr_state.specs.Calls.{ChangesOnly};
 ghost use Rattle.nr_state.specs.Changes.{set_datum, removed_datum, with_received};
 ghost use Rattle.nr_state.specs.Entries.{IsReadBack, is_of};
+ghost use Rattle.nr_state.specs.FromEntries.{AreWholeEntries, world_from};
 ghost use Rattle.nr_state.specs.Flat.{flat, inputs_of, is_missing, missing_inputs};
 ghost use Rattle.nr_state.specs.Keeping.{HasOwnInputs, IsKept, MovesReceipts, MovesTokens, OwnsApart};
 ghost use Rattle.nr_state.specs.Keyed.{IsKeyed};
@@ -123,4 +126,22 @@ pub fn part_laws()
     ensures read { (x : List ℕ → Bool) (w : World) → IsKeyed w → IsReadBack w → IsReadBack (part_of x w) }
     // A world whose names are ids and whose records fit their fields is read back from its trie entries.
     ensures told { (w : World) → IsWorld w → ArePostponed w → IsReadBack w }
+{}
+
+/// Which trie entries stand for a world.
+pub fn entry_laws()
+    // Those of a world whose names are ids and whose records fit their fields, and the world can be made of them again.
+    ensures whole { (w : World) (es : List Entry) → IsWorld w → ArePostponed w → pairs_of es ≡ map.entries (flat w)
+        → AreWholeEntries es }
+    ensures again { (w : World) (es : List Entry) → IsWorld w → ArePostponed w → pairs_of es ≡ map.entries (flat w)
+        → world_from es ≡ w }
+    // Whole entries stand for such a world, are its trie entries, and are read back.
+    ensures fits { (es : List Entry) → AreWholeEntries es → IsWorld (world_from es) }
+    ensures postponed { (es : List Entry) → AreWholeEntries es → ArePostponed (world_from es) }
+    ensures contents { (es : List Entry) → AreWholeEntries es → flat (world_from es) ≡ contents_of es }
+    ensures pairs { (es : List Entry) → AreWholeEntries es → map.entries (flat (world_from es)) ≡ pairs_of es }
+    ensures read { (es : List Entry) → AreWholeEntries es → IsReadBack (world_from es) }
+    // No entries stand for the world without anything.
+    ensures none { AreWholeEntries [] }
+    ensures empty { world_from [] ≡ no_world }
 {}

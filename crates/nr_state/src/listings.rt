@@ -43,6 +43,18 @@ pub fn delayed<S: Store>(alloc: Global, state: &ShardState<S>) -> Result<List<Re
     Ok(List::of(found))
 }
 
+/// How many delayed receipts were served.
+///
+/// # Errors
+///
+/// Where there is no memory.
+pub fn served<S: Store>(state: &ShardState<S>) -> Result<u64, AllocError>
+    ensures { IfOk result (λ served. served ≡ state.now.world.served) }
+{
+    let (served, _) = queue_of(&state.columns)?;
+    Ok(served)
+}
+
 /// How many delayed receipts were served, and how many wait.
 fn queue_of<S: Store>(columns: &Columns<S>) -> Result<(u64, u64), AllocError>
     ensures served { IfOk result (λ queue. queue.0 ≡ served_in columns.now.columns.queue) }
