@@ -4,3 +4,4 @@ mod Sweeps
 mod Held
 mod Looked
 mod Results
+pub mod Fewer

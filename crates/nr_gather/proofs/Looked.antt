@@ -192,13 +192,18 @@ gathered_is : (searched : List Searched) (ps : Paths) → gathered searched ps �
 unfolding gathered
 gathered_is searched ps = refl
 
--- the walk over what is gathered has no fault
-pub gathered_walk : (searched : List Searched) (m : Contents) (es : List (List ℕ × List ℕ)) (list : List (List ℕ)) → entries m ≡ es → list ≡ gathered searched (paths es) → IsOf (texts_of list) (root_of m).hash m
-    → (gains : List Gain) × (walk_of (texts_of list) searched (root_of m).hash ≡ Ok gains)
-gathered_walk searched m es list e g is =
+-- all that a walk looks at is among what is gathered
+pub gathered_holds : (searched : List Searched) (m : Contents) (es : List (List ℕ × List ℕ)) (list : List (List ℕ)) → entries m ≡ es → list ≡ gathered searched (paths es) → IsOf (texts_of list) (root_of m).hash m
+    → Holds (texts_of list) searched (paths (entries m))
+gathered_holds searched m es list e g is =
     let top = paths (entries m) in
     let texts = looked_texts (depth top) searched [] top in
     let listed : list ≡ once empty texts = g ∙ ap (λ (xs : List (List ℕ × List ℕ)). gathered searched (paths xs)) (sym e) ∙ gathered_is searched top in
     let walk : CanWalk top = walk_whole m top refl (all_nibbles (entries m) is.bytes) in
     let all : AllByRecursion (IsHeld (texts_of list)) texts = subst (λ (l : List (List ℕ)). AllByRecursion (IsHeld (texts_of l)) texts) (sym listed) (once_all texts) in
-    completes (texts_of list) searched (root_of m).hash m is (holds (texts_of list) searched top walk is.agrees all)
+    holds (texts_of list) searched top walk is.agrees all
+
+-- the walk over what is gathered has no fault
+pub gathered_walk : (searched : List Searched) (m : Contents) (es : List (List ℕ × List ℕ)) (list : List (List ℕ)) → entries m ≡ es → list ≡ gathered searched (paths es) → IsOf (texts_of list) (root_of m).hash m
+    → (gains : List Gain) × (walk_of (texts_of list) searched (root_of m).hash ≡ Ok gains)
+gathered_walk searched m es list e g is = completes (texts_of list) searched (root_of m).hash m is (gathered_holds searched m es list e g is)

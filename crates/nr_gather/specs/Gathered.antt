@@ -2,8 +2,9 @@
 use Rattle.std.specs.Prelude.{ℕ, zero, suc, cond, List, [], ◌∷◌, ◌++◌, map, Option, Some, None, is_some}
 use Rattle.std.specs.List.{flat_map}
 use Rattle.std.specs.FinMap.{empty, get}
+use Rattle.nr_ids.specs.declared.key.Hash32.{Hash32}
 use Rattle.nr_triedef.specs.Node.{digest, node_text}
-use Rattle.nr_triedef.specs.Root.{Contents, Paths, front, under, value_here, sixteen, depth}
+use Rattle.nr_triedef.specs.Root.{Contents, Paths, front, under, value_here, sixteen, depth, no_root}
 use Rattle.nr_store.specs.Tries.{cut}
 use Rattle.nr_walk.specs.declared.searched.Searched.{Searched}
 use Rattle.nr_walk.specs.Searched.{looks, finds}
@@ -46,3 +47,8 @@ once held (text ∷ texts) = cond (is_some (get held (digest text).0)) (once hel
 -- the texts at which a walk over the trie of these paths looks, depth first, each once
 unfoldable pub gathered : List Searched → Paths → List (List ℕ)
 gathered searched ps = once empty (looked_texts (depth ps) searched [] ps)
+
+-- the root of the trie of which these texts were gathered: the hash of the first, and zeros where there is none
+abbrev pub root_in : List (List ℕ) → Hash32
+root_in [] = no_root
+root_in (text ∷ texts) = digest text

@@ -2,14 +2,14 @@
 
 ghost use Rattle.std.specs.Prelude.{◌≡◌, ◌∷◌, ◌++◌, [], ℕ, Ok, Some, List as Items, IfOk, OnOk};
 ghost use Rattle.std.specs.FinMap as map;
-ghost use Rattle.nr_triedef.specs.Root.{Contents, paths, root_of};
+ghost use Rattle.nr_triedef.specs.Root.{Contents, paths, root_of, root_of_entries};
 ghost use Rattle.nr_store.specs.Tries.{CanWalk, whole};
 ghost use Rattle.nr_trielist.specs.Growing.{all_nodes};
 ghost use Rattle.nr_walk.specs.declared.walking.Gain.{Gain};
 ghost use Rattle.nr_walk.specs.Shown.{IsOf, walk_of};
 ghost use Rattle.nr_walk.specs.Texts.{texts_of};
 ghost use Rattle.nr_gather.specs.Entries.{pairs_of, InOrder};
-ghost use Rattle.nr_gather.specs.Gathered.{once, gathered};
+ghost use Rattle.nr_gather.specs.Gathered.{once, gathered, root_in};
 
 use crate::keys::keys_of;
 use crate::sweeping::looked_texts;
@@ -97,7 +97,8 @@ fn texts_of_all(
     searched: &[Searched],
 ) -> Result<List<Blob>, AllocError>
     requires { InOrder entries.now }
-    ensures { IfOk result (λ texts. texts ≡ gathered searched.now (paths (pairs_of entries.now))) }
+    ensures texts { IfOk result (λ texts. texts ≡ gathered searched.now (paths (pairs_of entries.now))) }
+    ensures order { IfOk result (λ _. CanWalk (paths (pairs_of entries.now))) }
 {
     let (top, nodes) = nodes_in(alloc, entries)?;
     match top {
@@ -121,10 +122,22 @@ pub fn gather(
     requires { InOrder entries.now }
     // Which texts they are.
     ensures texts { IfOk result (λ texts. texts ≡ gathered searched.now (paths (pairs_of entries.now))) }
+    // The root of the trie by them.
+    ensures root { IfOk result (λ texts. root_in texts ≡ (root_of_entries (pairs_of entries.now)).hash) }
     // Where the map of the entries agrees with them, the walk over them has no fault.
     ensures walks { IfOk result (λ texts. (m : Contents) → map.entries m ≡ pairs_of entries.now → IsOf (texts_of texts) (root_of m).hash m
         → (gains : Items Gain) × (walk_of (texts_of texts) searched.now (root_of m).hash ≡ Ok gains)) }
 {
     let texts = texts_of_all(alloc, entries.inner(), searched)?;
     Ok(texts)
+}
+
+/// The root of the trie of which these texts were gathered: 32 zeros where there is none.
+pub fn root_of_gathered(texts: &[Blob]) -> Hash32
+    ensures { result ≡ root_in texts.now }
+{
+    match texts.first() {
+        Some(text) => value_hash(text.inner()),
+        None => Hash32([0; 32]),
+    }
 }

@@ -8,4 +8,4 @@ mod sweeping;
 mod tests;
 mod waiting;
 
-pub use gathering::gather;
+pub use gathering::{gather, root_of_gathered};

@@ -16,8 +16,8 @@ use Rattle.nr_store.proofs.Listed.{walk_whole}
 use Rattle.nr_columns.specs.declared.entry.Entry.{Entry}
 use Rattle.nr_walk.specs.declared.searched.Searched.{Searched}
 use Rattle.nr_walk.specs.declared.walking.Kept.{Kept}
-use Rattle.nr_remake.specs.Marks.{marked_whole, Spreads}
-use Rattle.nr_remake.specs.Merging.{IsKept, IsChanged, marks_of, marked, merge, pairs_of, searched_in}
+use Rattle.nr_remake.specs.Marks.{Spreads}
+use Rattle.nr_remake.specs.Merging.{IsKept, IsChanged, marks_of, marked, merge, pairs_of, remade, searched_in}
 use Rattle.nr_remake.proofs.MarkedLevels.{marked_is}
 use Rattle.nr_remake.proofs.MergedMarks.{kept_merged}
 
@@ -25,8 +25,8 @@ all_nibbles : (es : List (List ℕ × List ℕ)) → AllByRecursion (λ (e : Lis
 all_nibbles [] h = tt
 all_nibbles (e ∷ es) h = (nibbles_small e.0 h.0, all_nibbles es h.1)
 
-one_root : (ks : List Kept) (es : List Entry) (searched : List Searched) (m new : Contents) → IsKept searched (paths (entries m)) ks → IsChanged searched m new es
-    → (summary_of (marked_whole (merge (marks_of ks) (marked (paths (pairs_of es)))))).hash ≡ (root_of new).hash
+pub one_root : (ks : List Kept) (es : List Entry) (searched : List Searched) (m new : Contents) → IsKept searched (paths (entries m)) ks → IsChanged searched m new es
+    → remade ks es ≡ (root_of new).hash
 one_root ks es searched m new h c =
     let ps = paths (entries new) in
     let order : CanWalk ps = walk_whole new ps refl (all_nibbles (entries new) c.bytes) in
@@ -35,7 +35,7 @@ one_root ks es searched m new h c =
     ap (λ (o : Option Summary). (summary_of o).hash) (marked_is (merge (marks_of ks) (marked (paths (pairs_of es)))) ps order spread_new)
     ∙ ap (λ (s : Summary). s.hash) (root_is new ps (whole ps) refl refl)
 
-pub changed_root : (ks : List Kept) (es given : List Entry) (r : Result Hash32 AllocError) → given ≡ es → IfOk r (λ hash. hash ≡ (summary_of (marked_whole (merge (marks_of ks) (marked (paths (pairs_of given)))))).hash)
+pub changed_root : (ks : List Kept) (es given : List Entry) (r : Result Hash32 AllocError) → given ≡ es → IfOk r (λ hash. hash ≡ remade ks given)
     → IfOk r (λ hash. (searched : List Searched) (m n : Contents) → IsKept searched (paths (entries m)) ks → IsChanged searched m n es → hash ≡ (root_of n).hash)
-changed_root ks es given (Ok hash) e h = λ searched m new k c. h ∙ ap (λ (xs : List Entry). (summary_of (marked_whole (merge (marks_of ks) (marked (paths (pairs_of xs)))))).hash) e ∙ one_root ks es searched m new k c
+changed_root ks es given (Ok hash) e h = λ searched m new k c. h ∙ ap (remade ks) e ∙ one_root ks es searched m new k c
 changed_root ks es given (Err f) e h = tt

@@ -4,7 +4,8 @@ use Rattle.std.specs.List.{AllByRecursion, filter, flat_map}
 use Rattle.std.specs.FinMap.{entries}
 use Rattle.nr_bytes.specs.Numbers.{IsBytes}
 use Rattle.nr_triedef.specs.Node.{nibbles, digest}
-use Rattle.nr_triedef.specs.Root.{Contents, Paths, paths}
+use Rattle.nr_ids.specs.declared.key.Hash32.{Hash32}
+use Rattle.nr_triedef.specs.Root.{Contents, Paths, paths, summary_of}
 use Rattle.nr_columns.specs.declared.entry.Entry.{Entry}
 use Rattle.nr_walk.specs.declared.fault.WalkFault.{WalkFault}
 use Rattle.nr_walk.specs.Shown.{IsSplit, IsBeside}
@@ -14,7 +15,7 @@ use Rattle.nr_walk.specs.declared.walking.Kept.{Kept}
 use Rattle.nr_walk.specs.declared.walking.Gain.{Gain}
 use Rattle.nr_walk.specs.declared.walking.Gain.TheVariants.{Found, Beside}
 use Rattle.nr_walk.specs.Searched.{finds}
-use Rattle.nr_remake.specs.Marks.{mark}
+use Rattle.nr_remake.specs.Marks.{mark, marked_whole}
 
 -- the paths whose keys are searched, and the others
 abbrev pub searched_in : List Searched → Paths → Paths
@@ -73,6 +74,10 @@ IsKept searched ps ks = AllBeside searched ps ks (others_of searched ps)
 
 abbrev pub pairs_of : List Entry → List (List ℕ × List ℕ)
 pairs_of es = map (λ e. (e.key, e.value)) es
+
+-- the root of the trie of what is kept and of new entries
+abbrev pub remade : List Kept → List Entry → Hash32
+remade ks es = (summary_of (marked_whole (merge (marks_of ks) (marked (paths (pairs_of es)))))).hash
 
 -- a map whose entries are those of another one, but for those that are searched, which are these
 pub record IsChanged (searched : List Searched) (m new : Contents) (es : List Entry) : Type 0 where

@@ -2,10 +2,9 @@
 
 ghost use Rattle.std.specs.Prelude.{◌≡◌, IfOk, List as Items, ℕ};
 ghost use Rattle.std.specs.FinMap as map;
-ghost use Rattle.nr_triedef.specs.Root.{Contents, paths, root_of, summary_of};
+ghost use Rattle.nr_triedef.specs.Root.{Contents, paths, root_of};
 ghost use Rattle.nr_walk.specs.declared.searched.Searched.{Searched as OneSearched};
-ghost use Rattle.nr_remake.specs.Marks.{marked_whole};
-ghost use Rattle.nr_remake.specs.Merging.{IsChanged, IsKept, merge, marked, marks_of, pairs_of};
+ghost use Rattle.nr_remake.specs.Merging.{IsChanged, IsKept, marked, marks_of, pairs_of, remade};
 
 use crate::rests::merged;
 use crate::trie::trie;
@@ -45,7 +44,7 @@ fn all_kept(alloc: Global, entries: &[Entry]) -> Result<Vec<Kept>, AllocError>
 }
 
 fn exact_root(alloc: Global, kept: &[Kept], new: &[Entry]) -> Result<Hash32, AllocError>
-    ensures { IfOk result (λ hash. hash ≡ (summary_of (marked_whole (merge (marks_of kept.now) (marked (paths (pairs_of new.now)))))).hash) }
+    ensures { IfOk result (λ hash. hash ≡ remade kept.now new.now) }
 {
     let new = all_kept(alloc, new)?;
     let marks = merged(alloc, kept, &new)?;
@@ -61,8 +60,10 @@ fn exact_root(alloc: Global, kept: &[Kept], new: &[Entry]) -> Result<Hash32, All
 ///
 /// Where memory ran out.
 pub fn remade_root(alloc: Global, kept: &[Kept], new: &List<Entry>) -> Result<Hash32, AllocError>
+    // Which root it is.
+    ensures exact { IfOk result (λ hash. hash ≡ remade kept.now new.now) }
     // It is the root of each map that has these entries in the place of those that were found.
-    ensures { IfOk result (λ hash. (searched : Items OneSearched) (m n : Contents) → IsKept searched (paths (map.entries m)) kept.now → IsChanged searched m n new.now → hash ≡ (root_of n).hash) }
+    ensures changed { IfOk result (λ hash. (searched : Items OneSearched) (m n : Contents) → IsKept searched (paths (map.entries m)) kept.now → IsChanged searched m n new.now → hash ≡ (root_of n).hash) }
 {
     exact_root(alloc, kept, new.inner())
 }

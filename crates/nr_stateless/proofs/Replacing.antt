@@ -46,7 +46,7 @@ not_there test (e ∷ es) q h f =
 alike : (test : List ℕ → Bool) (q x : List ℕ) → bytes_cmp q x ≡ Equal → test x ≡ test q
 alike test q x t = ap test (sym (slice_cmp-IsAntisymmetric nat_cmp-IsAntisymmetric q x t))
 
-get_kept : (test : List ℕ → Bool) (m : Contents) (q : List ℕ) → get (retain_keys m test) q ≡ cond (test q) (get m q) None
+pub get_kept : (test : List ℕ → Bool) (m : Contents) (q : List ℕ) → get (retain_keys m test) q ≡ cond (test q) (get m q) None
 get_kept test m q = get-retain_keys m test q (λ x t. alike test q x t)
 
 first_none : (o : Option (List ℕ)) → first_of o None ≡ o
@@ -91,11 +91,11 @@ kept_sorted test m =
     get_kept test m q ∙ ap (λ (o : Option (List ℕ)). cond (test q) o None) (get-entries m q)
     ∙ sym (find-where_key bytes_cmp test q (λ x t. alike test q x t) (entries m)) ∙ sym (get-from_sorted bytes_cmp es q (is_sorted-where_key bytes_cmp test (entries m) (entries_sorted m))))
 
-filtered : (test : List ℕ → Bool) (m : Contents) → filter (λ (e : Pair). test e.0) (entries m) ≡ entries (retain_keys m test)
+pub filtered : (test : List ℕ → Bool) (m : Contents) → filter (λ (e : Pair). test e.0) (entries m) ≡ entries (retain_keys m test)
 filtered test m =
     sym (ap entries (kept_sorted test m) ∙ entries-from_sorted bytes_cmp (where_key bytes_cmp test (entries m)) (is_sorted-where_key bytes_cmp test (entries m) (entries_sorted m)))
 
-all_filtered : (P : Pair → Type 0) (test : Pair → Bool) (es : List Pair) → AllByRecursion P es → AllByRecursion P (filter test es)
+pub all_filtered : (P : Pair → Type 0) (test : Pair → Bool) (es : List Pair) → AllByRecursion P es → AllByRecursion P (filter test es)
 all_filtered P test [] h = tt
 all_filtered P test (e ∷ es) h =
     elim (test e) as (λ b. AllByRecursion P (cond b (e ∷ filter test es) (filter test es))) [
@@ -103,7 +103,7 @@ all_filtered P test (e ∷ es) h =
       | false ↦ all_filtered P test es h.1
     ]
 
-all_halves : (P : Pair → Type 0) (test : Pair → Bool) (es : List Pair) → AllByRecursion P (filter test es) → AllByRecursion P (filter (λ e. not (test e)) es) → AllByRecursion P es
+pub all_halves : (P : Pair → Type 0) (test : Pair → Bool) (es : List Pair) → AllByRecursion P (filter test es) → AllByRecursion P (filter (λ e. not (test e)) es) → AllByRecursion P es
 all_halves P test [] h g = tt
 all_halves P test (e ∷ es) h g =
     (elim (test e) as (λ b. AllByRecursion P (cond b (e ∷ filter test es) (filter test es)) → AllByRecursion P (cond (not b) (e ∷ filter (λ f. not (test f)) es) (filter (λ f. not (test f)) es)) → P e × AllByRecursion P es) [

@@ -7,7 +7,7 @@ ghost use Rattle.nr_triedef.specs.Root.{Contents, paths, root_of};
 ghost use Rattle.nr_walk.specs.declared.searched.Searched.{Searched as OneSearched};
 ghost use Rattle.nr_walk.specs.Shown.{IsOf, walk_of};
 ghost use Rattle.nr_walk.specs.Texts.{memory_fault};
-ghost use Rattle.nr_remake.specs.Merging.{IsChanged, IsKept, found_in, kept_in, pairs_of, parts_of, searched_entries};
+ghost use Rattle.nr_remake.specs.Merging.{IsChanged, IsKept, found_in, kept_in, pairs_of, parts_of, remade, searched_entries};
 ghost use Rattle.nr_stateless.specs.Accounts.{found_of, searched_of};
 ghost use Rattle.nr_stateless.specs.Changing.{AreNew, HasBytes, IsPart, IsReplaced, replaced};
 
@@ -102,6 +102,8 @@ impl Partial {
     /// Where memory ran out. It may say so too where the new entries stand out of order or twice, a
     /// value has 2^32 bytes or more, or a usage would pass 2^64.
     pub fn change(self, new: &List<Entry>) -> Result<Hash32, AllocError>
+        // Which root it is.
+        ensures exact { IfOk result (λ hash. hash ≡ remade self new.now) }
         // Of each map that was walked: it is that of the map with its searched entries replaced by the new ones.
         ensures replaced { IfOk result (λ hash. (accounts : Items (Items ℕ)) (m : Contents) → HasBytes m → IsPart accounts m self → AreNew accounts new.now → hash ≡ (root_of (replaced accounts m new.now)).hash) }
         // It is that of each map that differs from such a one in the searched entries alone, which are the new ones.
@@ -113,7 +115,8 @@ impl Partial {
 
     // The root of what is kept together with new entries.
     fn root_with(self, new: &List<Entry>) -> Result<Hash32, AllocError>
-        ensures { IfOk result (λ hash. (searched : Items OneSearched) (m n : Contents) → IsKept searched (paths (map.entries m)) self → IsChanged searched m n new.now → hash ≡ (root_of n).hash) }
+        ensures exact { IfOk result (λ hash. hash ≡ remade self new.now) }
+        ensures changed { IfOk result (λ hash. (searched : Items OneSearched) (m n : Contents) → IsKept searched (paths (map.entries m)) self → IsChanged searched m n new.now → hash ≡ (root_of n).hash) }
     {
         let hash = remade_root(self.alloc, &self.kept, new)?;
         Ok(hash)

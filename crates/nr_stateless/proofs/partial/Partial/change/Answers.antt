@@ -7,7 +7,7 @@ use Rattle.nr_stateless.proofs.partial.Partial.change.Goals as goal
 pub returns-clause-replaced : goal.returns-clause-replaced
 returns-clause-replaced c = λ accounts m h part new.
     let n = replaced accounts m c.args.new.now in
-    c.in_ok-hash.ensures (searched_of accounts) m n part (replaced_changed accounts m n c.args.new.now (replaced_is accounts m c.args.new.now h new))
+    c.in_ok-hash.ensures.changed (searched_of accounts) m n part (replaced_changed accounts m n c.args.new.now (replaced_is accounts m c.args.new.now h new))
 
 pub returns-clause-changed : goal.returns-clause-changed
-returns-clause-changed c = λ accounts m n part changed. c.in_ok-hash.ensures (searched_of accounts) m n part (replaced_changed accounts m n c.args.new.now changed)
+returns-clause-changed c = λ accounts m n part changed. c.in_ok-hash.ensures.changed (searched_of accounts) m n part (replaced_changed accounts m n c.args.new.now changed)

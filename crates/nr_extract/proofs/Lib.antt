@@ -1,0 +1,3 @@
+mod Nearing
+mod Taking
+mod Chunks

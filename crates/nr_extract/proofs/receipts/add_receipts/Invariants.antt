@@ -1,0 +1,5 @@
+use Rattle.std.proofs.Common.{◌≡◌, ◌++◌, take}
+use Rattle.nr_extract.proofs.receipts.add_receipts.Given as goal
+
+abbrev pub invariant-loop-receipt : goal.invariant-loop-receipt
+invariant-loop-receipt l = l.taken.items ≡ l.initial.taken.items ++ take l.receipt-index l.list

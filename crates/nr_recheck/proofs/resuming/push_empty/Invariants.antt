@@ -1,0 +1,5 @@
+use Rattle.std.proofs.Common.{◌≡◌, ◌++◌, [], replicate}
+use Rattle.nr_recheck.proofs.resuming.push_empty.Given as goal
+
+abbrev pub invariant-loop : goal.invariant-loop
+invariant-loop g l = l.lists.items ≡ l.initial.lists.items ++ replicate l.counter []

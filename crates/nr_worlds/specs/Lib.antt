@@ -1,0 +1,5 @@
+pub mod Answers
+pub mod Judging
+pub mod Laws
+pub mod Tests
+pub mod Valid
