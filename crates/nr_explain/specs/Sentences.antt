@@ -1,10 +1,12 @@
--- One English sentence for the numbers that a program prints on standard error: its status, and what it tells of it. This project's own.
-use Rattle.std.specs.Prelude.{ℕ, List, [], ◌∷◌, ◌++◌, Option, Some, None, codes}
+-- One English sentence for a line that a program writes: its status and what it tells of it, or a line that says why something was refused or failed. This project's own.
+use Rattle.std.specs.Prelude.{ℕ, List, [], ◌∷◌, ◌++◌, Option, Some, None, codes, cond, option_map}
 use Rattle.std.specs.List.{flat_map}
 use Rattle.std.specs.Option.{option_or}
+use Rattle.std.specs.Str.{bytes_eq}
 use Rattle.nr_explain.specs.Words.{pieces}
 use Rattle.nr_explain.specs.Entries.{entry_of, entry_told}
 use Rattle.nr_explain.specs.Forms.{Kind, Word, Figure, Number, Amount, Hash, Bytes, Entry, Field, Form, form_of, figure, number, entry}
+use Rattle.nr_explain.specs.LineSentences.{steps, refusals, failures, bad_codes, traps, faults, modules, invalid_modules, module_traps}
 
 -- ---- the forms, with what is said behind each number
 -- a number of which nothing is said
@@ -120,7 +122,19 @@ state_parts =
     ∷ parts (codes "9") (codes "part ") (number (codes " (from 0) needs more than 2^28 nodes."))
     ∷ []
 
--- the first form that the words fit
+-- the first form that the words fit, among those of `near_module`, of a report's lines and of a schedule's steps, and of all
+abbrev pub module_form : List (List ℕ) → Option Form
+module_form words = option_or (form_of modules words) (option_or (form_of invalid_modules words) (form_of module_traps words))
+
+abbrev pub line_form : List (List ℕ) → Option Form
+line_form words =
+    option_or (form_of steps words)
+    (option_or (form_of refusals words)
+    (option_or (form_of failures words)
+    (option_or (form_of bad_codes words)
+    (option_or (form_of traps words)
+    (option_or (form_of faults words) (module_form words))))))
+
 abbrev pub form_among : List (List ℕ) → Option Form
 form_among words =
     option_or (form_of programs words)
@@ -129,7 +143,8 @@ form_among words =
     (option_or (form_of chains words)
     (option_or (form_of schedules words)
     (option_or (form_of proofs words)
-    (option_or (form_of gathered_chunks words) (form_of state_parts words)))))))
+    (option_or (form_of gathered_chunks words)
+    (option_or (form_of state_parts words) (line_form words))))))))
 
 -- ---- sentences
 -- numbers that the form fixes are not repeated
@@ -159,11 +174,20 @@ sentence_by (Some form) words = Some (sentence form words)
 abbrev pub sentence_of : List ℕ → Option (List ℕ)
 sentence_of line = sentence_by (form_among (pieces 32 line)) (pieces 32 line)
 
+-- the same of a line of `near_module`
+abbrev pub module_sentence_of : List ℕ → Option (List ℕ)
+module_sentence_of line = sentence_by (module_form (pieces 32 line)) (pieces 32 line)
+
 -- the words with a space between each two
 abbrev pub spaced : List (List ℕ) → List ℕ
 spaced [] = []
 spaced (w ∷ ws) = w ++ flat_map (λ v. 32 ∷ v) ws
 
--- the sentence of a line's words
+-- the line's words may stand behind the name of `near_module`
+abbrev pub told_of : List (List ℕ) → Option (List ℕ)
+told_of [] = sentence_of []
+told_of (w ∷ ws) = cond (bytes_eq w (codes "near_module")) (module_sentence_of (spaced ws)) (sentence_of (spaced (w ∷ ws)))
+
+-- the sentence of a line's words, with a line feed
 abbrev pub explained : List (List ℕ) → Option (List ℕ)
-explained words = sentence_of (spaced words)
+explained words = option_map (λ s. s ++ 10 ∷ []) (told_of words)

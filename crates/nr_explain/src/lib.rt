@@ -1,10 +1,11 @@
-//! What programs print, for people: a sentence for the numbers on standard error, and a report as JSON.
+//! What programs print, for people: a sentence for a line that says why something was refused or failed, and a report as JSON.
 #![tactic(auto)]
 
 mod cut;
 mod entries;
 mod explaining;
 mod form;
+mod line_sentences;
 mod lines;
 mod numbers;
 mod report;

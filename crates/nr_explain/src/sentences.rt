@@ -3,12 +3,15 @@
 ghost use Rattle.std.specs.Prelude.{◌≡◌, ◌++◌, map, option_map, IfOk, OnOk};
 ghost use Rattle.std.specs.Option.{option_or};
 ghost use Rattle.nr_explain.specs.Words.{pieces};
-ghost use Rattle.nr_explain.specs.Sentences.{programs, configurations, geneses, chains, schedules, proofs, gathered_chunks, state_parts, form_among, said, phrase, sentence, sentence_of};
+ghost use Rattle.nr_explain.specs.Sentences.{programs, configurations, geneses, chains, schedules, proofs, gathered_chunks, state_parts, form_among, line_form, module_form, module_sentence_of, said, phrase, sentence, sentence_by, sentence_of};
 ghost use Rattle.nr_explain.specs.Coded.{kind_of, field_of, form_in};
 
 use crate::cut::cut;
 use crate::entries::put_entry;
 use crate::form::{Field, Kind, fields, form_of};
+use crate::line_sentences::{
+    bad_codes, failures, faults, invalid_modules, module_traps, modules, refusals, steps, traps,
+};
 use nr_bytes::Blob;
 use std::alloc::{AllocError, Global};
 
@@ -293,11 +296,34 @@ fn either(
     }
 }
 
+/// The form of a line of `near_module`.
+fn module_form(line: &[u8]) -> Option<&'static [Field]>
+    ensures { option_map (λ f. form_in f.now) result ≡ module_form (pieces 32 line.now) }
+{
+    let form = form_of(module_traps(), line);
+    let form = either(form_of(invalid_modules(), line), form);
+    either(form_of(modules(), line), form)
+}
+
+/// The form of a line of a report, of a schedule's steps or of `near_module`.
+fn line_form(line: &[u8]) -> Option<&'static [Field]>
+    ensures { option_map (λ f. form_in f.now) result ≡ line_form (pieces 32 line.now) }
+{
+    let form = module_form(line);
+    let form = either(form_of(faults(), line), form);
+    let form = either(form_of(traps(), line), form);
+    let form = either(form_of(bad_codes(), line), form);
+    let form = either(form_of(failures(), line), form);
+    let form = either(form_of(refusals(), line), form);
+    either(form_of(steps(), line), form)
+}
+
 /// The form of a line.
 fn form_among(line: &[u8]) -> Option<&'static [Field]>
     ensures { option_map (λ f. form_in f.now) result ≡ form_among (pieces 32 line.now) }
 {
-    let form = form_of(state_parts(), line);
+    let form = line_form(line);
+    let form = either(form_of(state_parts(), line), form);
     let form = either(form_of(gathered_chunks(), line), form);
     let form = either(form_of(proofs(), line), form);
     let form = either(form_of(schedules(), line), form);
@@ -357,11 +383,15 @@ fn put_sentence(
     }
 }
 
-/// The sentence of a line, where the line is one of a program's.
-pub(crate) fn sentence_of(alloc: Global, line: &[u8]) -> Result<Option<Blob>, AllocError>
-    ensures { IfOk result (λ told. told ≡ sentence_of line.now) }
+/// The sentence of a line by its form, where it has one.
+fn sentence_by(
+    alloc: Global,
+    form: Option<&'static [Field]>,
+    line: &[u8],
+) -> Result<Option<Blob>, AllocError>
+    ensures { IfOk result (λ told. told ≡ sentence_by (option_map (λ f. form_in f.now) form.entry) (pieces 32 line.now)) }
 {
-    match form_among(line) {
+    match form {
         None => Ok(None),
         Some(form) => {
             let mut out = Vec::new(alloc);
@@ -369,4 +399,18 @@ pub(crate) fn sentence_of(alloc: Global, line: &[u8]) -> Result<Option<Blob>, Al
             Ok(Some(Blob::of(out)))
         }
     }
+}
+
+/// The sentence of a line, where the line is one of a program's.
+pub(crate) fn sentence_of(alloc: Global, line: &[u8]) -> Result<Option<Blob>, AllocError>
+    ensures { IfOk result (λ told. told ≡ sentence_of line.now) }
+{
+    sentence_by(alloc, form_among(line), line)
+}
+
+/// The sentence of a line, where the line is one of `near_module`.
+pub(crate) fn module_sentence_of(alloc: Global, line: &[u8]) -> Result<Option<Blob>, AllocError>
+    ensures { IfOk result (λ told. told ≡ module_sentence_of line.now) }
+{
+    sentence_by(alloc, module_form(line), line)
 }

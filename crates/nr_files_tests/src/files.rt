@@ -267,7 +267,7 @@ fn a_report_and_a_line_are_told(rt: HostRuntime) -> Result<(), Fail> {
     );
     let (told, line) = ended(alloc, &["explain", "5"], b"")?;
     assert_eq!(rt; told.exit_status(), 0);
-    assert_eq!(rt; line.as_slice(), b"A file could not be read.".as_slice());
+    assert_eq!(rt; line.as_slice(), b"A file could not be read.\n".as_slice());
     let (unknown, _) = ended(alloc, &["explain", "99"], b"")?;
     assert_eq!(rt; unknown.exit_status(), 1);
     Ok(())

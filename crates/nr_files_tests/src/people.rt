@@ -57,7 +57,58 @@ fn statuses_have_sentences(rt: HostRuntime) -> Result<(), Fail> {
             "The state parts are refused: part 1 (from 0) has another number, or another count of parts.",
         ),
     ] {
-        assert_eq!(rt; told(rt.alloc(), line)?.as_slice(), sentence.as_bytes());
+        let mut want = String::from_str(rt.alloc(), sentence)?;
+        want.push('\n')?;
+        assert_eq!(rt;
+            told(rt.alloc(), line)?.as_slice(),
+            want.as_bytes(),
+            "{line}"
+        );
+    }
+    Ok(())
+}
+
+#[test]
+fn lines_have_sentences(rt: HostRuntime) -> Result<(), Fail> {
+    for (line, sentence) in [
+        (
+            "tx 0b0b0b0b0b0b0b0b0b0b0b0b0b0b0b0b0b0b0b0b0b0b0b0b0b0b0b0b0b0b0b0b refused 9 100 4005",
+            "Transaction 0b0b0b0b0b0b0b0b0b0b0b0b0b0b0b0b0b0b0b0b0b0b0b0b0b0b0b0b0b0b0b0b is refused: \
+            the signer has 100, but it costs 4005.",
+        ),
+        (
+            "run 0b0b0b0b0b0b0b0b0b0b0b0b0b0b0b0b0b0b0b0b0b0b0b0b0b0b0b0b0b0b0b0b failure 0 16 14 5 25",
+            "Receipt 0b0b0b0b0b0b0b0b0b0b0b0b0b0b0b0b0b0b0b0b0b0b0b0b0b0b0b0b0b0b0b0b failed at action 0 (from 0): \
+            the call asked for what it can't have: the contract gave up. 5 gas and 25 tokens were burnt.",
+        ),
+        (
+            "no 2 4 1",
+            "The step was not made: the next list that is due is that of height 4 and shard 1.",
+        ),
+        ("ok", "The step was made."),
+        ("near_module ok", "The module decodes and is valid."),
+        (
+            "near_module decode 3 8",
+            "The module can't be read: \
+            a section or a body is out of order, of another size or another count, at byte 8 (from 0).",
+        ),
+        (
+            "valid 11 4294967295 2",
+            "The module isn't valid: an operand, a result or a constant has another type, \
+            outside of functions, at entry 2 (from 0).",
+        ),
+        (
+            "trap 3 12",
+            "The run stopped at a trap: a division by zero. It burnt 12 gas.",
+        ),
+    ] {
+        let mut want = String::from_str(rt.alloc(), sentence)?;
+        want.push('\n')?;
+        assert_eq!(rt;
+            told(rt.alloc(), line)?.as_slice(),
+            want.as_bytes(),
+            "{line}"
+        );
     }
     Ok(())
 }
@@ -82,6 +133,11 @@ fn other_numbers_have_none(rt: HostRuntime) -> Result<(), Fail> {
         "11",
         "13 8 1",
         "13 10 0",
+        "near_module 5",
+        "no 5 0 0",
+        "no 1 3 0",
+        "trap 9 12",
+        "tx 0b refused 1 0 0",
     ] {
         assert_eq!(rt; told(rt.alloc(), line)?.len(), 0);
     }
