@@ -5,11 +5,11 @@ usage: hostile/damage.py [--programs FOLDER] [--only KIND] [--files N] [--seed N
        hostile/damage.py --show KIND NUMBER FILE [--seed N]
 
 Build the programs first. Of each kind (genesis, blocks, contract, configuration, schedule, module, genesis text,
-blocks text, report, words) N files (100,000) are made from a few good ones: bits flipped, bytes set, counts turned
-into 2^32 - 1 or nearly kept, pieces cut out, doubled, moved and added, the end cut off, and in texts numbers out of
-range, quotes, and brackets in one another. A contract is damaged code in a genesis that is otherwise whole; words are
-what stands behind a program's name, and each program is given them. A file is made by its kind, its number and the
-seed (1), and --show writes it again.
+blocks text, report, words, proof, part) N files (100,000) are made from a few good ones, which of the last two
+near_serial makes: bits flipped, bytes set, counts turned into 2^32 - 1 or nearly kept, pieces cut out, doubled, moved
+and added, the end cut off, and in texts numbers out of range, quotes, and brackets in one another. A contract is
+damaged code in a genesis that is otherwise whole; words are what stands behind a program's name, and each program is
+given them. A file is made by its kind, its number and the seed (1), and --show writes it again.
 
 What is right: the program ends by itself, with a status that it has for this kind. Where the status is above 0 there
 is nothing on standard output and one line on standard error (of near_module one line on standard output), and
@@ -22,6 +22,10 @@ byte of the file, and holds at most 64 MiB and 64 times the file's length. And
   genesis text                  what `near_files genesis` makes of it near_serial doesn't refuse as a genesis
   module                        `run` answers as `check` does where that refuses
   words                         near_serial and near_replay end alike behind `gen`
+  proof                         `verify` says valid of no other bytes than those that `prove` writes, and `near_files
+                                show` refuses what `verify` can't read
+  part                          what `checkpart` accepts has no entry that the state hasn't, what `joinparts` accepts as
+                                the one part has all of them, and `near_files show` refuses what these can't read
 
 The exit status is 0 where every run was right.
 """
@@ -47,17 +51,21 @@ WORDS = [b"-1", b"1e400", b"0.5", b"18446744073709551616", b"3402823669209384634
 COMMANDS = [b"run config genesis blocks", b"check config genesis blocks schedule", b"gen 7 2 1",
             b"replay config genesis blocks", b"check config module", b"run config module run 1000",
             b"genesis config genesis.json", b"blocks blocks.json", b"show genesis config genesis",
-            b"show blocks blocks", b"show report report", b"explain 3 4 0 182 100"]
+            b"show blocks blocks", b"show report report", b"explain 3 4 0 182 100", b"roots config genesis blocks",
+            b"prove config genesis blocks 2 0 outcome 0", b"part config genesis blocks 2 0 3 1",
+            b"verify " + b"0a" * 32 + b" blocks", b"checkpart " + b"0a" * 32 + b" blocks",
+            b"joinparts " + b"0a" * 32 + b" 1 blocks", b"show part blocks", b"show proof report"]
 VOCABULARY = [b"", b"-", b"--", b"-h", b"--help", b"-V", b"run", b"gen", b"show", b"free", b"config", b"genesis",
               b"blocks", b"0", b"1", b"01", b"+1", b"-1", b"2", b"17", b"257", b"18446744073709551615",
               b"18446744073709551616", b"\xff", b"\xc3\xa9", b"x" * 5000, b"=", b"gen=1", b"none/here", b".", b"a b"]
 HUGE = [b"\xff" * 4, b"\xff" * 8, b"\xff" * 16, b"\xff\xff\xff\x7f", b"\0\0\0\x80", b"\xff\xff\xff\xff\x0f"]
-TEXTS = ("configuration", "schedule", "genesis text", "blocks text", "report")
+TEXTS = ("configuration", "schedule", "genesis text", "blocks text", "report", "proof")
 
 
-def seeds():
-    """The good files of each kind."""
+def seeds(found):
+    """The good files of each kind; proofs and parts are made by a program."""
     read = chains.bytes_of
+    made = shared.made_by(found["near_serial"]) if "near_serial" in found else None
     code = chains.example_code()
     return {
         "genesis": [read("contract", "genesis"), chains.people(code)],
@@ -70,6 +78,7 @@ def seeds():
         "blocks text": [read(name, "blocks.json") for name in ("contract", "one_transfer")],
         "report": [read("contract", "report")],
         "words": COMMANDS,
+        **({"proof": made.proofs, "part": [made.whole, *made.parts]} if made else {}),
     }
 
 
@@ -189,6 +198,8 @@ class Judge:
         for kind in ("genesis", "blocks"):
             shared.write(f"{kind}.json", chains.bytes_of("contract", f"{kind}.json"))
         self.explained = set()
+        self.made_files = shared.made_by(found["near_serial"]) if "near_serial" in found else None
+        os.symlink(self.file, self.file + "0")
 
     def begin(self, size):
         self.wrong, self.size, self.runs = [], size, 0
@@ -291,18 +302,57 @@ class Judge:
 
     def judge_words(self, data):
         these = data.split(b"\0") if data else []
-        runs = [self.run(name, *these, statuses=(*range(6), 8, 20)) for name in shared.NAMES]
+        runs = [self.run(name, *these, statuses=(*range(6), 8, 10, 11, 13, 20)) for name in shared.NAMES]
         if these[:1] == [b"gen"] and runs[0] and runs[1] and runs[0][:3] != runs[1][:3]:
             self.wrong.append(f"near_replay: {runs[1][:3]}; near_serial: {runs[0][:3]}")
         return runs[0] or runs[1] or runs[2] or runs[3]
+
+    def judge_proof(self, data):
+        made = self.made_files
+        ran = self.run("near_serial", "verify", made.items, self.file, statuses=(0, 10))
+        right = b"valid\n" if data in made.proofs else b"invalid\n"
+        if ran.status == 0 and ran.out != right:
+            self.wrong.append(f"near_serial verify: {ran.out!r}")
+        self.is_shown_alike("proof", ran.status == 0)
+        return ran
+
+    def is_shown_alike(self, kind, read):
+        shown = self.run("near_files", "show", kind, self.file, statuses=(0, 20))
+        if shown and (shown.status == 0) != read:
+            self.wrong.append(f"near_files show {kind}: status {shown.status}, but near_serial reads it: {read}")
+
+    def judge_part(self, data):
+        made = self.made_files
+        ran = self.run("near_serial", "checkpart", made.state, self.file, statuses=(0, 13))
+        if ran.status == 0 and not entries_of(data) <= entries_of(made.whole):
+            self.wrong.append("near_serial checkpart accepts entries that the state hasn't")
+        joined = self.run("near_serial", "joinparts", made.state, "1", self.file, statuses=(0, 13))
+        if joined.status == 0 and entries_of(data) != entries_of(made.whole):
+            self.wrong.append("near_serial joinparts accepts other entries than the state's")
+        self.is_shown_alike("part", not ran.err.startswith(b"13 1 "))
+        return ran
 
     def judge_report(self, _):
         return self.run("near_files", "show", "report", self.file, statuses=(0, 20))
 
 
+def entries_of(part):
+    """The entries of a part's file, each a key and a value."""
+    def field(at):
+        end = at + 4 + int.from_bytes(part[at : at + 4], "little")
+        return part[at + 4 : end], end
+
+    entries, at = set(), 48
+    for _ in range(int.from_bytes(part[44:48], "little")):
+        key, at = field(at)
+        value, at = field(at)
+        entries.add((key, value))
+    return entries
+
+
 def ready(found, folder, limit):
     global judge, good
-    judge, good = Judge(found, folder, limit), seeds()
+    judge, good = Judge(found, folder, limit), seeds(found)
 
 
 def tried(task):
@@ -341,12 +391,13 @@ def sweep(pool, kind, arguments):
 def main():
     arguments = shared.arguments_of(__doc__, ("--files", {"type": int, "default": 100_000}),
                                     ("--seed", {"type": int, "default": 1}), ("--show", {"nargs": 3}))
-    kinds = [kind for kind in seeds() if not arguments.only or arguments.only in kind]
+    found = shared.programs_in(arguments.programs)
+    good = seeds(found)
+    kinds = [kind for kind in good if not arguments.only or arguments.only in kind]
     if arguments.show:
         kind, number, path = arguments.show
-        shared.write(path, damaged(kind, int(number), arguments.seed, seeds()[kind]))
+        shared.write(path, damaged(kind, int(number), arguments.seed, good[kind]))
         return
-    found = shared.programs_in(arguments.programs)
     quick = "/dev/shm" if os.access("/dev/shm", os.W_OK) else None
     with tempfile.TemporaryDirectory(dir=quick) as folder:
         with multiprocessing.Pool(arguments.jobs, ready, (found, folder, arguments.limit)) as pool:

@@ -139,6 +139,51 @@ class Case(NamedTuple):
     words: list
 
 
+class Made(NamedTuple):
+    """What near_serial makes of the chain of examples/contract behind the chunk of height 4 in shard 0: the root of
+    its outcomes with all their proofs, the root of its state, the state as one part, and as three."""
+    items: str
+    proofs: list
+    state: str
+    whole: bytes
+    parts: list
+
+
+def made_by(program):
+    chain = [example("config", "generated.json"), example("contract", "genesis"), example("contract", "blocks")]
+
+    def text(verb, *words):
+        return subprocess.run([program, verb, *chain, *words], check=True, stdout=subprocess.PIPE).stdout
+
+    def root(verb, begin):
+        return next(line.split()[3].decode() for line in text(verb).splitlines() if line.startswith(begin))
+
+    return Made(root("roots", b"roots 4 0 "), [text("prove", "4", "0", "outcome", str(place)) for place in range(3)],
+                root("run", b"chunk 4 0 "), text("part", "4", "0", "1", "0"),
+                [text("part", "4", "0", "3", str(number)) for number in range(3)])
+
+
+def made_cases(folder, program):
+    """The commands on roots, proofs and parts."""
+    at = lambda name: os.path.join(folder, name)
+    made = made_by(program)
+    proof = write(at("proof"), made.proofs[1])
+    parts = [write(at(f"part{number}"), data) for number, data in enumerate(made.parts)]
+    chain = [example("config", "generated.json"), example("contract", "genesis"), example("contract", "blocks")]
+    return [
+        ("roots", "near_serial", ["roots", *chain]),
+        ("prove", "near_serial", ["prove", *chain, "4", "0", "outcome", "1"]),
+        ("prove nothing", "near_serial", ["prove", *chain, "4", "0", "receipt", "9"]),
+        ("verify", "near_serial", ["verify", made.items, proof]),
+        ("part", "near_serial", ["part", *chain, "4", "0", "3", "1"]),
+        ("checkpart", "near_serial", ["checkpart", made.state, parts[1]]),
+        ("checkpart refused", "near_serial", ["checkpart", made.items, parts[1]]),
+        ("joinparts", "near_serial", ["joinparts", made.state, "3", at("part")]),
+        ("show proof", "near_files", ["show", "proof", proof]),
+        ("show part", "near_files", ["show", "part", parts[1]]),
+    ]
+
+
 def spread(count, most):
     """The numbers from 1 to the count; of more than `most` the first half of `most`, and the others evenly."""
     if count <= most:
@@ -187,7 +232,10 @@ def cases(folder, programs):
         ("explain", "near_files", ["explain", "3", "4", "0", "182", "100"]),
         ("module check", "near_module", ["check", priced, module]),
         ("module run", "near_module", ["run", priced, module, "run", "100000"]),
+        ("module help", "near_module", ["help"]),
     ]
+    if "near_serial" in programs:
+        rows += made_cases(folder, programs["near_serial"])
     return [Case(name, program, [programs[program], *words]) for name, program, words in rows if program in programs]
 
 

@@ -224,7 +224,7 @@ def inputs(case, right, limit, folder):
 def is_too_long(ran):
     """The answer of kind 0, or that of near_files in words, or of a module: the file is too long."""
     status, kind = (ran.err.split() + [b"", b""])[:2]
-    refused = not ran.out and str(ran.status).encode() == status and ran.status in (2, 3, 4, 8) and kind == b"0"
+    refused = not ran.out and str(ran.status).encode() == status and ran.status in (2, 3, 4, 8, 10, 13) and kind == b"0"
     return refused or ran.status == 20 and (b"is longer than" in ran.err or ran.out.startswith(b"long"))
 
 

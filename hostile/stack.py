@@ -96,8 +96,8 @@ def chain_runs(at):
         yield f"contract, {name}", "near_replay", ["replay", config, genesis, blocks], 0
 
 
-def key_runs(at, count):
-    """A genesis whose data's keys nest in one another, and blocks that change it."""
+def key_runs(at, count, serial):
+    """A genesis whose data's keys nest in one another, blocks that change it, and a half of its state as a part."""
     data = [(b"k" * length, b"v") for length in range(1, count + 1)]
     genesis = at("nested", chains.genesis([b"mm"], {b"alice": (10**20, None, [(chains.KEY, chains.FOR_ALL)], data)}))
     moves = [chains.transaction(turn, b"zoe.alice", [b"\0", b"\3" + chains.u128(10**9)]) for turn in (1, 2)]
@@ -108,6 +108,13 @@ def key_runs(at, count):
     yield name, "near_serial", ["check", "free", genesis, blocks, schedule], 0
     yield name, "near_replay", ["replay", "free", genesis, blocks], 0
     yield name, "near_files", ["show", "genesis", "free", genesis], 0
+    yield name, "near_serial", ["part", "free", genesis, blocks, "1", "0", "2", "1"], 0
+    if serial:
+        ran = [shared.limited([serial, *words], {}).out for words in (
+            ["run", "free", genesis, blocks], ["part", "free", genesis, blocks, "1", "0", "2", "1"])]
+        part, root = at("nested-part", ran[1]), ran[0].split(b" ", 4)[3].decode()
+        yield name, "near_serial", ["checkpart", root, part], 0
+        yield name, "near_files", ["show", "part", part], 0
 
 
 def other_runs(at):
@@ -160,7 +167,8 @@ def main():
     print("|---|---|---|---|---|---|")
     with tempfile.TemporaryDirectory() as folder:
         at = lambda name, data: shared.write(f"{folder}/{name}", data)
-        for rows in (texts(at), module_runs(at), chain_runs(at), other_runs(at), key_runs(at, arguments.keys)):
+        keys = key_runs(at, arguments.keys, found.get("near_serial"))
+        for rows in (texts(at), module_runs(at), chain_runs(at), other_runs(at), keys):
             for name, program, words, status in rows:
                 case = shared.Case(name, program, [found.get(program), *words])
                 if program in found and shared.fits(case, arguments.only):
