@@ -1,21 +1,21 @@
 -- The report of a chunk that is run again is the serial run's.
 use Rattle.std.proofs.Common.{◌≡◌, ℕ, ◌+◌, ◌^◌, ◌<◌, ◌≤◌, true, List, [], ◌∷◌, ◌++◌, length, Option, Some, None, Ok, refl, sym, ap, subst, ◌∙◌, arith}
-use Rattle.std.specs.Prelude.{fold, unwrap_or}
+use Rattle.std.specs.Prelude.{◌&&◌, fold, unwrap_or}
 use Rattle.std.specs.Option.{option_map}
 use Rattle.std.proofs.lemmas.List.Sums.{fold-append, sum_by-append}
 use Rattle.nr_blocks.specs.declared.block.Block.{Block}
-use Rattle.nr_chunk.specs.Chain.{Chain, IsChain, block_at, kept_tokens, opened, opened_first, place_at, price_in, rules_of, working_tokens}
-use Rattle.nr_chunk.specs.Chunk.{seal_chunk, serve, serve_all}
+use Rattle.nr_chunk.specs.Chain.{Chain, IsChain, block_at, kept_tokens, opened, opened_first, place_at, price_in, rules_of, shards_of, working_tokens}
+use Rattle.nr_chunk.specs.Chunk.{begun, open_chunk, seal_chunk, serve, serve_all}
 use Rattle.nr_chunk.specs.GoodReceipts.{are_bounded}
 use Rattle.nr_chunk.specs.Goodness.{AreGood, IsGood, IsGoodWorld}
 use Rattle.nr_chunk.specs.Lawful.{good_after, good_working}
 use Rattle.nr_chunk.specs.Views.{Kept, Working}
 use Rattle.nr_config.specs.Config.{Config, gas_price}
-use Rattle.nr_extract.specs.Chunk.{before, due_lists, gathered_chunk, stated_price, taken}
+use Rattle.nr_extract.specs.Chunk.{before, due_lists, gathered_chunk, stated_price, taken, transactions}
 use Rattle.nr_gathered.specs.declared.gathered.Gathered.{Gathered}
 use Rattle.nr_overlap.specs.Rules.{Rules, Sealing}
 use Rattle.nr_overlap.specs.Serial.{due_after, last_work, sealing_at, work}
-use Rattle.nr_overlap.proofs.Basics.{each_append}
+use Rattle.nr_overlap.proofs.Basics.{each_append, is_lt}
 use Rattle.nr_overlap.proofs.SerialLemmas.{sealing_there}
 use Rattle.nr_recheck.specs.Laws.{GoesWith, IsGatheredFor, TellsChunk}
 use Rattle.nr_recheck.specs.Rechecking.{is_placed, place_of, rechecked, sealed_on}
@@ -59,9 +59,19 @@ module _ (x : Chain) (s below : ℕ) (is : IsChain x) (at : IsGathered x s below
       ∙ ap (serve_all c x.call (opened x s (below + 1) (before x s below))) (all_lists x s below)
       ∙ sym (fold-append (serve c x.call) (opened_first x s (below + 1) (before x s below)) (before x s below).carried (due_lists x s below))
 
+  -- it begins as the serial run's
+  begun_is : begun (record { config = c; world = state x s below; carried = g.taken }) (record { 0 = s }) (place_of c g)
+      ≡ begun (before x s below) (record { 0 = s }) (place_at x (below + 1))
+  begun_is =
+      (λ i. begun (record { config = sym good.config i; world = state x s below; carried = g.taken }) (record { 0 = s }) (place_is i))
+
   seal_is : sealed_on c x.call g (state x s below) ≡ r.seals (last_work r s below)
   unfolding gathered_chunk
-  seal_is = ?
+  seal_is =
+      ap
+      (λ k. seal_chunk x.start.boundaries (shards_of x)
+          (serve_all c x.call (open_chunk c x.call k (transactions x s below)) (taken x s below))) begun_is
+      ∙ ap r.seals (sym last_is)
 
   pub serial_report : (report : ChunkResult) → TellsChunk c x.call g report → GoesWith c g (state x s below)
       → option_map (λ z. z.report) (sealing_at r s (below + 1)) ≡ Some report
@@ -92,7 +102,7 @@ module _ (x : Chain) (s below : ℕ) (is : IsChain x) (at : IsGathered x s below
   pub gathered_for : IsGatheredFor c g (state x s below)
   unfolding gathered_chunk
   gathered_for = record {
-    placed = ?;
+    placed = (λ i. is_lt 0 (x.start.below + (below + 1)) (omega arith) i && is_lt s (shards_of x) at.inside i);
     root = refl;
     texts = refl;
     bounded = are_bounded c (taken x s below) all_good;
