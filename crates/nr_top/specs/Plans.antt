@@ -1,8 +1,9 @@
 -- What each command does, as a plan: the files that it asks for in their order, and what it answers or refuses. This
 -- project's own commands and limits.
 use Rattle.std.specs.Prelude.{ℕ, ◌+◌, List, [], ◌∷◌, ◌++◌, cond, length, Option, Some, None}
-use Rattle.nr_words.specs.Command.{Command, Replay, Generate, Roots, Prove, Verify, Cut, CheckPart, JoinParts, Names, is_free}
+use Rattle.nr_words.specs.Command.{Command, Replay, Generate, Roots, Prove, Verify, Cut, CheckPart, JoinParts, Gather, Recheck, Names, is_free}
 use Rattle.nr_words.specs.declared.words.ChunkItem.{ChunkItem}
+use Rattle.nr_words.specs.declared.words.ChunkPlace.{ChunkPlace}
 use Rattle.nr_words.specs.declared.words.StatePart.{StatePart}
 use Rattle.nr_config.specs.Config.{Config, free}
 use Rattle.nr_config.specs.Reading.{configuration}
@@ -17,8 +18,10 @@ use Rattle.nr_blocks.specs.declared.fault.GenesisFault.TheVariants as genesis
 use Rattle.nr_blocks.specs.declared.genesis.Genesis.{Genesis}
 use Rattle.nr_chunk.specs.Chain.{Chain, shards_of}
 use Rattle.nr_shell.specs.Plans.{Plan, Answer, Refuse, and_then, by_reading, file_plan}
+use Rattle.nr_top.specs.Gathering.{gather_answer}
 use Rattle.nr_top.specs.Generated.{generated_text}
 use Rattle.nr_top.specs.Proving.{by_item, by_proof_bytes, roots_text}
+use Rattle.nr_top.specs.Rechecking.{by_gathered}
 use Rattle.nr_top.specs.Roots.{root_in}
 use Rattle.nr_top.specs.Run.{chain, check_text, run_text}
 use Rattle.nr_top.specs.Schedule.{schedule_read}
@@ -133,6 +136,14 @@ verify_plan root name = and_then (file_plan name 268435456 (faulty_proof 0 0)) (
 abbrev pub part_plan : Names → StatePart → Plan (List ℕ) Status
 part_plan names part = and_then (chain_plan names) (cut_answer part)
 
+-- `gather`
+abbrev pub gather_plan : Names → ChunkPlace → Plan (List ℕ) Status
+gather_plan names chunk = and_then (chain_plan names) (gather_answer chunk)
+
+-- `recheck`
+abbrev pub recheck_plan : List ℕ → List ℕ → Plan (List ℕ) Status
+recheck_plan word file = and_then (config_plan word) (by_gathered file)
+
 -- `gen` asks for no file
 abbrev pub command_plan : Command → Plan (List ℕ) Status
 command_plan (Replay names) = replay_plan names names.schedule
@@ -143,6 +154,8 @@ command_plan (Verify root name) = verify_plan root name
 command_plan (Cut names part) = part_plan names part
 command_plan (CheckPart word file) = check_part_plan word file
 command_plan (JoinParts word count prefix) = join_parts_plan word count prefix
+command_plan (Gather names chunk) = gather_plan names chunk
+command_plan (Recheck config file) = recheck_plan config file
 
 -- words that are no command are refused
 abbrev pub plan : Option Command → Plan (List ℕ) Status
@@ -170,3 +183,5 @@ files_of (Some (Verify root name)) = name ∷ []
 files_of (Some (Cut names part)) = chain_files names
 files_of (Some (CheckPart word file)) = file ∷ []
 files_of (Some (JoinParts word count prefix)) = part_names prefix count
+files_of (Some (Gather names chunk)) = chain_files names
+files_of (Some (Recheck config file)) = config_files config ++ file ∷ []

@@ -55,7 +55,11 @@ fn config_in(alloc: Global, bytes: &[u8]) -> Result<Config, Stop<Status>>
 }
 
 /// The configuration of a word: `free`, which loads nothing, or the name of a file.
-fn config_of<S: Shelf>(alloc: Global, word: &str, shelf: &mut S) -> Result<Config, Stop<Status>>
+pub(crate) fn config_of<S: Shelf>(
+    alloc: Global,
+    word: &str,
+    shelf: &mut S,
+) -> Result<Config, Stop<Status>>
     ensures { Follows refuses (λ config. config) (S.held shelf.old) (S.held shelf.new)
         (S.asked shelf.old) (S.asked shelf.new) (S.faults shelf.old) (S.faults shelf.new)
         result (config_plan word.now) }

@@ -104,14 +104,17 @@ pub fn serve<F: Fn(Work) -> Result<Blob, AllocError>, S: Shelf, K: Sink>(
 /// `joinparts ROOT COUNT PREFIX` writes the root and how many entries all parts have, if the parts of so many files,
 /// named by the prefix and the numbers from 0 on, are accepted and together have the root.
 ///
+/// `gather CONFIG GENESIS BLOCKS HEIGHT SHARD` runs a chain up to a chunk, and writes the file of the chunk: all that
+/// it takes, and the texts of its state's trie from which it can be run again.
+///
 /// # Answers
 ///
 /// - `Done`: the text was written whole.
 /// - `Usage`: the words are none of `run CONFIG GENESIS BLOCKS`, `check CONFIG GENESIS BLOCKS SCHEDULE`,
 ///   `gen NUMBER SHARDS BLOCKS`, `roots CONFIG GENESIS BLOCKS`,
 ///   `prove CONFIG GENESIS BLOCKS HEIGHT SHARD KIND PLACE`, `verify ROOT PROOF`,
-///   `part CONFIG GENESIS BLOCKS HEIGHT SHARD COUNT NUMBER`, `checkpart ROOT FILE` and
-///   `joinparts ROOT COUNT PREFIX`. There no word is empty or begins with `-`, and numbers are decimal without
+///   `part CONFIG GENESIS BLOCKS HEIGHT SHARD COUNT NUMBER`, `checkpart ROOT FILE`, `joinparts ROOT COUNT PREFIX`
+///   and `gather CONFIG GENESIS BLOCKS HEIGHT SHARD`. There no word is empty or begins with `-`, and numbers are decimal without
 ///   leading zeros: NUMBER of `gen`, HEIGHT and PLACE up to 2^64 - 1, SHARD up to 2^32 - 1, SHARDS from 1 to 16 and
 ///   BLOCKS of `gen` from 1 to 256, COUNT from 1 to 10,000 and NUMBER of `part` below it; the word of ROOT is 64
 ///   digits of base 16 in lower case. Nothing was loaded or written.
