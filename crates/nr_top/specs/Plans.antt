@@ -1,14 +1,12 @@
 -- What each command does, as a plan: the files that it asks for in their order, and what it answers or refuses. This
 -- project's own commands and limits.
 use Rattle.std.specs.Prelude.{ℕ, ◌+◌, List, [], ◌∷◌, ◌++◌, cond, length, Option, Some, None}
-use Rattle.nr_words.specs.Command.{Command, Replay, Generate, Roots, Prove, Verify, Cut, CheckPart, JoinParts, Gather, Recheck, Names, is_free}
+use Rattle.nr_words.specs.Command.{Command, Replay, Generate, Roots, Prove, Verify, Cut, CheckPart, JoinParts, Gather, Recheck, Names}
 use Rattle.nr_words.specs.declared.words.ChunkItem.{ChunkItem}
 use Rattle.nr_words.specs.declared.words.ChunkPlace.{ChunkPlace}
 use Rattle.nr_words.specs.declared.words.StatePart.{StatePart}
-use Rattle.nr_config.specs.Config.{Config, free}
-use Rattle.nr_config.specs.Reading.{configuration}
-use Rattle.nr_config.specs.declared.fault.ConfigFault.{ConfigFault}
-use Rattle.nr_config.specs.declared.fault.ConfigFault.TheVariants as fault
+use Rattle.nr_config.specs.Config.{Config}
+use Rattle.nr_configfile.specs.Plans.{config_files, config_plan}
 use Rattle.nr_blocks.specs.Judging.{genesis_read, blocks_read}
 use Rattle.nr_blocks.specs.declared.block.Block.{Block}
 use Rattle.nr_blocks.specs.declared.fault.BlocksFault.{BlocksFault}
@@ -32,21 +30,6 @@ use Rattle.nr_top.specs.declared.schedule.ScheduleFault.{ScheduleFault}
 use Rattle.nr_top.specs.declared.schedule.ScheduleFault.TheVariants as schedule
 use Rattle.nr_top.specs.declared.status.Status.{Status}
 use Rattle.nr_top.specs.declared.status.Status.TheVariants.{Usage, Config as faulty_config, Genesis as faulty_genesis, Blocks as faulty_blocks, Schedule as faulty_schedule, Proof as faulty_proof, NoMemory}
-
--- ---- the configuration: the built-in one, or that of a file of at most 1 MiB; its faults, by kind and entry
-abbrev pub config_status : ConfigFault → Status
-config_status fault.NotJson = faulty_config 1 0
-config_status (fault.Missing entry) = faulty_config 2 entry
-config_status (fault.NotWhole entry) = faulty_config 3 entry
-config_status (fault.OutOfRange entry) = faulty_config 4 entry
-config_status fault.Memory = NoMemory
-
-abbrev pub by_config_bytes : List ℕ → Plan Config Status
-by_config_bytes bytes = by_reading config_status (configuration bytes)
-
-abbrev pub config_plan : List ℕ → Plan Config Status
-config_plan word =
-    cond (is_free word) (Answer free) (and_then (file_plan word 1048576 (faulty_config 0 0)) by_config_bytes)
 
 -- ---- the genesis, in a file of at most 64 MiB; its faults, by kind and numbers
 abbrev pub genesis_status : GenesisFault → Status
@@ -98,7 +81,7 @@ abbrev pub by_config : Names → Config → Plan Chain Status
 by_config names c = and_then (genesis_plan c names.genesis) (by_genesis c names)
 
 abbrev pub chain_plan : Names → Plan Chain Status
-chain_plan names = and_then (config_plan names.config) (by_config names)
+chain_plan names = and_then (config_plan faulty_config names.config) (by_config names)
 
 -- the chain that was loaded
 abbrev pub loaded : ChainFiles → Chain
@@ -142,7 +125,7 @@ gather_plan names chunk = and_then (chain_plan names) (gather_answer chunk)
 
 -- `recheck`
 abbrev pub recheck_plan : List ℕ → List ℕ → Plan (List ℕ) Status
-recheck_plan word file = and_then (config_plan word) (by_gathered file)
+recheck_plan word file = and_then (config_plan faulty_config word) (by_gathered file)
 
 -- `gen` asks for no file
 abbrev pub command_plan : Command → Plan (List ℕ) Status
@@ -163,9 +146,6 @@ plan None = Refuse Usage
 plan (Some c) = command_plan c
 
 -- ---- the files of a command in their order, each of which it asks for once
-abbrev pub config_files : List ℕ → List (List ℕ)
-config_files word = cond (is_free word) [] (word ∷ [])
-
 abbrev pub chain_files : Names → List (List ℕ)
 chain_files names = config_files names.config ++ names.genesis ∷ names.blocks ∷ []
 

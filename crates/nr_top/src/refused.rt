@@ -3,14 +3,13 @@
 ghost use Rattle.std.specs.Prelude.{◌≡◌, true};
 ghost use Rattle.nr_blocks.specs.declared.fault.BlocksFault.TheVariants as blocks;
 ghost use Rattle.nr_blocks.specs.declared.fault.GenesisFault.TheVariants as genesis;
-ghost use Rattle.nr_config.specs.declared.fault.ConfigFault.TheVariants as config;
 ghost use Rattle.nr_outproof.specs.declared.fault.ProofFault.TheVariants as proof;
 ghost use Rattle.nr_gathered.specs.declared.fault.GatheredFault.TheVariants as gathered;
 ghost use Rattle.nr_parts.specs.declared.fault.PartFault.TheVariants as part;
 ghost use Rattle.nr_recheck.specs.declared.fault.RecheckFault.TheVariants as recheck;
 ghost use Rattle.nr_shell.specs.Answers.{StopsBy};
 ghost use Rattle.nr_top.specs.Answers.{refuses};
-ghost use Rattle.nr_top.specs.Plans.{blocks_status, config_status, genesis_status, schedule_status};
+ghost use Rattle.nr_top.specs.Plans.{blocks_status, genesis_status, schedule_status};
 ghost use Rattle.nr_top.specs.Proving.{proof_status};
 ghost use Rattle.nr_top.specs.Rechecking.{gathered_status, recheck_status};
 ghost use Rattle.nr_top.specs.StateParts.{part_status};
@@ -20,7 +19,6 @@ ghost use Rattle.nr_top.specs.declared.status.Status.TheVariants.{Gathered as fa
 use crate::schedule::ScheduleFault;
 use crate::status::Status;
 use nr_blocks::{BlocksFault, GenesisFault};
-use nr_config::ConfigFault;
 use nr_gathered::GatheredFault;
 use nr_outproof::ProofFault;
 use nr_parts::PartFault;
@@ -32,19 +30,6 @@ fn genesis_refusal(kind: u32, a: u64, b: u64, c: u64) -> Status
     ensures refuses { refuses result ≡ true }
 {
     Status::Genesis { kind, a, b, c }
-}
-
-/// Why a faulty configuration stops the command.
-pub(crate) fn config_stop(fault: ConfigFault) -> Stop<Status>
-    ensures { StopsBy refuses config.Memory config_status fault result }
-{
-    match fault {
-        ConfigFault::NotJson => Stop::Refused(Status::Config { kind: 1, entry: 0 }),
-        ConfigFault::Missing { entry } => Stop::Refused(Status::Config { kind: 2, entry }),
-        ConfigFault::NotWhole { entry } => Stop::Refused(Status::Config { kind: 3, entry }),
-        ConfigFault::OutOfRange { entry } => Stop::Refused(Status::Config { kind: 4, entry }),
-        ConfigFault::Memory => Stop::Memory,
-    }
 }
 
 /// Why a faulty genesis stops the command.

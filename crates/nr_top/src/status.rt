@@ -1,3 +1,5 @@
+use nr_configfile::ConfigRefusal;
+
 /// How a call of the program ended.
 ///
 /// A genesis or a blocks file is refused by the first fault that `nr_blocks` gives, with its numbers
@@ -55,4 +57,17 @@ pub enum Status {
     WriteFault,
     /// Memory ran out.
     NoMemory,
+}
+
+impl ConfigRefusal for Status {
+    ghost use Rattle.nr_top.specs.Answers.{refuses};
+    ghost use Rattle.nr_top.specs.declared.status.Status.TheVariants.{Config};
+
+    ghost refuses = { refuses };
+
+    ghost refusal = { λ kind entry. Config kind entry };
+
+    fn of_config(kind: u32, entry: u32) -> Self {
+        Status::Config { kind, entry }
+    }
 }

@@ -10,11 +10,11 @@ ghost use Rattle.nr_top.specs.Answers.{refuses};
 ghost use Rattle.nr_top.specs.Plans.{recheck_plan};
 ghost use Rattle.nr_top.specs.Rechecking.{by_gathered, by_gathered_bytes, gathered_plan, recheck_answer};
 
-use crate::chain::config_of;
 use crate::refused::{gathered_stop, recheck_stop};
 use crate::status::Status;
 use nr_bytes::{Blob, Shelf};
 use nr_config::Config;
+use nr_configfile::config_of;
 use nr_contract::ContractCaller;
 use nr_gathered::{Gathered, read_gathered};
 use nr_recheck::{RecheckFault, recheck};
@@ -111,7 +111,7 @@ pub(crate) fn recheck_text<S: Shelf>(
         (S.asked shelf.old) (S.asked shelf.new) (S.faults shelf.old) (S.faults shelf.new)
         result (recheck_plan config.now file.now) }
 {
-    match config_of(alloc, config, shelf) {
+    match config_of::<Status, S>(alloc, config, shelf) {
         Ok(config) => of_file(alloc, config, file, shelf),
         Err(stop) => Err(stop),
     }
