@@ -1,6 +1,6 @@
 //! How many chunks a run has that is over.
 
-ghost use Rattle.std.specs.Prelude.{◌≡◌, ◌≤◌, ◌<◌, ◌^◌, IfSome, IsSome};
+ghost use Rattle.std.specs.Prelude.{◌≡◌, ◌≤◌, ◌<◌, ◌^◌, SomeIff};
 ghost use Rattle.nr_outcome.specs.Reports.{report_in};
 ghost use Rattle.nr_outcome.specs.Texts.{count_at, count_to, one_if_there};
 
@@ -32,8 +32,7 @@ fn count_height(reports: &Reports, height: Height) -> u64
 impl Reports {
     /// How many chunks there are: `None` exactly where the number doesn't fit.
     pub fn chunk_count(&self) -> Option<u64>
-        ensures count { IfSome result (λ count. count ≡ count_to self.now.shards (report_in self.now) self.now.heights) }
-        ensures fits { count_to self.now.shards (report_in self.now) self.now.heights < 2 ^ 64 → IsSome result }
+        ensures { let count = count_to self.now.shards (report_in self.now) self.now.heights in SomeIff result (count < 2 ^ 64) count }
     {
         let mut count: u64 = 0;
         for below in 0..self.heights {

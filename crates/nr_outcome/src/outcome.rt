@@ -1,6 +1,6 @@
 //! A run that is over.
 
-ghost use Rattle.std.specs.Prelude.{◌≡◌, ◌<◌, ◌^◌, IfOk, IfSome, IsSome};
+ghost use Rattle.std.specs.Prelude.{◌≡◌, ◌<◌, ◌^◌, IfOk, SomeIff};
 ghost use Rattle.std.specs.Option.{option_copied};
 ghost use Rattle.nr_chunk.specs.Chain.{rules_of};
 ghost use Rattle.nr_chunk.specs.Runs.{chain_in};
@@ -135,8 +135,7 @@ impl<C: Caller<ChunkStore>> Outcome<C> {
 
     /// How many chunks there are: `None` exactly where the number doesn't fit.
     pub fn chunk_count(&self) -> Option<u64>
-        ensures count { let r = rules_of (chain_in self.now.chain) in IfSome result (λ count. count ≡ count_to r.shards (report_at r (ending r)) r.heights) }
-        ensures fits { let r = rules_of (chain_in self.now.chain) in count_to r.shards (report_at r (ending r)) r.heights < 2 ^ 64 → IsSome result }
+        ensures { let r = rules_of (chain_in self.now.chain) in let count = count_to r.shards (report_at r (ending r)) r.heights in SomeIff result (count < 2 ^ 64) count }
     {
         self.reports.chunk_count()
     }

@@ -1,6 +1,6 @@
 //! Sums of tallies: what parts of a run hold together.
 
-ghost use Rattle.std.specs.Prelude.{◌≡◌, IfOk, IfSome, IsSome};
+ghost use Rattle.std.specs.Prelude.{◌≡◌, IfOk, SomeIff};
 ghost use Rattle.nr_places.specs.Totals.{nothing, plus, plus_counts};
 ghost use Rattle.nr_outcome.specs.Fitting.{CountsFit, Fits};
 
@@ -20,8 +20,7 @@ pub fn no_tally() -> Tally
 }
 
 fn add_counts(a: [u64; 5], b: [u64; 5]) -> Option<[u64; 5]>
-    ensures sum { IfSome result (λ sum. sum ≡ plus_counts a b) }
-    ensures fits { CountsFit (plus_counts a b) → IsSome result }
+    ensures { SomeIff result (CountsFit (plus_counts a b)) (plus_counts a b) }
 {
     let [a0, a1, a2, a3, a4] = a;
     let [b0, b1, b2, b3, b4] = b;
@@ -36,8 +35,7 @@ fn add_counts(a: [u64; 5], b: [u64; 5]) -> Option<[u64; 5]>
 
 /// The sum of two tallies: `None` exactly where one of its numbers doesn't fit.
 pub fn add_tallies(a: Tally, b: Tally) -> Option<Tally>
-    ensures sum { IfSome result (λ sum. sum ≡ plus a b) }
-    ensures fits { Fits (plus a b) → IsSome result }
+    ensures { SomeIff result (Fits (plus a b)) (plus a b) }
 {
     let counts = a.places;
     let more = b.places;
