@@ -1,5 +1,5 @@
 -- One part more of a text or a sum.
-use Rattle.std.proofs.Common.{◌≡◌, ℕ, zero, suc, ◌+◌, ◌-◌, ◌<◌, ◌≤◌, List, [], ◌++◌, append_assoc, sym, ap, subst, ◌∙◌, arith, add-one}
+use Rattle.std.proofs.Common.{◌≡◌, ℕ, zero, suc, ◌+◌, ◌-◌, ◌≤◌, max, List, [], ◌++◌, append_assoc, sym, ap, subst, ◌∙◌, arith, add-one}
 use Rattle.std.proofs.lemmas.List.{append-nil}
 use Rattle.nr_chunk.specs.declared.tally.Tally.{Tally}
 use Rattle.nr_overlap.specs.Balance.{sum_below}
@@ -28,6 +28,13 @@ one_between from n f mid new l e g = g ∙ (λ i. e i ++ f (there i)) ∙ ap (λ
 
     more : suc (n - from) ≡ (n + 1) - from
     more = omega (arith, l)
+
+-- where a range is gone through
+pub to_the_end : (from to n : ℕ) (f : ℕ → List ℕ) (text : List ℕ) → from ≤ n → n ≤ max from to → to ≤ n → text ≡ text_between from n f → text ≡ text_between from to f
+to_the_end from to n f text a b c e = e ∙ ap (λ k. text_below k (λ i. f (from + i))) same
+  where
+    same : n - from ≡ to - from
+    same = grind (arith, a, b, c)
 
 pub whole_between : (n : ℕ) (f : ℕ → List ℕ) → text_between 0 n f ≡ text_below n f
 whole_between n f = (λ i. text_below (all i) (λ k. f (same k i)))
@@ -74,7 +81,7 @@ pub sum_next : (n : ℕ) (f : ℕ → ℕ) (old more new : ℕ) → old ≡ sum_
 sum_next n f old more new e g h = h ∙ (λ i. e i + g i) ∙ sym (ap (λ k. sum_below k f) (add-one n))
 
 -- a sum of more is no less
-pub sum_grows : (n m : ℕ) (f : ℕ → ℕ) → sum_below n f ≤ sum_below (m + n) f
+sum_grows : (n m : ℕ) (f : ℕ → ℕ) → sum_below n f ≤ sum_below (m + n) f
 sum_grows n zero f = subst (λ k. sum_below n f ≤ sum_below k f) same (omega arith)
   where
     same : n ≡ 0 + n
@@ -83,3 +90,9 @@ sum_grows n (suc m) f = subst (λ k. sum_below n f ≤ sum_below k f) same (omeg
   where
     same : suc (m + n) ≡ suc m + n
     same = omega arith
+
+pub sum_within : (n m : ℕ) (f : ℕ → ℕ) → n ≤ m → sum_below n f ≤ sum_below m f
+sum_within n m f l = subst (λ k. sum_below n f ≤ sum_below k f) same (sum_grows n (m - n) f)
+  where
+    same : (m - n) + n ≡ m
+    same = omega (arith, l)

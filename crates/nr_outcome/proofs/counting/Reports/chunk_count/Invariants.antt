@@ -1,7 +1,0 @@
-use Rattle.std.proofs.Common.{◌≡◌}
-use Rattle.nr_outcome.specs.Reports.{report_in}
-use Rattle.nr_outcome.specs.Texts.{count_to}
-use Rattle.nr_outcome.proofs.counting.Reports.chunk_count.Given as goal
-
-abbrev pub invariant-loop-below : goal.invariant-loop-below
-invariant-loop-below l = l.count ≡ count_to l.self.shards (report_in l.self) l.below
