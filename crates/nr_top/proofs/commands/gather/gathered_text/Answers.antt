@@ -9,4 +9,4 @@ extract-requires-clause-inside c = λ κs. (is_chunk (chain_of c.args.core) c.ar
 pub extract-requires-clause-within : goal.extract-requires-clause-within
 extract-requires-clause-within c = λ κs.
     let chunk = is_chunk (chain_of c.args.core) c.args.chunk.shard c.args.chunk.height c.requires.there in
-    omega (arith, chunk.positive, chunk.below, c.saturating_sub.ensures)
+    omega (arith, chunk.positive, chunk.below, c.saturating_sub-below.ensures)
