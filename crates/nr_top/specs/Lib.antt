@@ -7,7 +7,6 @@ pub mod Generated
 pub mod Moments
 pub mod Driving
 pub mod Arriving
-pub mod Hashing
 pub mod Works
 pub mod Chunks
 pub mod Roots
