@@ -1,6 +1,6 @@
 -- That what is known of an outcome has one proof at most. This project's own.
-use Rattle.std.specs.Prelude.{◌≡◌, ℕ, List, Option}
-use Rattle.std.specs.Coded.{Coded-set, coded×, coded_ℕ, coded_list, coded_option}
+use Rattle.std.specs.Prelude.{◌≡◌, List, refl}
+use Rattle.std.specs.Coded.{Coded, Coded-set, code_by, coded×, coded_ℕ, coded_list, coded_option}
 use Rattle.nr_chunk.specs.Codes.{kept_code}
 use Rattle.nr_chunk.specs.Views.{Kept}
 use Rattle.nr_ids.specs.contracts.number.Height as height
@@ -25,5 +25,11 @@ told_prop r y a b i = record {
 pub worlds_prop : (a b : List Kept) → IsProp (a ≡ b)
 worlds_prop = Coded-set (coded_list kept_code)
 
+abbrev left_code : Coded (ShardId × Height × ShardId × List Receipt)
+left_code =
+    code_by (ShardId × (Height × (ShardId × List Receipt)))
+    (coded× shard.the_row.coded (coded× height.the_row.coded (coded× shard.the_row.coded (coded_list receipt.the_row.coded))))
+    (λ q. (q.0, (q.1, (q.2, q.3)))) (λ p. (p.0, p.1.0, p.1.1.0, p.1.1.1)) (λ _. refl)
+
 pub left_prop : (a b : List (ShardId × Height × ShardId × List Receipt)) → IsProp (a ≡ b)
-left_prop = Coded-set (coded_list (coded× shard.the_row.coded (coded× height.the_row.coded (coded× shard.the_row.coded (coded_list receipt.the_row.coded)))))
+left_prop = Coded-set (coded_list left_code)

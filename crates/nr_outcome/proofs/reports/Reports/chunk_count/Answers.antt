@@ -1,4 +1,4 @@
-use Rattle.std.proofs.Common.{◌≡◌, ◌≤◌, ◌<◌, ◌^◌, ◌+◌, refl, sym, ap, subst, ◌∙◌, arith}
+use Rattle.std.proofs.Common.{◌≡◌, ◌≤◌, ◌<◌, ◌^◌, ℕ, ◌+◌, refl, sym, ap, subst, ◌∙◌, arith}
 use Rattle.std.specs.Prelude.{SomeIff}
 use Rattle.nr_outcome.specs.Reports.{report_in}
 use Rattle.nr_outcome.specs.Texts.{count_at, count_to}
@@ -9,7 +9,7 @@ pub returns-in_err-count : goal.returns-in_err-count
 returns-in_err-count c =
     let y = c.args.self.now in
     let below = c.loop-below.below in
-    let f = (λ h. count_at y.shards (report_in y) (h + 1)) in
+    let f : ℕ → ℕ = λ h. count_at y.shards (report_in y) (h + 1) in
     let so_far : c.loop-below.count + c.count_height.result ≡ count_to y.shards (report_in y) (below + 1) =
     sum_next below f c.loop-below.count c.count_height.result _ c.loop-below.invariant.count c.count_height.ensures refl in
     let within : count_to y.shards (report_in y) (below + 1) ≤ count_to y.shards (report_in y) y.heights = sum_within (below + 1) y.heights f (omega (arith, c.loop-below-test.true)) in
