@@ -4,3 +4,4 @@ pub mod Texts
 pub mod Sums
 pub mod Fitting
 pub mod Totals
+pub mod Props

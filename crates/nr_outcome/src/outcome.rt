@@ -10,6 +10,7 @@ ghost use Rattle.nr_overlap.specs.Outcome.{last_worlds, lists_left, reports_by_s
 ghost use Rattle.nr_overlap.specs.Run.{ending};
 ghost use Rattle.nr_places.specs.Totals.{tally_at};
 ghost use Rattle.nr_report.specs.Lines.{totals_text};
+ghost use Rattle.nr_outcome.specs.Props.{left_prop, told_prop, worlds_prop};
 ghost use Rattle.nr_outcome.specs.Reports.{AreReports};
 ghost use Rattle.nr_outcome.specs.Texts.{count_to, heights_text};
 ghost use Rattle.nr_outcome.specs.Totals.{totals_at};
@@ -39,9 +40,9 @@ pub struct Outcome<C: Caller<ChunkStore>> {
     left: Left,
     /// All tokens of the chain's start.
     supply: u128,
-    ghost told: { AreReports (rules_of (chain_in chain)) reports },
-    ghost last: { worlds ≡ last_worlds (rules_of (chain_in chain)) },
-    ghost rest: { left ≡ lists_left (rules_of (chain_in chain)) },
+    ghost told: { AreReports (rules_of (chain_in chain)) reports } by { told_prop (rules_of (chain_in chain)) reports },
+    ghost last: { worlds ≡ last_worlds (rules_of (chain_in chain)) } by { worlds_prop worlds (last_worlds (rules_of (chain_in chain))) },
+    ghost rest: { left ≡ lists_left (rules_of (chain_in chain)) } by { left_prop left (lists_left (rules_of (chain_in chain))) },
     ghost first: { supply ≡ start_tokens chain.config chain.grounds.start },
 }
 

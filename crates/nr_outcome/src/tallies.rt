@@ -24,13 +24,12 @@ fn add_counts(a: [u64; 5], b: [u64; 5]) -> Option<[u64; 5]>
 {
     let [a0, a1, a2, a3, a4] = a;
     let [b0, b1, b2, b3, b4] = b;
-    Some([
-        a0.checked_add(b0)?,
-        a1.checked_add(b1)?,
-        a2.checked_add(b2)?,
-        a3.checked_add(b3)?,
-        a4.checked_add(b4)?,
-    ])
+    let routed = a0.checked_add(b0)?;
+    let executed = a1.checked_add(b1)?;
+    let postponed = a2.checked_add(b2)?;
+    let delayed = a3.checked_add(b3)?;
+    let flying = a4.checked_add(b4)?;
+    Some([routed, executed, postponed, delayed, flying])
 }
 
 /// The sum of two tallies: `None` exactly where one of its numbers doesn't fit.
@@ -39,11 +38,14 @@ pub fn add_tallies(a: Tally, b: Tally) -> Option<Tally>
 {
     let counts = a.places;
     let more = b.places;
+    let accounts = a.accounts.checked_add(b.accounts)?;
+    let receipts = a.receipts.checked_add(b.receipts)?;
+    let burnt = a.burnt.checked_add(b.burnt)?;
     let places = add_counts(counts, more)?;
     Some(Tally {
-        accounts: a.accounts.checked_add(b.accounts)?,
-        receipts: a.receipts.checked_add(b.receipts)?,
-        burnt: a.burnt.checked_add(b.burnt)?,
+        accounts,
+        receipts,
+        burnt,
         places,
     })
 }

@@ -1,29 +1,20 @@
-use Rattle.std.proofs.Common.{◌≡◌, ◌≤◌, ◌<◌, ◌^◌, ◌+◌, ℕ, suc, sym, ap, subst, ◌∙◌, arith}
+use Rattle.std.proofs.Common.{◌≡◌, ◌≤◌, ◌<◌, ◌^◌, ℕ, ◌+◌, refl, sym, ap, subst, ◌∙◌, arith}
+use Rattle.std.specs.Prelude.{SomeIff}
 use Rattle.nr_outcome.specs.Reports.{report_in}
 use Rattle.nr_outcome.specs.Texts.{count_at, count_to}
-use Rattle.nr_outcome.proofs.Steps.{sum_within}
+use Rattle.nr_outcome.proofs.Steps.{sum_next, sum_within}
 use Rattle.nr_outcome.proofs.reports.Reports.chunk_count.Goals as goal
 
-t1 : goal.returns-in_err-count
-t1 c = c.in_err-count.was
-
-t2 : goal.returns-in_err-count
-t2 c = c.in_err-count.ensures
-
-t3 : goal.returns-in_err-count
-t3 c = c.from_residual.ensures
-
-t4 : goal.returns-in_err-count
-t4 c = c.in_err-count.is
-
-t5 : goal.returns-in_err-count
-t5 c = c.branch-count.ensures
-
-t6 : goal.returns-in_err-count
-t6 c = c.in_err-count.field-0
-
-t7 : goal.returns-in_err-count
-t7 c = c.count_height.ensures
+pub returns-in_err-count : goal.returns-in_err-count
+returns-in_err-count c =
+    let y = c.args.self.now in
+    let below = c.loop-below.below in
+    let f : ℕ → ℕ = λ h. count_at y.shards (report_in y) (h + 1) in
+    let so_far : c.loop-below.count + c.count_height.result ≡ count_to y.shards (report_in y) (below + 1) =
+    sum_next below f c.loop-below.count c.count_height.result _ c.loop-below.invariant.count c.count_height.ensures refl in
+    let within : count_to y.shards (report_in y) (below + 1) ≤ count_to y.shards (report_in y) y.heights = sum_within (below + 1) y.heights f (omega (arith, c.loop-below-test.true)) in
+    let all = count_to y.shards (report_in y) y.heights in
+    subst (λ o. SomeIff o (all < 2 ^ 64) all) (sym c.from_residual.ensures) (λ fits. c.in_err-count.ensures (omega (arith, so_far, within, fits)))
 
 pub returns : goal.returns
 returns c =

@@ -1,17 +1,8 @@
 use Rattle.std.proofs.Common.{◌+◌, arith}
 use Rattle.nr_outcome.specs.Reports.{report_in}
 use Rattle.nr_outcome.specs.Texts.{height_text}
-use Rattle.nr_outcome.proofs.Steps.{none_between, one_between, to_the_end}
+use Rattle.nr_outcome.proofs.Steps.{one_between, to_the_end}
 use Rattle.nr_outcome.proofs.reports.Reports.text.Goals as goal
-
-t1 : goal.loop-below-init
-t1 c = c.of-text.ensures
-
-t2 : goal.loop-below-init
-t2 c = c.of-text.ensures.value
-
-t3 : goal.loop-below-init
-t3 c = c.new.ensures
 
 pub loop-below-preserved : goal.loop-below-preserved
 loop-below-preserved c = record {
