@@ -1,9 +1,10 @@
 -- What is written of a chain that was run to its end.
-use Rattle.std.proofs.Common.{◌≡◌, ℕ, List, ◌++◌, refl, sym, ap, subst, ◌∙◌}
+use Rattle.std.proofs.Common.{◌≡◌, ℕ, List, ◌++◌, ap, subst, ◌∙◌}
 use Rattle.sha2.specs.Sha256.{sha256}
 use Rattle.nr_chunk.specs.Chain.{Chain, rules_of}
 use Rattle.nr_outcome.specs.Reports.{AreReports, report_in}
-use Rattle.nr_outcome.specs.Texts as outcome
+use Rattle.nr_outcome.specs.Texts.{count_to, heights_text}
+use Rattle.nr_outcome.specs.Totals.{totals_at}
 use Rattle.nr_outcome.specs.declared.reports.Reports.{Reports}
 use Rattle.nr_outcome.proofs.Cells.{reports_are}
 use Rattle.nr_overlap.specs.Moment.{report_at}
@@ -11,26 +12,23 @@ use Rattle.nr_overlap.specs.Run.{ending}
 use Rattle.nr_report.specs.Lines.{totals_text}
 use Rattle.nr_top.specs.Generated.{first_lines, generated_chain, generated_text}
 use Rattle.nr_top.specs.Run.{run_text}
-use Rattle.nr_top.specs.Totals.{totals_at}
 use Rattle.nr_top.proofs.Digesting.{generated_is}
 use Rattle.nr_replay.specs.Written.{IsWritten}
 use Rattle.nr_replay.specs.declared.written.Written.{Written}
-use Rattle.nr_replay.proofs.Same.{chunks_are, count_is}
 
 -- the outcome of the chain x, which is y
 module _ (x y : Chain) (same : x ≡ y) (reports : Reports) (are : AreReports (rules_of x) reports) where
   pub is_written : (heights : ℕ) (text end : List ℕ) (chunks : ℕ) → heights ≡ (rules_of x).heights
-      → text ≡ outcome.heights_text reports.shards (report_in reports) 0 heights
+      → text ≡ heights_text reports.shards (report_in reports) 0 heights
       → end ≡ totals_text (totals_at x (ending (rules_of x)))
-      → (let r = rules_of x in chunks ≡ outcome.count_to r.shards (report_at r (ending r)) r.heights)
+      → (let r = rules_of x in chunks ≡ count_to r.shards (report_at r (ending r)) r.heights)
       → IsWritten y (record { text = text; end = end; chunks = chunks })
   is_written heights text end chunks all e f g =
-      let r = rules_of x in
       subst (λ z. IsWritten z (record { text = text; end = end; chunks = chunks })) same
       (record {
-        text = e ∙ (λ i. outcome.heights_text (are.shards i) (reports_are r reports are i) 0 (all i)) ∙ chunks_are x (ending r);
+        text = e ∙ (λ i. heights_text (are.shards i) (reports_are (rules_of x) reports are i) 0 (all i));
         end = f;
-        chunks = g ∙ count_is x (ending r);
+        chunks = g;
       })
 
 -- the report
@@ -43,5 +41,4 @@ pub generated_text_is : (start shards blocks : ℕ) (x : Chain) (w : Written) (h
     → hash ≡ sha256 (w.text ++ w.end) → text ≡ first_lines start shards blocks w.chunks (record { 0 = hash }) ++ w.end
     → text ≡ generated_text start shards blocks
 generated_text_is start shards blocks x w hash text same is hashed e =
-    generated_is start shards blocks x (ending (rules_of x)) w.chunks (totals_at x (ending (rules_of x))) hash w.end text
-    same refl refl is.chunks is.end (hashed ∙ ap (λ (t : List ℕ). sha256 (t ++ w.end)) is.text) e
+    generated_is start shards blocks x w.chunks hash w.end text same is.chunks is.end (hashed ∙ ap (λ (t : List ℕ). sha256 (t ++ w.end)) is.text) e
