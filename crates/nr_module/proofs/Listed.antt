@@ -36,7 +36,7 @@ met n (Some f) (Some sig) true e = by (same_sig sig (host_type f)) e
     by true e = refl
     by false e = absurd cc
 
-good_kind : (types : List FuncType) (n : ℕ) (i : Import) (kind : ImportKind)
+pub good_kind : (types : List FuncType) (n : ℕ) (i : Import) (kind : ImportKind)
     → (offer_of types i kind ≡ offer.Good) ↔ (outcome (import_kind types n i kind) ≡ Ok tt)
 good_kind types n i (imported.Func t) =
     let h : Option HostFn = host_named i.name in

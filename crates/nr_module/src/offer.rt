@@ -35,7 +35,6 @@ fn host_type(alloc: Global, function: HostFn) -> Result<FuncType, AllocError>
 }
 
 /// The function of the host has this type.
-#[tactic(auto, using(crate::proofs::Types::same_so))]
 fn has_type(alloc: Global, function: HostFn, sig: &FuncType) -> Result<bool, AllocError>
     ensures { IfOk result (λ same. same ≡ same_sig sig.now (host_type function)) }
 {
