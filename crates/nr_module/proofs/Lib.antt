@@ -1,4 +1,8 @@
 -- Lemmas behind the answers.
 pub mod Runs
+pub mod Types
+pub mod Counts
+pub mod Listed
+pub mod Methods
 pub mod Asking
 pub mod Ending
