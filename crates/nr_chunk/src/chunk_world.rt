@@ -67,4 +67,15 @@ impl ChunkWorld {
     {
         listings::delayed(alloc, &self.state)
     }
+
+    /// How many delayed receipts were served.
+    ///
+    /// # Errors
+    ///
+    /// Where memory runs out.
+    pub fn served(&self) -> Result<u64, AllocError>
+        ensures { IfOk result (λ served. served ≡ self.now.world.served) }
+    {
+        listings::served(&self.state)
+    }
 }

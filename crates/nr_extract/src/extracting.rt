@@ -1,12 +1,13 @@
 //! A chunk with all that it is run again from.
 
-ghost use Rattle.std.specs.Prelude.{◌≡◌, ◌<◌, [], false, replicate, unwrap_or, IfOk};
+ghost use Rattle.std.specs.Prelude.{◌≡◌, ◌+◌, ◌^◌, ◌<◌, ◌≤◌, [], false, length, replicate, unwrap_or, IfOk, OnOk};
 ghost use Rattle.std.specs.FinMap as map;
 ghost use Rattle.std.specs.Option.{option_and_then, option_copied};
 ghost use Rattle.nr_chunk.specs.Chain.{chunk_in, rules_of};
 ghost use Rattle.nr_chunk.specs.Locality.{touched};
 ghost use Rattle.nr_chunk.specs.Runs.{chain_in};
-ghost use Rattle.nr_extract.specs.Chunk.{gathered_chunk, stated_price};
+ghost use Rattle.nr_extract.specs.Chunk.{before, gathered_chunk, stated_price};
+ghost use Rattle.nr_extract.specs.Shown.{IsShown};
 ghost use Rattle.nr_gather.specs.Gathered.{gathered, root_in};
 ghost use Rattle.nr_overlap.specs.Positions.{end_at};
 ghost use Rattle.nr_overlap.specs.Run.{opening};
@@ -27,6 +28,7 @@ use nr_ids::{Height, ShardId};
 use nr_overlap::Core;
 use nr_records::{Receipt, Spelled, Transaction};
 use nr_state::Caller;
+use nr_state::laws::entry_laws;
 use nr_stateless::searched_of;
 use std::alloc::{AllocError, Global};
 
@@ -57,6 +59,21 @@ fn stated_price(block: Option<&Block>) -> Option<u64>
     }
 }
 
+/// How many receipts may ever have been delayed.
+const MOST_DELAYED: u64 = 1 << 63;
+
+/// Refuses more receipts than may ever have been delayed.
+fn check_few(served: u64, waiting: usize) -> Result<(), AllocError>
+    ensures { OnOk result (served + waiting ≤ 2 ^ 63) }
+{
+    let waiting = waiting as u64;
+    if served <= MOST_DELAYED && waiting <= MOST_DELAYED - served {
+        Ok(())
+    } else {
+        Err(AllocError)
+    }
+}
+
 /// The texts of the trie of a world that a walk looks at for the accounts that a chunk touches.
 fn texts_of(
     alloc: Global,
@@ -66,8 +83,11 @@ fn texts_of(
 ) -> Result<List<Blob>, AllocError>
     ensures texts { IfOk result (λ texts. texts ≡ gathered (searched_of (touched world.now.world transactions.now taken.now)) (paths (map.entries (flat world.now.world)))) }
     ensures root { IfOk result (λ texts. root_in texts ≡ (root_of (flat world.now.world)).hash) }
+    ensures shown { IfOk result (λ _. IsShown world.now.world) }
 {
+    entry_laws();
     let delayed = world.delayed(alloc)?;
+    check_few(world.served()?, delayed.inner().len())?;
     let accounts = touched_by(alloc, transactions, delayed.inner(), taken)?;
     let searched = searched_of(alloc, accounts.inner())?;
     let entries = world.entries()?;
@@ -87,7 +107,8 @@ fn chunk_of<C: Caller<ChunkStore>>(
     requires places { core.now.positions ≡ replicate (rules_of (chain_in core.now.phases)).shards (end_at below) }
     requires within { below < (rules_of (chain_in core.now.phases)).heights }
     requires world { world.now ≡ world_after (rules_of (chain_in core.now.phases)) shard.0 below }
-    ensures { IfOk result (λ chunk. chunk ≡ gathered_chunk (chain_in core.now.phases) shard.0 below) }
+    ensures chunk { IfOk result (λ chunk. chunk ≡ gathered_chunk (chain_in core.now.phases) shard.0 below) }
+    ensures shown { IfOk result (λ _. IsShown world.now.world) }
 {
     let chain = core.phases();
     let place = chain.place(Height(below + 1));
@@ -109,11 +130,13 @@ fn chunk_of<C: Caller<ChunkStore>>(
 }
 
 /// The chunk of a shard at the height after `below`, taken out of a chain before its first chunk: all that it takes,
-/// and the texts of the trie before it that it is run again from.
+/// and the texts of the trie before it that it is run again from. Heights count from 1 here, whatever lies below the
+/// chain's first block; the chunk has its true height. Where the shard has no chunk there, it is one without
+/// transactions.
 ///
 /// # Errors
 ///
-/// Where memory runs out.
+/// Where memory runs out. It counts as that where more than 2^63 receipts were ever delayed.
 pub fn extract<C: Caller<ChunkStore> + Drop>(
     alloc: Global,
     core: Core<ChainRun<C>>,
@@ -124,7 +147,9 @@ pub fn extract<C: Caller<ChunkStore> + Drop>(
     requires first { core.positions ≡ opening (rules_of (chain_in core.phases)) }
     requires inside { shard.0 < (rules_of (chain_in core.phases)).shards }
     requires within { below < (rules_of (chain_in core.phases)).heights }
-    ensures { IfOk result (λ chunk. chunk ≡ gathered_chunk (chain_in core.phases) shard.0 below) }
+    ensures chunk { IfOk result (λ chunk. chunk ≡ gathered_chunk (chain_in core.phases) shard.0 below) }
+    // The state before it is one that a chunk is run again from.
+    ensures shown { IfOk result (λ _. IsShown (before (chain_in core.phases) shard.0 below).world) }
 {
     let mut core = core;
     run_up_to(&mut core, Height(below))?;

@@ -1,5 +1,5 @@
 -- Lemmas behind the answers.
 pub mod Crossing
-pub mod Shown
+pub mod Same
 pub mod Stretches
 pub mod Whole

@@ -13,6 +13,8 @@ pub mod Chunks
 pub mod Roots
 pub mod Proving
 pub mod StateParts
+pub mod Gathering
 pub mod Plans
 pub mod Answers
 pub mod Exit
+pub mod Rechecking

@@ -9,8 +9,8 @@ use Rattle.nr_triedef.specs.Root.{paths}
 use Rattle.nr_extract.proofs.Chunks.{chunk_is}
 use Rattle.nr_extract.proofs.extracting.chunk_of.Goals as goal
 
-pub returns : goal.returns
-returns g c =
+pub returns-clause-chunk : goal.returns-clause-chunk
+returns-clause-chunk g c =
     chunk_is c.args.core.now.phases c.phases-chain.result.now c.args.shard c.args.below
     c.args.world.now c.root_of_gathered.result c.in_ok-duplicate.field-0 c.place-place.result (option_copied c.block-block.result) c.stated_price.result c.in_ok-transactions.transactions c.in_ok-taken.taken c.in_ok-texts.texts
     c.phases-chain.ensures c.requires.world (c.in_ok-duplicate.ensures ∙ c.layout.ensures) c.place-place.ensures c.block-block.ensures c.stated_price.ensures c.in_ok-transactions.ensures c.in_ok-taken.ensures

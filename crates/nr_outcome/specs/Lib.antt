@@ -1,0 +1,6 @@
+pub mod Rows
+pub mod Reports
+pub mod Texts
+pub mod Sums
+pub mod Fitting
+pub mod Totals
