@@ -53,7 +53,7 @@ own_same : (sig : Option FuncType) (body : Option Body) → ((s : FuncType) → 
     → is_bare sig ≡ making.is_method (coded sig body)
 own_same None body there = refl
 own_same (Some s) (Some b) there = refl
-own_same (Some s) None there = absurd (let no : IsSome {A = Body} None = there s refl in cc)
+own_same (Some s) None there = absurd (cc (there s refl))
 
 has_body : (s : FuncType) (body : Option Body) (func : Func) → coded (Some s) body ≡ Some func → IsSome body
 has_body s None func e = absurd cc
@@ -85,7 +85,7 @@ module _ (pages : ℕ) (m : Module) (valid : IsValid pages m) where
       let own : func_at (program_of m) k ≡ own_func m (k - hosts) =
       ap (λ b. cond b (host_func m.types (slice_get (links m.imports) k)) (own_func m (k - hosts))) test in
       has_body s (slice_get m.bodies (k - hosts)) found.0
-      (ap (λ (o : Option FuncType). coded o (slice_get m.bodies (k - hosts))) (sym is) ∙ (sym own ∙ found.1.0))
+      (ap (λ (o : Option FuncType). coded o (slice_get m.bodies (k - hosts))) (sym is) ∙ (sym own ∙ found.1))
 
   pub method_runs : (k : ℕ) → is_method m k ≡ making.is_method (func_at (program_of m) k)
   method_runs k =

@@ -33,7 +33,8 @@ fn put_place(
     put_number(object, alloc, "height", gathered.height.0)?;
     put_number(object, alloc, "timestamp", gathered.timestamp)?;
     put(object, alloc, "price", gathered.price.to_json(alloc)?)?;
-    put_number(object, alloc, "shard", u64::from(gathered.shard.0))
+    put_number(object, alloc, "shard", u64::from(gathered.shard.0))?;
+    Ok(())
 }
 
 /// Puts its transactions, the receipts that it takes, and the texts.
@@ -52,7 +53,8 @@ fn put_lists(
     )?;
     let receipts = array_of(alloc, gathered.taken.inner())?;
     put(object, alloc, "receipts", receipts)?;
-    put(object, alloc, "texts", gathered.texts.to_json(alloc)?)
+    put(object, alloc, "texts", gathered.texts.to_json(alloc)?)?;
+    Ok(())
 }
 
 /// The JSON value of a gathered chunk: the root of the shard's state before it, the boundaries between the
