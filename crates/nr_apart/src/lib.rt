@@ -1,0 +1,4 @@
+//! Shards whose worlds have only what lives in them.
+#![tactic(auto)]
+
+pub mod laws;

@@ -1,0 +1,4 @@
+//! A run that goes on under other boundaries.
+#![tactic(auto)]
+
+pub mod laws;

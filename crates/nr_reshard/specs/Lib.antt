@@ -1,0 +1,4 @@
+pub mod Files
+pub mod FileLaws
+pub mod Judging
+pub mod Spellings

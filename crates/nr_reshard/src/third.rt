@@ -1,0 +1,55 @@
+//! A file of the third version, before its blocks are judged.
+
+ghost use Rattle.std.specs.List.{starts_with};
+ghost use Rattle.std.specs.Prelude.{◌≡◌, ◌==◌};
+ghost use Rattle.nr_blocks.specs.Files.{magic_at};
+ghost use Rattle.nr_bytes.specs.Answers.{Gives, GivesRead};
+ghost use Rattle.nr_records.specs.Reading.{all_of};
+ghost use Rattle.nr_records.specs.declared.fault.RecordFault.TheVariants.{Memory};
+ghost use Rattle.nr_reshard.specs.Files.{third_at, third_magic};
+
+use crate::block_list::read_list;
+use crate::chain_file::ChainFile;
+use crate::reshard::Reshard;
+use nr_bytes::Reader;
+use nr_records::{RecordFault, Spelled};
+use std::alloc::Global;
+
+/// Whether the bytes begin as a file of the third version does.
+pub(crate) fn begins_third(bytes: &[u8]) -> bool
+    ensures { result ≡ starts_with ◌==◌ bytes.now third_magic }
+{
+    bytes.starts_with(b"NRB3")
+}
+
+fn word_of(reader: &mut Reader<'_>) -> Result<[u8; 4], RecordFault>
+    ensures { GivesRead Memory result reader.new (magic_at third_magic reader.old) }
+{
+    let at = reader.at();
+    let word = reader.fixed::<4>()?;
+    if b"NRB3".as_slice() != word.as_slice() {
+        return Err(RecordFault::BadOrdinal { at });
+    }
+    Ok(word)
+}
+
+#[tactic(auto, unfolding(crate::specs::Files::third_at))]
+fn file_of(alloc: Global, reader: &mut Reader<'_>) -> Result<ChainFile, RecordFault>
+    ensures { GivesRead Memory result reader.new (third_at reader.old) }
+{
+    word_of(reader)?;
+    let reshard = Option::<Reshard>::read(alloc, reader)?;
+    let blocks = read_list(alloc, reader)?;
+    Ok(ChainFile { reshard, blocks })
+}
+
+/// The file that all of the bytes spell.
+#[tactic(auto, unfolding(nr_bytes::specs::Fields::all_of))]
+pub(crate) fn decode_third(alloc: Global, bytes: &[u8]) -> Result<ChainFile, RecordFault>
+    ensures { Gives Memory result (all_of third_at bytes.now) }
+{
+    let mut reader = Reader::new(bytes);
+    let file = file_of(alloc, &mut reader)?;
+    reader.end()?;
+    Ok(file)
+}

@@ -1,0 +1,11 @@
+//! The worlds of shards, as trie entries, laid out by other boundaries.
+#![tactic(auto)]
+
+mod delayed;
+mod owned;
+mod owners;
+mod splitting;
+#[cfg(test)]
+mod tests;
+
+pub use splitting::split_worlds;
