@@ -37,12 +37,13 @@ use Rattle.nr_state.proofs.OverMaps.{get-over}
 use Rattle.nr_state.proofs.ValidOwned.{exact_data, pair_total, same_id}
 use Rattle.nr_state.specs.Calls.{Called}
 use Rattle.nr_state.specs.Local.{IsLocal}
-use Rattle.nr_state.specs.Scopes.{all_of, over}
+use Rattle.nr_state.specs.Scopes.{Scope, all_of, over}
 use Rattle.nr_state.specs.World.{World, no_world}
 use Rattle.nr_state.specs.declared.calls.CallContext.{CallContext}
 use Rattle.nr_state.specs.declared.place.Place.{Place}
 use Rattle.nr_txconvert.proofs.OverConversion.{GoesTo, convert_goes, convert_over, over_conversion}
 use Rattle.nr_txconvert.specs.Conversion.{Conversion, by_signer, convert}
+use Rattle.nr_txconvert.specs.declared.converted.Converted.{Converted}
 
 -- ---- a world that lives in a scope
 record Lives (x : List ℕ → Bool) (w : World) : Type 0 where
@@ -52,6 +53,11 @@ record Lives (x : List ℕ → Bool) (w : World) : Type 0 where
 push : {A : Type 0} (P : A → Type 0) (xs : List A) (y : A) → AllByRecursion P xs → P y → AllByRecursion P (xs ++ y ∷ [])
 push P [] y all here = (here, tt)
 push P (x ∷ xs) y all here = (all.0, push P xs y all.1 here)
+
+-- the world of a conversion that is put together from two
+came_over : (p : Scope) (w : World) (made : World × Converted) → Ok made ≡ over_conversion p w (Ok made)
+    → made.0 ≡ over p made.0 w
+came_over p w made e = cc
 
 -- postponed receipts and the queue are those of another world
 same_waiting : (x : List ℕ → Bool) (u w : World) → u ≡ over owned_scope u w → Stays x w → Stays x u
@@ -105,8 +111,10 @@ module _ (c : Config) (call : World → CallContext → Called) (local : IsLocal
       → came ≡ over_conversion owned_scope o.working.world came → GoesTo tx.receiver came
       → Opens (by_conversion o tx came)
   by_came o tx (Ok made) here h inside apart goes =
-      let within : made.0 ≡ over (all_of x) made.0 o.working.world = cc in
-      let own : made.0 ≡ over owned_scope made.0 o.working.world = cc in
+      let within : made.0 ≡ over (all_of x) made.0 o.working.world =
+      came_over (all_of x) o.working.world made inside in
+      let own : made.0 ≡ over owned_scope made.0 o.working.world =
+      came_over owned_scope o.working.world made apart in
       aside (is_local tx) (with_converted o.working tx made.0 made.1) o.local made.1.receipt
       (λ e. ap x (goes ∙ sym (same_id tx.signer tx.receiver e)) ∙ here)
       (record {
@@ -164,12 +172,12 @@ of_test bs s (r ∷ rest) all = (test_of (shard_of bs r.receiver) s all.0, of_te
 
 filtered : (bs : List (List ℕ)) (s : ℕ) (list : List Receipt) → AllByRecursion (IsFor (lives_in bs s)) (out_to bs s list)
 filtered bs s [] = tt
-filtered bs s (r ∷ rest) = by (lives_in bs s r.receiver) refl
+filtered bs s (r ∷ rest) = by (lives_in bs s r.receiver) refl (filtered bs s rest)
   where
-    by : (b : Bool) → lives_in bs s r.receiver ≡ b
+    by : (b : Bool) → lives_in bs s r.receiver ≡ b → AllByRecursion (IsFor (lives_in bs s)) (out_to bs s rest)
         → AllByRecursion (IsFor (lives_in bs s)) (cond b (r ∷ out_to bs s rest) (out_to bs s rest))
-    by true e = (e, filtered bs s rest)
-    by false e = filtered bs s rest
+    by true e others = (e, others)
+    by false e others = others
 
 pub out_to_is : (bs : List (List ℕ)) (s : ℕ) (list : List Receipt) → AreTo bs s (out_to bs s list)
 out_to_is bs s list = of_test bs s (out_to bs s list) (filtered bs s list)
@@ -187,7 +195,7 @@ item_at (x ∷ xs) zero d l = refl
 item_at (x ∷ xs) (suc s) d l = item_at xs s d (omega (arith, l))
 
 -- ---- a run
-nothing : Amount Kept Working (List Receipt) ChunkResult
+abbrev nothing : Amount Kept Working (List Receipt) ChunkResult
 nothing = record {
   world = λ w. 0;
   working = λ s h n k. 0;
@@ -197,9 +205,12 @@ nothing = record {
   made = λ s h y. 0;
 }
 
+none_more : (n : ℕ) → n ≡ 0 → 0 + 0 + n ≡ 0
+none_more n e = omega (arith, e)
+
 none_in_all : {A : Type 0} (xs : List A) → sum_by (λ y. 0) xs ≡ 0
 none_in_all [] = refl
-none_in_all (x ∷ xs) = sum_by-cons (λ y. 0) x xs ∙ none_in_all xs
+none_in_all (x ∷ xs) = omega (arith, sum_by-cons (λ y. 0) x xs, none_in_all xs)
 
 module _ (x : Chain) (is : IsChain x) (local : IsLocal x.call) (first : StartsApart x.start) where
   abbrev r : Rules Kept Working (List Receipt) ChunkResult
@@ -263,7 +274,7 @@ module _ (x : Chain) (is : IsChain x) (local : IsLocal x.call) (first : StartsAp
       (λ d list e. subst (GoodListTo d)
           (sym (mapped_at (λ shard. out_to bs shard (last_work r s h).outgoing) (shards_of x) 0 d list e))
           (filtered_at d (last_work r s h).outgoing)),
-      none_in_all (r.seals (last_work r s h)).lists,
+      none_more (sum_by (λ y. 0) (r.seals (last_work r s h)).lists) (none_in_all (r.seals (last_work r s h)).lists),
     );
   }
     where

@@ -24,7 +24,7 @@ use Rattle.nr_layout.specs.Layout.{out_to}
 use Rattle.nr_records.specs.declared.access_key.AccessKey.{AccessKey}
 use Rattle.nr_records.specs.declared.account.Account.{Account}
 use Rattle.nr_records.specs.declared.receipt.Receipt.{Receipt}
-use Rattle.nr_state.proofs.OverMaps.{at_key}
+use Rattle.nr_state.proofs.ValidSums.{equal}
 use Rattle.nr_state.proofs.ValidOwned.{exact_data, exact_keys, key_total, pair_total}
 use Rattle.nr_state.specs.World.{World, no_world}
 
@@ -75,18 +75,19 @@ module _ {K X : Type 0} {R : K → K → Ordering} (o : IsTotalOrder R) (exact :
 
   not_found : (q : K) → test q ≡ false → (es : List (K × X)) → AllPass es → find R q es ≡ None
   not_found q away [] all = refl
-  not_found q away (e ∷ es) all = by (eq_by_cmp R q e.0) refl
+  not_found q away (e ∷ es) all = by (eq_by_cmp R q e.0) refl (not_found q away es all.1)
     where
-      by : (b : Bool) → eq_by_cmp R q e.0 ≡ b → cond b (Some e.1) (find R q es) ≡ None
-      by true same =
-          let here : test q ≡ true = at_key exact test e.0 q all.0 same in
+      by : (b : Bool) → eq_by_cmp R q e.0 ≡ b → find R q es ≡ None → cond b (Some e.1) (find R q es) ≡ None
+      by true same others =
+          let here : test q ≡ true = ap test (exact q e.0 (equal _ same)) ∙ all.0 in
           absurd (let no : false ≡ true = sym away ∙ here in cc)
-      by false other = not_found q away es all.1
+      by false other others = others
 
   only_entries : (es : List (K × X)) → AllPass es → retain_keys (from_entries {R = R} es) test ≡ from_entries es
   only_entries es all = same_map o exact _ _ (λ q. at q (test q) refl)
     where
-      at : (q : K) (b : Bool) → test q ≡ b → get (retain_keys (from_entries {R = R} es) test) q ≡ get (from_entries es) q
+      at : (q : K) (b : Bool) → test q ≡ b
+          → get (retain_keys (from_entries {R = R} es) test) q ≡ get (from_entries {R = R} es) q
       at q true e =
           get-part o exact (from_entries es) test q ∙ ap (λ b. cond b (get (from_entries es) q) None) e
       at q false e =
@@ -98,7 +99,7 @@ module _ {K X : Type 0} {R : K → K → Ordering} (o : IsTotalOrder R) (exact :
       get-part o exact empty test q ∙ ap (λ a. cond (test q) a None) (get-empty R q) ∙ by (test q)
       ∙ sym (get-empty R q))
     where
-      by : (b : Bool) → cond b None None ≡ None
+      by : (b : Bool) → ◌≡◌ {A = Option X} (cond b None None) None
       by true = refl
       by false = refl
 
@@ -112,12 +113,12 @@ module _ (bs : List (List ℕ)) (s : ℕ) where
 
   kept : (es : List GenesisEntry) → AllByRecursion Owned (entries_of bs s es)
   kept [] = tt
-  kept (e ∷ es) = by (entry_lives_in bs s e) refl
+  kept (e ∷ es) = by (entry_lives_in bs s e) refl (kept es)
     where
-      by : (b : Bool) → entry_lives_in bs s e ≡ b
+      by : (b : Bool) → entry_lives_in bs s e ≡ b → AllByRecursion Owned (entries_of bs s es)
           → AllByRecursion Owned (cond b (e ∷ entries_of bs s es) (entries_of bs s es))
-      by true is = (is, kept es)
-      by false is = kept es
+      by true is others = (is, others)
+      by false is others = others
 
   -- what is taken of the entries has their owners
   module _ {K X : Type 0} (owner_of : K → List ℕ) (take : GenesisEntry → Option (K × X)) (same : (e : GenesisEntry) (p : K × X)
@@ -125,12 +126,13 @@ module _ (bs : List (List ℕ)) (s : ℕ) where
     all_pass : (es : List GenesisEntry) → AllByRecursion Owned es
         → AllByRecursion (λ (p : K × X). test (owner_of p.0) ≡ true) (filter_map take es)
     all_pass [] all = tt
-    all_pass (e ∷ es) all = by (take e) refl
+    all_pass (e ∷ es) all = by (take e) refl (all_pass es all.1)
       where
         by : (p : Option (K × X)) → take e ≡ p
+            → AllByRecursion (λ (p : K × X). test (owner_of p.0) ≡ true) (filter_map take es)
             → AllByRecursion (λ (p : K × X). test (owner_of p.0) ≡ true) (cons_option p (filter_map take es))
-        by None is = all_pass es all.1
-        by (Some p) is = (ap test (same e p is) ∙ all.0, all_pass es all.1)
+        by None is others = others
+        by (Some p) is others = (ap test (same e p is) ∙ all.0, others)
 
 account_owner : (e : GenesisEntry) (p : List ℕ × Account) → account_in e ≡ Some p → p.0 ≡ owner e
 account_owner (kind.Account id account) p is = cc
@@ -147,14 +149,18 @@ code_owner (kind.Datum id key value) p is = absurd cc
 key_owner : (e : GenesisEntry) (p : (List ℕ × PublicKey) × AccessKey) → key_in e ≡ Some p → p.0.0 ≡ owner e
 key_owner (kind.Account id account) p is = absurd cc
 key_owner (kind.Code id code) p is = absurd cc
-key_owner (kind.Key id key access) p is = cc
+key_owner (kind.Key id key access) p is =
+    let same : p ≡ ((id, key), access) = cc in
+    ap (λ (q : (List ℕ × PublicKey) × AccessKey). q.0.0) same
 key_owner (kind.Datum id key value) p is = absurd cc
 
 datum_owner : (e : GenesisEntry) (p : (List ℕ × List ℕ) × List ℕ) → datum_in e ≡ Some p → p.0.0 ≡ owner e
 datum_owner (kind.Account id account) p is = absurd cc
 datum_owner (kind.Code id code) p is = absurd cc
 datum_owner (kind.Key id key access) p is = absurd cc
-datum_owner (kind.Datum id key value) p is = cc
+datum_owner (kind.Datum id key value) p is =
+    let same : p ≡ ((id, key), value) = cc in
+    ap (λ (q : (List ℕ × List ℕ) × List ℕ). q.0.0) same
 
 lives_first : (bs : List (List ℕ)) (s : ℕ) (es : List GenesisEntry) → AllByRecursion (Owned bs s) es
     → LivesIn bs s (genesis_world es)
