@@ -1,33 +1,34 @@
 -- What the phases of a chunk make of a world that lives in its shard.
-use Rattle.std.proofs.Common.{◌≡◌, ℕ, zero, suc, ◌+◌, ◌<◌, ◌≤◌, Bool, true, false, cond, List, [], ◌∷◌, ◌++◌, map, length, Option, Some, None, Ok, Err, refl, sym, ap, subst, ◌∙◌, arith}
-use Rattle.std.specs.Prelude.{◌==◌, filter, fold, slice_get, slice_index_or, sum_by, unwrap_or}
+use Rattle.std.proofs.Common.{◌≡◌, ℕ, zero, suc, ◌+◌, ◌<◌, Bool, true, false, cond, List, [], ◌∷◌, ◌++◌, map, length}
+use Rattle.std.proofs.Common.{Some, None, Ok, Err, refl, sym, ap, subst, ◌∙◌, arith}
+use Rattle.std.specs.Prelude.{fold, slice_get, slice_index_or, sum_by, unwrap_or}
 use Rattle.std.specs.Cmp.Lexicographic.{nat_list_cmp_total}
 use Rattle.std.specs.FinMap.{get}
 use Rattle.std.specs.List.{AllByRecursion, range_with_len}
 use Rattle.std.proofs.lemmas.List.Sums.{sum_by-cons}
 use Rattle.std.proofs.lemmas.Map.Lookups.{exact_bytes}
 use Rattle.nr_apart.proofs.Only.{only_world}
-use Rattle.nr_apart.specs.Apart.{AreTo, LivesIn, StartsApart, StaysApart}
+use Rattle.nr_apart.specs.Apart.{AreTo, StartsApart, StaysApart}
 use Rattle.nr_chunk.proofs.Localized.{valid_keyed}
 use Rattle.nr_chunk.proofs.OverChunk.{IsFor, Stays, opened_over, opened_stays, taken_over, taken_stays}
-use Rattle.nr_chunk.specs.Chain.{Chain, IsChain, chunk_at, first_world, opened_first, place_at, rules_of, shards_of}
-use Rattle.nr_chunk.specs.Chunk.{Opening, begun, by_conversion, convert_all, convert_next, is_local, open_chunk, put_aside, serve_delayed, served_local, take_list, with_converted}
+use Rattle.nr_chunk.specs.Chain.{Chain, IsChain, chunk_at, opened_first, place_at, rules_of, shards_of}
+use Rattle.nr_chunk.specs.Chunk.{Opening, begun, by_conversion, convert_all, convert_next, is_local, open_chunk}
+use Rattle.nr_chunk.specs.Chunk.{put_aside, serve_delayed, served_local, take_list, with_converted}
 use Rattle.nr_chunk.specs.Lawful.{one_each}
-use Rattle.nr_chunk.specs.Start.{Start, shards_in, start_list, start_world}
+use Rattle.nr_chunk.specs.Start.{start_list, start_world}
 use Rattle.nr_chunk.specs.StartSums.{start_valid}
 use Rattle.nr_chunk.specs.Views.{Kept, Working}
 use Rattle.nr_config.specs.Config.{Config}
 use Rattle.nr_cut.proofs.Maps.{absent, test_of, test_same}
 use Rattle.nr_cut.proofs.Worlds.{owned}
 use Rattle.nr_cut.specs.Cut.{HasOnly, lives_in}
-use Rattle.nr_cut.specs.Laws.{AreFor}
-use Rattle.nr_layout.specs.Layout.{out_to, parts, shard_of}
+use Rattle.nr_layout.specs.Layout.{out_to, shard_of}
 use Rattle.nr_overlap.proofs.Bounds.{IsNeverMade}
 use Rattle.nr_overlap.proofs.SerialLemmas.{work_first, work_next}
 use Rattle.nr_overlap.proofs.Staying.{StaysGood, good_world}
 use Rattle.nr_overlap.specs.Balance.{Amount}
 use Rattle.nr_overlap.specs.Rules.{Rules}
-use Rattle.nr_overlap.specs.Serial.{due_after, last_work, list_to, sealing_at, with_list, work, world_after}
+use Rattle.nr_overlap.specs.Serial.{last_work, with_list, work, world_after}
 use Rattle.nr_receipt.proofs.OverExecution.{owned as owned_scope}
 use Rattle.nr_records.specs.declared.chunk_result.ChunkResult.{ChunkResult}
 use Rattle.nr_records.specs.declared.receipt.Receipt.{Receipt}
@@ -170,7 +171,8 @@ of_test : (bs : List (List ℕ)) (s : ℕ) (list : List Receipt) → AllByRecurs
 of_test bs s [] all = tt
 of_test bs s (r ∷ rest) all = (test_of (shard_of bs r.receiver) s all.0, of_test bs s rest all.1)
 
-filtered : (bs : List (List ℕ)) (s : ℕ) (list : List Receipt) → AllByRecursion (IsFor (lives_in bs s)) (out_to bs s list)
+filtered : (bs : List (List ℕ)) (s : ℕ) (list : List Receipt)
+    → AllByRecursion (IsFor (lives_in bs s)) (out_to bs s list)
 filtered bs s [] = tt
 filtered bs s (r ∷ rest) = by (lives_in bs s r.receiver) refl (filtered bs s rest)
   where
@@ -237,7 +239,8 @@ module _ (x : Chain) (is : IsChain x) (local : IsLocal x.call) (first : StartsAp
 
   begins : (s : ℕ) → s < r.shards → GoodWorldAt s (r.begins s)
   begins s l =
-      let here = first.worlds s (start_world x.start s) (item_at x.start.worlds s no_world (omega (arith, l, is.start.worlds)))
+      let here = first.worlds s (start_world x.start s)
+      (item_at x.start.worlds s no_world (omega (arith, l, is.start.worlds)))
       in
       record {
         lives = record {

@@ -1,11 +1,13 @@
 -- The starts of a genesis and of a cut have in each shard what lives there.
-use Rattle.std.proofs.Common.{◌≡◌, ℕ, zero, suc, ◌+◌, ◌<◌, Bool, true, false, cond, List, [], ◌∷◌, map, length, Option, Some, None, Ordering, refl, sym, ap, subst, ◌∙◌, arith}
-use Rattle.std.specs.Prelude.{filter, replicate, slice_get}
+use Rattle.std.proofs.Common.{◌≡◌, ℕ, zero, suc, ◌+◌, Bool, true, false, cond, List, [], ◌∷◌, length, Option, Some}
+use Rattle.std.proofs.Common.{None, Ordering, refl, sym, ap, subst, ◌∙◌, arith}
+use Rattle.std.specs.Prelude.{replicate, slice_get}
 use Rattle.std.specs.Cmp.{IsTotalOrder}
 use Rattle.std.specs.Cmp.Lexicographic.{nat_list_cmp_total}
-use Rattle.std.specs.FinMap.{FinMap, IsAntisymmetric, empty, from_entries, get, get-empty, get-from_entries, retain_keys, same_map}
+use Rattle.std.specs.FinMap.{FinMap, IsAntisymmetric, empty, from_entries, get, get-empty, get-from_entries}
+use Rattle.std.specs.FinMap.{retain_keys, same_map}
 use Rattle.std.specs.FinMap.Entries.{find}
-use Rattle.std.specs.List.{AllByRecursion, cons_option, filter_map, flat_map, range_with_len}
+use Rattle.std.specs.List.{AllByRecursion, cons_option, filter_map, flat_map}
 use Rattle.std.specs.Ordering.{eq_by_cmp}
 use Rattle.std.proofs.lemmas.Map.Lookups.{exact_bytes}
 use Rattle.nr_apart.proofs.Chunks.{mapped_at, out_to_is}
@@ -18,7 +20,6 @@ use Rattle.nr_blocks.specs.declared.genesis_entry.GenesisEntry.TheVariants as ki
 use Rattle.nr_chunk.specs.Start.{Start, genesis_start}
 use Rattle.nr_cut.proofs.Maps.{get-part, retained_twice}
 use Rattle.nr_cut.specs.Cut.{HasOnly, all_beside, carried, cut_world, cut_worlds, lives_in}
-use Rattle.nr_cut.specs.Laws.{AreFor}
 use Rattle.nr_ids.specs.declared.key.PublicKey.{PublicKey}
 use Rattle.nr_layout.specs.Layout.{out_to}
 use Rattle.nr_records.specs.declared.access_key.AccessKey.{AccessKey}
@@ -26,7 +27,7 @@ use Rattle.nr_records.specs.declared.account.Account.{Account}
 use Rattle.nr_records.specs.declared.receipt.Receipt.{Receipt}
 use Rattle.nr_state.proofs.ValidSums.{equal}
 use Rattle.nr_state.proofs.ValidOwned.{exact_data, exact_keys, key_total, pair_total}
-use Rattle.nr_state.specs.World.{World, no_world}
+use Rattle.nr_state.specs.World.{World}
 
 -- ---- the cut
 only_cut : (new : List (List ℕ)) (ws : List World) (s : ℕ) → HasOnly (lives_in new s) (cut_world new ws s)
@@ -56,7 +57,8 @@ cut_of new below ws lists =
 pub cut_starts : (new : List (List ℕ)) (below : ℕ) (ws : List World) (lists : List (List Receipt))
     → StartsApart (cut_of new below ws lists)
 cut_starts new below ws lists = record {
-  worlds = λ s w e. subst (LivesIn new s) (sym (mapped_at (cut_world new ws) (length new + 1) 0 s w e ∙ ap (cut_world new ws) (zero_on s)))
+  worlds = λ s w e. subst (LivesIn new s)
+      (sym (mapped_at (cut_world new ws) (length new + 1) 0 s w e ∙ ap (cut_world new ws) (zero_on s)))
       (lives_cut new ws s);
   carried = λ s list e.
       subst (AreTo new s)
@@ -83,16 +85,15 @@ module _ {K X : Type 0} {R : K → K → Ordering} (o : IsTotalOrder R) (exact :
           absurd (let no : false ≡ true = sym away ∙ here in cc)
       by false other others = others
 
-  only_entries : (es : List (K × X)) → AllPass es → retain_keys (from_entries {R = R} es) test ≡ from_entries es
-  only_entries es all = same_map o exact _ _ (λ q. at q (test q) refl)
+  only_of : (m : FinMap R X) → ((q : K) → test q ≡ false → get m q ≡ None) → retain_keys m test ≡ m
+  only_of m none = same_map o exact _ _ (λ q. at q (test q) refl)
     where
-      at : (q : K) (b : Bool) → test q ≡ b
-          → get (retain_keys (from_entries {R = R} es) test) q ≡ get (from_entries {R = R} es) q
-      at q true e =
-          get-part o exact (from_entries es) test q ∙ ap (λ b. cond b (get (from_entries es) q) None) e
-      at q false e =
-          get-part o exact (from_entries es) test q ∙ ap (λ b. cond b (get (from_entries es) q) None) e
-          ∙ sym (get-from_entries o es q ∙ not_found q e es all)
+      at : (q : K) (b : Bool) → test q ≡ b → get (retain_keys m test) q ≡ get m q
+      at q true e = get-part o exact m test q ∙ ap (λ b. cond b (get m q) None) e
+      at q false e = get-part o exact m test q ∙ ap (λ b. cond b (get m q) None) e ∙ sym (none q e)
+
+  only_entries : (es : List (K × X)) → AllPass es → retain_keys (from_entries {R = R} es) test ≡ from_entries es
+  only_entries es all = only_of (from_entries es) (λ q e. get-from_entries o es q ∙ not_found q e es all)
 
   only_none : retain_keys (empty {X = X} {R = R}) test ≡ empty
   only_none = same_map o exact _ _ (λ q.
@@ -121,7 +122,8 @@ module _ (bs : List (List ℕ)) (s : ℕ) where
       by false is others = others
 
   -- what is taken of the entries has their owners
-  module _ {K X : Type 0} (owner_of : K → List ℕ) (take : GenesisEntry → Option (K × X)) (same : (e : GenesisEntry) (p : K × X)
+  module _ {K X : Type 0} (owner_of : K → List ℕ) (take : GenesisEntry → Option (K × X))
+      (same : (e : GenesisEntry) (p : K × X)
       → take e ≡ Some p → owner_of p.0 ≡ owner e) where
     all_pass : (es : List GenesisEntry) → AllByRecursion Owned es
         → AllByRecursion (λ (p : K × X). test (owner_of p.0) ≡ true) (filter_map take es)
