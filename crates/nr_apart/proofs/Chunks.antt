@@ -1,33 +1,34 @@
 -- What the phases of a chunk make of a world that lives in its shard.
-use Rattle.std.proofs.Common.{◌≡◌, ℕ, zero, suc, ◌+◌, ◌<◌, ◌≤◌, Bool, true, false, cond, List, [], ◌∷◌, ◌++◌, map, length, Option, Some, None, Ok, Err, refl, sym, ap, subst, ◌∙◌, arith}
-use Rattle.std.specs.Prelude.{◌==◌, filter, fold, slice_get, slice_index_or, sum_by, unwrap_or}
+use Rattle.std.proofs.Common.{◌≡◌, ℕ, zero, suc, ◌+◌, ◌<◌, Bool, true, false, cond, List, [], ◌∷◌, ◌++◌, map, length}
+use Rattle.std.proofs.Common.{Some, None, Ok, Err, refl, sym, ap, subst, ◌∙◌, arith}
+use Rattle.std.specs.Prelude.{fold, slice_get, slice_index_or, sum_by, unwrap_or}
 use Rattle.std.specs.Cmp.Lexicographic.{nat_list_cmp_total}
 use Rattle.std.specs.FinMap.{get}
 use Rattle.std.specs.List.{AllByRecursion, range_with_len}
 use Rattle.std.proofs.lemmas.List.Sums.{sum_by-cons}
 use Rattle.std.proofs.lemmas.Map.Lookups.{exact_bytes}
 use Rattle.nr_apart.proofs.Only.{only_world}
-use Rattle.nr_apart.specs.Apart.{AreTo, LivesIn, StartsApart, StaysApart}
+use Rattle.nr_apart.specs.Apart.{AreTo, StartsApart, StaysApart}
 use Rattle.nr_chunk.proofs.Localized.{valid_keyed}
 use Rattle.nr_chunk.proofs.OverChunk.{IsFor, Stays, opened_over, opened_stays, taken_over, taken_stays}
-use Rattle.nr_chunk.specs.Chain.{Chain, IsChain, chunk_at, first_world, opened_first, place_at, rules_of, shards_of}
-use Rattle.nr_chunk.specs.Chunk.{Opening, begun, by_conversion, convert_all, convert_next, is_local, open_chunk, put_aside, serve_delayed, served_local, take_list, with_converted}
+use Rattle.nr_chunk.specs.Chain.{Chain, IsChain, chunk_at, opened_first, place_at, rules_of, shards_of}
+use Rattle.nr_chunk.specs.Chunk.{Opening, begun, by_conversion, convert_all, convert_next, is_local, open_chunk}
+use Rattle.nr_chunk.specs.Chunk.{put_aside, serve_delayed, served_local, take_list, with_converted}
 use Rattle.nr_chunk.specs.Lawful.{one_each}
-use Rattle.nr_chunk.specs.Start.{Start, shards_in, start_list, start_world}
+use Rattle.nr_chunk.specs.Start.{start_list, start_world}
 use Rattle.nr_chunk.specs.StartSums.{start_valid}
 use Rattle.nr_chunk.specs.Views.{Kept, Working}
 use Rattle.nr_config.specs.Config.{Config}
 use Rattle.nr_cut.proofs.Maps.{absent, test_of, test_same}
 use Rattle.nr_cut.proofs.Worlds.{owned}
 use Rattle.nr_cut.specs.Cut.{HasOnly, lives_in}
-use Rattle.nr_cut.specs.Laws.{AreFor}
-use Rattle.nr_layout.specs.Layout.{out_to, parts, shard_of}
+use Rattle.nr_layout.specs.Layout.{out_to, shard_of}
 use Rattle.nr_overlap.proofs.Bounds.{IsNeverMade}
 use Rattle.nr_overlap.proofs.SerialLemmas.{work_first, work_next}
 use Rattle.nr_overlap.proofs.Staying.{StaysGood, good_world}
 use Rattle.nr_overlap.specs.Balance.{Amount}
 use Rattle.nr_overlap.specs.Rules.{Rules}
-use Rattle.nr_overlap.specs.Serial.{due_after, last_work, list_to, sealing_at, with_list, work, world_after}
+use Rattle.nr_overlap.specs.Serial.{last_work, with_list, work, world_after}
 use Rattle.nr_receipt.proofs.OverExecution.{owned as owned_scope}
 use Rattle.nr_records.specs.declared.chunk_result.ChunkResult.{ChunkResult}
 use Rattle.nr_records.specs.declared.receipt.Receipt.{Receipt}
@@ -37,12 +38,13 @@ use Rattle.nr_state.proofs.OverMaps.{get-over}
 use Rattle.nr_state.proofs.ValidOwned.{exact_data, pair_total, same_id}
 use Rattle.nr_state.specs.Calls.{Called}
 use Rattle.nr_state.specs.Local.{IsLocal}
-use Rattle.nr_state.specs.Scopes.{all_of, over}
+use Rattle.nr_state.specs.Scopes.{Scope, all_of, over}
 use Rattle.nr_state.specs.World.{World, no_world}
 use Rattle.nr_state.specs.declared.calls.CallContext.{CallContext}
 use Rattle.nr_state.specs.declared.place.Place.{Place}
 use Rattle.nr_txconvert.proofs.OverConversion.{GoesTo, convert_goes, convert_over, over_conversion}
 use Rattle.nr_txconvert.specs.Conversion.{Conversion, by_signer, convert}
+use Rattle.nr_txconvert.specs.declared.converted.Converted.{Converted}
 
 -- ---- a world that lives in a scope
 record Lives (x : List ℕ → Bool) (w : World) : Type 0 where
@@ -52,6 +54,11 @@ record Lives (x : List ℕ → Bool) (w : World) : Type 0 where
 push : {A : Type 0} (P : A → Type 0) (xs : List A) (y : A) → AllByRecursion P xs → P y → AllByRecursion P (xs ++ y ∷ [])
 push P [] y all here = (here, tt)
 push P (x ∷ xs) y all here = (all.0, push P xs y all.1 here)
+
+-- the world of a conversion that is put together from two
+came_over : (p : Scope) (w : World) (made : World × Converted) → Ok made ≡ over_conversion p w (Ok made)
+    → made.0 ≡ over p made.0 w
+came_over p w made e = cc
 
 -- postponed receipts and the queue are those of another world
 same_waiting : (x : List ℕ → Bool) (u w : World) → u ≡ over owned_scope u w → Stays x w → Stays x u
@@ -105,8 +112,10 @@ module _ (c : Config) (call : World → CallContext → Called) (local : IsLocal
       → came ≡ over_conversion owned_scope o.working.world came → GoesTo tx.receiver came
       → Opens (by_conversion o tx came)
   by_came o tx (Ok made) here h inside apart goes =
-      let within : made.0 ≡ over (all_of x) made.0 o.working.world = cc in
-      let own : made.0 ≡ over owned_scope made.0 o.working.world = cc in
+      let within : made.0 ≡ over (all_of x) made.0 o.working.world =
+      came_over (all_of x) o.working.world made inside in
+      let own : made.0 ≡ over owned_scope made.0 o.working.world =
+      came_over owned_scope o.working.world made apart in
       aside (is_local tx) (with_converted o.working tx made.0 made.1) o.local made.1.receipt
       (λ e. ap x (goes ∙ sym (same_id tx.signer tx.receiver e)) ∙ here)
       (record {
@@ -162,14 +171,15 @@ of_test : (bs : List (List ℕ)) (s : ℕ) (list : List Receipt) → AllByRecurs
 of_test bs s [] all = tt
 of_test bs s (r ∷ rest) all = (test_of (shard_of bs r.receiver) s all.0, of_test bs s rest all.1)
 
-filtered : (bs : List (List ℕ)) (s : ℕ) (list : List Receipt) → AllByRecursion (IsFor (lives_in bs s)) (out_to bs s list)
+filtered : (bs : List (List ℕ)) (s : ℕ) (list : List Receipt)
+    → AllByRecursion (IsFor (lives_in bs s)) (out_to bs s list)
 filtered bs s [] = tt
-filtered bs s (r ∷ rest) = by (lives_in bs s r.receiver) refl
+filtered bs s (r ∷ rest) = by (lives_in bs s r.receiver) refl (filtered bs s rest)
   where
-    by : (b : Bool) → lives_in bs s r.receiver ≡ b
+    by : (b : Bool) → lives_in bs s r.receiver ≡ b → AllByRecursion (IsFor (lives_in bs s)) (out_to bs s rest)
         → AllByRecursion (IsFor (lives_in bs s)) (cond b (r ∷ out_to bs s rest) (out_to bs s rest))
-    by true e = (e, filtered bs s rest)
-    by false e = filtered bs s rest
+    by true e others = (e, others)
+    by false e others = others
 
 pub out_to_is : (bs : List (List ℕ)) (s : ℕ) (list : List Receipt) → AreTo bs s (out_to bs s list)
 out_to_is bs s list = of_test bs s (out_to bs s list) (filtered bs s list)
@@ -187,7 +197,7 @@ item_at (x ∷ xs) zero d l = refl
 item_at (x ∷ xs) (suc s) d l = item_at xs s d (omega (arith, l))
 
 -- ---- a run
-nothing : Amount Kept Working (List Receipt) ChunkResult
+abbrev nothing : Amount Kept Working (List Receipt) ChunkResult
 nothing = record {
   world = λ w. 0;
   working = λ s h n k. 0;
@@ -197,9 +207,12 @@ nothing = record {
   made = λ s h y. 0;
 }
 
+none_more : (n : ℕ) → n ≡ 0 → 0 + 0 + n ≡ 0
+none_more n e = omega (arith, e)
+
 none_in_all : {A : Type 0} (xs : List A) → sum_by (λ y. 0) xs ≡ 0
 none_in_all [] = refl
-none_in_all (x ∷ xs) = sum_by-cons (λ y. 0) x xs ∙ none_in_all xs
+none_in_all (x ∷ xs) = omega (arith, sum_by-cons (λ y. 0) x xs, none_in_all xs)
 
 module _ (x : Chain) (is : IsChain x) (local : IsLocal x.call) (first : StartsApart x.start) where
   abbrev r : Rules Kept Working (List Receipt) ChunkResult
@@ -226,7 +239,8 @@ module _ (x : Chain) (is : IsChain x) (local : IsLocal x.call) (first : StartsAp
 
   begins : (s : ℕ) → s < r.shards → GoodWorldAt s (r.begins s)
   begins s l =
-      let here = first.worlds s (start_world x.start s) (item_at x.start.worlds s no_world (omega (arith, l, is.start.worlds)))
+      let here = first.worlds s (start_world x.start s)
+      (item_at x.start.worlds s no_world (omega (arith, l, is.start.worlds)))
       in
       record {
         lives = record {
@@ -263,7 +277,7 @@ module _ (x : Chain) (is : IsChain x) (local : IsLocal x.call) (first : StartsAp
       (λ d list e. subst (GoodListTo d)
           (sym (mapped_at (λ shard. out_to bs shard (last_work r s h).outgoing) (shards_of x) 0 d list e))
           (filtered_at d (last_work r s h).outgoing)),
-      none_in_all (r.seals (last_work r s h)).lists,
+      none_more (sum_by (λ y. 0) (r.seals (last_work r s h)).lists) (none_in_all (r.seals (last_work r s h)).lists),
     );
   }
     where

@@ -1,11 +1,13 @@
 -- The starts of a genesis and of a cut have in each shard what lives there.
-use Rattle.std.proofs.Common.{◌≡◌, ℕ, zero, suc, ◌+◌, ◌<◌, Bool, true, false, cond, List, [], ◌∷◌, map, length, Option, Some, None, Ordering, refl, sym, ap, subst, ◌∙◌, arith}
-use Rattle.std.specs.Prelude.{filter, replicate, slice_get}
+use Rattle.std.proofs.Common.{◌≡◌, ℕ, zero, suc, ◌+◌, Bool, true, false, cond, List, [], ◌∷◌, length, Option, Some}
+use Rattle.std.proofs.Common.{None, Ordering, refl, sym, ap, subst, ◌∙◌, arith}
+use Rattle.std.specs.Prelude.{replicate, slice_get}
 use Rattle.std.specs.Cmp.{IsTotalOrder}
 use Rattle.std.specs.Cmp.Lexicographic.{nat_list_cmp_total}
-use Rattle.std.specs.FinMap.{FinMap, IsAntisymmetric, empty, from_entries, get, get-empty, get-from_entries, retain_keys, same_map}
+use Rattle.std.specs.FinMap.{FinMap, IsAntisymmetric, empty, from_entries, get, get-empty, get-from_entries}
+use Rattle.std.specs.FinMap.{retain_keys, same_map}
 use Rattle.std.specs.FinMap.Entries.{find}
-use Rattle.std.specs.List.{AllByRecursion, cons_option, filter_map, flat_map, range_with_len}
+use Rattle.std.specs.List.{AllByRecursion, cons_option, filter_map, flat_map}
 use Rattle.std.specs.Ordering.{eq_by_cmp}
 use Rattle.std.proofs.lemmas.Map.Lookups.{exact_bytes}
 use Rattle.nr_apart.proofs.Chunks.{mapped_at, out_to_is}
@@ -18,15 +20,14 @@ use Rattle.nr_blocks.specs.declared.genesis_entry.GenesisEntry.TheVariants as ki
 use Rattle.nr_chunk.specs.Start.{Start, genesis_start}
 use Rattle.nr_cut.proofs.Maps.{get-part, retained_twice}
 use Rattle.nr_cut.specs.Cut.{HasOnly, all_beside, carried, cut_world, cut_worlds, lives_in}
-use Rattle.nr_cut.specs.Laws.{AreFor}
 use Rattle.nr_ids.specs.declared.key.PublicKey.{PublicKey}
 use Rattle.nr_layout.specs.Layout.{out_to}
 use Rattle.nr_records.specs.declared.access_key.AccessKey.{AccessKey}
 use Rattle.nr_records.specs.declared.account.Account.{Account}
 use Rattle.nr_records.specs.declared.receipt.Receipt.{Receipt}
-use Rattle.nr_state.proofs.OverMaps.{at_key}
+use Rattle.nr_state.proofs.ValidSums.{equal}
 use Rattle.nr_state.proofs.ValidOwned.{exact_data, exact_keys, key_total, pair_total}
-use Rattle.nr_state.specs.World.{World, no_world}
+use Rattle.nr_state.specs.World.{World}
 
 -- ---- the cut
 only_cut : (new : List (List ℕ)) (ws : List World) (s : ℕ) → HasOnly (lives_in new s) (cut_world new ws s)
@@ -56,7 +57,8 @@ cut_of new below ws lists =
 pub cut_starts : (new : List (List ℕ)) (below : ℕ) (ws : List World) (lists : List (List Receipt))
     → StartsApart (cut_of new below ws lists)
 cut_starts new below ws lists = record {
-  worlds = λ s w e. subst (LivesIn new s) (sym (mapped_at (cut_world new ws) (length new + 1) 0 s w e ∙ ap (cut_world new ws) (zero_on s)))
+  worlds = λ s w e. subst (LivesIn new s)
+      (sym (mapped_at (cut_world new ws) (length new + 1) 0 s w e ∙ ap (cut_world new ws) (zero_on s)))
       (lives_cut new ws s);
   carried = λ s list e.
       subst (AreTo new s)
@@ -75,30 +77,30 @@ module _ {K X : Type 0} {R : K → K → Ordering} (o : IsTotalOrder R) (exact :
 
   not_found : (q : K) → test q ≡ false → (es : List (K × X)) → AllPass es → find R q es ≡ None
   not_found q away [] all = refl
-  not_found q away (e ∷ es) all = by (eq_by_cmp R q e.0) refl
+  not_found q away (e ∷ es) all = by (eq_by_cmp R q e.0) refl (not_found q away es all.1)
     where
-      by : (b : Bool) → eq_by_cmp R q e.0 ≡ b → cond b (Some e.1) (find R q es) ≡ None
-      by true same =
-          let here : test q ≡ true = at_key exact test e.0 q all.0 same in
+      by : (b : Bool) → eq_by_cmp R q e.0 ≡ b → find R q es ≡ None → cond b (Some e.1) (find R q es) ≡ None
+      by true same others =
+          let here : test q ≡ true = ap test (exact q e.0 (equal _ same)) ∙ all.0 in
           absurd (let no : false ≡ true = sym away ∙ here in cc)
-      by false other = not_found q away es all.1
+      by false other others = others
+
+  only_of : (m : FinMap R X) → ((q : K) → test q ≡ false → get m q ≡ None) → retain_keys m test ≡ m
+  only_of m none = same_map o exact _ _ (λ q. at q (test q) refl)
+    where
+      at : (q : K) (b : Bool) → test q ≡ b → get (retain_keys m test) q ≡ get m q
+      at q true e = get-part o exact m test q ∙ ap (λ b. cond b (get m q) None) e
+      at q false e = get-part o exact m test q ∙ ap (λ b. cond b (get m q) None) e ∙ sym (none q e)
 
   only_entries : (es : List (K × X)) → AllPass es → retain_keys (from_entries {R = R} es) test ≡ from_entries es
-  only_entries es all = same_map o exact _ _ (λ q. at q (test q) refl)
-    where
-      at : (q : K) (b : Bool) → test q ≡ b → get (retain_keys (from_entries {R = R} es) test) q ≡ get (from_entries es) q
-      at q true e =
-          get-part o exact (from_entries es) test q ∙ ap (λ b. cond b (get (from_entries es) q) None) e
-      at q false e =
-          get-part o exact (from_entries es) test q ∙ ap (λ b. cond b (get (from_entries es) q) None) e
-          ∙ sym (get-from_entries o es q ∙ not_found q e es all)
+  only_entries es all = only_of (from_entries es) (λ q e. get-from_entries o es q ∙ not_found q e es all)
 
   only_none : retain_keys (empty {X = X} {R = R}) test ≡ empty
   only_none = same_map o exact _ _ (λ q.
       get-part o exact empty test q ∙ ap (λ a. cond (test q) a None) (get-empty R q) ∙ by (test q)
       ∙ sym (get-empty R q))
     where
-      by : (b : Bool) → cond b None None ≡ None
+      by : (b : Bool) → ◌≡◌ {A = Option X} (cond b None None) None
       by true = refl
       by false = refl
 
@@ -112,25 +114,27 @@ module _ (bs : List (List ℕ)) (s : ℕ) where
 
   kept : (es : List GenesisEntry) → AllByRecursion Owned (entries_of bs s es)
   kept [] = tt
-  kept (e ∷ es) = by (entry_lives_in bs s e) refl
+  kept (e ∷ es) = by (entry_lives_in bs s e) refl (kept es)
     where
-      by : (b : Bool) → entry_lives_in bs s e ≡ b
+      by : (b : Bool) → entry_lives_in bs s e ≡ b → AllByRecursion Owned (entries_of bs s es)
           → AllByRecursion Owned (cond b (e ∷ entries_of bs s es) (entries_of bs s es))
-      by true is = (is, kept es)
-      by false is = kept es
+      by true is others = (is, others)
+      by false is others = others
 
   -- what is taken of the entries has their owners
-  module _ {K X : Type 0} (owner_of : K → List ℕ) (take : GenesisEntry → Option (K × X)) (same : (e : GenesisEntry) (p : K × X)
+  module _ {K X : Type 0} (owner_of : K → List ℕ) (take : GenesisEntry → Option (K × X))
+      (same : (e : GenesisEntry) (p : K × X)
       → take e ≡ Some p → owner_of p.0 ≡ owner e) where
     all_pass : (es : List GenesisEntry) → AllByRecursion Owned es
         → AllByRecursion (λ (p : K × X). test (owner_of p.0) ≡ true) (filter_map take es)
     all_pass [] all = tt
-    all_pass (e ∷ es) all = by (take e) refl
+    all_pass (e ∷ es) all = by (take e) refl (all_pass es all.1)
       where
         by : (p : Option (K × X)) → take e ≡ p
+            → AllByRecursion (λ (p : K × X). test (owner_of p.0) ≡ true) (filter_map take es)
             → AllByRecursion (λ (p : K × X). test (owner_of p.0) ≡ true) (cons_option p (filter_map take es))
-        by None is = all_pass es all.1
-        by (Some p) is = (ap test (same e p is) ∙ all.0, all_pass es all.1)
+        by None is others = others
+        by (Some p) is others = (ap test (same e p is) ∙ all.0, others)
 
 account_owner : (e : GenesisEntry) (p : List ℕ × Account) → account_in e ≡ Some p → p.0 ≡ owner e
 account_owner (kind.Account id account) p is = cc
@@ -147,14 +151,18 @@ code_owner (kind.Datum id key value) p is = absurd cc
 key_owner : (e : GenesisEntry) (p : (List ℕ × PublicKey) × AccessKey) → key_in e ≡ Some p → p.0.0 ≡ owner e
 key_owner (kind.Account id account) p is = absurd cc
 key_owner (kind.Code id code) p is = absurd cc
-key_owner (kind.Key id key access) p is = cc
+key_owner (kind.Key id key access) p is =
+    let same : p ≡ ((id, key), access) = cc in
+    ap (λ (q : (List ℕ × PublicKey) × AccessKey). q.0.0) same
 key_owner (kind.Datum id key value) p is = absurd cc
 
 datum_owner : (e : GenesisEntry) (p : (List ℕ × List ℕ) × List ℕ) → datum_in e ≡ Some p → p.0.0 ≡ owner e
 datum_owner (kind.Account id account) p is = absurd cc
 datum_owner (kind.Code id code) p is = absurd cc
 datum_owner (kind.Key id key access) p is = absurd cc
-datum_owner (kind.Datum id key value) p is = cc
+datum_owner (kind.Datum id key value) p is =
+    let same : p ≡ ((id, key), value) = cc in
+    ap (λ (q : (List ℕ × List ℕ) × List ℕ). q.0.0) same
 
 lives_first : (bs : List (List ℕ)) (s : ℕ) (es : List GenesisEntry) → AllByRecursion (Owned bs s) es
     → LivesIn bs s (genesis_world es)

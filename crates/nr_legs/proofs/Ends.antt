@@ -1,5 +1,6 @@
 -- The end of a chain, and the start that is cut of it.
-use Rattle.std.proofs.Common.{◌≡◌, ℕ, zero, suc, ◌+◌, ◌-◌, ◌^◌, ◌<◌, ◌≤◌, Bool, true, false, cond, List, [], ◌∷◌, ◌++◌, map, length, Option, Some, None, refl, sym, ap, subst, ◌∙◌, arith}
+use Rattle.std.proofs.Common.{◌≡◌, ℕ, zero, suc, ◌+◌, ◌-◌, ◌^◌, ◌<◌, ◌≤◌, Bool, true, false, cond, List, [], ◌∷◌}
+use Rattle.std.proofs.Common.{◌++◌, map, length, Option, Some, None, refl, sym, ap, subst, ◌∙◌, arith}
 use Rattle.std.specs.Prelude.{max, nat_lt, slice_get, sum_by, unwrap_or}
 use Rattle.std.specs.FinMap.{values}
 use Rattle.std.specs.List.{AllByRecursion, flat_map, range_with_len}
@@ -19,7 +20,8 @@ use Rattle.nr_cut.specs.Laws.{CanCut, KeepsLists, KeepsWorlds}
 use Rattle.nr_cut.proofs.Maps.{sum_both}
 use Rattle.nr_cut.proofs.Cuts.{each_carried, keeps_lists, keeps_worlds}
 use Rattle.nr_fees.specs.Fees.{receipt_tokens}
-use Rattle.nr_legs.specs.Legs.{CanGoOn, GoesOn, HoldsAcross, HoldsOver, cut_start, last_lists, last_worlds, sent_from, sent_to}
+use Rattle.nr_legs.specs.Legs.{CanGoOn, GoesOn, HoldsAcross, HoldsOver, cut_start, last_lists, last_worlds, sent_from}
+use Rattle.nr_legs.specs.Legs.{sent_to}
 use Rattle.nr_overlap.specs.Balance.{if_some, sum_below}
 use Rattle.nr_overlap.specs.Inside.{AreInside}
 use Rattle.nr_overlap.specs.Moment.{flight_at, report_at, working_at, world_at}
@@ -38,7 +40,8 @@ use Rattle.nr_overlap.proofs.Sums.{sum_none, sum_same}
 use Rattle.nr_places.proofs.Adding.{IsAdditive, additive_at}
 use Rattle.nr_places.proofs.Counting.{carried_by, measure_each, measure_flying, sum_add, sums}
 use Rattle.nr_places.proofs.Replay.{end_holds, replay_holds}
-use Rattle.nr_places.specs.Moments.{carried_in, delayed, each_below, executed, flying, postponed, routed, waiting_by, waiting_in}
+use Rattle.nr_places.specs.Moments.{carried_in, delayed, each_below, executed, flying, postponed, routed, waiting_by}
+use Rattle.nr_places.specs.Moments.{waiting_in}
 use Rattle.nr_places.specs.Places.{start_receipts, waiting}
 use Rattle.nr_places.specs.Replay.{Holds}
 use Rattle.nr_places.specs.Totals.{list_tally, report_tally, shard_tally, tally_at}
@@ -53,7 +56,8 @@ sum_front : (n : ℕ) (f : ℕ → ℕ) → sum_below (suc n) f ≡ f 0 + sum_be
 sum_front zero f = omega arith
 sum_front (suc n) f = omega (arith, sum_front n f)
 
-sum_flat : {A : Type 0} (g : A → ℕ) (h : ℕ → List A) (n a : ℕ) → sum_by g (flat_map h (range_with_len a n)) ≡ sum_below n (λ s. sum_by g (h (a + s)))
+sum_flat : {A : Type 0} (g : A → ℕ) (h : ℕ → List A) (n a : ℕ) → sum_by g (flat_map h (range_with_len a n))
+    ≡ sum_below n (λ s. sum_by g (h (a + s)))
 sum_flat g h zero a = refl
 sum_flat g h (suc n) a =
     let first : a + 0 ≡ a = omega arith in
@@ -63,7 +67,8 @@ sum_flat g h (suc n) a =
     ∙ (λ i. sum_by g (h (sym first i)) + sum_below n (λ s. sum_by g (h (a + suc s))))
     ∙ sym (sum_front n (λ s. sum_by g (h (a + s))))
 
-sum_mapped : {A : Type 0} (g : A → ℕ) (h : ℕ → A) (n a : ℕ) → sum_by g (map h (range_with_len a n)) ≡ sum_below n (λ s. g (h (a + s)))
+sum_mapped : {A : Type 0} (g : A → ℕ) (h : ℕ → A) (n a : ℕ) → sum_by g (map h (range_with_len a n))
+    ≡ sum_below n (λ s. g (h (a + s)))
 sum_mapped g h zero a = refl
 sum_mapped g h (suc n) a =
     let first : a + 0 ≡ a = omega arith in
@@ -98,13 +103,16 @@ all_zero f [] all = refl
 all_zero f (x ∷ xs) all = omega (arith, sum_by-cons f x xs, all.0, all_zero f xs all.1)
 
 -- a fact of each number below is one of each element
-each_below_is : {A : Type 0} (P : A → Type 0) (h : ℕ → A) (n a : ℕ) → ((s : ℕ) → s < a + n → P (h s)) → AllByRecursion P (map h (range_with_len a n))
+each_below_is : {A : Type 0} (P : A → Type 0) (h : ℕ → A) (n a : ℕ) → ((s : ℕ) → s < a + n → P (h s))
+    → AllByRecursion P (map h (range_with_len a n))
 each_below_is P h zero a all = tt
 each_below_is P h (suc n) a all = (all a (omega arith), each_below_is P h n (a + 1) (λ s l. all s (omega (arith, l))))
 
-each_flat_is : {A : Type 0} (P : A → Type 0) (h : ℕ → List A) (n a : ℕ) → ((s : ℕ) → s < a + n → AllByRecursion P (h s)) → AllByRecursion P (flat_map h (range_with_len a n))
+each_flat_is : {A : Type 0} (P : A → Type 0) (h : ℕ → List A) (n a : ℕ)
+    → ((s : ℕ) → s < a + n → AllByRecursion P (h s)) → AllByRecursion P (flat_map h (range_with_len a n))
 each_flat_is P h zero a all = tt
-each_flat_is {A} P h (suc n) a all = joined (h a) (flat_map h (range_with_len (a + 1) n)) (all a (omega arith)) (each_flat_is P h n (a + 1) (λ s l. all s (omega (arith, l))))
+each_flat_is {A} P h (suc n) a all = joined (h a) (flat_map h (range_with_len (a + 1) n)) (all a (omega arith))
+    (each_flat_is P h n (a + 1) (λ s l. all s (omega (arith, l))))
   where
     joined : (xs ys : List A) → AllByRecursion P xs → AllByRecursion P ys → AllByRecursion P (xs ++ ys)
     joined [] ys one two = two
@@ -113,7 +121,8 @@ each_flat_is {A} P h (suc n) a all = joined (h a) (flat_map h (range_with_len (a
 small_both : (w : World) → postponed_sum large w ≡ 0 → delayed_sum large w ≡ 0 → IsSmall w
 small_both w p d = record { postponed = p; delayed = d }
 
-each_small : (ws : List World) → AllByRecursion (λ w. postponed_sum large w ≡ 0) ws → AllByRecursion (λ w. delayed_sum large w ≡ 0) ws → AllByRecursion IsSmall ws
+each_small : (ws : List World) → AllByRecursion (λ w. postponed_sum large w ≡ 0) ws
+    → AllByRecursion (λ w. delayed_sum large w ≡ 0) ws → AllByRecursion IsSmall ws
 each_small [] p d = tt
 each_small (w ∷ ws) p d = (small_both w p.0 d.0, each_small ws p.1 d.1)
 
@@ -168,19 +177,24 @@ module _ (x : Chain) (is : IsChain x) (can : CanGoOn x) where
       top : (m : ℕ) → 0 < m → max 1 m ≡ m
       top m l = omega arith
 
-  flies : (s h d : ℕ) → s < n → d < n → h ≤ hs → flight_at r e s h d ≡ cond (nat_lt h hs) None (list_to r (sealing_at r s h) d)
-  flies s h d sl dl hl = whole.list s h d sl dl hl ∙ ap (λ t. cond (nat_lt h t) None (list_to r (sealing_at r s h) d)) (due_last d dl)
+  flies : (s h d : ℕ) → s < n → d < n → h ≤ hs → flight_at r e s h d
+      ≡ cond (nat_lt h hs) None (list_to r (sealing_at r s h) d)
+  flies s h d sl dl hl = whole.list s h d sl dl hl
+      ∙ ap (λ t. cond (nat_lt h t) None (list_to r (sealing_at r s h) d)) (due_last d dl)
 
   flights : (g : List Receipt → ℕ) → g [] ≡ 0 → (s : ℕ) → s < n
-      → sum_below hs (λ h. sum_below n (λ d. if_some g (flight_at r e s (h + 1) d))) ≡ sum_below n (λ d. g (sent_to x s d))
+      → sum_below hs (λ h. sum_below n (λ d. if_some g (flight_at r e s (h + 1) d)))
+      ≡ sum_below n (λ d. g (sent_to x s d))
   flights g none s sl =
       only_last hs (λ h. sum_below n (λ d. if_some g (flight_at r e s (h + 1) d))) can.some (λ h l.
       sum_none n (λ d. if_some g (flight_at r e s (h + 1) d)) (λ d dl.
-      ap (if_some g) (flies s (h + 1) d sl dl (omega (arith, l)) ∙ ap (λ b. cond b None (list_to r (sealing_at r s (h + 1)) d)) (is_lt (h + 1) hs l))))
+      ap (if_some g) (flies s (h + 1) d sl dl (omega (arith, l))
+      ∙ ap (λ b. cond b None (list_to r (sealing_at r s (h + 1)) d)) (is_lt (h + 1) hs l))))
       ∙ sum_same n (λ d. g (sent_to x s d)) (λ d. if_some g (flight_at r e s (hs - 1 + 1) d)) (λ d dl.
       let back : hs - 1 + 1 ≡ hs = omega (arith, can.some) in
       ap (λ h. if_some g (flight_at r e s h d)) back
-      ∙ ap (if_some g) (flies s hs d sl dl (omega arith) ∙ ap (λ b. cond b None (list_to r (sealing_at r s hs) d)) (not_lt hs hs (omega arith)))
+      ∙ ap (if_some g) (flies s hs d sl dl (omega arith)
+      ∙ ap (λ b. cond b None (list_to r (sealing_at r s hs) d)) (not_lt hs hs (omega arith)))
       ∙ if_or g none (list_to r (sealing_at r s hs) d))
 
   -- ---- what the cut is made of
@@ -191,19 +205,25 @@ module _ (x : Chain) (is : IsChain x) (can : CanGoOn x) where
   lists_sum g =
       sum_flat g (sent_from x) n 0
       ∙ (λ i. sum_below n (λ s. sum_by g (sent_from x (zero_on s i))))
-      ∙ (λ i. sum_below n (λ s. (sum_mapped g (sent_to x s) n 0 ∙ (λ j. sum_below n (λ d. g (sent_to x s (zero_on d j))))) i))
+      ∙ (λ i. sum_below n (λ s. (sum_mapped g (sent_to x s) n 0
+      ∙ (λ j. sum_below n (λ d. g (sent_to x s (zero_on d j))))) i))
 
   -- ---- what stands at the end
-  kept_end : kept (tally_at x e) ≡ sum_below n (λ s. world_tokens c (w_of s).world + sum_below n (λ d. list_tokens c (sent_to x s d)))
+  kept_end : kept (tally_at x e) ≡ sum_below n
+      (λ s. world_tokens c (w_of s).world + sum_below n (λ d. list_tokens c (sent_to x s d)))
   kept_end =
-      additive_at kept adds_kept x e (λ s. world_tokens c (w_of s).world) (λ s h. 0) (λ s h d. if_some (list_tokens c) (flight_at r e s (h + 1) d))
+      additive_at kept adds_kept x e (λ s. world_tokens c (w_of s).world) (λ s h. 0)
+      (λ s h d. if_some (list_tokens c) (flight_at r e s (h + 1) d))
       (λ s l. ap (λ o. kept (shard_tally c o (working_at r s (at e s)))) (whole.world s l)
-      ∙ of_world (accounts_tokens (w_of s).world) (waiting_tokens c (w_of s).world) (list_tokens c (w_of s).carried) (ap (list_tokens c) (carried_end s l)))
+      ∙ of_world (accounts_tokens (w_of s).world) (waiting_tokens c (w_of s).world) (list_tokens c (w_of s).carried)
+      (ap (list_tokens c) (carried_end s l)))
       (λ s h l m. of_report (report_at r e s (h + 1))) (λ s h d. of_list (flight_at r e s (h + 1) d))
       ∙ sum_same n (λ s. world_tokens c (w_of s).world + sum_below n (λ d. list_tokens c (sent_to x s d)))
-      (λ s. world_tokens c (w_of s).world + sum_below hs (λ h. 0 + sum_below n (λ d. if_some (list_tokens c) (flight_at r e s (h + 1) d)))) (λ s l.
+      (λ s. world_tokens c (w_of s).world + sum_below hs
+      (λ h. 0 + sum_below n (λ d. if_some (list_tokens c) (flight_at r e s (h + 1) d)))) (λ s l.
       ap (λ t. world_tokens c (w_of s).world + t)
-      (sum_same hs (λ h. sum_below n (λ d. if_some (list_tokens c) (flight_at r e s (h + 1) d))) (λ h. 0 + sum_below n (λ d. if_some (list_tokens c) (flight_at r e s (h + 1) d))) (λ h m. zero_on _)
+      (sum_same hs (λ h. sum_below n (λ d. if_some (list_tokens c) (flight_at r e s (h + 1) d)))
+      (λ h. 0 + sum_below n (λ d. if_some (list_tokens c) (flight_at r e s (h + 1) d))) (λ h m. zero_on _)
       ∙ flights (list_tokens c) refl s l))
     where
       of_world : (a w l : ℕ) → l ≡ 0 → a + (w + l) ≡ a + w
@@ -225,15 +245,18 @@ module _ (x : Chain) (is : IsChain x) (can : CanGoOn x) where
         waits (λ w. values w.postponed),
         waits (λ w. w.delayed),
         measure_flying (sum_by f) (sums f) x e,
-        sum_same n (λ s. sum_below n (λ d. sum_by f (sent_to x s d))) (λ s. carried_by (sum_by f) (sums f) x e s + sum_below hs (λ h. sum_below n (λ d. if_some (sum_by f) (flight_at r e s (h + 1) d)))) (λ s l.
-        (λ i. none_carried s l i + flights (sum_by f) refl s l i) ∙ zero_on _),
+        sum_same n (λ s. sum_below n (λ d. sum_by f (sent_to x s d)))
+            (λ s. carried_by (sum_by f) (sums f) x e s + sum_below hs
+            (λ h. sum_below n (λ d. if_some (sum_by f) (flight_at r e s (h + 1) d)))) (λ s l.
+            (λ i. none_carried s l i + flights (sum_by f) refl s l i) ∙ zero_on _),
         sum_add n (λ s. postponed_sum f (w_of s).world) (λ s. delayed_sum f (w_of s).world),
       )
     where
       none_carried : (s : ℕ) → s < n → carried_by (sum_by f) (sums f) x e s ≡ 0
       none_carried s l = ap (λ o. sum_by f (carried_in o)) (whole.world s l) ∙ ap (sum_by f) (carried_end s l)
 
-      waits : (g : World → List Receipt) → sum_by f (each_below n (waiting_by x e g)) ≡ sum_below n (λ s. sum_by f (g (w_of s).world))
+      waits : (g : World → List Receipt) → sum_by f (each_below n (waiting_by x e g))
+          ≡ sum_below n (λ s. sum_by f (g (w_of s).world))
       waits g =
           measure_each (sum_by f) (sums f) n (waiting_by x e g)
           ∙ sum_same n (λ s. sum_by f (g (w_of s).world)) (λ s. sum_by f (waiting_by x e g s)) (λ s l.
@@ -255,7 +278,8 @@ module _ (x : Chain) (is : IsChain x) (can : CanGoOn x) where
           good_sent x is s (hs - 1) d list l (omega (arith, can.some)) (ap (r.present s) back ∙ can.there s l)
           (ap (λ h. list_to r (sealing_at r s h) d) back ∙ is_list)
 
-  tokens_all : sum_by (world_tokens c) (last_worlds x) + sum_by (list_tokens c) (last_lists x) ≡ (tally_at x e).accounts + (tally_at x e).receipts
+  tokens_all : sum_by (world_tokens c) (last_worlds x) + sum_by (list_tokens c) (last_lists x)
+      ≡ (tally_at x e).accounts + (tally_at x e).receipts
   tokens_all =
       omega (
         arith,
@@ -270,15 +294,18 @@ module _ (x : Chain) (is : IsChain x) (can : CanGoOn x) where
 
   can_cut : CanCut c x.start.boundaries (last_worlds x)
   can_cut = record {
-    valid = each_below_is (IsValidWorld c) (λ s. (w_of s).world) n 0 (λ s l. (good_world_end s (omega (arith, l))).valid);
+    valid = each_below_is (IsValidWorld c) (λ s. (w_of s).world) n 0
+        (λ s l. (good_world_end s (omega (arith, l))).valid);
     apart = can.apart;
     tokens = omega (arith, tokens_all, held.tokens, is.start.few);
   }
 
   none_large : (f : World → ℕ) → ((s : ℕ) → s < n → f (w_of s).world ≡ 0) → sum_by f (last_worlds x) ≡ 0
-  none_large f none = all_zero f (last_worlds x) (each_below_is (λ w. f w ≡ 0) (λ s. (w_of s).world) n 0 (λ s l. none s (omega (arith, l))))
+  none_large f none = all_zero f (last_worlds x)
+      (each_below_is (λ w. f w ≡ 0) (λ s. (w_of s).world) n 0 (λ s l. none s (omega (arith, l))))
 
-  waiting_sum : (f : Receipt → ℕ) (vs : List World) → sum_by (waiting f) vs ≡ sum_by (postponed_sum f) vs + sum_by (delayed_sum f) vs
+  waiting_sum : (f : Receipt → ℕ) (vs : List World) → sum_by (waiting f) vs
+      ≡ sum_by (postponed_sum f) vs + sum_by (delayed_sum f) vs
   waiting_sum f vs = sum_both (postponed_sum f) (delayed_sum f) vs
 
   module _ (new : List (List ℕ)) where
@@ -298,8 +325,11 @@ module _ (x : Chain) (is : IsChain x) (can : CanGoOn x) where
         lists = kl.count;
         valid = kw.valid;
         small = each_small (cut_worlds new (last_worlds x))
-            (each_zero (postponed_sum large) (cut_worlds new (last_worlds x)) (kw.postponed_sum large ∙ none_large (postponed_sum large) (λ s l. (good_world_end s l).small.postponed)))
-            (each_zero (delayed_sum large) (cut_worlds new (last_worlds x)) (kw.delayed_sum large ∙ none_large (delayed_sum large) (λ s l. (good_world_end s l).small.delayed)));
+            (each_zero (postponed_sum large) (cut_worlds new (last_worlds x))
+            (kw.postponed_sum large ∙ none_large (postponed_sum large)
+            (λ s l. (good_world_end s l).small.postponed)))
+            (each_zero (delayed_sum large) (cut_worlds new (last_worlds x))
+            (kw.delayed_sum large ∙ none_large (delayed_sum large) (λ s l. (good_world_end s l).small.delayed)));
         good = each_carried new (IsGood c) (last_lists x) (each_flat_is (AreGood c) (sent_from x) n 0 (λ s l.
             each_below_is (AreGood c) (sent_to x s) n 0 (λ d m. good_list_end s d (omega (arith, l)))));
         few = omega (arith, tokens_kept, held.tokens, is.start.few);
@@ -326,7 +356,8 @@ holds_across x is can new y config start isy es inside =
     let on : GoesOn x new = goes_on x is can new in
     let one : Holds x (ending (rules_of x)) = end_holds x is in
     let two : Holds y (run_of (rules_of y) (opening (rules_of y)) es) = replay_holds y isy es inside in
-    let same : start_tokens y.config y.start ≡ start_tokens x.config (cut_start x new) = λ i. start_tokens (config i) (start i) in
+    let same : start_tokens y.config y.start
+    ≡ start_tokens x.config (cut_start x new) = λ i. start_tokens (config i) (start i) in
     record {
       tokens = omega (arith, two.tokens, same, on.tokens, one.tokens);
       places = λ f. omega (arith, two.places f, ap (start_receipts f) start, on.receipts f, one.places f);

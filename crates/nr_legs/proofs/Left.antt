@@ -1,5 +1,6 @@
 -- The lists that no chunk takes, of a chain whose last block has each chunk: those that the last block's chunks sent.
-use Rattle.std.proofs.Common.{◌≡◌, ℕ, zero, suc, ◌+◌, ◌-◌, ◌<◌, inl, inr, cond, List, [], ◌∷◌, ◌++◌, map, length, Option, Some, None, refl, sym, ap, ◌∙◌, arith}
+use Rattle.std.proofs.Common.{◌≡◌, ℕ, zero, suc, ◌+◌, ◌-◌, ◌<◌, inl, inr, cond, List, [], ◌∷◌, ◌++◌, map, length}
+use Rattle.std.proofs.Common.{Option, Some, None, refl, sym, ap, ◌∙◌, arith}
 use Rattle.std.specs.Prelude.{nat_lt, slice_get, unwrap_or}
 use Rattle.std.specs.List.{flat_map, range_with_len}
 use Rattle.std.specs.Option.{option_map, option_to_list}
@@ -21,19 +22,23 @@ use Rattle.nr_records.specs.declared.chunk_result.ChunkResult.{ChunkResult}
 use Rattle.nr_records.specs.declared.receipt.Receipt.{Receipt}
 
 -- ---- lists of lists
-map_flat : {A B : Type 0} (g : A → B) (f : ℕ → List A) (ns : List ℕ) → map g (flat_map f ns) ≡ flat_map (λ s. map g (f s)) ns
+map_flat : {A B : Type 0} (g : A → B) (f : ℕ → List A) (ns : List ℕ) → map g (flat_map f ns)
+    ≡ flat_map (λ s. map g (f s)) ns
 map_flat g f [] = refl
 map_flat g f (n ∷ ns) = map-append g (f n) (flat_map f ns) ∙ ap (λ t. map g (f n) ++ t) (map_flat g f ns)
 
-flat_same : {A : Type 0} (f g : ℕ → List A) (n a : ℕ) → ((s : ℕ) → s < a + n → f s ≡ g s) → flat_map f (range_with_len a n) ≡ flat_map g (range_with_len a n)
+flat_same : {A : Type 0} (f g : ℕ → List A) (n a : ℕ) → ((s : ℕ) → s < a + n → f s ≡ g s)
+    → flat_map f (range_with_len a n) ≡ flat_map g (range_with_len a n)
 flat_same f g zero a all = refl
 flat_same f g (suc n) a all = λ i. all a (omega arith) i ++ flat_same f g n (a + 1) (λ s l. all s (omega (arith, l))) i
 
-flat_none : {A : Type 0} (f : ℕ → List A) (n a : ℕ) → ((s : ℕ) → s < a + n → f s ≡ []) → flat_map f (range_with_len a n) ≡ []
+flat_none : {A : Type 0} (f : ℕ → List A) (n a : ℕ) → ((s : ℕ) → s < a + n → f s ≡ [])
+    → flat_map f (range_with_len a n) ≡ []
 flat_none f zero a none = refl
 flat_none f (suc n) a none = λ i. none a (omega arith) i ++ flat_none f n (a + 1) (λ s l. none s (omega (arith, l))) i
 
-flat_last : {A : Type 0} (f : ℕ → List A) (k a : ℕ) → ((h : ℕ) → h < a + k → f h ≡ []) → flat_map f (range_with_len a (suc k)) ≡ f (a + k)
+flat_last : {A : Type 0} (f : ℕ → List A) (k a : ℕ) → ((h : ℕ) → h < a + k → f h ≡ [])
+    → flat_map f (range_with_len a (suc k)) ≡ f (a + k)
 flat_last f zero a none =
     let same : a ≡ a + 0 = omega arith in
     append-nil (f a) ∙ ap f same
@@ -51,7 +56,8 @@ within_some : {A : Type 0} (xs : List A) (i : ℕ) → i < length xs → (a : A)
 within_some xs i l = elim ((slice_get_cases xs i).1) [ inl p ↦ (p.0, p.2) | inr p ↦ absurd (omega (arith, p.0, l)) ]
 
 of_left : (s h d : ℕ) (o : Option (List Receipt))
-    → map left_of (option_to_list (option_map (λ list. (record { 0 = s }, record { 0 = h }, record { 0 = d }, list)) o)) ≡ option_to_list o
+    → map left_of (option_to_list (option_map
+    (λ list. (record { 0 = s }, record { 0 = h }, record { 0 = d }, list)) o)) ≡ option_to_list o
 of_left s h d None = refl
 of_left s h d (Some list) = refl
 
@@ -74,7 +80,8 @@ module _ (x : Chain) (is : IsChain x) (can : CanGoOn x) where
   some_last : (s d : ℕ) → s < n → d < n → (list : List Receipt) × (list_to r (sealing_at r s hs) d ≡ Some list)
   some_last s d sl dl =
       let k : Working = work r s (hs - 1) (length (due_after r s (hs - 1))) in
-      let sealed : sealing_at r s hs ≡ Some (r.seals k) = ap (sealing_at r s) (sym back) ∙ sealing_there r s (hs - 1) (ap (r.present s) back ∙ can.there s sl) in
+      let sealed : sealing_at r s hs ≡ Some (r.seals k) = ap (sealing_at r s) (sym back)
+      ∙ sealing_there r s (hs - 1) (ap (r.present s) back ∙ can.there s sl) in
       let some = within_some (r.seals k).lists d (omega (arith, dl, one_each x is k)) in
       (some.0, ap (λ o. list_to r o d) sealed ∙ some.1)
 
@@ -87,7 +94,8 @@ module _ (x : Chain) (is : IsChain x) (can : CanGoOn x) where
   at_last s d sl dl =
       let some = some_last s d sl dl in
       of_left s hs d (left_list r s hs d)
-      ∙ ap option_to_list (left_is s hs d dl ∙ ap (λ b. cond b None (list_to r (sealing_at r s hs) d)) (not_lt hs hs (omega arith)) ∙ some.1)
+      ∙ ap option_to_list (left_is s hs d dl
+      ∙ ap (λ b. cond b None (list_to r (sealing_at r s hs) d)) (not_lt hs hs (omega arith)) ∙ some.1)
       ∙ ap (λ o. unwrap_or o [] ∷ []) (sym some.1)
 
   height_none : (s h : ℕ) → h < hs → map left_of (left_by_height r s h) ≡ []
@@ -98,7 +106,8 @@ module _ (x : Chain) (is : IsChain x) (can : CanGoOn x) where
   height_last : (s : ℕ) → s < n → map left_of (left_by_height r s hs) ≡ sent_from x s
   height_last s sl =
       map_flat left_of (left_at r s hs) (shard_numbers r)
-      ∙ flat_same (λ d. map left_of (left_at r s hs d)) (λ d. sent_to x s d ∷ []) n 0 (λ d l. at_last s d sl (omega (arith, l)))
+      ∙ flat_same (λ d. map left_of (left_at r s hs d)) (λ d. sent_to x s d ∷ []) n 0
+      (λ d l. at_last s d sl (omega (arith, l)))
       ∙ flat_one (sent_to x s) (shard_numbers r)
 
   source_last : (s : ℕ) → s < n → map left_of (left_by_source r s) ≡ sent_from x s
@@ -107,7 +116,8 @@ module _ (x : Chain) (is : IsChain x) (can : CanGoOn x) where
       let end : 1 + (hs - 1) ≡ hs = omega (arith, can.some) in
       map_flat left_of (left_by_height r s) (heights_between r 1 hs)
       ∙ ap (λ m. flat_map (λ h. map left_of (left_by_height r s h)) (range_with_len 1 m)) count
-      ∙ flat_last (λ h. map left_of (left_by_height r s h)) (hs - 1) 1 (λ h m. height_none s h (omega (arith, m, can.some)))
+      ∙ flat_last (λ h. map left_of (left_by_height r s h)) (hs - 1) 1
+      (λ h m. height_none s h (omega (arith, m, can.some)))
       ∙ ap (λ h. map left_of (left_by_height r s h)) end
       ∙ height_last s sl
 

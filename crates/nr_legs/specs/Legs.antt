@@ -1,4 +1,5 @@
--- A run that goes on under other boundaries where a chain is over: its start is the cut of the last worlds and of the lists of the last block. This project's own.
+-- A run that goes on under other boundaries where a chain is over: its start is the cut of the last worlds and of
+-- the lists of the last block. This project's own.
 use Rattle.std.specs.Prelude.{◌≡◌, ℕ, ◌+◌, ◌<◌, true, List, [], map, sum_by, unwrap_or}
 use Rattle.std.specs.List.{flat_map}
 use Rattle.nr_chunk.specs.Chain.{Chain, IsChain, rules_of}
@@ -51,9 +52,11 @@ module _ (x : Chain) where
   -- it is a start, which has the tokens and the receipts of the end
   pub record GoesOn (new : List (List ℕ)) : Type 0 where
     pub start : IsStart x.config (cut_start new)
-    pub tokens : start_tokens x.config (cut_start new) ≡ (tally_at x (ending (rules_of x))).accounts + (tally_at x (ending (rules_of x))).receipts
+    pub tokens : start_tokens x.config (cut_start new)
+        ≡ (tally_at x (ending (rules_of x))).accounts + (tally_at x (ending (rules_of x))).receipts
     pub receipts : (f : Receipt → ℕ) → start_receipts f (cut_start new)
-        ≡ sum_by f (postponed x (ending (rules_of x))) + sum_by f (delayed x (ending (rules_of x))) + sum_by f (flying x (ending (rules_of x)))
+        ≡ sum_by f (postponed x (ending (rules_of x))) + sum_by f (delayed x (ending (rules_of x))) + sum_by f
+        (flying x (ending (rules_of x)))
 
 -- ---- of a list that no chunk takes, what it has: together they are the lists of the last block
 abbrev pub left_of : ShardId × Height × ShardId × List Receipt → List Receipt
@@ -64,10 +67,14 @@ LeavesLast x = map left_of (lists_left (rules_of x)) ≡ last_lists x
 
 -- ---- both legs as one run: at each moment of the second all adds up to what the first started with
 pub record HoldsOver (x y : Chain) (ps : List Position) : Type 0 where
-  pub tokens : (tally_at y ps).accounts + (tally_at y ps).receipts + ((tally_at x (ending (rules_of x))).burnt + (tally_at y ps).burnt) ≡ start_tokens x.config x.start
-  pub places : (f : Receipt → ℕ) → start_receipts f x.start + (sum_by f (routed x (ending (rules_of x))) + sum_by f (routed y ps))
-      ≡ (sum_by f (executed x (ending (rules_of x))) + sum_by f (executed y ps)) + sum_by f (postponed y ps) + sum_by f (delayed y ps) + sum_by f (flying y ps)
+  pub tokens : (tally_at y ps).accounts + (tally_at y ps).receipts +
+      ((tally_at x (ending (rules_of x))).burnt + (tally_at y ps).burnt) ≡ start_tokens x.config x.start
+  pub places : (f : Receipt → ℕ) → start_receipts f x.start +
+      (sum_by f (routed x (ending (rules_of x))) + sum_by f (routed y ps))
+      ≡ (sum_by f (executed x (ending (rules_of x))) + sum_by f (executed y ps)) + sum_by f (postponed y ps)
+      + sum_by f (delayed y ps) + sum_by f (flying y ps)
 
 abbrev pub HoldsAcross : Chain → Type 0
 HoldsAcross x = (new : List (List ℕ)) (y : Chain) → y.config ≡ x.config → y.start ≡ cut_start x new → IsChain y
-    → (es : List Event) → AreInside (rules_of y).shards es → HoldsOver x y (run_of (rules_of y) (opening (rules_of y)) es)
+    → (es : List Event) → AreInside (rules_of y).shards es
+    → HoldsOver x y (run_of (rules_of y) (opening (rules_of y)) es)

@@ -4,8 +4,8 @@ ghost use Rattle.std.specs.Prelude.{ℕ, List};
 ghost use Rattle.nr_chunk.specs.Chain.{Chain, IsChain};
 ghost use Rattle.nr_legs.specs.Legs.{CanGoOn, GoesOn, HoldsAcross, LeavesLast};
 
-/// The cut of a chain's end is a start, and at every moment of what follows tokens and receipts add up to what the chain
-/// itself started with. It does nothing when it runs.
+/// The cut of a chain's end is a start, and at every moment of what follows tokens and receipts add up to what the
+/// chain itself started with. It does nothing when it runs.
 pub fn leg_laws()
     ensures start { (x : Chain) → IsChain x → CanGoOn x → (new : List (List ℕ)) → GoesOn x new }
     // What a closed core leaves is what the cut routes anew.

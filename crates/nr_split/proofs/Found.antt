@@ -30,7 +30,7 @@ pub firsts : {A B : Type 0} → (A → Option B) → List A → Option B
 firsts f [] = None
 firsts f (x ∷ xs) = either (f x) (firsts f xs)
 
-pub none_of : {A : Type 0} (b : Bool) → cond b (None {A = A}) None ≡ None
+pub none_of : {A : Type 0} (b : Bool) → ◌≡◌ {A = Option A} (cond b None None) None
 none_of true = refl
 none_of false = refl
 
@@ -43,22 +43,23 @@ module _ (x : List ℕ → Bool) (q : List ℕ) where
   one_found : (es : List Entry)
       → find bytes_cmp q (pairs_of (owned_in x es)) ≡ cond (is_owned x q) (find bytes_cmp q (pairs_of es)) None
   one_found [] = sym (none_of (is_owned x q))
-  one_found (e ∷ es) = by (is_owned x e.key) (eq_by_cmp bytes_cmp q e.key) refl refl
+  one_found (e ∷ es) = by (is_owned x e.key) (eq_by_cmp bytes_cmp q e.key) refl refl (one_found es)
     where
       by : (owned same : Bool) → is_owned x e.key ≡ owned → eq_by_cmp bytes_cmp q e.key ≡ same
+          → find bytes_cmp q (pairs_of (owned_in x es)) ≡ cond (is_owned x q) (find bytes_cmp q (pairs_of es)) None
           → find bytes_cmp q (pairs_of (cond owned (e ∷ []) [] ++ owned_in x es))
           ≡ cond (is_owned x q) (cond same (Some e.value) (find bytes_cmp q (pairs_of es))) None
-      by true true is alike =
+      by true true is alike others =
           let here : is_owned x q ≡ true = ap (is_owned x) ((bytes_tested q e.key true alike).1 refl) ∙ is in
           ap (λ b. cond b (Some e.value) (find bytes_cmp q (pairs_of (owned_in x es)))) alike
           ∙ sym (ap (λ b. cond b (Some e.value) None) here)
-      by true false is alike =
-          ap (λ b. cond b (Some e.value) (find bytes_cmp q (pairs_of (owned_in x es)))) alike ∙ one_found es
-      by false true is alike =
+      by true false is alike others =
+          ap (λ b. cond b (Some e.value) (find bytes_cmp q (pairs_of (owned_in x es)))) alike ∙ others
+      by false true is alike others =
           let away : is_owned x q ≡ false = ap (is_owned x) ((bytes_tested q e.key true alike).1 refl) ∙ is in
-          one_found es ∙ ap (λ b. cond b (find bytes_cmp q (pairs_of es)) None) away
+          others ∙ ap (λ b. cond b (find bytes_cmp q (pairs_of es)) None) away
           ∙ sym (ap (λ b. cond b (Some e.value) None) away)
-      by false false is alike = one_found es
+      by false false is alike others = others
 
   -- of all worlds
   all_found : (worlds : List (List Entry))
@@ -91,14 +92,15 @@ canon_none b = ap (canon b) (sym (get-empty bytes_cmp b)) ∙ canon_of empty is_
 canon_firsts : (b : List ℕ) (worlds : List (List Entry)) → AllByRecursion AreWholeEntries worlds
     → canon b (firsts (λ es. get (contents_of es) b) worlds) ≡ firsts (λ es. get (contents_of es) b) worlds
 canon_firsts b [] all = canon_none b
-canon_firsts b (es ∷ worlds) all = by (get (contents_of es) b) refl
+canon_firsts b (es ∷ worlds) all = by (get (contents_of es) b) refl (canon_firsts b worlds all.1)
   where
     rest : Option (List ℕ)
     rest = firsts (λ es. get (contents_of es) b) worlds
 
-    by : (o : Option (List ℕ)) → get (contents_of es) b ≡ o → canon b (either o rest) ≡ either o rest
-    by None is = canon_firsts b worlds all.1
-    by (Some v) is = subst (λ o. canon b o ≡ o) is (canon_of (contents_of es) all.0.entries.laid b)
+    by : (o : Option (List ℕ)) → get (contents_of es) b ≡ o → canon b rest ≡ rest
+        → canon b (either o rest) ≡ either o rest
+    by None is others = others
+    by (Some v) is others = subst (λ o. canon b o ≡ o) is (canon_of (contents_of es) all.0.entries.laid b)
 
 pub laid_owned : (x : List ℕ → Bool) (worlds : List (List Entry)) → AllByRecursion AreWholeEntries worlds
     → IsLaid (contents_of (owned_of x worlds))

@@ -273,7 +273,7 @@ module _ (old : List (List ℕ)) where
   all_found n [] each keyed read = record {
     keyed = none_keyed;
     read = none_read;
-    found = λ k. ap (λ c. get c k) none_flat ∙ get-empty bytes_cmp k ∙ none_of (is_queued k);
+    found = λ k. ap (λ c. get c k) none_flat ∙ get-empty bytes_cmp k ∙ sym (none_of (is_queued k));
   }
   all_found n (w ∷ ws) each keyed read =
       let x : List ℕ → Bool = lives_in old n in

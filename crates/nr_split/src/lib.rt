@@ -5,7 +5,5 @@ mod delayed;
 mod owned;
 mod owners;
 mod splitting;
-#[cfg(test)]
-mod tests;
 
 pub use splitting::split_worlds;

@@ -35,7 +35,7 @@ fn lives_in(layout: &Layout, shard: u32, id: &[u8]) -> bool
 
 /// Whether the owner before a separator lives in a shard.
 fn has_owner(layout: &Layout, shard: u32, parts: Option<(&[u8], &[u8])>) -> bool
-    ensures { result ≡ has_owner (lives_in layout.now shard) (option_map (λ p. (p.0.now, p.1.now)) parts) }
+    ensures { result ≡ has_owner (lives_in layout.now shard) (option_map (λ p. (p.0.now, p.1.now)) parts.entry) }
 {
     match parts {
         Some((owner, _)) => lives_in(layout, shard, owner),
