@@ -1,5 +1,5 @@
 -- A chunk that takes lists one after another is that which takes all their receipts in one.
-use Rattle.std.proofs.Common.{◌≡◌, ℕ, zero, suc, ◌+◌, ◌-◌, ◌^◌, ◌<◌, ◌≤◌, true, List, [], ◌∷◌, ◌++◌, length, Option, Some, None, refl, sym, ap, subst, ◌∙◌, arith, take}
+use Rattle.std.proofs.Common.{◌≡◌, ℕ, zero, suc, ◌+◌, ◌-◌, ◌^◌, ◌<◌, ◌≤◌, true, List, [], ◌∷◌, ◌++◌, length, Option, Some, None, refl, sym, ap, subst, ◌∙◌, arith, add-one, take}
 use Rattle.std.specs.Prelude.{fold, slice_get, sum_by, unwrap_or}
 use Rattle.std.specs.List.{AllByRecursion, flat_map}
 use Rattle.std.proofs.lemmas.List.{append-nil}
@@ -13,6 +13,7 @@ use Rattle.nr_chunk.specs.Lasting.{good_sent}
 use Rattle.nr_chunk.specs.Lawful.{tokens_kept}
 use Rattle.nr_chunk.specs.Views.{Kept, Working}
 use Rattle.nr_config.specs.Config.{Config}
+use Rattle.nr_fees.specs.Fees.{receipt_tokens}
 use Rattle.nr_extract.specs.Chunk.{before, due_lists, due_to}
 use Rattle.nr_overlap.specs.Rules.{Rules}
 use Rattle.nr_overlap.specs.Serial.{due_after, first_due, list_to, sealing_at, with_list, work}
@@ -21,7 +22,7 @@ use Rattle.nr_overlap.proofs.DueLemmas.{due_at, first_small}
 use Rattle.nr_overlap.proofs.SerialLemmas.{work_first, work_next}
 use Rattle.nr_records.specs.declared.chunk_result.ChunkResult.{ChunkResult}
 use Rattle.nr_records.specs.declared.receipt.Receipt.{Receipt}
-use Rattle.nr_state.specs.Tokens.{list_tokens, receipt_tokens}
+use Rattle.nr_state.specs.Tokens.{list_tokens}
 
 -- a list has an element at each place below its length
 record Next {A : Type 0} (xs : List A) (n : ℕ) : Type 0 where
@@ -29,7 +30,7 @@ record Next {A : Type 0} (xs : List A) (n : ℕ) : Type 0 where
   pub there : slice_get xs n ≡ Some item
 
 next_of : {A : Type 0} (xs : List A) (n : ℕ) → n < length xs → Next xs n
-next_of [] n l = absurd (omega l)
+next_of [] n l = absurd (omega (arith, l))
 next_of (y ∷ ys) zero l = record { item = y; there = refl }
 next_of (y ∷ ys) (suc n) l = let rest = next_of ys n (omega (arith, l)) in record { item = rest.item; there = rest.there }
 
@@ -64,18 +65,21 @@ module _ (x : Chain) (s below : ℕ) where
   one k None = refl
   one k (Some list) = refl
 
-  pub work_is : (n : ℕ) → n ≤ length dues
-      → work r s below n ≡ serve_all c x.call (opened x s (below + 1) (before x s below)) (first_lists n)
+  abbrev IsWork : ℕ → Type 0
+  IsWork n = work r s below n ≡ serve_all c x.call (opened x s (below + 1) (before x s below)) (first_lists n)
+
+  pub work_is : (n : ℕ) → n ≤ length dues → IsWork n
   work_is zero l = work_first r s below
   work_is (suc n) l =
       let next = next_of dues n l in
       let pair : ℕ × ℕ = next.item in
       let so_far = work_is n (omega (arith, l)) in
-      work_next r s below n pair next.there
+      subst IsWork (add-one n)
+      (work_next r s below n pair next.there
       ∙ one (work r s below n) (list_to r (sealing_at r pair.1 pair.0) s)
       ∙ ap (λ k. serve_all c x.call k (due_to x s pair)) so_far
       ∙ sym (fold-append (serve c x.call) (opened x s (below + 1) (before x s below)) (first_lists n) (due_to x s pair))
-      ∙ ap (serve_all c x.call (opened x s (below + 1) (before x s below))) (sym (more n pair next.there))
+      ∙ ap (serve_all c x.call (opened x s (below + 1) (before x s below))) (sym (more n pair next.there)))
 
   module _ (is : IsChain x) (inside : s < r.shards) (within : below < r.heights) (there : r.present s (below + 1) ≡ true) where
     -- ---- tokens
@@ -83,12 +87,15 @@ module _ (x : Chain) (s below : ℕ) where
         → list_to r (sealing_at r pair.1 pair.0) s ≡ o
         → working_tokens c (work r s below (n + 1)) ≡ working_tokens c (work r s below n) + list_tokens c (given o)
     step_tokens n pair None next e =
-        ap (working_tokens c) (work_next r s below n pair next ∙ ap (with_list r (work r s below n)) e)
+        let same = ap (working_tokens c) (work_next r s below n pair next ∙ ap (with_list r (work r s below n)) e) in
+        omega (arith, same)
     step_tokens n pair (Some list) next e =
         let kept = (tokens_kept x is).takes s below n pair list inside within there next e in omega (arith, kept)
 
-    pub tokens_are : (n : ℕ) → n ≤ length dues
-        → working_tokens c (work r s below n) ≡ kept_tokens c (before x s below) + list_tokens c (first_lists n)
+    abbrev HasTokens : ℕ → Type 0
+    HasTokens n = working_tokens c (work r s below n) ≡ kept_tokens c (before x s below) + list_tokens c (first_lists n)
+
+    pub tokens_are : (n : ℕ) → n ≤ length dues → HasTokens n
     tokens_are zero l = let kept = (tokens_kept x is).opens s below inside within there in omega (arith, kept)
     tokens_are (suc n) l =
         let next = next_of dues n l in
@@ -97,7 +104,7 @@ module _ (x : Chain) (s below : ℕ) where
         let so_far = tokens_are n (omega (arith, l)) in
         let all : list_tokens c (first_lists (n + 1)) ≡ list_tokens c (first_lists n) + list_tokens c (due_to x s pair) =
         ap (list_tokens c) (more n pair next.there) ∙ sum_by-append (receipt_tokens c) (first_lists n) (due_to x s pair) in
-        omega (arith, stepped, so_far, all)
+        subst HasTokens (add-one n) (omega (arith, stepped, so_far, all))
 
     -- ---- bounds
     good_given : (source h : ℕ) (o : Option (List Receipt)) → source < r.shards → h < r.heights → r.present source (h + 1) ≡ true
@@ -117,9 +124,10 @@ module _ (x : Chain) (s below : ℕ) where
     good_lists zero l = tt
     good_lists (suc n) l =
         let next = next_of dues n l in
-        subst (AreGood c) (sym (more n next.item next.there))
-        (each_append (IsGood c) (first_lists n) (due_to x s next.item) (good_lists n (omega (arith, l)))
-            (good_due n next.item next.there))
+        subst (λ m. AreGood c (first_lists m)) (add-one n)
+        (subst (AreGood c) (sym (more n next.item next.there))
+            (each_append (IsGood c) (first_lists n) (due_to x s next.item) (good_lists n (omega (arith, l)))
+                (good_due n next.item next.there)))
 
   -- ---- all of them
   pub all_lists : first_lists (length dues) ≡ due_lists x s below

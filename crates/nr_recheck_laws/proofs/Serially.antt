@@ -12,6 +12,7 @@ use Rattle.nr_chunk.specs.Lawful.{good_after, good_working}
 use Rattle.nr_chunk.specs.Views.{Kept, Working}
 use Rattle.nr_config.specs.Config.{Config, gas_price}
 use Rattle.nr_extract.specs.Chunk.{before, due_lists, gathered_chunk, stated_price, taken, transactions}
+use Rattle.nr_fees.specs.Fees.{receipt_tokens}
 use Rattle.nr_gathered.specs.declared.gathered.Gathered.{Gathered}
 use Rattle.nr_overlap.specs.Rules.{Rules, Sealing}
 use Rattle.nr_overlap.specs.Serial.{due_after, last_work, sealing_at, work}
@@ -23,7 +24,7 @@ use Rattle.nr_recheck_laws.specs.Again.{IsAnswered, IsGathered, IsSerialReport, 
 use Rattle.nr_recheck_laws.proofs.Grown.{all_lists, good_lists, tokens_are, work_is}
 use Rattle.nr_records.specs.declared.chunk_result.ChunkResult.{ChunkResult}
 use Rattle.nr_records.specs.declared.receipt.Receipt.{Receipt}
-use Rattle.nr_state.specs.Tokens.{list_tokens, receipt_tokens, world_tokens}
+use Rattle.nr_state.specs.Tokens.{list_tokens, world_tokens}
 use Rattle.nr_state.specs.declared.place.Place.{Place}
 
 price_is : (usual : ℕ) (o : Option Block) → unwrap_or (stated_price o) usual ≡ price_in usual o
