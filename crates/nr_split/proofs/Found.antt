@@ -26,7 +26,7 @@ use Rattle.nr_state.specs.FromEntries.{AreWholeEntries}
 use Rattle.nr_triedef.specs.Root.{Contents}
 
 -- the first value that is there
-pub firsts : {A B : Type 0} → (A → Option B) → List A → Option B
+abbrev pub firsts : {A B : Type 0} → (A → Option B) → List A → Option B
 firsts f [] = None
 firsts f (x ∷ xs) = either (f x) (firsts f xs)
 

@@ -173,7 +173,7 @@ module _ (new : List (List ℕ)) (worlds : List (List Entry)) (all : AllByRecurs
   pub answer_whole : (r : Split) → IfOk r (λ found. found ≡ entries_split new worlds)
       → OnOk r (length (delayed_of worlds) < 2 ^ 64) → (c : Config) (old : List (List ℕ))
       → CanCut c old (map world_from worlds) → IfOk r (AllByRecursion AreWholeEntries)
-  answer_whole (Ok found) is few c old can =
+  answer_whole (Ok split) is few c old can =
       subst (AllByRecursion AreWholeEntries) (sym is) (split_whole c old new worlds all can few)
   answer_whole (Err e) is few c old can = tt
 
@@ -181,6 +181,6 @@ module _ (new : List (List ℕ)) (worlds : List (List Entry)) (all : AllByRecurs
       → OnOk r (length (delayed_of worlds) < 2 ^ 64) → (c : Config) (old : List (List ℕ))
       → CanCut c old (map world_from worlds)
       → IfOk r (λ found. map world_from found ≡ cut_worlds new (map world_from worlds))
-  answer_worlds (Ok found) is few c old can =
+  answer_worlds (Ok split) is few c old can =
       ap (map world_from) is ∙ split_are c old new worlds all can few
   answer_worlds (Err e) is few c old can = tt

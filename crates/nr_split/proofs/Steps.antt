@@ -25,14 +25,15 @@ one_more ds r n is =
     ∙ from_entries_push nat_cmp_total nat_cmp-IsAntisymmetric (numbered 0 ds) (0 + length ds) r
     (after_all (0 + length ds) 0 ds (omega arith)))
 
-pub receipts_step : (k : Columns) (ds : List Receipt) (n : ℕ) (r : Receipt) → n < length ds → r ≡ get_or ds n r
-    → record (with_receipts k (take n ds)) { delayed = insert (with_receipts k (take n ds)).delayed n r }
-    ≡ with_receipts k (take (n + 1) ds)
-receipts_step k ds n r below is =
+pub receipts_step : (k j l : Columns) (ds : List Receipt) (n : ℕ) (r : Receipt) → n < length ds → r ≡ get_or ds n r
+    → j ≡ with_receipts k (take n ds) → l ≡ record j { delayed = insert j.delayed n r }
+    → l ≡ with_receipts k (take (n + 1) ds)
+receipts_step k j l ds n r below is before now =
     let long : n ≡ length (take n ds) = omega (arith, below, length-take n ds) in
     let more : take n ds ++ r ∷ [] ≡ take (n + 1) ds =
     ap (λ y. take n ds ++ y ∷ []) is ∙ sym (take_more ds n r below) in
-    λ i. record k { delayed = (one_more (take n ds) r n long ∙ ap (λ l. from_entries (numbered 0 l)) more) i }
+    now ∙ ap (λ (j : Columns). record j { delayed = insert j.delayed n r }) before
+    ∙ (λ i. record k { delayed = (one_more (take n ds) r n long ∙ ap (λ l. from_entries (numbered 0 l)) more) i })
 
 -- ---- what a shard gets
 pub part_at : (bs : List (List ℕ)) (n : ℕ) (list : List Receipt) (i : ℕ) → i < n

@@ -74,6 +74,20 @@ fn delayed_from(alloc: Global, entries: &List<Entry>) -> Result<Vec<Receipt>, Al
     delayed_in(alloc, &columns)
 }
 
+/// Appends those of a world.
+fn add_delayed(
+    alloc: Global,
+    entries: &List<Entry>,
+    all: &mut Vec<Receipt>,
+) -> Result<(), AllocError>
+    requires { AreWholeEntries entries.now }
+    ensures { OnOk result (all.new.items ≡ all.old.items ++ (world_from entries.now).delayed) }
+{
+    let mut found = delayed_from(alloc, entries)?;
+    all.append(&mut found)?;
+    Ok(())
+}
+
 /// Those of all worlds, world after world.
 pub(crate) fn all_delayed(
     alloc: Global,
@@ -84,8 +98,7 @@ pub(crate) fn all_delayed(
 {
     let mut all = Vec::new(alloc);
     for entries in worlds {
-        let mut found = delayed_from(alloc, entries)?;
-        all.append(&mut found)?;
+        add_delayed(alloc, entries, &mut all)?;
     }
     Ok(List::of(all))
 }

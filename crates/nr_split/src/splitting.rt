@@ -22,6 +22,18 @@ use nr_records::Receipt;
 use nr_store::PlainStore;
 use std::alloc::{AllocError, Global};
 
+/// Writes a delayed receipt.
+fn put_receipt(
+    columns: &mut Columns<PlainStore>,
+    number: u64,
+    receipt: &Receipt,
+) -> Result<(), AllocError>
+    ensures { OnOk result (columns.new.columns ≡ record columns.old.columns { delayed = map.insert columns.old.columns.delayed number receipt.now }) }
+{
+    columns.set_delayed(number, receipt)?;
+    Ok(())
+}
+
 /// Writes the receipts of a delayed queue of which none was served.
 #[tactic(auto, using(crate::proofs::Steps::receipts_step))]
 fn put_receipts(
@@ -32,7 +44,7 @@ fn put_receipts(
     ensures receipts { OnOk result (columns.new.columns ≡ with_receipts columns.old.columns delayed.now) }
 {
     for number in 0..delayed.len() {
-        columns.set_delayed(number as u64, &delayed[number])?;
+        put_receipt(columns, number as u64, &delayed[number])?;
     }
     Ok(())
 }
@@ -108,17 +120,17 @@ fn all_cut(
 /// The entries of the worlds of all shards.
 fn split(
     alloc: Global,
-    worlds: &[List<Entry>],
+    worlds: &List<List<Entry>>,
     layout: &Layout,
 ) -> Result<List<List<Entry>>, AllocError>
     requires { AllByRecursion AreWholeEntries worlds.now }
     ensures entries { IfOk result (λ found. found ≡ entries_split layout.now worlds.now) }
     ensures few { OnOk result (length (delayed_of worlds.now) < 2 ^ 64) }
 {
-    let delayed = all_delayed(alloc, worlds)?;
+    let delayed = all_delayed(alloc, worlds.inner())?;
     let _count = delayed.inner().len();
     let lists = layout.route(alloc, delayed)?;
-    all_cut(alloc, worlds, layout, lists.inner())
+    all_cut(alloc, worlds.inner(), layout, lists.inner())
 }
 
 /// The worlds of the shards under a layout, in order of number, as trie entries: of all worlds what
@@ -139,5 +151,5 @@ pub fn split_worlds(
     ensures worlds { (c : Config) (old : Items (Items ℕ)) → CanCut c old (mapped world_from worlds.now)
         → IfOk result (λ found. mapped world_from found ≡ cut_worlds layout.now (mapped world_from worlds.now)) }
 {
-    split(alloc, worlds.inner(), layout)
+    split(alloc, worlds, layout)
 }
