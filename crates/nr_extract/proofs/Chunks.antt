@@ -1,6 +1,6 @@
 -- The entries of a world in their order, and the chunk that is taken out of a run.
 use Rattle.std.proofs.Common.{◌≡◌, ℕ, ◌+◌, List, [], Option, Result, Ok, Err, sym, ap, subst, ◌∙◌}
-use Rattle.std.specs.Prelude.{T, unwrap_or}
+use Rattle.std.specs.Prelude.{T, IfOk, unwrap_or}
 use Rattle.std.specs.Cmp.Lexicographic.{slice_cmp}
 use Rattle.std.specs.FinMap.{entries, entries_sorted}
 use Rattle.std.specs.FinMap.Entries.{is_sorted}
@@ -50,3 +50,8 @@ module _ {C : Type 0} {g : Ghosts C StateStore} (p run : ChainRun C g) (shard : 
       let told : listed ≡ texts x shard.0 below = l ∙ (λ i. gathered (searched_of (touched (w i).world (asked i) (r i))) (paths (entries (flat (w i).world)))) in
       let rooted : root ≡ (root_of (flat (before x shard.0 below).world)).hash = ro ∙ ap (λ (k : Kept). (root_of (flat k.world)).hash) w in
       (λ i. record { prior_root = rooted i; layout = parted i; height = (stands i).height; timestamp = (stands i).timestamp; price = priced i; shard = shard; transactions = asked i; taken = r i; texts = told i })
+
+-- what holds anyway holds where there is a result
+pub anyway : {A E P : Type 0} (r : Result A E) → P → IfOk r (λ x. P)
+anyway (Ok x) p = p
+anyway (Err e) p = tt

@@ -11,6 +11,8 @@ use Rattle.nr_blocks.specs.Spellings.{file_of}
 use Rattle.nr_blocks.specs.declared.blocks_file.BlocksFile.{BlocksFile}
 use Rattle.nr_blocks.specs.declared.genesis.Genesis.{Genesis}
 use Rattle.nr_explain.specs.Report.{report_json}
+use Rattle.nr_gathered.specs.Files.{gathered_in}
+use Rattle.nr_gathered.specs.declared.gathered.Gathered.{Gathered}
 use Rattle.nr_explain.specs.declared.report.ReportFault.{ReportFault}
 use Rattle.nr_explain.specs.declared.report.ReportFault.TheVariants as report
 use Rattle.nr_json.specs.Blocks.{blocks_json, blocks_of}
@@ -32,11 +34,13 @@ use Rattle.nr_config.specs.declared.fault.ConfigFault.{ConfigFault}
 use Rattle.nr_config.specs.declared.fault.ConfigFault.TheVariants as config_faults
 use Rattle.nr_bytes.specs.declared.shelf.LoadFault.TheVariants.{TooLong}
 use Rattle.nr_files.specs.Answers.{AsksFront, Tells, TellsText, Refuses, AnswersAs, Writes, Answers, Stops, Stopped, Prepares, Configures}
-use Rattle.nr_files.specs.Due.{Due, Bytes, Json, IsTextOf, value_in, made_blocks, shown_blocks, judged, made_genesis, shown_genesis, shown_part, shown_proof, shown_report, due, of_bytes, file_limit}
+use Rattle.nr_files.specs.Due.{Due, Bytes, Json, IsTextOf, value_in, made_blocks, shown_blocks, judged, made_genesis, shown_genesis, shown_part, shown_proof, shown_gathered, shown_report, due, of_bytes, file_limit}
 use Rattle.nr_files.specs.Filling.{filled, stated}
 use Rattle.nr_files.specs.Input.{Configured, By, Bars, Unknown, config_status, by_reading, by_config_bytes, config_limit}
-use Rattle.nr_files.specs.Lines.{fault_line, genesis_line, no_json, part_line, proof_line, report_line, unread_line, too_long}
-use Rattle.nr_files.specs.Shown.{part_json, proof_json}
+use Rattle.nr_files.specs.Lines.{fault_line, gathered_line, genesis_line, no_json, part_line, proof_line, report_line, unread_line, too_long}
+use Rattle.nr_shown.specs.Gathered.{gathered_json}
+use Rattle.nr_shown.specs.Part.{part_json}
+use Rattle.nr_shown.specs.Proof.{proof_json}
 use Rattle.nr_files.specs.declared.command.Work.{Work}
 use Rattle.nr_files.specs.declared.status.Status.{Status}
 use Rattle.nr_files.specs.declared.status.Status.TheVariants as status
@@ -255,7 +259,7 @@ unfolding shown_report
 report_refused bytes s fault tells no_memory is =
     refuses_on s (with_fault report_line (report_json bytes)) (λ text. written text) (told_fault s report_line fault report.Memory (report_json bytes) tells no_memory is)
 
--- ---- a part, and a proof
+-- ---- a part, a proof, and a gathered chunk
 pub part_shown : (bytes : List ℕ) (p : Part) (json : Data) (text : List ℕ) → with_fault part_line (part_in bytes) ≡ Ok p → json ≡ part_json p → IsTextOf json text → Writes text (shown_part bytes)
 unfolding shown_part
 part_shown bytes p json text one is shown = (Json (part_json p), rw one refl, subst (λ (d : Data). IsTextOf d text) is shown)
@@ -263,6 +267,10 @@ part_shown bytes p json text one is shown = (Json (part_json p), rw one refl, su
 pub proof_shown : (bytes : List ℕ) (p : Proof) (json : Data) (text : List ℕ) → with_fault proof_line (proof_read bytes) ≡ Ok p → json ≡ proof_json p → IsTextOf json text → Writes text (shown_proof bytes)
 unfolding shown_proof
 proof_shown bytes p json text one is shown = (Json (proof_json p), rw one refl, subst (λ (d : Data). IsTextOf d text) is shown)
+
+pub gathered_shown : (bytes : List ℕ) (g : Gathered) (json : Data) (text : List ℕ) → with_fault gathered_line (gathered_in bytes) ≡ Ok g → json ≡ gathered_json g → IsTextOf json text → Writes text (shown_gathered bytes)
+unfolding shown_gathered
+gathered_shown bytes g json text one is shown = (Json (gathered_json g), rw one refl, subst (λ (d : Data). IsTextOf d text) is shown)
 
 -- ---- a sentence asks for no file
 pub asks_no_file : (old : List (List ℕ)) (o : Option (List ℕ)) → AsksFront old old (files_of (of_sentence o))

@@ -1,11 +1,11 @@
--- The words of the command line: `blocks JSON`, `genesis CONFIG JSON`, `show genesis CONFIG FILE`, or `show blocks`, `show report`, `show part` or `show proof` with FILE. The commands are this project's own.
+-- The words of the command line: `blocks JSON`, `genesis CONFIG JSON`, `show genesis CONFIG FILE`, or `show blocks`, `show report`, `show part`, `show proof` or `show gathered` with FILE. The commands are this project's own.
 use Rattle.std.specs.Prelude.{ℕ, List, [], ◌∷◌, ◌++◌, map, Bool, false, cond, not, ◌&&◌, ◌==◌, Option, Some, None, codes, string_bytes}
 use Rattle.std.specs.Global.{Global}
 use Rattle.std.specs.Str.{bytes_eq}
 use Rattle.std.specs.declared.string.String.{String}
 use Rattle.nr_files.specs.declared.command.Request.{Request as LentRequest}
 use Rattle.nr_files.specs.declared.command.Work.{Work}
-use Rattle.nr_files.specs.declared.command.Work.TheVariants.{MakeBlocks, MakeGenesis, ShowBlocks, ShowGenesis, ShowReport, ShowPart, ShowProof}
+use Rattle.nr_files.specs.declared.command.Work.TheVariants.{MakeBlocks, MakeGenesis, ShowBlocks, ShowGenesis, ShowReport, ShowPart, ShowProof, ShowGathered}
 use Rattle.nr_explain.specs.Sentences.{explained}
 
 abbrev pub texts : List (String Global) → List (List ℕ)
@@ -41,7 +41,8 @@ shown_by what =
     cond (bytes_eq what (codes "blocks")) (Some ShowBlocks)
     (cond (bytes_eq what (codes "report")) (Some ShowReport)
     (cond (bytes_eq what (codes "part")) (Some ShowPart)
-    (cond (bytes_eq what (codes "proof")) (Some ShowProof) None)))
+    (cond (bytes_eq what (codes "proof")) (Some ShowProof)
+    (cond (bytes_eq what (codes "gathered")) (Some ShowGathered) None))))
 
 abbrev pub shown_request : Option Work → List ℕ → Option Request
 shown_request None file = None

@@ -15,13 +15,16 @@ use Rattle.nr_blocks.specs.Spellings.{file_of}
 use Rattle.nr_json.specs.Blocks.{blocks_json, blocks_of}
 use Rattle.nr_json.specs.Genesis.{genesis_json, genesis_of}
 use Rattle.nr_explain.specs.Report.{report_json}
+use Rattle.nr_gathered.specs.Files.{gathered_in}
 use Rattle.nr_outproof.specs.Texts.{proof_read}
 use Rattle.nr_parts.specs.Files.{part_in}
 use Rattle.nr_files.specs.declared.command.Work.{Work}
-use Rattle.nr_files.specs.declared.command.Work.TheVariants.{MakeBlocks, MakeGenesis, ShowBlocks, ShowGenesis, ShowReport, ShowPart, ShowProof}
+use Rattle.nr_files.specs.declared.command.Work.TheVariants.{MakeBlocks, MakeGenesis, ShowBlocks, ShowGenesis, ShowReport, ShowPart, ShowProof, ShowGathered}
 use Rattle.nr_files.specs.Filling.{filled, stated}
-use Rattle.nr_files.specs.Lines.{fault_line, genesis_line, no_json, part_line, proof_line, report_line, unread_line, too_long}
-use Rattle.nr_files.specs.Shown.{part_json, proof_json}
+use Rattle.nr_files.specs.Lines.{fault_line, gathered_line, genesis_line, no_json, part_line, proof_line, report_line, unread_line, too_long}
+use Rattle.nr_shown.specs.Gathered.{gathered_json}
+use Rattle.nr_shown.specs.Part.{part_json}
+use Rattle.nr_shown.specs.Proof.{proof_json}
 
 -- what is written: bytes, or the text of a value
 pub data Output : Type 0 where
@@ -88,7 +91,7 @@ shown_report bytes = do
   text ← with_fault report_line (report_json bytes)
   Ok (Bytes text)
 
--- ---- a part of a state, and a proof
+-- ---- a part of a state, a proof, and a gathered chunk
 unfoldable pub shown_part : List ℕ → Due
 shown_part bytes = do
   p ← with_fault part_line (part_in bytes)
@@ -98,6 +101,11 @@ unfoldable pub shown_proof : List ℕ → Due
 shown_proof bytes = do
   p ← with_fault proof_line (proof_read bytes)
   Ok (Json (proof_json p))
+
+unfoldable pub shown_gathered : List ℕ → Due
+shown_gathered bytes = do
+  g ← with_fault gathered_line (gathered_in bytes)
+  Ok (Json (gathered_json g))
 
 -- ---- at most 256 MiB
 abbrev pub file_limit : ℕ
@@ -111,6 +119,7 @@ of_bytes ShowGenesis c bytes = shown_genesis c bytes
 of_bytes ShowReport c bytes = shown_report bytes
 of_bytes ShowPart c bytes = shown_part bytes
 of_bytes ShowProof c bytes = shown_proof bytes
+of_bytes ShowGathered c bytes = shown_gathered bytes
 
 abbrev pub due : Work → Config → List ℕ → Due
 due work c bytes = cond (nat_lt file_limit (length bytes)) (Err too_long) (of_bytes work c bytes)

@@ -2,7 +2,6 @@ pub mod Command
 pub mod Input
 pub mod Lines
 pub mod Filling
-pub mod Shown
 pub mod Due
 pub mod Answers
 pub mod Exit

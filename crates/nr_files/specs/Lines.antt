@@ -2,6 +2,8 @@
 use Rattle.std.specs.Prelude.{ℕ, List, [], ◌∷◌, ◌++◌, Bool, cond, codes, decimal}
 use Rattle.nr_explain.specs.declared.report.ReportFault.{ReportFault}
 use Rattle.nr_explain.specs.declared.report.ReportFault.TheVariants as report
+use Rattle.nr_gathered.specs.declared.fault.GatheredFault.{GatheredFault}
+use Rattle.nr_gathered.specs.declared.fault.GatheredFault.TheVariants as gathered
 use Rattle.nr_json.specs.Words.{words}
 use Rattle.nr_json.specs.declared.fault.JsonFault.{JsonFault}
 use Rattle.nr_json.specs.declared.fault.JsonFault.TheVariants as json
@@ -69,6 +71,12 @@ part_line (part.Order number) = no_part
 part_line (part.Whole found) = no_part
 part_line part.TooMany = no_part
 part_line part.Memory = []
+
+-- ---- a gathered chunk
+abbrev pub gathered_line : GatheredFault → List ℕ
+gathered_line (gathered.Spelling at) = at_line at
+gathered_line (gathered.Stake at) = at_line at
+gathered_line gathered.Memory = []
 
 -- ---- entries that don't hold together
 abbrev pub entry_line : ℕ → List ℕ → List ℕ

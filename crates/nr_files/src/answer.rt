@@ -6,27 +6,30 @@ ghost use Rattle.nr_bytes.specs.Answers.{Gives};
 ghost use Rattle.nr_records.specs.Reading.{all_of};
 ghost use Rattle.nr_blocks.specs.Judging.{with_fault, genesis_read};
 ghost use Rattle.nr_outproof.specs.Texts.{proof_read};
+ghost use Rattle.nr_gathered.specs.Files.{gathered_in};
 ghost use Rattle.nr_parts.specs.Files.{part_in};
 ghost use Rattle.nr_files.specs.Answers.{AnswersAs, Answers};
-ghost use Rattle.nr_files.specs.Due.{IsTextOf, value_in, made_blocks, shown_blocks, judged, made_genesis, shown_genesis, shown_part, shown_proof, shown_report, of_bytes};
-ghost use Rattle.nr_files.specs.Lines.{fault_line, genesis_line, part_line, proof_line, unread_line};
+ghost use Rattle.nr_files.specs.Due.{IsTextOf, value_in, made_blocks, shown_blocks, judged, made_genesis, shown_genesis, shown_part, shown_proof, shown_gathered, shown_report, of_bytes};
+ghost use Rattle.nr_files.specs.Lines.{fault_line, gathered_line, genesis_line, part_line, proof_line, unread_line};
 ghost use Rattle.nr_files.specs.declared.status.Status.TheVariants.{NoMemory};
 
 use crate::command::Work;
 use crate::filling::{genesis_bytes, stated};
-use crate::shown::{part_json, proof_json};
 use crate::status::Status;
 use crate::telling::{
-    faulty, genesis_status, json_status, part_status, proof_status, report_status, unread_status,
+    faulty, gathered_status, genesis_status, json_status, part_status, proof_status, report_status,
+    unread_status,
 };
 use nr_blocks::{BlocksFile, Genesis, read_genesis};
 use nr_bytes::Blob;
 use nr_config::Config;
 use nr_explain::show_report;
+use nr_gathered::{Gathered, read_gathered};
 use nr_json::{Form, StatedGenesis};
 use nr_outproof::{Proof, read_proof};
 use nr_parts::{Part, read_part};
 use nr_records::{Spelled, decode, encode};
+use nr_shown::{gathered_json, part_json, proof_json};
 use serde_json::Value;
 use std::alloc::Global;
 
@@ -212,6 +215,28 @@ fn shown_proof(alloc: Global, bytes: &[u8]) -> Result<Blob, Status>
     Ok(text)
 }
 
+/// The gathered chunk of a file.
+fn gathered_of(alloc: Global, bytes: &[u8]) -> Result<Gathered, Status>
+    ensures { AnswersAs (λ x. x) result (with_fault gathered_line (gathered_in bytes.now)) }
+{
+    match read_gathered(alloc, bytes) {
+        Ok(gathered) => Ok(gathered),
+        Err(fault) => Err(gathered_status(alloc, fault)),
+    }
+}
+
+#[tactic(auto, using(crate::proofs::Steps::refuses_on), unfolding(crate::specs::Due::shown_gathered))]
+fn shown_gathered(alloc: Global, bytes: &[u8]) -> Result<Blob, Status>
+    ensures { Answers result (shown_gathered bytes.now) }
+{
+    let gathered = gathered_of(alloc, bytes)?;
+    let Ok(json) = gathered_json(alloc, &gathered) else {
+        return Err(Status::NoMemory);
+    };
+    let text = value_text(alloc, &json)?;
+    Ok(text)
+}
+
 /// What some bytes ask for.
 pub(crate) fn of_bytes(
     alloc: Global,
@@ -229,5 +254,6 @@ pub(crate) fn of_bytes(
         Work::ShowReport => shown_report(alloc, bytes),
         Work::ShowPart => shown_part(alloc, bytes),
         Work::ShowProof => shown_proof(alloc, bytes),
+        Work::ShowGathered => shown_gathered(alloc, bytes),
     }
 }

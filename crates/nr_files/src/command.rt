@@ -20,6 +20,8 @@ pub(crate) enum Work {
     ShowPart,
     /// The proof in a file is written as JSON.
     ShowProof,
+    /// The gathered chunk of a file is written as JSON.
+    ShowGathered,
 }
 
 /// What is done, under which configuration (`free`, or the name of a file), and with which file.
@@ -63,6 +65,7 @@ fn shown_by(what: &str) -> Option<Work>
         "report" => Some(Work::ShowReport),
         "part" => Some(Work::ShowPart),
         "proof" => Some(Work::ShowProof),
+        "gathered" => Some(Work::ShowGathered),
         _ => None,
     }
 }

@@ -9,7 +9,6 @@ mod counting;
 mod exit;
 mod filling;
 mod laws;
-mod shown;
 mod status;
 mod telling;
 mod top;

@@ -2,7 +2,7 @@
 
 ghost use Rattle.std.specs.Prelude.{◌≡◌, IfOk, string_bytes};
 ghost use Rattle.nr_files.specs.Answers.{Tells, TellsText};
-ghost use Rattle.nr_files.specs.Lines.{subject, fault_line, at_line, too_long, unread_line, entry_line, genesis_line, part_line, proof_line, report_line, usage_words};
+ghost use Rattle.nr_files.specs.Lines.{subject, fault_line, at_line, gathered_line, too_long, unread_line, entry_line, genesis_line, part_line, proof_line, report_line, usage_words};
 ghost use Rattle.nr_files.specs.declared.status.Status.TheVariants.{NoMemory};
 ghost use Rattle.nr_json.specs.declared.fault.JsonFault.TheVariants as json;
 ghost use Rattle.nr_records.specs.declared.fault.RecordFault.TheVariants as record_faults;
@@ -10,11 +10,13 @@ ghost use Rattle.nr_blocks.specs.declared.fault.GenesisFault.TheVariants as gene
 ghost use Rattle.nr_explain.specs.declared.report.ReportFault.TheVariants as report;
 ghost use Rattle.nr_outproof.specs.declared.fault.ProofFault.TheVariants as proof;
 ghost use Rattle.nr_parts.specs.declared.fault.PartFault.TheVariants as part;
+ghost use Rattle.nr_gathered.specs.declared.fault.GatheredFault.TheVariants as gathered;
 
 use crate::status::Status;
 use nr_blocks::GenesisFault;
 use nr_bytes::Text;
 use nr_explain::ReportFault;
+use nr_gathered::GatheredFault;
 use nr_json::{JsonFault, Wrong};
 use nr_outproof::ProofFault;
 use nr_parts::PartFault;
@@ -160,6 +162,19 @@ pub(crate) fn part_status(alloc: Global, fault: PartFault) -> Status
         | PartFault::Whole { .. }
         | PartFault::TooMany => faulty(alloc, "the file is no part of a state"),
         PartFault::Memory => Status::NoMemory,
+    }
+}
+
+/// The line of a file that is no gathered chunk.
+#[tactic(auto, using(crate::proofs::Steps::tells_text))]
+pub(crate) fn gathered_status(alloc: Global, fault: GatheredFault) -> Status
+    ensures tells { Tells result (gathered_line fault) }
+    ensures memory { fault ≡ gathered.Memory → result ≡ NoMemory }
+{
+    match fault {
+        GatheredFault::Spelling { at } => told(at_text(alloc, at)),
+        GatheredFault::Stake { at } => told(at_text(alloc, at)),
+        GatheredFault::Memory => Status::NoMemory,
     }
 }
 

@@ -107,8 +107,8 @@ fn serve_request<S: Shelf, K: Sink>(
 /// Does what the words ask for: `blocks JSON` and `genesis CONFIG JSON` write the file that a JSON text
 /// describes; `show blocks FILE` and `show genesis CONFIG FILE` write a JSON text of a file, which the
 /// first two read back to the same bytes; `show report FILE` writes a JSON object for each line of a
-/// report; `show part FILE` and `show proof FILE` write a JSON text of a part of a state or of a proof,
-/// which are read and not checked. CONFIG is `free`, the built-in configuration, or the name of a file; the storage of a genesis
+/// report; `show part FILE`, `show proof FILE` and `show gathered FILE` write a JSON text of a part of a
+/// state, of a proof or of a gathered chunk, which are read and not checked. CONFIG is `free`, the built-in configuration, or the name of a file; the storage of a genesis
 /// is counted by it. An account of a JSON text may leave out `storage_usage` and `code_hash`: they are
 /// then what is counted. `explain NUMBERS..` writes what the line of these numbers says, which a program
 /// wrote on standard error.

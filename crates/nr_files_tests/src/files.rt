@@ -94,7 +94,7 @@ const PROOF_JSON: &str = "{
 }";
 
 /// How a command over one file ends, and what is written.
-fn ended(alloc: Global, words: &[&str], file: &[u8]) -> Result<(Status, Vec<u8>), Fail> {
+pub(crate) fn ended(alloc: Global, words: &[&str], file: &[u8]) -> Result<(Status, Vec<u8>), Fail> {
     let mut texts = Vec::new(alloc);
     for word in words {
         texts.push(String::from_str(alloc, word)?)?;
@@ -108,7 +108,7 @@ fn ended(alloc: Global, words: &[&str], file: &[u8]) -> Result<(Status, Vec<u8>)
 }
 
 /// Whether a text is refused with this line, and nothing is written.
-fn refuses(alloc: Global, words: &[&str], text: &str, line: &str) -> Result<bool, Fail> {
+pub(crate) fn refuses(alloc: Global, words: &[&str], text: &str, line: &str) -> Result<bool, Fail> {
     let (status, written) = ended(alloc, words, text.as_bytes())?;
     let told = format!(in alloc; "{status}")?;
     Ok(status.exit_status() == 20 && told.as_str() == line && written.is_empty())

@@ -4,6 +4,8 @@
 #[cfg(test)]
 mod files;
 #[cfg(test)]
+mod gathered;
+#[cfg(test)]
 mod people;
 #[cfg(test)]
 mod texts;

@@ -1,14 +1,20 @@
 -- Which answers of the top call are right for a plan, and what the sink then took. This project's own.
-use Rattle.std.specs.Prelude.{◌≡◌, ℕ, Bool, true, false, List, [], ◌∷◌, ◌++◌, Option, Result, Ok, Err, codes, string_bytes}
+use Rattle.std.specs.Prelude.{◌≡◌, ◌≢◌, ℕ, Bool, true, false, List, [], ◌∷◌, ◌++◌, length, Option, Result, Ok, Err, codes, string_bytes}
 use Rattle.std.specs.declared.alloc.AllocError.{AllocError}
 use Rattle.nr_bytes.specs.Outside.{Grew}
+use Rattle.nr_config.specs.Config.{free, max_code}
 use Rattle.nr_shell.specs.Answers.{Breaks, Comes, Stops}
 use Rattle.nr_shell.specs.Plans.{Plan, Answer, Refuse, Ask}
 use Rattle.nr_shell.specs.Writing.{GrewInPart}
 use Rattle.nr_shell.specs.declared.stop.Stop.{Stop}
 use Rattle.nr_shell.specs.declared.stop.Stop.TheVariants.{Unread, Memory, Refused}
-use Rattle.nr_module.specs.Lines.{is_sound, verdict_text}
-use Rattle.nr_module.specs.Plans.{Question, Due, Judge, Write}
+use Rattle.nr_wasmbin.specs.Modules.{decoded}
+use Rattle.nr_wasmbin.specs.declared.fault.DecodeFault.{DecodeFault}
+use Rattle.nr_wasmbin.specs.declared.fault.DecodeFault.TheVariants as decode
+use Rattle.nr_wasmtypes.specs.declared.module.Module.{Module}
+use Rattle.nr_module.specs.Lines.{decode_text, is_sound, verdict_text}
+use Rattle.nr_module.specs.Listing.{module_text}
+use Rattle.nr_module.specs.Plans.{Question, Due, Judge, Tell, Write}
 use Rattle.nr_module.specs.Verdicts.{IsVerdict}
 use Rattle.nr_module.specs.declared.status.Status.{Status}
 use Rattle.nr_module.specs.declared.status.Status.TheVariants.{Sound, Faulty, Usage, Config, ReadFault, WriteFault, NoMemory}
@@ -39,10 +45,20 @@ TellsVerdict q line sound = (v : Verdict) × IsVerdict q v × (line ≡ verdict_
 abbrev pub TellsText : List ℕ → List ℕ → Bool → Type 0
 TellsText text line sound = (line ≡ text) × (sound ≡ true)
 
--- what tells an end of a plan: the line of a verdict on what the files give, a text, or `long` for a file that is too
--- long
+-- the lines of what is decoded, which is well, or the line of the first fault
+abbrev pub TellsDecoded : ℕ → Result Module DecodeFault → List ℕ → Bool → Type 0
+TellsDecoded size (Ok m) line sound = (line ≡ module_text size m) × (sound ≡ true)
+TellsDecoded size (Err fault) line sound = (fault ≢ decode.Memory) × (line ≡ decode_text fault) × (sound ≡ false)
+
+-- those of a file's bytes
+abbrev pub TellsListing : List ℕ → List ℕ → Bool → Type 0
+TellsListing bytes line sound = TellsDecoded (length bytes) (decoded (max_code free) bytes) line sound
+
+-- what tells an end of a plan: the line of a verdict on what the files give, the lines of a module, a text, or `long` for
+-- a file that is too long
 abbrev pub Tells : Plan Due Status → List ℕ → Bool → Type 0
 Tells (Answer (Judge q)) line sound = TellsVerdict q line sound
+Tells (Answer (Tell bytes)) line sound = TellsListing bytes line sound
 Tells (Answer (Write text)) line sound = TellsText text line sound
 Tells (Refuse status) line sound = (status ≡ Faulty) × (line ≡ codes "long" ++ 10 ∷ []) × (sound ≡ false)
 Tells (Ask name limit long by_bytes) line sound = ⊥

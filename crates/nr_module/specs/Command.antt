@@ -1,5 +1,5 @@
--- The words of the command line: `check CONFIG FILE`, `run CONFIG FILE METHOD GAS`, `help` or `version`. The commands are
--- this project's own.
+-- The words of the command line: `check CONFIG FILE`, `run CONFIG FILE METHOD GAS`, `list FILE`, `help` or `version`. The
+-- commands are this project's own.
 use Rattle.std.specs.Prelude.{ℕ, List, [], ◌∷◌, cond, Option, Some, None, codes, option_and_then}
 use Rattle.std.specs.Str.{bytes_eq}
 use Rattle.nr_words.specs.Forms.{Value, Text, Number, read}
@@ -21,9 +21,10 @@ pub record Names : Type 0 where
   pub file : List ℕ
   pub task : Task
 
--- something is done with a module, or a text is written
+-- something is done with a module, what the module of a file brings is listed, or a text is written
 pub data Command : Type 0 where
   OfModule : Names → Command
+  OfListing : List ℕ → Command
   OfText : List ℕ → Command
 
 -- ---- what the words of a form are
@@ -36,11 +37,16 @@ run_of (Text config ∷ Text name ∷ Text method ∷ Number gas ∷ []) =
     Some (OfModule (record { config = config; file = name; task = Run method gas }))
 run_of values = None
 
+abbrev pub list_of : List Value → Option Command
+list_of (Text name ∷ []) = Some (OfListing name)
+list_of values = None
+
 abbrev pub found_command : List ℕ × List Value → Option Command
 found_command found = cond (bytes_eq found.0 (codes "check")) (check_of found.1)
     (cond (bytes_eq found.0 (codes "run")) (run_of found.1)
+    (cond (bytes_eq found.0 (codes "list")) (list_of found.1)
     (cond (bytes_eq found.0 (codes "help")) (Some (OfText help_text))
-    (cond (bytes_eq found.0 (codes "version")) (Some (OfText version_text)) None)))
+    (cond (bytes_eq found.0 (codes "version")) (Some (OfText version_text)) None))))
 
 unfoldable pub command : List (List ℕ) → Option Command
 command words = option_and_then found_command (read forms words)
@@ -55,4 +61,5 @@ names_in n = record { config = n.config.now; file = n.file.now; task = task_in n
 
 abbrev pub command_in : Words → Command
 command_in (lent.Module names) = OfModule (names_in names)
+command_in (lent.Listing name) = OfListing name.now
 command_in (lent.Text text) = OfText text.now

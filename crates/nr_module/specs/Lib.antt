@@ -5,5 +5,6 @@ pub mod Counter
 pub mod Running
 pub mod Verdicts
 pub mod Lines
+pub mod Listing
 pub mod Answers
 pub mod Exit

@@ -2,7 +2,7 @@
 
 ghost use Rattle.std.specs.Prelude.{◌≡◌, IfOk, map, option_map};
 ghost use Rattle.nr_words.specs.Words.{found_in, table_in, texts, value_in};
-ghost use Rattle.nr_module.specs.Command.{check_of, command, command_in, found_command, run_of};
+ghost use Rattle.nr_module.specs.Command.{check_of, command, command_in, found_command, list_of, run_of};
 ghost use Rattle.nr_module.specs.Help.{forms};
 
 use crate::help::{help_text, version_text};
@@ -31,11 +31,13 @@ pub(crate) struct FileNames<'a> {
 pub(crate) enum Words<'a> {
     /// `check CONFIG FILE` or `run CONFIG FILE METHOD GAS`
     Module(FileNames<'a>),
+    /// `list FILE`, by the name of the file
+    Listing(&'a str),
     /// `help` or `version`, by the text that it writes
     Text(&'a str),
 }
 
-/// `check CONFIG FILE`, `run CONFIG FILE METHOD GAS` with a number below 2^64, `help` and `version`.
+/// `check CONFIG FILE`, `run CONFIG FILE METHOD GAS` with a number below 2^64, `list FILE`, `help` and `version`.
 const FORMS: &[Form] = &[
     Form {
         verb: "check",
@@ -53,6 +55,10 @@ const FORMS: &[Form] = &[
                 most: 18_446_744_073_709_551_615,
             },
         ],
+    },
+    Form {
+        verb: "list",
+        places: &[Place::File("FILE")],
     },
     Form {
         verb: "help",
@@ -103,6 +109,16 @@ fn run_of<'a>(values: &[Value<'a>]) -> Option<Words<'a>>
     }
 }
 
+/// The listing of a module.
+fn list_of<'a>(values: &[Value<'a>]) -> Option<Words<'a>>
+    ensures { option_map command_in result ≡ list_of (map value_in values.now) }
+{
+    match values {
+        [Value::Text(file)] => Some(Words::Listing(file)),
+        _ => None,
+    }
+}
+
 /// The command that a form with its values is.
 fn found_command<'a>(found: &Found<'a>) -> Option<Words<'a>>
     ensures { option_map command_in result ≡ found_command (found_in found.now) }
@@ -111,13 +127,14 @@ fn found_command<'a>(found: &Found<'a>) -> Option<Words<'a>>
     match found.verb {
         "check" => check_of(values),
         "run" => run_of(values),
+        "list" => list_of(values),
         "help" => Some(Words::Text(help_text())),
         "version" => Some(Words::Text(version_text())),
         _ => None,
     }
 }
 
-/// The command that the words are: `check CONFIG FILE`, `run CONFIG FILE METHOD GAS`, `help` or `version`.
+/// The command that the words are: `check CONFIG FILE`, `run CONFIG FILE METHOD GAS`, `list FILE`, `help` or `version`.
 ///
 /// # Errors
 ///

@@ -8,6 +8,8 @@ mod exit;
 mod help;
 mod judging;
 mod laws;
+mod listing;
+mod offer;
 mod printed;
 mod question;
 mod running;
@@ -18,6 +20,6 @@ mod tests;
 mod top;
 mod verdict;
 
-pub use laws::asked_law;
+pub use laws::{asked_law, listing_law};
 pub use status::Status;
 pub use top::check_module;

@@ -17,7 +17,7 @@ fn decode_line(alloc: Global, kind: u32, at: usize) -> Result<String, AllocError
     Ok(text)
 }
 
-fn decode_text(alloc: Global, fault: DecodeFault) -> Result<String, AllocError>
+pub(crate) fn decode_text(alloc: Global, fault: DecodeFault) -> Result<String, AllocError>
     ensures { IfOk result (λ text. string_bytes text ≡ decode_text fault) }
 {
     match fault {

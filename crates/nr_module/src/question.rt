@@ -3,7 +3,7 @@
 ghost use Rattle.nr_shell.specs.Answers.{Follows};
 ghost use Rattle.nr_module.specs.Answers.{refuses};
 ghost use Rattle.nr_module.specs.Command.{names_in};
-ghost use Rattle.nr_module.specs.Plans.{by_config, module_plan, due_in};
+ghost use Rattle.nr_module.specs.Plans.{by_config, due_in, listed_in, listing_plan, module_plan};
 
 use crate::command::{FileNames, Work};
 use crate::status::Status;
@@ -41,6 +41,27 @@ fn with_file<'a, S: Shelf>(
             work: names.work,
             bytes,
         }),
+        Err(stop) => Err(stop),
+    }
+}
+
+/// The bytes of a file that is to be listed.
+///
+/// # Errors
+///
+/// `Refused` with `Faulty` where the file is longer than 64 MiB; `Unread` where it could not be read, and `Memory` where
+/// memory ran out.
+pub(crate) fn listed_of<S: Shelf>(
+    alloc: Global,
+    file: &str,
+    shelf: &mut S,
+) -> Result<Vec<u8>, Stop<Status>>
+    ensures { Follows refuses listed_in (S.held shelf.old) (S.held shelf.new)
+        (S.asked shelf.old) (S.asked shelf.new) (S.faults shelf.old) (S.faults shelf.new)
+        result (listing_plan file.now) }
+{
+    match load(alloc, file, FILE_LIMIT, Status::Faulty, shelf) {
+        Ok(bytes) => Ok(bytes),
         Err(stop) => Err(stop),
     }
 }

@@ -4,7 +4,7 @@ use nr_configfile::ConfigRefusal;
 #[derive(Clone, Copy, Debug, PartialEq, Eq)]
 pub enum Status {
     /// The module is valid or its method's run came to its end, and the line `ok` or `end BURNT` was
-    /// written; or the text of `help` or `version` was.
+    /// written; or the lines of a module, or the text of `help` or `version`, were.
     Sound,
     /// The line that says why not was written.
     Faulty,

@@ -3,18 +3,21 @@
 ghost use Rattle.std.specs.Prelude.{◌≡◌, ◌≢◌, IfOk, string_bytes};
 ghost use Rattle.nr_bytes.specs.Outside.{Rose};
 ghost use Rattle.nr_shell.specs.Plans.{Refuse};
-ghost use Rattle.nr_module.specs.Answers.{Tells, TellsText, TellsVerdict, Told};
+ghost use Rattle.nr_module.specs.Answers.{Tells, TellsListing, TellsText, TellsVerdict, Told};
 ghost use Rattle.nr_module.specs.Lines.{ends_well, is_sound};
 ghost use Rattle.nr_module.specs.Plans.{question_in};
 ghost use Rattle.nr_module.specs.declared.status.Status.TheVariants.{Faulty, ReadFault, Sound, WriteFault};
 
 use crate::judging::judge;
-use crate::printed::verdict_text;
+use crate::listing::module_text;
+use crate::printed::{decode_text, verdict_text};
 use crate::question::Question;
 use crate::status::Status;
 use crate::verdict::{Answer, Verdict};
 use nr_bytes::Sink;
+use nr_config::Config;
 use nr_shell::write_all;
+use nr_wasmbin::{DecodeFault, decode};
 use std::alloc::{AllocError, Global};
 
 /// The line of an end, with its line feed, and whether it is a sound one.
@@ -56,6 +59,33 @@ pub(crate) fn verdict_line(alloc: Global, question: &Question<'_>) -> Result<Lin
         text,
         is_sound: is_sound(&verdict),
     })
+}
+
+/// The lines of the module of a file, or the line of the first fault that it has.
+///
+/// # Errors
+///
+/// Where memory runs out.
+pub(crate) fn listing_line(alloc: Global, bytes: &[u8]) -> Result<Line, AllocError>
+    ensures { IfOk result (λ line. TellsListing bytes.now (string_bytes line.text) line.is_sound) }
+{
+    match decode(alloc, bytes, &Config::free()) {
+        Ok(module) => {
+            let text = module_text(alloc, bytes.len(), &module)?;
+            Ok(Line {
+                text,
+                is_sound: true,
+            })
+        }
+        Err(DecodeFault::Memory) => Err(AllocError),
+        Err(fault) => {
+            let text = decode_text(alloc, fault)?;
+            Ok(Line {
+                text,
+                is_sound: false,
+            })
+        }
+    }
 }
 
 /// The line of a module's file that is too long.

@@ -5,13 +5,13 @@ ghost use Rattle.nr_bytes.specs.Outside.{Rose};
 ghost use Rattle.nr_words.specs.Words.{texts};
 ghost use Rattle.nr_module.specs.Answers.{Serves, stop_status};
 ghost use Rattle.nr_module.specs.Command.{command, command_in, names_in};
-ghost use Rattle.nr_module.specs.Plans.{module_plan, plan};
+ghost use Rattle.nr_module.specs.Plans.{listing_plan, module_plan, plan};
 ghost use Rattle.nr_module.specs.declared.status.Status.TheVariants.{Faulty, ReadFault, Sound, WriteFault};
 
 use crate::command::{FileNames, Words, command_of};
-use crate::question::question_of;
+use crate::question::{listed_of, question_of};
 use crate::status::Status;
-use crate::telling::{long_line, tell, text_line, verdict_line};
+use crate::telling::{listing_line, long_line, tell, text_line, verdict_line};
 use nr_bytes::{Shelf, Sink};
 use nr_shell::Stop;
 use std::alloc::Global;
@@ -47,6 +47,26 @@ fn serve_names<S: Shelf, K: Sink>(
     }
 }
 
+/// Lists what the module of a file brings.
+fn serve_listing<S: Shelf, K: Sink>(
+    alloc: Global,
+    file: &str,
+    shelf: &mut S,
+    sink: &mut K,
+) -> Status
+    ensures serves { Serves result (listing_plan file.now) (S.held shelf.old)
+        (S.asked shelf.old) (S.asked shelf.new) (K.taken sink.old) (K.taken sink.new) }
+    ensures untouched { result ≢ Sound → result ≢ Faulty → result ≢ WriteFault → sink.new ≡ sink.old }
+    ensures read_fault { result ≡ ReadFault → Rose (S.faults shelf.old) (S.faults shelf.new) }
+    ensures write_fault { result ≡ WriteFault → Rose (K.faults sink.old) (K.faults sink.new) }
+{
+    match listed_of(alloc, file, shelf) {
+        Ok(bytes) => tell(listing_line(alloc, &bytes), sink),
+        Err(Stop::Refused(Status::Faulty)) => tell(long_line(alloc), sink),
+        Err(stop) => stop_status(stop),
+    }
+}
+
 /// Does what a command asks for.
 fn serve_command<S: Shelf, K: Sink>(
     alloc: Global,
@@ -62,13 +82,15 @@ fn serve_command<S: Shelf, K: Sink>(
 {
     match command {
         Words::Module(names) => serve_names(alloc, names, shelf, sink),
+        Words::Listing(file) => serve_listing(alloc, file, shelf, sink),
         Words::Text(text) => tell(text_line(alloc, text), sink),
     }
 }
 
 /// Does what the words ask for: `check CONFIG FILE` decodes and validates the module of a file, and
 /// writes a line that says what it is; `run CONFIG FILE METHOD GAS` runs a method of it besides, and
-/// writes how the run ended. CONFIG is `free`, the built-in configuration, or the name of a file. GAS
+/// writes how the run ended; `list FILE` decodes the module of a file and tells what it imports and
+/// exports. CONFIG is `free`, the built-in configuration, or the name of a file. GAS
 /// is a decimal number below 2^64 without leading zeros. `help` writes the words of the commands, and
 /// `version` the program's name and version.
 ///
@@ -82,10 +104,14 @@ fn serve_command<S: Shelf, K: Sink>(
 /// `method` where no method has the name: a function of the module's own that is exported by it and
 /// takes and leaves nothing.
 ///
+/// `list` writes a line for each import, with why the host doesn't have it or `ok`, for each export, table and
+/// memory, and for the size of the file; or the line `decode KIND AT` or `long`. It judges by the built-in
+/// configuration, which only says how long a file may be.
+///
 /// # Answers
 ///
-/// - `Sound`: the line `ok` or `end BURNT` was written, or what `help` or `version` writes. `Faulty`:
-///   another line was written.
+/// - `Sound`: the line `ok` or `end BURNT` was written, the lines of a module, or what `help` or `version`
+///   writes. `Faulty`: another line was written.
 /// - `Usage`: the words are none of these commands, or one is empty or begins with `-`. Nothing was
 ///   loaded or written.
 /// - `Config`: the configuration's file is longer than 1 MiB (kind 0), or its first fault, by the kind

@@ -1,5 +1,4 @@
 -- Lemmas behind the answers.
 pub mod Crossing
-pub mod Shown
 pub mod Stretches
 pub mod Whole

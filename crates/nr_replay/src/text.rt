@@ -1,54 +1,19 @@
-//! The text of the chunks of an ended run. Each of some threads writes the text of a stretch of heights.
+//! The text of the chunks of a run that is over. Each of some threads writes the text of a stretch of heights.
 
 ghost use Rattle.std.specs.Prelude.{◌≡◌, ℕ, ◌+◌, ◌++◌, ◌<◌, ◌≤◌, IfOk, OnOk, IsOk, vec_len, slice_index_or};
-ghost use Rattle.nr_settle.specs.Shown.{cell};
-ghost use Rattle.nr_top.specs.Checking.{report_text};
-ghost use Rattle.nr_top.specs.Run.{text_below};
-ghost use Rattle.nr_replay.specs.Stretches.{IsStretch, height_text, start_of};
+ghost use Rattle.nr_outcome.specs.Reports.{report_in};
+ghost use Rattle.nr_outcome.specs.Texts.{heights_text};
+ghost use Rattle.nr_replay.specs.Stretches.{IsStretch, start_of};
 
 use nr_bytes::Blob;
-use nr_records::ChunkResult;
-use nr_report::write_chunk;
-use nr_settle::cell;
+use nr_ids::Height;
+use nr_outcome::Reports;
 use std::alloc::{AllocError, Global};
 use std::thread;
 use std::thread::Threads;
 
 /// How many stretches there are.
 const STRETCHES: usize = 8;
-
-/// Adds the text of a chunk, where it is there.
-fn add_chunk(
-    alloc: Global,
-    rows: &[Vec<Option<Box<ChunkResult>>>],
-    shard: u32,
-    below: u64,
-    text: &mut Blob,
-) -> Result<(), AllocError>
-    ensures { OnOk result (text.new ≡ text.old ++ report_text (cell rows.now shard below)) }
-{
-    match cell(rows, shard, below) {
-        Some(report) => write_chunk(alloc, report, text),
-        None => Ok(()),
-    }
-}
-
-/// Adds the text of the chunks of a height.
-#[tactic(auto, unfolding(nr_top::specs::Run::text_below))]
-fn add_height(
-    alloc: Global,
-    rows: &[Vec<Option<Box<ChunkResult>>>],
-    shards: u32,
-    below: u64,
-    text: &mut Blob,
-) -> Result<(), AllocError>
-    ensures { OnOk result (text.new ≡ text.old ++ text_below shards (λ s. report_text (cell rows.now s below))) }
-{
-    for shard in 0..shards {
-        add_chunk(alloc, rows, shard, below, text)?;
-    }
-    Ok(())
-}
 
 /// How many heights lie below a stretch.
 fn start_of(heights: u64, number: usize) -> u64
@@ -64,37 +29,32 @@ fn start_of(heights: u64, number: usize) -> u64
 /// The text of a stretch of heights.
 fn stretch_of(
     alloc: Global,
-    rows: &[Vec<Option<Box<ChunkResult>>>],
-    shards: u32,
+    reports: &Reports,
     heights: u64,
     number: usize,
 ) -> Result<Blob, AllocError>
     requires { number < 8 }
-    ensures { IfOk result (λ text. IsStretch (height_text rows.now shards) heights number text) }
+    ensures { IfOk result (λ text. IsStretch reports.now heights number text) }
 {
-    let mut text = Blob::of(Vec::new(alloc));
-    let start = start_of(heights, number);
-    for below in start..start_of(heights, number + 1) {
-        add_height(alloc, rows, shards, below, &mut text)?;
-    }
-    Ok(text)
+    let above = start_of(heights, number);
+    let to = start_of(heights, number + 1);
+    reports.text(alloc, Height(above), Height(to))
 }
 
 /// The texts of all stretches, each written by a thread of its own where one can be made.
 fn stretches<R: Threads + Sync>(
     rt: &R,
     alloc: Global,
-    rows: &[Vec<Option<Box<ChunkResult>>>],
-    shards: u32,
+    reports: &Reports,
     heights: u64,
 ) -> Result<Vec<Result<Blob, AllocError>>, AllocError>
     ensures len { IfOk result (λ texts. vec_len texts ≡ 8) }
-    ensures each { IfOk result (λ texts. (i : ℕ) (d : _) → i < 8 → IfOk (slice_index_or texts.items i d) (λ text. IsStretch (height_text rows.now shards) heights i text)) }
+    ensures each { IfOk result (λ texts. (i : ℕ) (d : _) → i < 8 → IfOk (slice_index_or texts.items i d) (λ text. IsStretch reports.now heights i text)) }
 {
     let write = |number: usize| -> Result<Blob, AllocError>
         requires { number < 8 }
-        ensures { IfOk result (λ text. IsStretch (height_text rows.entry.now shards) heights number text) }
-    { stretch_of(alloc, rows, shards, heights, number) };
+        ensures { IfOk result (λ text. IsStretch reports.entry.now heights number text) }
+    { stretch_of(alloc, reports, heights, number) };
     thread::map_indices(rt, alloc, STRETCHES, &write)
 }
 
@@ -109,18 +69,16 @@ fn add_stretch(stretch: &Result<Blob, AllocError>, text: &mut Blob) -> Result<()
     }
 }
 
-/// The text of the chunks, by height and then shard.
-#[tactic(auto, unfolding(nr_top::specs::Run::text_below))]
+/// The text of the chunks of all heights up to one, by height and then shard.
 pub(crate) fn chunks_text<R: Threads + Sync>(
     rt: &R,
     alloc: Global,
-    rows: &[Vec<Option<Box<ChunkResult>>>],
-    shards: u32,
+    reports: &Reports,
     heights: u64,
 ) -> Result<Blob, AllocError>
-    ensures { IfOk result (λ text. text ≡ text_below heights (λ h. text_below shards (λ s. report_text (cell rows.now s h)))) }
+    ensures { IfOk result (λ text. text ≡ heights_text reports.now.shards (report_in reports.now) 0 heights) }
 {
-    let texts = stretches(rt, alloc, rows, shards, heights)?;
+    let texts = stretches(rt, alloc, reports, heights)?;
     let mut text = Blob::of(Vec::new(alloc));
     for number in 0..STRETCHES {
         add_stretch(&texts[number], &mut text)?;

@@ -10,10 +10,8 @@ ghost use Rattle.nr_words.specs.Words.{CanGenerate};
 ghost use Rattle.nr_replay.specs.Chains.{chain_in};
 ghost use Rattle.nr_replay.specs.Written.{IsWritten};
 
-use crate::counting::count_chunks;
 use crate::hashing::Hashing;
 use crate::text::chunks_text;
-use crate::totals::{joined, totals_text};
 use nr_blocks::{Block, Genesis};
 use nr_bytes::{Blob, List};
 use nr_chunk::ChainRun;
@@ -21,6 +19,7 @@ use nr_config::Config;
 use nr_contract::ContractCaller;
 use nr_exchange::Serial;
 use nr_gen::generate;
+use nr_outcome::joined;
 use nr_overlap::Phases;
 use nr_settle::{Unwatched, Watch, Watched, run_to_end};
 use nr_top::{Work, first_lines};
@@ -73,13 +72,11 @@ fn parts_of<R: Threads + Wait + Sync, G: Gate + Sync, W: Watch + Drop + Send + S
     is_send::<List<FuncBody>>();
     let supply = genesis.supply;
     let run = begin(config, genesis, blocks, watch);
-    let shards = run.0.shards();
     let heights = run.0.heights();
-    let ended = run_to_end(rt, alloc, gate, &run)?;
-    let text = chunks_text(rt, alloc, &ended.rows, shards, heights)?;
-    let chunks = count_chunks(&ended.rows, shards, heights)?;
-    let end = totals_text(alloc, supply, ended.tally)?;
-    let Serial(Watched { chain: _, watch }) = run;
+    let (outcome, watch) = run_to_end(rt, alloc, gate, run, supply)?;
+    let text = chunks_text(rt, alloc, outcome.reports(), heights)?;
+    let chunks = outcome.chunk_count().ok_or(AllocError)?;
+    let end = outcome.totals_text(alloc)?;
     Ok((Written { text, end, chunks }, watch))
 }
 

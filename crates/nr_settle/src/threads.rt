@@ -1,7 +1,7 @@
 //! The threads of a run.
 
 ghost use Rattle.std.specs.Prelude.{◌≡◌, ◌<◌, IfOk};
-ghost use Rattle.nr_workers.specs.Outcome.{last_worlds, lists_left, reports_by_shard};
+ghost use Rattle.nr_overlap.specs.Outcome.{last_worlds, lists_left, reports_by_shard};
 
 use nr_blocks::MOST_BLOCKS;
 use nr_exchange::{Serial, make_exchange};

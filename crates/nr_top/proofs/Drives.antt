@@ -25,7 +25,7 @@ use Rattle.nr_top.specs.Counting.{counted, numbers, report_by}
 use Rattle.nr_top.specs.Driving.{Along, Drives, Goes, IsDriven}
 use Rattle.nr_top.specs.Moments.{Chains, chain_of}
 use Rattle.nr_top.specs.Run.{check_text}
-use Rattle.nr_top.specs.Totals.{totals_of}
+use Rattle.nr_outcome.specs.Totals.{totals_of}
 use Rattle.nr_top.specs.declared.checking.Driven.{Driven}
 use Rattle.nr_top.specs.declared.schedule.Line.{Line}
 use Rattle.nr_top.proofs.Onward.{counted_moved, left_none, left_some, made_text, next_is, none_next, refused_text, run_append, sealed_shown, text_append, text_one}

@@ -14,3 +14,4 @@ pub mod Asking
 pub mod Digests
 pub mod Present
 pub mod Named
+pub mod RecheckAnswers

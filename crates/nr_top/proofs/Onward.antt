@@ -32,7 +32,8 @@ use Rattle.nr_records.specs.declared.chunk_result.ChunkResult.{ChunkResult}
 use Rattle.nr_report.specs.Lines.{line}
 use Rattle.std.specs.Prelude.{codes}
 use Rattle.nr_top.proofs.Pieces.{no_place}
-use Rattle.nr_top.specs.Checking.{event_text, events_left, events_text, is_slowest, next_by, next_event, report_text, sealed_text, answer_text, why_line}
+use Rattle.nr_outcome.specs.Texts.{report_text}
+use Rattle.nr_top.specs.Checking.{event_text, events_left, events_text, is_slowest, next_by, next_event, sealed_text, answer_text, why_line}
 use Rattle.nr_top.specs.Counting.{counted, numbers, report_by, GrowsInRange}
 
 -- ---- the slowest shard

@@ -1,4 +1,4 @@
--- Which files the commands on parts ask for, the chain's aside.
+-- Which files the commands on parts and on gathered chunks ask for, the chain's aside.
 use Rattle.std.proofs.Common.{ℕ, ◌+◌, Bool, true, false, cond, List, [], ◌∷◌, subst}
 use Rattle.std.proofs.lemmas.List.{append-nil}
 use Rattle.nr_chunk.specs.Chain.{Chain}
@@ -12,9 +12,11 @@ use Rattle.nr_shell.specs.Plans.{Plan, Answer, Refuse, Asks, and_then, by_readin
 use Rattle.nr_shell.proofs.Ends.{file_asks, reading_asks, then_asks}
 use Rattle.nr_top.specs.Roots.{root_in}
 use Rattle.nr_top.specs.Chunks.{has_chunk}
+use Rattle.nr_top.specs.Gathering.{gather_answer, gather_text}
 use Rattle.nr_top.specs.StateParts.{by_part_bytes, check_answer, check_part_plan, cut_answer, join_answer, join_parts_plan, join_status, part_file_plan, part_line, part_names, part_status, part_text, parts_plan, root_line}
 use Rattle.nr_top.specs.declared.status.Status.{Status}
 use Rattle.nr_top.specs.declared.status.Status.TheVariants.{NoItem, Parts as faulty_parts}
+use Rattle.nr_words.specs.declared.words.ChunkPlace.{ChunkPlace}
 use Rattle.nr_words.specs.declared.words.StatePart.{StatePart}
 
 -- ---- `part`
@@ -22,6 +24,14 @@ pub cut_asks : (p : StatePart) (x : Chain) → Asks [] (cut_answer p x)
 cut_asks p x = by (has_chunk x p.shard p.height)
   where
     by : (b : Bool) → Asks [] (cond {A = Plan (List ℕ) Status} b (Answer (part_text x p)) (Refuse (NoItem 0)))
+    by true = tt
+    by false = tt
+
+-- ---- `gather`
+pub gather_asks : (p : ChunkPlace) (x : Chain) → Asks [] (gather_answer p x)
+gather_asks p x = by (has_chunk x p.shard p.height)
+  where
+    by : (b : Bool) → Asks [] (cond {A = Plan (List ℕ) Status} b (Answer (gather_text x p)) (Refuse (NoItem 0)))
     by true = tt
     by false = tt
 

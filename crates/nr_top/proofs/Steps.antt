@@ -1,7 +1,7 @@
 -- One part more of a text or a sum.
 use Rattle.std.proofs.Common.{◌≡◌, ℕ, ◌+◌, List, ◌++◌, append_assoc, sym, ap, ◌∙◌, add-one}
 use Rattle.nr_chunk.specs.declared.tally.Tally.{Tally}
-use Rattle.nr_top.specs.Run.{text_below}
+use Rattle.nr_outcome.specs.Texts.{text_below}
 use Rattle.nr_places.specs.Totals.{plus, tally_below}
 
 pub text_next : (n : ℕ) (f : ℕ → List ℕ) (old mid new : List ℕ) → mid ≡ old ++ text_below n f → new ≡ mid ++ f n → new ≡ old ++ text_below (n + 1) f

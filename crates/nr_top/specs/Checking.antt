@@ -13,7 +13,8 @@ use Rattle.nr_overlap.specs.declared.event.Why.{Why}
 use Rattle.nr_overlap.specs.declared.event.Why.TheVariants.{Ended, Stage, Due, Published}
 use Rattle.nr_overlap.specs.declared.position.Position.{Position}
 use Rattle.nr_records.specs.declared.chunk_result.ChunkResult.{ChunkResult}
-use Rattle.nr_report.specs.Lines.{chunk_text, line}
+use Rattle.nr_outcome.specs.Texts.{report_text}
+use Rattle.nr_report.specs.Lines.{line}
 use Rattle.nr_top.specs.declared.schedule.Line.{Line}
 use Rattle.nr_top.specs.declared.schedule.Line.TheVariants.{Step, Rest}
 
@@ -53,11 +54,6 @@ why_line (Stage stage) = refused_line 1 stage 0
 why_line (Due height source) = refused_line 2 height source
 why_line (Published number) = refused_line 3 number 0
 why_line (Ended heights) = refused_line 4 heights 0
-
--- a chunk that is sealed has its lines
-abbrev pub report_text : Option ChunkResult → List ℕ
-report_text None = []
-report_text (Some y) = chunk_text y
 
 module _ {W K L : Type 0} (r : Rules W K L ChunkResult) where
   -- a seal tells its chunk: the serial run's at the shard's next height

@@ -5,8 +5,8 @@ use Rattle.nr_overlap.specs.Rules.{Rules}
 use Rattle.nr_overlap.specs.declared.event.Event.{Event}
 use Rattle.nr_overlap.specs.declared.event.Event.TheVariants.{OpenChunk, TakeList, SealChunk, PublishLists}
 use Rattle.nr_overlap.specs.declared.position.Position.{Position}
+use Rattle.nr_outcome.specs.Texts.{report_text}
 use Rattle.nr_records.specs.declared.chunk_result.ChunkResult.{ChunkResult}
-use Rattle.nr_top.specs.Checking.{report_text}
 
 abbrev pub numbers : List Position → List ℕ
 numbers ps = map (λ p. p.number) ps

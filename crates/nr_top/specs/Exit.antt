@@ -1,7 +1,7 @@
 -- How a program ends with an answer: its exit status, and the line that tells it. This project's own.
 use Rattle.std.specs.Prelude.{ℕ, List, [], ◌∷◌, ◌++◌, decimal}
 use Rattle.nr_top.specs.declared.status.Status.{Status}
-use Rattle.nr_top.specs.declared.status.Status.TheVariants.{Done, Usage, Config, Genesis, Blocks, Schedule, Proof, NoItem, Parts, ReadFault, WriteFault, NoMemory}
+use Rattle.nr_top.specs.declared.status.Status.TheVariants.{Done, Usage, Config, Genesis, Blocks, Schedule, Proof, NoItem, Gathered, Parts, ReadFault, WriteFault, NoMemory}
 
 -- the exit status, and the numbers that it tells
 abbrev pub told : Status → ℕ × List ℕ
@@ -16,6 +16,7 @@ told NoMemory = (7, [])
 told (Schedule kind line) = (8, kind ∷ line ∷ [])
 told (Proof kind line) = (10, kind ∷ line ∷ [])
 told (NoItem count) = (11, count ∷ [])
+told (Gathered kind a) = (12, kind ∷ a ∷ [])
 told (Parts kind a) = (13, kind ∷ a ∷ [])
 
 -- in decimal, each with a space before it

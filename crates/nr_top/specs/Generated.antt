@@ -1,35 +1,21 @@
 -- The run of a generated chain, in short: how many chunks were sealed, the digest of the report, and the totals. This project's own.
-use Rattle.std.specs.Prelude.{ℕ, ◌+◌, List, [], ◌∷◌, ◌++◌, Option, Some, None, codes, decimal}
+use Rattle.std.specs.Prelude.{ℕ, List, [], ◌∷◌, ◌++◌, codes, decimal}
 use Rattle.nr_chunk.specs.Chain.{Chain, rules_of}
 use Rattle.nr_config.specs.Config.{generated}
 use Rattle.nr_gen.specs.Chain.{generated_blocks}
 use Rattle.nr_gen.specs.Founding.{generated_genesis}
 use Rattle.nr_ids.specs.declared.key.Hash32.{Hash32}
-use Rattle.nr_overlap.specs.Balance.{sum_below}
 use Rattle.nr_overlap.specs.Moment.{report_at}
 use Rattle.nr_overlap.specs.Run.{ending}
-use Rattle.nr_overlap.specs.declared.position.Position.{Position}
-use Rattle.nr_records.specs.declared.chunk_result.ChunkResult.{ChunkResult}
+use Rattle.nr_outcome.specs.Texts.{count_to}
+use Rattle.nr_outcome.specs.Totals.{totals_at}
 use Rattle.nr_report.specs.Lines.{hash_word, line, totals_text}
 use Rattle.nr_triedef.specs.Node.{digest}
 use Rattle.nr_top.specs.Run.{chain, run_text}
-use Rattle.nr_top.specs.Totals.{totals_at}
 
 -- under the configuration for generated chains
 abbrev pub generated_chain : ℕ → ℕ → ℕ → Chain
 generated_chain start shards blocks = chain generated (generated_genesis shards) (generated_blocks start shards blocks)
-
--- ---- how many chunks are sealed
-abbrev pub one_if_there : Option ChunkResult → ℕ
-one_if_there None = 0
-one_if_there (Some y) = 1
-
-module _ (x : Chain) (ps : List Position) where
-  abbrev pub sealed_at : ℕ → ℕ
-  sealed_at h = sum_below (rules_of x).shards (λ s. one_if_there (report_at (rules_of x) ps s h))
-
-  abbrev pub sealed_chunks : ℕ
-  sealed_chunks = sum_below (rules_of x).heights (λ h. sealed_at (h + 1))
 
 -- ---- what is written of it: the numbers that generate it, how many chunks were sealed, and the digest of the report that its run has; then the totals
 abbrev pub first_lines : ℕ → ℕ → ℕ → ℕ → Hash32 → List ℕ
@@ -41,5 +27,5 @@ first_lines start shards blocks chunks hash =
 unfoldable pub generated_text : ℕ → ℕ → ℕ → List ℕ
 generated_text start shards blocks =
     let x = generated_chain start shards blocks in
-    let ps = ending (rules_of x) in
-    first_lines start shards blocks (sealed_chunks x ps) (digest (run_text x)) ++ totals_text (totals_at x ps)
+    let r = rules_of x in
+    first_lines start shards blocks (count_to r.shards (report_at r (ending r)) r.heights) (digest (run_text x)) ++ totals_text (totals_at x (ending r))

@@ -7,12 +7,13 @@ pub mod Generated
 pub mod Moments
 pub mod Driving
 pub mod Arriving
-pub mod Hashing
 pub mod Works
 pub mod Chunks
 pub mod Roots
 pub mod Proving
 pub mod StateParts
+pub mod Gathering
 pub mod Plans
 pub mod Answers
 pub mod Exit
+pub mod Rechecking

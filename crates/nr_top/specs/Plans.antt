@@ -1,13 +1,12 @@
 -- What each command does, as a plan: the files that it asks for in their order, and what it answers or refuses. This
 -- project's own commands and limits.
 use Rattle.std.specs.Prelude.{ℕ, ◌+◌, List, [], ◌∷◌, ◌++◌, cond, length, Option, Some, None}
-use Rattle.nr_words.specs.Command.{Command, Replay, Generate, Roots, Prove, Verify, Cut, CheckPart, JoinParts, Names, is_free}
+use Rattle.nr_words.specs.Command.{Command, Replay, Generate, Roots, Prove, Verify, Cut, CheckPart, JoinParts, Gather, Recheck, Names}
 use Rattle.nr_words.specs.declared.words.ChunkItem.{ChunkItem}
+use Rattle.nr_words.specs.declared.words.ChunkPlace.{ChunkPlace}
 use Rattle.nr_words.specs.declared.words.StatePart.{StatePart}
-use Rattle.nr_config.specs.Config.{Config, free}
-use Rattle.nr_config.specs.Reading.{configuration}
-use Rattle.nr_config.specs.declared.fault.ConfigFault.{ConfigFault}
-use Rattle.nr_config.specs.declared.fault.ConfigFault.TheVariants as fault
+use Rattle.nr_config.specs.Config.{Config}
+use Rattle.nr_configfile.specs.Plans.{config_files, config_plan}
 use Rattle.nr_blocks.specs.Judging.{genesis_read, blocks_read}
 use Rattle.nr_blocks.specs.declared.block.Block.{Block}
 use Rattle.nr_blocks.specs.declared.fault.BlocksFault.{BlocksFault}
@@ -17,8 +16,10 @@ use Rattle.nr_blocks.specs.declared.fault.GenesisFault.TheVariants as genesis
 use Rattle.nr_blocks.specs.declared.genesis.Genesis.{Genesis}
 use Rattle.nr_chunk.specs.Chain.{Chain, shards_of}
 use Rattle.nr_shell.specs.Plans.{Plan, Answer, Refuse, and_then, by_reading, file_plan}
+use Rattle.nr_top.specs.Gathering.{gather_answer}
 use Rattle.nr_top.specs.Generated.{generated_text}
 use Rattle.nr_top.specs.Proving.{by_item, by_proof_bytes, roots_text}
+use Rattle.nr_top.specs.Rechecking.{by_gathered}
 use Rattle.nr_top.specs.Roots.{root_in}
 use Rattle.nr_top.specs.Run.{chain, check_text, run_text}
 use Rattle.nr_top.specs.Schedule.{schedule_read}
@@ -29,21 +30,6 @@ use Rattle.nr_top.specs.declared.schedule.ScheduleFault.{ScheduleFault}
 use Rattle.nr_top.specs.declared.schedule.ScheduleFault.TheVariants as schedule
 use Rattle.nr_top.specs.declared.status.Status.{Status}
 use Rattle.nr_top.specs.declared.status.Status.TheVariants.{Usage, Config as faulty_config, Genesis as faulty_genesis, Blocks as faulty_blocks, Schedule as faulty_schedule, Proof as faulty_proof, NoMemory}
-
--- ---- the configuration: the built-in one, or that of a file of at most 1 MiB; its faults, by kind and entry
-abbrev pub config_status : ConfigFault → Status
-config_status fault.NotJson = faulty_config 1 0
-config_status (fault.Missing entry) = faulty_config 2 entry
-config_status (fault.NotWhole entry) = faulty_config 3 entry
-config_status (fault.OutOfRange entry) = faulty_config 4 entry
-config_status fault.Memory = NoMemory
-
-abbrev pub by_config_bytes : List ℕ → Plan Config Status
-by_config_bytes bytes = by_reading config_status (configuration bytes)
-
-abbrev pub config_plan : List ℕ → Plan Config Status
-config_plan word =
-    cond (is_free word) (Answer free) (and_then (file_plan word 1048576 (faulty_config 0 0)) by_config_bytes)
 
 -- ---- the genesis, in a file of at most 64 MiB; its faults, by kind and numbers
 abbrev pub genesis_status : GenesisFault → Status
@@ -95,7 +81,7 @@ abbrev pub by_config : Names → Config → Plan Chain Status
 by_config names c = and_then (genesis_plan c names.genesis) (by_genesis c names)
 
 abbrev pub chain_plan : Names → Plan Chain Status
-chain_plan names = and_then (config_plan names.config) (by_config names)
+chain_plan names = and_then (config_plan faulty_config names.config) (by_config names)
 
 -- the chain that was loaded
 abbrev pub loaded : ChainFiles → Chain
@@ -133,6 +119,14 @@ verify_plan root name = and_then (file_plan name 268435456 (faulty_proof 0 0)) (
 abbrev pub part_plan : Names → StatePart → Plan (List ℕ) Status
 part_plan names part = and_then (chain_plan names) (cut_answer part)
 
+-- `gather`
+abbrev pub gather_plan : Names → ChunkPlace → Plan (List ℕ) Status
+gather_plan names chunk = and_then (chain_plan names) (gather_answer chunk)
+
+-- `recheck`
+abbrev pub recheck_plan : List ℕ → List ℕ → Plan (List ℕ) Status
+recheck_plan word file = and_then (config_plan faulty_config word) (by_gathered file)
+
 -- `gen` asks for no file
 abbrev pub command_plan : Command → Plan (List ℕ) Status
 command_plan (Replay names) = replay_plan names names.schedule
@@ -143,6 +137,8 @@ command_plan (Verify root name) = verify_plan root name
 command_plan (Cut names part) = part_plan names part
 command_plan (CheckPart word file) = check_part_plan word file
 command_plan (JoinParts word count prefix) = join_parts_plan word count prefix
+command_plan (Gather names chunk) = gather_plan names chunk
+command_plan (Recheck config file) = recheck_plan config file
 
 -- words that are no command are refused
 abbrev pub plan : Option Command → Plan (List ℕ) Status
@@ -150,9 +146,6 @@ plan None = Refuse Usage
 plan (Some c) = command_plan c
 
 -- ---- the files of a command in their order, each of which it asks for once
-abbrev pub config_files : List ℕ → List (List ℕ)
-config_files word = cond (is_free word) [] (word ∷ [])
-
 abbrev pub chain_files : Names → List (List ℕ)
 chain_files names = config_files names.config ++ names.genesis ∷ names.blocks ∷ []
 
@@ -170,3 +163,5 @@ files_of (Some (Verify root name)) = name ∷ []
 files_of (Some (Cut names part)) = chain_files names
 files_of (Some (CheckPart word file)) = file ∷ []
 files_of (Some (JoinParts word count prefix)) = part_names prefix count
+files_of (Some (Gather names chunk)) = chain_files names
+files_of (Some (Recheck config file)) = config_files config ++ file ∷ []

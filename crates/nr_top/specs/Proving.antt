@@ -9,11 +9,11 @@ use Rattle.nr_outproof.specs.Texts.{proof_read, proof_text}
 use Rattle.nr_outproof.specs.declared.fault.ProofFault.{ProofFault}
 use Rattle.nr_outproof.specs.declared.fault.ProofFault.TheVariants as fault
 use Rattle.nr_outproof.specs.declared.proof.Proof.{Proof}
+use Rattle.nr_outcome.specs.Texts.{text_below}
 use Rattle.nr_records.specs.declared.chunk_result.ChunkResult.{ChunkResult}
 use Rattle.nr_report.specs.Lines.{hash_word, line}
 use Rattle.nr_shell.specs.Plans.{Plan, Answer, Refuse}
 use Rattle.nr_top.specs.Chunks.{result_at}
-use Rattle.nr_top.specs.Run.{text_below}
 use Rattle.nr_top.specs.declared.status.Status.{Status}
 use Rattle.nr_top.specs.declared.status.Status.TheVariants.{NoMemory, NoItem, Proof as faulty_proof}
 use Rattle.nr_words.specs.declared.kind.ProofKind.TheVariants.{Outcome, Receipt}

@@ -4,22 +4,18 @@ ghost use Rattle.std.specs.Prelude.{◌+◌, IfOk, length};
 ghost use Rattle.nr_blocks.specs.Genesis.{IsSoundGenesis};
 ghost use Rattle.nr_shell.specs.Answers.{Follows, Judges};
 ghost use Rattle.nr_top.specs.Answers.{refuses};
-ghost use Rattle.nr_top.specs.Plans.{blocks_plan, by_blocks_bytes, by_config, by_config_bytes, by_genesis, by_genesis_bytes, chain_plan, config_plan, genesis_plan, loaded};
+ghost use Rattle.nr_top.specs.Plans.{blocks_plan, by_blocks_bytes, by_config, by_genesis, by_genesis_bytes, chain_plan, genesis_plan, loaded};
 ghost use Rattle.nr_words.specs.Words.{names_in};
 
-use crate::refused::{blocks_stop, config_stop, genesis_stop};
+use crate::refused::{blocks_stop, genesis_stop};
 use crate::status::Status;
 use nr_blocks::{Block, Genesis, read_blocks, read_genesis};
 use nr_bytes::{List, Shelf};
 use nr_config::Config;
+use nr_configfile::config_of;
 use nr_shell::{Stop, load};
-use nr_words::{FileNames, is_free};
+use nr_words::FileNames;
 use std::alloc::Global;
-
-/// The most bytes of a configuration, 1 MiB.
-const CONFIG_LIMIT: usize = 1_048_576;
-
-const LONG_CONFIG: Status = Status::Config { kind: 0, entry: 0 };
 
 /// The most bytes of a genesis, 64 MiB.
 const GENESIS_LIMIT: usize = 67_108_864;
@@ -42,31 +38,6 @@ pub(crate) struct ChainFiles {
     pub(crate) config: Config,
     pub(crate) genesis: Genesis,
     pub(crate) blocks: List<Block>,
-}
-
-/// The configuration that some bytes spell.
-fn config_in(alloc: Global, bytes: &[u8]) -> Result<Config, Stop<Status>>
-    ensures { Judges refuses (λ config. config) result (by_config_bytes bytes.now) }
-{
-    match Config::read(alloc, bytes) {
-        Ok(config) => Ok(config),
-        Err(fault) => Err(config_stop(fault)),
-    }
-}
-
-/// The configuration of a word: `free`, which loads nothing, or the name of a file.
-fn config_of<S: Shelf>(alloc: Global, word: &str, shelf: &mut S) -> Result<Config, Stop<Status>>
-    ensures { Follows refuses (λ config. config) (S.held shelf.old) (S.held shelf.new)
-        (S.asked shelf.old) (S.asked shelf.new) (S.faults shelf.old) (S.faults shelf.new)
-        result (config_plan word.now) }
-{
-    if is_free(word) {
-        return Ok(Config::free());
-    }
-    match load(alloc, word, CONFIG_LIMIT, LONG_CONFIG, shelf) {
-        Ok(bytes) => config_in(alloc, &bytes),
-        Err(stop) => Err(stop),
-    }
 }
 
 /// The genesis that some bytes spell.
@@ -178,7 +149,7 @@ pub(crate) fn load_chain<S: Shelf>(
         result (chain_plan (names_in names.now)) }
     ensures sound { IfOk result (λ files. IsSoundGenesis files.config files.genesis) }
 {
-    match config_of(alloc, names.config, shelf) {
+    match config_of::<Status, S>(alloc, names.config, shelf) {
         Ok(config) => with_genesis(alloc, config, names, shelf),
         Err(stop) => Err(stop),
     }

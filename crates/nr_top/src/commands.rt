@@ -8,10 +8,12 @@ ghost use Rattle.nr_words.specs.Words.{CanRun, command_in, names_in};
 
 mod check;
 mod check_part;
+mod gather;
 mod generate;
 mod join_parts;
 mod part;
 mod prove;
+mod recheck;
 mod roots;
 mod run;
 mod verify;
@@ -20,6 +22,7 @@ use crate::status::Status;
 use crate::work::Work;
 use check::check_text;
 use check_part::check_part_text;
+use gather::gather_text;
 use generate::generate_text;
 use join_parts::join_parts_text;
 use nr_bytes::{Blob, Shelf};
@@ -27,6 +30,7 @@ use nr_shell::Stop;
 use nr_words::{FileNames, Words};
 use part::part_text;
 use prove::prove_text;
+use recheck::recheck_text;
 use roots::roots_text;
 use run::run_text;
 use std::alloc::{AllocError, Global};
@@ -87,5 +91,7 @@ pub(crate) fn text_of<F: Fn(Work) -> Result<Blob, AllocError>, S: Shelf>(
             count,
             prefix,
         } => join_parts_text(alloc, root, *count, prefix, shelf),
+        Words::GatherChunk { files, chunk } => gather_text(alloc, files, *chunk, shelf),
+        Words::RecheckChunk { config, file } => recheck_text(alloc, config, file, shelf),
     }
 }

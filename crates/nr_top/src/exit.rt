@@ -9,7 +9,7 @@ use std::fmt;
 impl Status {
     /// The exit status of a program that ends with this answer: 0 `Done`, 1 `Usage`, 2 `Config`,
     /// 3 `Genesis`, 4 `Blocks`, 5 `ReadFault`, 6 `WriteFault`, 7 `NoMemory`, 8 `Schedule`, 10 `Proof`,
-    /// 11 `NoItem` and 13 `Parts`.
+    /// 11 `NoItem`, 12 `Gathered` and 13 `Parts`.
     pub fn exit_status(&self) -> u8
         ensures { result ≡ (told self.now).0 }
     {
@@ -25,6 +25,7 @@ impl Status {
             Status::Schedule { .. } => 8,
             Status::Proof { .. } => 10,
             Status::NoItem { .. } => 11,
+            Status::Gathered { .. } => 12,
             Status::Parts { .. } => 13,
         }
     }
@@ -44,6 +45,7 @@ impl fmt::Display for Status {
             Status::Schedule { kind, line } => write!(f, "{number} {kind} {line}"),
             Status::Proof { kind, line } => write!(f, "{number} {kind} {line}"),
             Status::NoItem { count } => write!(f, "{number} {count}"),
+            Status::Gathered { kind, a } => write!(f, "{number} {kind} {a}"),
             Status::Parts { kind, a } => write!(f, "{number} {kind} {a}"),
             Status::Done => write!(f, "{number}"),
             Status::Usage => write!(f, "{number}"),

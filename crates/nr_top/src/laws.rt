@@ -6,6 +6,7 @@ ghost use Rattle.nr_blocks.specs.declared.block.Block.{Block};
 ghost use Rattle.nr_blocks.specs.declared.genesis.Genesis.{Genesis};
 ghost use Rattle.nr_chunk.specs.Chain.{Chain, IsChain, rules_of};
 ghost use Rattle.nr_config.specs.Config.{Config};
+ghost use Rattle.nr_outcome.specs.Totals.{totals_at};
 ghost use Rattle.nr_overlap.specs.Inside.{AreInside};
 ghost use Rattle.nr_overlap.specs.Next.{left};
 ghost use Rattle.nr_overlap.specs.Run.{ending, opening, run_of};
@@ -16,7 +17,7 @@ ghost use Rattle.nr_top.specs.Checking.{events_left};
 ghost use Rattle.nr_top.specs.Plans.{files_of, plan};
 ghost use Rattle.nr_top.specs.Chunks.{has_chunk, result_at};
 ghost use Rattle.nr_top.specs.Run.{chain};
-ghost use Rattle.nr_top.specs.Totals.{AddUp, totals_at};
+ghost use Rattle.nr_top.specs.Totals.{AddUp};
 ghost use Rattle.nr_top.specs.declared.status.Status.{Status};
 ghost use Rattle.nr_words.specs.Command.{Command};
 

@@ -3,23 +3,26 @@
 ghost use Rattle.std.specs.Prelude.{◌≡◌, true};
 ghost use Rattle.nr_blocks.specs.declared.fault.BlocksFault.TheVariants as blocks;
 ghost use Rattle.nr_blocks.specs.declared.fault.GenesisFault.TheVariants as genesis;
-ghost use Rattle.nr_config.specs.declared.fault.ConfigFault.TheVariants as config;
 ghost use Rattle.nr_outproof.specs.declared.fault.ProofFault.TheVariants as proof;
+ghost use Rattle.nr_gathered.specs.declared.fault.GatheredFault.TheVariants as gathered;
 ghost use Rattle.nr_parts.specs.declared.fault.PartFault.TheVariants as part;
+ghost use Rattle.nr_recheck.specs.declared.fault.RecheckFault.TheVariants as recheck;
 ghost use Rattle.nr_shell.specs.Answers.{StopsBy};
 ghost use Rattle.nr_top.specs.Answers.{refuses};
-ghost use Rattle.nr_top.specs.Plans.{blocks_status, config_status, genesis_status, schedule_status};
+ghost use Rattle.nr_top.specs.Plans.{blocks_status, genesis_status, schedule_status};
 ghost use Rattle.nr_top.specs.Proving.{proof_status};
+ghost use Rattle.nr_top.specs.Rechecking.{gathered_status, recheck_status};
 ghost use Rattle.nr_top.specs.StateParts.{part_status};
 ghost use Rattle.nr_top.specs.declared.schedule.ScheduleFault.TheVariants as schedule;
-ghost use Rattle.nr_top.specs.declared.status.Status.TheVariants.{Genesis as faulty_genesis, Parts as faulty_parts};
+ghost use Rattle.nr_top.specs.declared.status.Status.TheVariants.{Gathered as faulty_gathered, Genesis as faulty_genesis, Parts as faulty_parts};
 
 use crate::schedule::ScheduleFault;
 use crate::status::Status;
 use nr_blocks::{BlocksFault, GenesisFault};
-use nr_config::ConfigFault;
+use nr_gathered::GatheredFault;
 use nr_outproof::ProofFault;
 use nr_parts::PartFault;
+use nr_recheck::RecheckFault;
 use nr_shell::Stop;
 
 fn genesis_refusal(kind: u32, a: u64, b: u64, c: u64) -> Status
@@ -27,19 +30,6 @@ fn genesis_refusal(kind: u32, a: u64, b: u64, c: u64) -> Status
     ensures refuses { refuses result ≡ true }
 {
     Status::Genesis { kind, a, b, c }
-}
-
-/// Why a faulty configuration stops the command.
-pub(crate) fn config_stop(fault: ConfigFault) -> Stop<Status>
-    ensures { StopsBy refuses config.Memory config_status fault result }
-{
-    match fault {
-        ConfigFault::NotJson => Stop::Refused(Status::Config { kind: 1, entry: 0 }),
-        ConfigFault::Missing { entry } => Stop::Refused(Status::Config { kind: 2, entry }),
-        ConfigFault::NotWhole { entry } => Stop::Refused(Status::Config { kind: 3, entry }),
-        ConfigFault::OutOfRange { entry } => Stop::Refused(Status::Config { kind: 4, entry }),
-        ConfigFault::Memory => Stop::Memory,
-    }
 }
 
 /// Why a faulty genesis stops the command.
@@ -117,5 +107,38 @@ pub(crate) fn part_stop(position: u64, fault: PartFault) -> Stop<Status>
         PartFault::Whole { .. } => Stop::Refused(parts_refusal(8, 0)),
         PartFault::TooMany => Stop::Refused(parts_refusal(9, position)),
         PartFault::Memory => Stop::Memory,
+    }
+}
+
+fn gathered_refusal(kind: u32, a: u64) -> Status
+    ensures value { result ≡ faulty_gathered kind a }
+    ensures refuses { refuses result ≡ true }
+{
+    Status::Gathered { kind, a }
+}
+
+/// Why the file of a gathered chunk stops the command.
+pub(crate) fn gathered_stop(fault: GatheredFault) -> Stop<Status>
+    ensures { StopsBy refuses gathered.Memory gathered_status fault result }
+{
+    match fault {
+        GatheredFault::Spelling { at } => Stop::Refused(gathered_refusal(1, at)),
+        GatheredFault::Stake { at } => Stop::Refused(gathered_refusal(5, at)),
+        GatheredFault::Memory => Stop::Memory,
+    }
+}
+
+/// Why a chunk that isn't run again stops the command.
+pub(crate) fn recheck_stop(fault: RecheckFault) -> Stop<Status>
+    ensures { StopsBy refuses recheck.Memory recheck_status fault result }
+{
+    match fault {
+        RecheckFault::Place => Stop::Refused(gathered_refusal(7, 0)),
+        RecheckFault::Missing => Stop::Refused(gathered_refusal(2, 0)),
+        RecheckFault::BadText => Stop::Refused(gathered_refusal(3, 0)),
+        RecheckFault::TooMany => Stop::Refused(gathered_refusal(8, 0)),
+        RecheckFault::NotWorld => Stop::Refused(gathered_refusal(4, 0)),
+        RecheckFault::Bounds => Stop::Refused(gathered_refusal(6, 0)),
+        RecheckFault::Memory => Stop::Memory,
     }
 }

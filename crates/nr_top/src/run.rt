@@ -1,16 +1,17 @@
 //! The run of a chain to its end, and its report.
 
-ghost use Rattle.std.specs.Prelude.{◌≡◌, ◌+◌, ◌++◌, IfOk, OnOk};
+ghost use Rattle.std.specs.Prelude.{◌≡◌, ◌++◌, IfOk, OnOk};
 ghost use Rattle.nr_blocks.specs.Genesis.{IsSoundGenesis};
 ghost use Rattle.nr_chunk.specs.Chain.{rules_of};
+ghost use Rattle.nr_chunk.specs.Runs.{chain_in};
 ghost use Rattle.nr_chunk.specs.Start.{genesis_start, start_tokens};
 ghost use Rattle.nr_overlap.specs.Moment.{report_at};
 ghost use Rattle.nr_overlap.specs.Run.{ending, opening};
 ghost use Rattle.nr_top.specs.Moments.{IsMoment, chain_of};
-ghost use Rattle.nr_top.specs.Checking.{report_text};
-ghost use Rattle.nr_top.specs.Run.{chain, height_text, chunks_text, run_text};
+ghost use Rattle.nr_outcome.specs.Texts.{report_text};
+ghost use Rattle.nr_outcome.specs.Totals.{totals_of};
 ghost use Rattle.nr_places.specs.Totals.{tally_at};
-ghost use Rattle.nr_top.specs.Totals.{totals_of};
+ghost use Rattle.nr_top.specs.Run.{chain, run_text};
 
 use crate::tally::tally_all;
 use nr_blocks::{Block, Genesis};
@@ -20,8 +21,9 @@ use nr_chunk::laws::genesis_laws;
 use nr_config::Config;
 use nr_contract::ContractCaller;
 use nr_ids::{Height, ShardId};
+use nr_outcome::{Outcome, joined};
 use nr_overlap::{Core, Phases, run_serially};
-use nr_report::{Totals, write_chunk, write_totals};
+use nr_report::{Totals, write_chunk};
 use std::alloc::{AllocError, Global};
 
 /// A chain at work.
@@ -79,29 +81,6 @@ pub(crate) fn add_report(
     }
 }
 
-/// Adds the text of the chunks of a height.
-#[tactic(auto, unfolding(crate::specs::Run::text_below))]
-fn add_height(alloc: Global, core: &Run, height: Height, text: &mut Blob) -> Result<(), AllocError>
-    ensures { OnOk result (text.new ≡ text.old ++ height_text (chain_of core.now) core.now.positions height.0) }
-{
-    for shard in 0..core.phases().shards() {
-        add_report(alloc, core, ShardId(shard), height, text)?;
-    }
-    Ok(())
-}
-
-/// The text of the chunks.
-#[tactic(auto, unfolding(crate::specs::Run::text_below))]
-fn chunks_text(alloc: Global, core: &Run) -> Result<Blob, AllocError>
-    ensures { IfOk result (λ text. text ≡ chunks_text (chain_of core.now) core.now.positions) }
-{
-    let mut text = Blob::of(Vec::new(alloc));
-    for below in 0..core.phases().heights() {
-        add_height(alloc, core, Height(below + 1), &mut text)?;
-    }
-    Ok(text)
-}
-
 /// The supply of a genesis, which is all that its start has in tokens.
 pub(crate) fn supply_of(config: &Config, genesis: &Genesis) -> u128
     requires { IsSoundGenesis config.now genesis.now }
@@ -127,12 +106,30 @@ pub(crate) fn totals(alloc: Global, core: &Run, supply: u128) -> Result<Totals, 
     })
 }
 
+/// A chain that was run to its end.
+///
+/// # Errors
+///
+/// Where memory runs out.
+pub(crate) fn run_over(
+    alloc: Global,
+    config: Config,
+    genesis: Genesis,
+    blocks: List<Block>,
+) -> Result<Outcome<ContractCaller>, AllocError>
+    requires sound { IsSoundGenesis config genesis }
+    ensures { IfOk result (λ outcome. chain_in outcome.chain ≡ chain config genesis blocks) }
+{
+    let supply = supply_of(&config, &genesis);
+    let core = run(alloc, config, genesis, blocks)?;
+    Outcome::closed(alloc, core, supply)
+}
+
 /// The report of a chain: its chunks by height and then shard, and the totals.
 ///
 /// # Errors
 ///
 /// Where memory runs out. It counts as that where a total doesn't fit its number.
-#[tactic(auto, unfolding(crate::specs::Run::run_text))]
 pub(crate) fn report(
     alloc: Global,
     config: Config,
@@ -142,10 +139,9 @@ pub(crate) fn report(
     requires sound { IsSoundGenesis config genesis }
     ensures { IfOk result (λ text. text ≡ run_text (chain config genesis blocks)) }
 {
-    let supply = supply_of(&config, &genesis);
-    let core = run(alloc, config, genesis, blocks)?;
-    let mut text = chunks_text(alloc, &core)?;
-    let totals = totals(alloc, &core, supply)?;
-    write_totals(alloc, &totals, &mut text)?;
-    Ok(text)
+    let outcome = run_over(alloc, config, genesis, blocks)?;
+    let heights = outcome.chain().heights();
+    let chunks = outcome.text(alloc, Height(0), Height(heights))?;
+    let end = outcome.totals_text(alloc)?;
+    joined(chunks, &end)
 }

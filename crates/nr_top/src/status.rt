@@ -1,3 +1,5 @@
+use nr_configfile::ConfigRefusal;
+
 /// How a call of the program ended.
 ///
 /// A genesis or a blocks file is refused by the first fault that `nr_blocks` gives, with its numbers
@@ -36,6 +38,12 @@ pub enum Status {
     /// There is no such chunk, or it has no item at the place. The count is that of the chunk's items of
     /// the kind, and 0 where there is no such chunk.
     NoItem { count: u64 },
+    /// The file of a gathered chunk is refused. The kind is 0 where it is longer than 256 MiB, 1 where a field
+    /// can't be read (`a` is its place), 2 where a text is missing, 3 where a text is no node's, or not one that
+    /// can stand there, 4 where what the texts give is no delayed list or no world, 5 where an action of staking
+    /// stands (`a` is its place), 6 where a number or a sum is too great for a chunk, 7 where the height is 0 or the
+    /// shard isn't there, and 8 where there are too many nodes. `a` is 0 where nothing else is said.
+    Gathered { kind: u32, a: u64 },
     /// Parts of a state are refused. The kind is 0 where a file is longer than 256 MiB, and else the
     /// number of the fault that `nr_parts` gives: 1 a field can't be read, 2 the part's numbers are out of
     /// range, 3 another root, 4 a text is missing, 5 a text is no node's, or not one that can stand there,
@@ -49,4 +57,17 @@ pub enum Status {
     WriteFault,
     /// Memory ran out.
     NoMemory,
+}
+
+impl ConfigRefusal for Status {
+    ghost use Rattle.nr_top.specs.Answers.{refuses};
+    ghost use Rattle.nr_top.specs.declared.status.Status.TheVariants.{Config};
+
+    ghost refuses = { refuses };
+
+    ghost refusal = { λ kind entry. Config kind entry };
+
+    fn of_config(kind: u32, entry: u32) -> Self {
+        Status::Config { kind, entry }
+    }
 }

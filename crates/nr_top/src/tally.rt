@@ -4,15 +4,22 @@ ghost use Rattle.std.specs.Prelude.{◌≡◌, ◌+◌, ◌^◌, ◌<◌, ◌≤
 ghost use Rattle.nr_chunk.specs.Chain.{rules_of};
 ghost use Rattle.nr_overlap.specs.Moment.{report_at, flight_at};
 ghost use Rattle.nr_top.specs.Moments.{IsMoment, chain_of};
-ghost use Rattle.nr_places.specs.Totals.{list_tally, report_tally, flying_from, held_by, sealed_by, tally_of, tally_at, tally_below};
+ghost use Rattle.nr_places.specs.Totals.{list_tally, report_tally, flying_from, held_by, plus, sealed_by, tally_of, tally_at, tally_below};
 
 use crate::run::Run;
 use nr_chunk::Tally;
 use nr_ids::{Height, ShardId};
+use nr_outcome::{add_tallies, no_tally};
 use nr_overlap::Phases;
 use nr_records::ChunkResult;
-use nr_tallies::{add_tallies, no_tally};
 use std::alloc::{AllocError, Global};
+
+/// The sum of two tallies. One that doesn't fit counts as want of memory.
+fn added(a: Tally, b: Tally) -> Result<Tally, AllocError>
+    ensures { IfOk result (λ sum. sum ≡ plus a b) }
+{
+    add_tallies(a, b).ok_or(AllocError)
+}
 
 /// What a shard holds in its world, or in its chunk at work.
 fn held_by(alloc: Global, core: &Run, shard: ShardId) -> Result<Tally, AllocError>
@@ -75,7 +82,7 @@ fn flying_from(core: &Run, shard: ShardId, height: Height) -> Result<Tally, Allo
 {
     let mut sum = no_tally();
     for dest in 0..core.phases().shards() {
-        sum = add_tallies(sum, flying(core, shard, height, ShardId(dest)))?;
+        sum = added(sum, flying(core, shard, height, ShardId(dest)))?;
     }
     Ok(sum)
 }
@@ -88,7 +95,7 @@ fn sealed_by(core: &Run, shard: ShardId, height: Height) -> Result<Tally, AllocE
 {
     let report = reported_by(core, shard, height)?;
     let lists = flying_from(core, shard, height)?;
-    add_tallies(report, lists)
+    added(report, lists)
 }
 
 /// What all sealed chunks of a shard hold.
@@ -100,7 +107,7 @@ fn all_sealed_by(core: &Run, shard: ShardId) -> Result<Tally, AllocError>
 {
     let mut sum = no_tally();
     for below in 0..core.phases().heights() {
-        sum = add_tallies(sum, sealed_by(core, shard, Height(below + 1))?)?;
+        sum = added(sum, sealed_by(core, shard, Height(below + 1))?)?;
     }
     Ok(sum)
 }
@@ -112,7 +119,7 @@ fn tally_of(alloc: Global, core: &Run, shard: ShardId) -> Result<Tally, AllocErr
 {
     let held = held_by(alloc, core, shard)?;
     let sealed = all_sealed_by(core, shard)?;
-    add_tallies(held, sealed)
+    added(held, sealed)
 }
 
 /// What all shards hold.
@@ -127,7 +134,7 @@ pub(crate) fn tally_all(alloc: Global, core: &Run) -> Result<Tally, AllocError>
 {
     let mut sum = no_tally();
     for shard in 0..core.phases().shards() {
-        sum = add_tallies(sum, tally_of(alloc, core, ShardId(shard))?)?;
+        sum = added(sum, tally_of(alloc, core, ShardId(shard))?)?;
     }
     Ok(sum)
 }

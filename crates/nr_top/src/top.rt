@@ -104,17 +104,21 @@ pub fn serve<F: Fn(Work) -> Result<Blob, AllocError>, S: Shelf, K: Sink>(
 /// `joinparts ROOT COUNT PREFIX` writes the root and how many entries all parts have, if the parts of so many files,
 /// named by the prefix and the numbers from 0 on, are accepted and together have the root.
 ///
+/// `gather CONFIG GENESIS BLOCKS HEIGHT SHARD` runs a chain up to a chunk, and writes the file of the chunk: all that
+/// it takes, and the texts of its state's trie from which it can be run again. `recheck CONFIG FILE` runs the chunk of
+/// such a file again, from its texts alone, and writes its lines as `run` does.
+///
 /// # Answers
 ///
 /// - `Done`: the text was written whole.
 /// - `Usage`: the words are none of `run CONFIG GENESIS BLOCKS`, `check CONFIG GENESIS BLOCKS SCHEDULE`,
 ///   `gen NUMBER SHARDS BLOCKS`, `roots CONFIG GENESIS BLOCKS`,
 ///   `prove CONFIG GENESIS BLOCKS HEIGHT SHARD KIND PLACE`, `verify ROOT PROOF`,
-///   `part CONFIG GENESIS BLOCKS HEIGHT SHARD COUNT NUMBER`, `checkpart ROOT FILE` and
-///   `joinparts ROOT COUNT PREFIX`. There no word is empty or begins with `-`, and numbers are decimal without
-///   leading zeros: NUMBER of `gen`, HEIGHT and PLACE up to 2^64 - 1, SHARD up to 2^32 - 1, SHARDS from 1 to 16 and
-///   BLOCKS of `gen` from 1 to 256, COUNT from 1 to 10,000 and NUMBER of `part` below it; the word of ROOT is 64
-///   digits of base 16 in lower case. Nothing was loaded or written.
+///   `part CONFIG GENESIS BLOCKS HEIGHT SHARD COUNT NUMBER`, `checkpart ROOT FILE`, `joinparts ROOT COUNT PREFIX`,
+///   `gather CONFIG GENESIS BLOCKS HEIGHT SHARD` and `recheck CONFIG FILE`. There no word is empty or begins with `-`,
+///   and numbers are decimal without leading zeros: NUMBER of `gen`, HEIGHT and PLACE up to 2^64 - 1, SHARD up to
+///   2^32 - 1, SHARDS from 1 to 16 and BLOCKS of `gen` from 1 to 256, COUNT from 1 to 10,000 and NUMBER of `part` below
+///   it; the word of ROOT is 64 digits of base 16 in lower case. Nothing was loaded or written.
 /// - `Config`: the configuration's file is longer than 1 MiB (kind 0), or its first fault, by the kind
 ///   and the entry that `nr_config::Config::read` gives. Nothing was written.
 /// - `Genesis`: the genesis is longer than 64 MiB (kind 0), or its first fault, by the kind and the
@@ -129,6 +133,9 @@ pub fn serve<F: Fn(Work) -> Result<Blob, AllocError>, S: Shelf, K: Sink>(
 ///   as many as the count. Nothing was written.
 /// - `Parts`: the file of a part is longer than 256 MiB (kind 0), or parts are refused, by the first fault and the
 ///   number that `Status` says; `nr_parts::read_part`, `check_part` and `join_parts` give it. Nothing was written.
+/// - `Gathered`: the file of a gathered chunk is longer than 256 MiB (kind 0), or the chunk is refused, by the first
+///   fault and the number that `Status` says; `nr_gathered::read_gathered` and `nr_recheck::recheck` give it. Nothing
+///   was written.
 /// - `ReadFault`: a file could not be read. Nothing was written.
 /// - `WriteFault`: the sink failed. A front of the text was written.
 /// - `NoMemory`: memory ran out. It counts as that where a total doesn't fit its number of 64 or 128
@@ -136,7 +143,7 @@ pub fn serve<F: Fn(Work) -> Result<Blob, AllocError>, S: Shelf, K: Sink>(
 ///
 /// Of several refusals the first in this order comes: `Usage`, `Config`, `Genesis`, `Blocks`, `Schedule`,
 /// `Proof`, `NoItem`. Of `joinparts` each file is loaded and read before the next one, then the order of the parts is
-/// looked at, then each part by itself, and last the whole.
+/// looked at, then each part by itself, and last the whole. Of `recheck` the configuration comes before the file.
 /// A file is loaded after all before it has passed; `gen` loads none. Where the shelf tells its files, the plan has one
 /// end (`nr_shell::plan_law`), so the answer is that end's, unless a file is unread, memory runs out or the sink fails.
 pub fn serial<S: Shelf, K: Sink>(

@@ -6,6 +6,7 @@ use Rattle.nr_words.specs.Kinds.{kind_word}
 use Rattle.nr_words.specs.declared.kind.ProofKind.{ProofKind}
 use Rattle.nr_words.specs.declared.kind.ProofKind.TheVariants.{Outcome, Receipt}
 use Rattle.nr_words.specs.declared.words.ChunkItem.{ChunkItem}
+use Rattle.nr_words.specs.declared.words.ChunkPlace.{ChunkPlace}
 use Rattle.nr_words.specs.declared.words.StatePart.{StatePart}
 pub use Rattle.nr_words.specs.Numbers.{has_no_leading_zero, is_digit, is_numeral, number_in}
 
@@ -18,7 +19,8 @@ pub record Names : Type 0 where
 
 -- What the words ask for. A replay of blocks over a genesis under a configuration, or the run of a chain that three numbers
 -- generate. The roots of a chain's chunks, the proof of an item, and whether a proof leads to a root. A part of a state,
--- whether a part is one of a root's, and whether all parts of a root make it up, in files of one prefix.
+-- whether a part is one of a root's, and whether all parts of a root make it up, in files of one prefix. What another run
+-- of one chunk needs, and that run from a configuration and a file.
 pub data Command : Type 0 where
   Replay : Names → Command
   Generate : ℕ → ℕ → ℕ → Command
@@ -28,6 +30,8 @@ pub data Command : Type 0 where
   Cut : Names → StatePart → Command
   CheckPart : List ℕ → List ℕ → Command
   JoinParts : List ℕ → ℕ → List ℕ → Command
+  Gather : Names → ChunkPlace → Command
+  Recheck : List ℕ → List ℕ → Command
 
 -- ---- tables
 abbrev pub files : List Place
@@ -57,6 +61,12 @@ item_places = file (codes "CONFIG") ∷ file (codes "GENESIS") ∷ file (codes "
 abbrev pub part_places : List Place
 part_places = file (codes "CONFIG") ∷ file (codes "GENESIS") ∷ file (codes "BLOCKS") ∷ height_place ∷ shard_place ∷ count_place ∷ number (codes "NUMBER") 0 9999 ∷ []
 
+abbrev pub chunk_places : List Place
+chunk_places = file (codes "CONFIG") ∷ file (codes "GENESIS") ∷ file (codes "BLOCKS") ∷ height_place ∷ shard_place ∷ []
+
+abbrev pub gathered_file : List Place
+gathered_file = file (codes "CONFIG") ∷ file (codes "FILE") ∷ []
+
 abbrev pub proof_file : List Place
 proof_file = digits (codes "ROOT") ∷ file (codes "PROOF") ∷ []
 
@@ -73,7 +83,8 @@ abbrev pub serial_forms : List Form
 serial_forms =
     form (codes "run") files ∷ form (codes "check") scheduled ∷ form (codes "gen") numbers
     ∷ form (codes "roots") files ∷ form (codes "prove") item_places ∷ form (codes "verify") proof_file
-    ∷ form (codes "part") part_places ∷ form (codes "checkpart") part_file ∷ form (codes "joinparts") part_files ∷ []
+    ∷ form (codes "part") part_places ∷ form (codes "checkpart") part_file ∷ form (codes "joinparts") part_files
+    ∷ form (codes "gather") chunk_places ∷ form (codes "recheck") gathered_file ∷ []
 
 abbrev pub replay_forms : List Form
 replay_forms = form (codes "replay") files ∷ form (codes "gen") numbers ∷ []
@@ -129,6 +140,14 @@ abbrev pub join_parts_of : List Value → Option Command
 join_parts_of (Digits root ∷ Number count ∷ Text prefix ∷ []) = Some (JoinParts root count prefix)
 join_parts_of values = None
 
+abbrev pub gather_of : List Value → Option Command
+gather_of (Text config ∷ Text genesis ∷ Text blocks ∷ Number height ∷ Number shard ∷ []) = Some (Gather (names_of config genesis blocks) (record { height = height; shard = shard }))
+gather_of values = None
+
+abbrev pub recheck_of : List Value → Option Command
+recheck_of (Text config ∷ Text gathered ∷ []) = Some (Recheck config gathered)
+recheck_of values = None
+
 abbrev pub command_of : List ℕ × List Value → Option Command
 command_of found =
     cond (bytes_eq found.0 (codes "run")) (run_of found.1)
@@ -139,7 +158,9 @@ command_of found =
     (cond (bytes_eq found.0 (codes "verify")) (verify_of found.1)
     (cond (bytes_eq found.0 (codes "part")) (cut_of found.1)
     (cond (bytes_eq found.0 (codes "checkpart")) (check_part_of found.1)
-    (cond (bytes_eq found.0 (codes "joinparts")) (join_parts_of found.1) None))))))))
+    (cond (bytes_eq found.0 (codes "joinparts")) (join_parts_of found.1)
+    (cond (bytes_eq found.0 (codes "gather")) (gather_of found.1)
+    (cond (bytes_eq found.0 (codes "recheck")) (recheck_of found.1) None))))))))))
 
 abbrev pub replay_of : List ℕ × List Value → Option Command
 replay_of found =
@@ -149,7 +170,8 @@ replay_of found =
 -- ---- commands
 -- `run CONFIG GENESIS BLOCKS`, `check CONFIG GENESIS BLOCKS SCHEDULE`, `gen NUMBER SHARDS BLOCKS`, `roots CONFIG GENESIS
 -- BLOCKS`, `prove CONFIG GENESIS BLOCKS HEIGHT SHARD KIND PLACE`, `verify ROOT PROOF`, `part CONFIG GENESIS BLOCKS HEIGHT
--- SHARD COUNT NUMBER`, `checkpart ROOT FILE` or `joinparts ROOT COUNT PREFIX`
+-- SHARD COUNT NUMBER`, `checkpart ROOT FILE`, `joinparts ROOT COUNT PREFIX`, `gather CONFIG GENESIS BLOCKS HEIGHT SHARD`
+-- or `recheck CONFIG FILE`
 unfoldable pub command : List (List ℕ) → Option Command
 command words = option_and_then command_of (read serial_forms words)
 

@@ -4,7 +4,7 @@ use Rattle.std.specs.Global.{Global}
 use Rattle.std.specs.declared.string.String.{String}
 use Rattle.std.specs.declared.vec.Vec.{Vec}
 use Rattle.std.specs.Option.{option_copied}
-use Rattle.nr_words.specs.Command.{Command, Replay, Generate, Roots, Prove, Verify, Cut, CheckPart, JoinParts, Names}
+use Rattle.nr_words.specs.Command.{Command, Replay, Generate, Roots, Prove, Verify, Cut, CheckPart, JoinParts, Gather, Recheck, Names}
 use Rattle.nr_words.specs.Forms.{Form, Place, Value, file, number, digits, one_of, Text, Number, Digits, Choice, is_digest}
 use Rattle.nr_words.specs.declared.forms.Form.{Form as LentForm}
 use Rattle.nr_words.specs.declared.forms.Found.{Found}
@@ -13,10 +13,11 @@ use Rattle.nr_words.specs.declared.forms.Place.TheVariants as place
 use Rattle.nr_words.specs.declared.forms.Value.{Value as LentValue}
 use Rattle.nr_words.specs.declared.forms.Value.TheVariants as lent
 use Rattle.nr_words.specs.declared.words.ChunkItem.{ChunkItem}
+use Rattle.nr_words.specs.declared.words.ChunkPlace.{ChunkPlace}
 use Rattle.nr_words.specs.declared.words.FileNames.{FileNames}
 use Rattle.nr_words.specs.declared.words.StatePart.{StatePart}
 use Rattle.nr_words.specs.declared.words.Words.{Words}
-use Rattle.nr_words.specs.declared.words.Words.TheVariants.{ReplayFiles, GenerateInput, ChunkRoots, ProveItem, VerifyProof, CutPart, CheckPartFile, JoinPartFiles}
+use Rattle.nr_words.specs.declared.words.Words.TheVariants.{ReplayFiles, GenerateInput, ChunkRoots, ProveItem, VerifyProof, CutPart, CheckPartFile, JoinPartFiles, GatherChunk, RecheckChunk}
 
 abbrev pub texts : List (String Global) → List (List ℕ)
 texts words = map (λ word. string_bytes word) words
@@ -64,6 +65,8 @@ command_in (VerifyProof root proof) = Verify root.now proof.now
 command_in (CutPart files part) = Cut (names_in files) part
 command_in (CheckPartFile root part) = CheckPart root.now part.now
 command_in (JoinPartFiles root count prefix) = JoinParts root.now count prefix.now
+command_in (GatherChunk files chunk) = Gather (names_in files) chunk
+command_in (RecheckChunk config gathered) = Recheck config.now gathered.now
 
 -- ---- what is known of the values of a command
 -- numbers from which a chain can be generated: 1 to 16 shards and 1 to 256 blocks
@@ -92,6 +95,11 @@ pub record CanJoin (root : List ℕ) (count : ℕ) : Type 0 where
   pub some_parts : 1 ≤ count
   pub few_parts : count ≤ 10000
 
+-- numbers of 64 and 32 bits
+pub record CanGather (chunk : ChunkPlace) : Type 0 where
+  pub height : chunk.height < 2 ^ 64
+  pub shard : chunk.shard < 2 ^ 32
+
 abbrev pub CanRun : Words → Type 0
 CanRun (ReplayFiles names) = Unit {0}
 CanRun (GenerateInput start shards blocks) = CanGenerate shards blocks
@@ -101,3 +109,5 @@ CanRun (VerifyProof root proof) = is_digest root.now ≡ true
 CanRun (CutPart files part) = CanCut part
 CanRun (CheckPartFile root part) = is_digest root.now ≡ true
 CanRun (JoinPartFiles root count prefix) = CanJoin root.now count
+CanRun (GatherChunk files chunk) = CanGather chunk
+CanRun (RecheckChunk config gathered) = Unit {0}

@@ -12,7 +12,9 @@ pub use forms::{Form, Found, Place, Value, is_hex_digit};
 pub use kind::ProofKind;
 pub use numbers::number_in;
 pub use reading::read_words;
-pub use words::{ChunkItem, FileNames, StatePart, Words, is_free, replay_command, serial_command};
+pub use words::{
+    ChunkItem, ChunkPlace, FileNames, StatePart, Words, is_free, replay_command, serial_command,
+};
 
 #[cfg(test)]
 mod tests;

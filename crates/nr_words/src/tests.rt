@@ -115,6 +115,13 @@ fn line_of(alloc: Global, words: &Words<'_>) -> Result<String, AllocError> {
             count,
             prefix,
         } => format!(in alloc; "joinparts {root} {count} {prefix}"),
+        Words::GatherChunk { files, chunk } => {
+            let chain = chain(alloc, files)?;
+            let height = chunk.height;
+            let shard = chunk.shard;
+            format!(in alloc; "gather {chain} {height} {shard}")
+        }
+        Words::RecheckChunk { config, file } => format!(in alloc; "recheck {config} {file}"),
         _ => String::from_str(alloc, "another command"),
     }
 }
@@ -197,6 +204,9 @@ fn each_form_says_what_it_asks_for(rt: HostRuntime) -> Result<(), Fail> {
         "part C G B 0 0 1 0",
         "checkpart 00112233445566778899aabbccddeeff00112233445566778899aabbccddeeff F",
         "joinparts 00112233445566778899aabbccddeeff00112233445566778899aabbccddeeff 10000 P",
+        "gather free G B 2 0",
+        "gather C G B 18446744073709551615 4294967295",
+        "recheck free F",
     ];
     for line in lines {
         assert_eq!(rt; read_back(alloc, line)?.as_str(), line);
@@ -226,6 +236,12 @@ fn other_words_are_no_command(rt: HostRuntime) -> Result<(), Fail> {
         "checkpart 0000112233445566778899aabbccddeeff00112233445566778899aabbccddeeff F",
         "joinparts 00112233445566778899aabbccddeeff00112233445566778899aabbccddeeff 0 P",
         "joinparts 00112233445566778899aabbccddeeff00112233445566778899aabbccddeeff 10001 P",
+        "gather free G B 2",
+        "gather free G B 2 0 0",
+        "gather free G B 18446744073709551616 0",
+        "gather free G B 2 4294967296",
+        "recheck free",
+        "recheck free F F",
     ];
     for line in lines {
         assert_eq!(rt; read_back(alloc, line)?.as_str(), "no command");

@@ -2,9 +2,10 @@
 
 ghost use Rattle.std.specs.Prelude.{◌≡◌, IfOk, IfSome, map, option_map};
 ghost use Rattle.nr_words.specs.Command.{command, command_of, is_free, names_of, replay_command, replay_of};
-ghost use Rattle.nr_words.specs.Command.{check_of, check_part_of, cut_of, generate_of, join_parts_of, kind_of};
-ghost use Rattle.nr_words.specs.Command.{prove_of, roots_of, run_of, verify_of};
-ghost use Rattle.nr_words.specs.Command.{item_places, numbers, part_file, part_files, part_places, proof_file};
+ghost use Rattle.nr_words.specs.Command.{check_of, check_part_of, cut_of, gather_of, generate_of, join_parts_of};
+ghost use Rattle.nr_words.specs.Command.{kind_of, prove_of, recheck_of, roots_of, run_of, verify_of};
+ghost use Rattle.nr_words.specs.Command.{chunk_places, item_places, numbers, part_file, part_files, part_places};
+ghost use Rattle.nr_words.specs.Command.{proof_file};
 ghost use Rattle.nr_words.specs.Command.{replay_forms, serial_forms};
 ghost use Rattle.nr_words.specs.Forms.{AllFit, FitsForm};
 ghost use Rattle.nr_words.specs.Words.{CanRun, command_in, found_in, names_in, table_in, texts, value_in};
@@ -67,6 +68,20 @@ pub enum Words<'a> {
         /// what the names of their files begin with
         prefix: &'a str,
     },
+    /// `gather CONFIG GENESIS BLOCKS HEIGHT SHARD`
+    GatherChunk {
+        /// the chain
+        files: FileNames<'a>,
+        /// the chunk that is gathered
+        chunk: ChunkPlace,
+    },
+    /// `recheck CONFIG FILE`
+    RecheckChunk {
+        /// the configuration, or `free`
+        config: &'a str,
+        /// the file of the gathered chunk
+        file: &'a str,
+    },
 }
 
 /// The names of a replay's files; `free` names the built-in configuration.
@@ -93,6 +108,15 @@ pub struct ChunkItem {
     pub kind: ProofKind,
     /// Its place among the chunk's items of the kind, from 0.
     pub place: u64,
+}
+
+/// Where a chunk stands in a chain.
+#[derive(Clone, Copy, Debug)]
+pub struct ChunkPlace {
+    /// The chunk's height.
+    pub height: u64,
+    /// The chunk's shard.
+    pub shard: u32,
 }
 
 /// A part of a shard's state behind a chunk.
@@ -195,6 +219,26 @@ const PART: &[Place] = &[
     },
 ];
 
+/// A chain, and one of its chunks.
+const CHUNK: &[Place] = &[
+    Place::File("CONFIG"),
+    Place::File("GENESIS"),
+    Place::File("BLOCKS"),
+    Place::Number {
+        name: "HEIGHT",
+        least: 0,
+        most: 18_446_744_073_709_551_615,
+    },
+    Place::Number {
+        name: "SHARD",
+        least: 0,
+        most: 4_294_967_295,
+    },
+];
+
+/// A configuration, and the file of a gathered chunk.
+const GATHERED: &[Place] = &[Place::File("CONFIG"), Place::File("FILE")];
+
 /// A root of items, and the file of a proof.
 const PROOF_FILE: &[Place] = &[Place::Digits("ROOT"), Place::File("PROOF")];
 
@@ -249,6 +293,14 @@ const SERIAL: &[Form] = &[
     Form {
         verb: "joinparts",
         places: PART_FILES,
+    },
+    Form {
+        verb: "gather",
+        places: CHUNK,
+    },
+    Form {
+        verb: "recheck",
+        places: GATHERED,
     },
 ];
 
@@ -486,6 +538,41 @@ fn join_parts_of<'a>(values: &[Value<'a>]) -> Option<Words<'a>>
     }
 }
 
+/// What another run of one chunk of a chain needs.
+fn gather_of<'a>(values: &[Value<'a>]) -> Option<Words<'a>>
+    requires { AllFit chunk_places (map value_in values.now) }
+    ensures command { option_map command_in result ≡ gather_of (map value_in values.now) }
+    ensures can_run { IfSome result CanRun }
+{
+    match values {
+        [
+            Value::Text(config),
+            Value::Text(genesis),
+            Value::Text(blocks),
+            Value::Number(height),
+            Value::Number(shard),
+        ] => Some(Words::GatherChunk {
+            files: names_of(config, genesis, blocks),
+            chunk: ChunkPlace {
+                height: *height,
+                shard: *shard as u32,
+            },
+        }),
+        _ => None,
+    }
+}
+
+/// Another run of a chunk that was gathered.
+fn recheck_of<'a>(values: &[Value<'a>]) -> Option<Words<'a>>
+    ensures command { option_map command_in result ≡ recheck_of (map value_in values.now) }
+    ensures can_run { IfSome result CanRun }
+{
+    match values {
+        [Value::Text(config), Value::Text(file)] => Some(Words::RecheckChunk { config, file }),
+        _ => None,
+    }
+}
+
 /// The command that a form of a serial run is with its values.
 fn command_of<'a>(found: &Found<'a>) -> Option<Words<'a>>
     requires { FitsForm serial_forms (found_in found.now) }
@@ -503,6 +590,8 @@ fn command_of<'a>(found: &Found<'a>) -> Option<Words<'a>>
         "part" => cut_of(values),
         "checkpart" => check_part_of(values),
         "joinparts" => join_parts_of(values),
+        "gather" => gather_of(values),
+        "recheck" => recheck_of(values),
         _ => None,
     }
 }
@@ -524,7 +613,8 @@ fn replay_of<'a>(found: &Found<'a>) -> Option<Words<'a>>
 /// The command that the words of a serial run are: `run CONFIG GENESIS BLOCKS`,
 /// `check CONFIG GENESIS BLOCKS SCHEDULE`, `gen NUMBER SHARDS BLOCKS`, `roots CONFIG GENESIS BLOCKS`,
 /// `prove CONFIG GENESIS BLOCKS HEIGHT SHARD KIND PLACE`, `verify ROOT PROOF`,
-/// `part CONFIG GENESIS BLOCKS HEIGHT SHARD COUNT NUMBER`, `checkpart ROOT FILE` or `joinparts ROOT COUNT PREFIX`.
+/// `part CONFIG GENESIS BLOCKS HEIGHT SHARD COUNT NUMBER`, `checkpart ROOT FILE`, `joinparts ROOT COUNT PREFIX`,
+/// `gather CONFIG GENESIS BLOCKS HEIGHT SHARD` or `recheck CONFIG FILE`.
 /// NUMBER of `gen`, HEIGHT and PLACE are below 2^64 and SHARD is below 2^32, KIND is `outcome` or `receipt`, COUNT is 1
 /// to 10,000 and NUMBER of `part` below it, and ROOT has 64 digits of base 16 in lower case.
 ///

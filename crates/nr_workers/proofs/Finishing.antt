@@ -4,7 +4,8 @@ use Rattle.nr_overlap.specs.Rules.{Rules}
 use Rattle.nr_overlap.specs.Serial.{last_present, first_due, past_after, world_after}
 use Rattle.nr_exchange.specs.declared.planned.Serial.{Serial}
 use Rattle.nr_exchange.specs.Views.{ExchangeView}
-use Rattle.nr_workers.specs.Outcome.{reports_to, HasDoneAll}
+use Rattle.nr_overlap.specs.Outcome.{reports_to}
+use Rattle.nr_workers.specs.Outcome.{HasDoneAll}
 use Rattle.nr_workers.specs.Taking.{taken_to}
 use Rattle.nr_workers.specs.Left.{HasLeft}
 use Rattle.nr_workers.specs.Stages.{IsFresh, IsAt}

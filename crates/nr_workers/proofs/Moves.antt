@@ -14,7 +14,7 @@ use Rattle.nr_exchange.specs.Notes.{link, passed}
 use Rattle.nr_exchange.specs.Views.{ExchangeView}
 use Rattle.nr_exchange.specs.Ports.{IsPortOf}
 use Rattle.nr_exchange.specs.Laws.{lists_there}
-use Rattle.nr_workers.specs.Outcome.{report_at, reports_to}
+use Rattle.nr_overlap.specs.Outcome.{report_at, reports_to}
 use Rattle.nr_workers.specs.Taking.{pairs_before, source_after, done_after, HasClaimed, Finds, IsInbox}
 use Rattle.nr_workers.specs.Left.{slot_of}
 use Rattle.nr_workers.specs.declared.left.Left.{Left}
@@ -23,7 +23,7 @@ use Rattle.nr_workers.specs.declared.inbox.Inbox.{Inbox}
 use Rattle.nr_workers.specs.declared.inbox.Found.TheVariants.{Passed}
 use Rattle.nr_workers.specs.declared.worker.Stage.{Stage}
 use Rattle.nr_workers.specs.declared.worker.Stage.TheVariants.{Idle, Opened, Sealed, Ended}
-use Rattle.nr_workers.proofs.Orders.{flat_map_more}
+use Rattle.nr_overlap.proofs.Orders.{flat_map_more}
 use Rattle.nr_workers.proofs.Takings.{last_small, last_there, last_missing, still_claimed}
 use Rattle.nr_workers.proofs.Rows.{no_list_yet, not_yet, list_after}
 use Rattle.nr_workers.proofs.Pairs.{work_opened, work_takes, work_whole, may_take}

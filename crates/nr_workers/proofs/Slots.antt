@@ -16,7 +16,7 @@ use Rattle.nr_overlap.proofs.Basics.{not_lt}
 use Rattle.nr_overlap.specs.Serial.{first_due, list_to, past_after, sealing_at, shard_numbers}
 use Rattle.nr_overlap.proofs.SerialLemmas.{sealing_missing}
 use Rattle.nr_workers.specs.declared.left.Left.{Left}
-use Rattle.nr_workers.specs.Outcome.{left_list, left_at, left_by_height}
+use Rattle.nr_overlap.specs.Outcome.{left_list, left_at, left_by_height}
 use Rattle.nr_workers.specs.Each.{EachFrom, Each}
 use Rattle.nr_workers.specs.Left.{list_in, list_among, slot_of, slot_in, HasLeft}
 use Rattle.nr_workers.proofs.Orders.{none_of}

@@ -8,7 +8,7 @@ use Rattle.nr_exchange.specs.SerialPlan.{serial_plan}
 use Rattle.nr_exchange.specs.Notes.{link}
 use Rattle.nr_exchange.specs.Views.{ExchangeView, PortView}
 use Rattle.nr_exchange.specs.Ports.{IsPortOf}
-use Rattle.nr_workers.specs.Outcome.{reports_to}
+use Rattle.nr_overlap.specs.Outcome.{reports_to}
 use Rattle.nr_workers.specs.Taking.{pairs_before, IsInbox}
 use Rattle.nr_workers.specs.Left.{HasLeft}
 use Rattle.nr_workers.specs.declared.inbox.Inbox.{Inbox}

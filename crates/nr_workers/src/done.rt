@@ -1,7 +1,8 @@
 //! What workers come to that have done all.
 
 ghost use Rattle.std.specs.Prelude.{◌≡◌, IfOk, vec_len};
-ghost use Rattle.nr_workers.specs.Outcome.{last_worlds, reports_by_shard, lists_left, HasDoneAll, HaveDoneAll};
+ghost use Rattle.nr_overlap.specs.Outcome.{last_worlds, reports_by_shard, lists_left};
+ghost use Rattle.nr_workers.specs.Outcome.{HasDoneAll, HaveDoneAll};
 ghost use Rattle.nr_workers.specs.Stages.{IsWorker};
 ghost use Rattle.nr_workers.specs.Each.{Each};
 ghost use Rattle.nr_workers.specs.Shards.{AreWorkers};

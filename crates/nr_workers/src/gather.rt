@@ -2,7 +2,7 @@
 
 ghost use Rattle.std.specs.Prelude.{◌≡◌, ◌++◌, ◌<◌, ◌≤◌, ℕ, IfOk, OnOk, vec_len};
 ghost use Rattle.std.specs.Option.{option_map, option_to_list};
-ghost use Rattle.nr_workers.specs.Outcome.{left_list, left_by_height, left_by_source, lists_left};
+ghost use Rattle.nr_overlap.specs.Outcome.{left_list, left_by_height, left_by_source, lists_left};
 ghost use Rattle.nr_workers.specs.Left.{slot_in};
 
 use crate::left::Left;

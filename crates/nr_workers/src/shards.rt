@@ -3,7 +3,8 @@
 ghost use Rattle.std.specs.Prelude.{◌≡◌, IfOk, length, vec_len};
 ghost use Rattle.std.specs.Thread.{IsSend};
 ghost use Rattle.nr_exchange.specs.Ports.{AreMade};
-ghost use Rattle.nr_workers.specs.Outcome.{last_worlds, reports_by_shard, lists_left, HaveDoneAll};
+ghost use Rattle.nr_overlap.specs.Outcome.{last_worlds, reports_by_shard, lists_left};
+ghost use Rattle.nr_workers.specs.Outcome.{HaveDoneAll};
 ghost use Rattle.nr_workers.specs.Shards.{AreWorkers};
 
 use crate::crew::{Run, run_all};

@@ -60,7 +60,7 @@ fn add_chunk(
 }
 
 /// Adds the lines of the chunks of a height.
-#[tactic(auto, unfolding(crate::specs::Run::text_below))]
+#[tactic(auto, unfolding(nr_outcome::specs::Texts::text_below))]
 fn add_height(alloc: Global, core: &Run, height: Height, text: &mut Blob) -> Result<(), AllocError>
     requires { core.now.positions ≡ ending (rules_of (chain_of core.now)) }
     ensures { OnOk result (text.new ≡ text.old ++ height_roots (chain_of core.now) height.0) }
@@ -72,7 +72,7 @@ fn add_height(alloc: Global, core: &Run, height: Height, text: &mut Blob) -> Res
 }
 
 /// The lines of all chunks of a run that is at its end.
-#[tactic(auto, unfolding(crate::specs::Run::text_below, crate::specs::Proving::roots_text))]
+#[tactic(auto, unfolding(nr_outcome::specs::Texts::text_below, crate::specs::Proving::roots_text))]
 fn lines_of(alloc: Global, core: &Run) -> Result<Blob, AllocError>
     requires { core.now.positions ≡ ending (rules_of (chain_of core.now)) }
     ensures { IfOk result (λ text. text ≡ roots_text (chain_of core.now)) }

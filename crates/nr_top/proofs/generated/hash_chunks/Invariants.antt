@@ -1,12 +1,12 @@
-use Rattle.std.proofs.Common.{◌+◌}
-use Rattle.nr_overlap.specs.Balance.{sum_below}
-use Rattle.nr_top.specs.Generated.{sealed_at}
-use Rattle.nr_top.specs.Hashing.{HasHashed}
-use Rattle.nr_top.specs.Moments.{chain_of}
-use Rattle.nr_top.specs.Run.{height_text, text_below}
+use Rattle.sha2.specs.Hashers.{Holds256}
+use Rattle.nr_chunk.specs.Chain.{rules_of}
+use Rattle.nr_chunk.specs.Runs.{chain_in}
+use Rattle.nr_outcome.specs.Texts.{heights_text}
+use Rattle.nr_overlap.specs.Moment.{report_at}
+use Rattle.nr_overlap.specs.Run.{ending}
 use Rattle.nr_top.proofs.generated.hash_chunks.Given as goal
 
 abbrev pub invariant-loop-below : goal.invariant-loop-below
 invariant-loop-below l =
-    HasHashed l.hashed (text_below l.below (λ h. height_text (chain_of l.core) l.core.positions (h + 1)))
-    (sum_below l.below (λ h. sealed_at (chain_of l.core) l.core.positions (h + 1)))
+    let r = rules_of (chain_in l.outcome.chain) in
+    Holds256 l.hasher (heights_text r.shards (report_at r (ending r)) 0 l.below)

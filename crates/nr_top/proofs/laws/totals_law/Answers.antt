@@ -14,7 +14,8 @@ use Rattle.nr_places.specs.Replay.{Holds}
 use Rattle.nr_places.specs.Totals.{tally_at}
 use Rattle.nr_top.proofs.Onward.{rest_ends}
 use Rattle.nr_top.specs.Run.{chain}
-use Rattle.nr_top.specs.Totals.{AddUp, totals_at}
+use Rattle.nr_outcome.specs.Totals.{totals_at}
+use Rattle.nr_top.specs.Totals.{AddUp}
 use Rattle.nr_top.proofs.laws.totals_law.Goals as goal
 
 adds_up : (c : Config) (g : Genesis) (bs : List Block) (ps : List Position) → AreSoundEntries c g.entries

@@ -3,12 +3,13 @@ use Rattle.std.specs.List.{range_with_len}
 use Rattle.std.proofs.Common.{ℕ, length, sym, ap, ◌∙◌, subst, arith, vec_len, box_value}
 use Rattle.std.specs.Vec.Iter.{into_iter_items}
 use Rattle.nr_overlap.specs.Serial.{first_due, world_after}
-use Rattle.nr_workers.specs.Outcome.{reports_to, HasDoneAll}
+use Rattle.nr_overlap.specs.Outcome.{reports_to}
+use Rattle.nr_workers.specs.Outcome.{HasDoneAll}
 use Rattle.nr_workers.specs.Left.{HasLeft}
 use Rattle.nr_workers.specs.Each.{EachFrom, Each}
 use Rattle.nr_workers.specs.Stages.{IsWorker, IsWorkerOf}
 use Rattle.nr_workers.specs.Shares.{IsShareOf}
-use Rattle.nr_workers.proofs.Orders.{map_longer}
+use Rattle.nr_overlap.proofs.Orders.{map_longer}
 use Rattle.nr_workers.proofs.Each.{each_push, each_next}
 use Rattle.nr_workers.proofs.done.finish_all.Goals as goal
 

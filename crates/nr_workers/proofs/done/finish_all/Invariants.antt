@@ -2,7 +2,8 @@ use Rattle.std.proofs.Common.{◌≡◌, ◌+◌, length, map, vec_len, box_valu
 use Rattle.std.specs.List.{range_with_len}
 use Rattle.std.specs.Vec.Iter.{into_iter_items, into_iter_len}
 use Rattle.nr_overlap.specs.Serial.{first_due, world_after}
-use Rattle.nr_workers.specs.Outcome.{reports_to, HasDoneAll}
+use Rattle.nr_overlap.specs.Outcome.{reports_to}
+use Rattle.nr_workers.specs.Outcome.{HasDoneAll}
 use Rattle.nr_workers.specs.Left.{HasLeft}
 use Rattle.nr_workers.specs.Each.{EachFrom, Each}
 use Rattle.nr_workers.specs.Stages.{IsWorkerOf}

@@ -1,5 +1,6 @@
 use Rattle.std.proofs.Common.{◌≡◌, ◌<◌, ◌≤◌, ℕ, length, sym, subst, arith}
-use Rattle.nr_workers.specs.Outcome.{left_list, HasDoneAll}
+use Rattle.nr_overlap.specs.Outcome.{left_list}
+use Rattle.nr_workers.specs.Outcome.{HasDoneAll}
 use Rattle.nr_workers.specs.Left.{slot_in}
 use Rattle.nr_workers.proofs.Each.{each_get}
 use Rattle.nr_workers.proofs.Slots.{lefts_are}

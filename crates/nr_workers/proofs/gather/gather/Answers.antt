@@ -1,6 +1,6 @@
 use Rattle.std.proofs.Common.{[], ◌∙◌, arith}
-use Rattle.nr_workers.specs.Outcome.{left_by_source}
-use Rattle.nr_workers.proofs.Orders.{flat_map_longer}
+use Rattle.nr_overlap.specs.Outcome.{left_by_source}
+use Rattle.nr_overlap.proofs.Orders.{flat_map_longer}
 use Rattle.nr_workers.proofs.gather.gather.Goals as goal
 
 pub loop-source-preserved : goal.loop-source-preserved

@@ -1,6 +1,6 @@
 use Rattle.std.proofs.Common.{◌≡◌, ◌<◌, ◌≤◌, ℕ, vec_len}
 use Rattle.std.specs.List.{flat_map, range_with_len}
-use Rattle.nr_workers.specs.Outcome.{left_list, left_by_source}
+use Rattle.nr_overlap.specs.Outcome.{left_list, left_by_source}
 use Rattle.nr_workers.specs.Left.{slot_in}
 use Rattle.nr_workers.proofs.gather.gather.Given as goal
 

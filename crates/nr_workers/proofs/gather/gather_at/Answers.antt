@@ -1,8 +1,8 @@
 use Rattle.std.proofs.Common.{◌≡◌, ◌<◌, ◌++◌, length, sym, ap, ◌∙◌, arith}
 use Rattle.std.specs.Option.{option_map, option_to_list}
-use Rattle.nr_workers.specs.Outcome.{left_list, left_at}
+use Rattle.nr_overlap.specs.Outcome.{left_list, left_at}
 use Rattle.nr_workers.specs.Left.{slot_of}
-use Rattle.nr_workers.proofs.Orders.{flat_map_longer}
+use Rattle.nr_overlap.proofs.Orders.{flat_map_longer}
 use Rattle.nr_workers.proofs.Slots.{none_left, slot_here, slot_set_other, others_stay}
 use Rattle.std.proofs.lemmas.List.{append-nil}
 use Rattle.nr_workers.proofs.gather.gather_at.Goals as goal

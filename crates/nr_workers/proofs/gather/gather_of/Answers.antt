@@ -1,7 +1,7 @@
 use Rattle.std.proofs.Common.{◌≡◌, ◌+◌, ◌-◌, ◌++◌, ℕ, ap, ◌∙◌, arith}
 use Rattle.std.specs.List.{flat_map, range_with_len}
-use Rattle.nr_workers.specs.Outcome.{left_by_height}
-use Rattle.nr_workers.proofs.Orders.{flat_map_longer}
+use Rattle.nr_overlap.specs.Outcome.{left_by_height}
+use Rattle.nr_overlap.proofs.Orders.{flat_map_longer}
 use Rattle.nr_workers.proofs.gather.gather_of.Goals as goal
 
 pub loop-before-preserved : goal.loop-before-preserved

@@ -2,7 +2,7 @@ use Rattle.std.proofs.Common.{◌≡◌, ◌++◌}
 use Rattle.nr_top.specs.Moments.{chain_of}
 use Rattle.nr_top.specs.Chunks.{result_at}
 use Rattle.nr_top.specs.Proving.{roots_told}
-use Rattle.nr_top.specs.Run.{text_below}
+use Rattle.nr_outcome.specs.Texts.{text_below}
 use Rattle.nr_top.proofs.commands.roots.add_height.Given as goal
 
 abbrev pub invariant-loop-shard : goal.invariant-loop-shard

@@ -1,0 +1,4 @@
+pub mod Part
+pub mod Proof
+pub mod Receipt
+pub mod Gathered

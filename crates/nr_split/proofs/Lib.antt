@@ -1,6 +1,0 @@
-mod Counting
-mod Steps
-mod Found
-mod Joined
-mod Worlds
-mod Split

@@ -1,0 +1,17 @@
+-- `gather`: the file of a chunk of a run with all that it is run again from. This project's own.
+use Rattle.std.specs.Prelude.{ℕ, ◌-◌, cond, List}
+use Rattle.nr_chunk.specs.Chain.{Chain}
+use Rattle.nr_extract.specs.Chunk.{gathered_chunk}
+use Rattle.nr_gathered.specs.Files.{gathered_bytes}
+use Rattle.nr_shell.specs.Plans.{Plan, Answer, Refuse}
+use Rattle.nr_top.specs.Chunks.{has_chunk}
+use Rattle.nr_top.specs.declared.status.Status.{Status}
+use Rattle.nr_top.specs.declared.status.Status.TheVariants.{NoItem}
+use Rattle.nr_words.specs.declared.words.ChunkPlace.{ChunkPlace}
+
+-- the file of the chunk
+unfoldable pub gather_text : Chain → ChunkPlace → List ℕ
+gather_text x p = gathered_bytes (gathered_chunk x p.shard (p.height - 1))
+
+abbrev pub gather_answer : ChunkPlace → Chain → Plan (List ℕ) Status
+gather_answer p x = cond (has_chunk x p.shard p.height) (Answer (gather_text x p)) (Refuse (NoItem 0))
