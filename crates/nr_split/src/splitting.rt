@@ -35,7 +35,6 @@ fn put_receipt(
 }
 
 /// Writes the receipts of a delayed queue of which none was served.
-#[tactic(auto, using(crate::proofs::Steps::receipts_step))]
 fn put_receipts(
     columns: &mut Columns<PlainStore>,
     delayed: &[Receipt],
@@ -82,7 +81,6 @@ fn cut_world(
 }
 
 /// The entries of the world of one shard, where these are the delayed receipts of all shards.
-#[tactic(auto, using(crate::proofs::Steps::part_at))]
 fn cut_at(
     alloc: Global,
     worlds: &[List<Entry>],
