@@ -1,29 +1,26 @@
 -- What is found among the entries of some accounts of all worlds.
-use Rattle.std.proofs.Common.{◌≡◌, ℕ, Bool, true, false, cond, List, [], ◌∷◌, ◌++◌, map, Option, Some, None, Ordering, refl, sym, ap, subst, ◌∙◌}
+use Rattle.std.proofs.Common.{◌≡◌, ℕ, Bool, true, false, cond, List, [], ◌∷◌, ◌++◌, Option, Some, None, refl, sym, ap}
+use Rattle.std.proofs.Common.{subst, ◌∙◌}
 use Rattle.std.specs.Prelude.{◌&&◌, not}
 use Rattle.std.specs.Cmp.Lexicographic.{nat_list_cmp_total}
-use Rattle.std.specs.FinMap.{empty, entries, from_entries, get, get-empty, get-from_entries}
+use Rattle.std.specs.FinMap.{empty, get, get-empty, get-from_entries}
 use Rattle.std.specs.FinMap.Entries.{find}
-use Rattle.std.specs.List.{AllByRecursion, flat_map}
+use Rattle.std.specs.List.{AllByRecursion}
 use Rattle.std.specs.Option.{option_and_then}
 use Rattle.std.specs.Ordering.{eq_by_cmp}
 use Rattle.std.proofs.lemmas.List.{map-append}
-use Rattle.std.proofs.lemmas.Map.Lookups.{exact_bytes}
 use Rattle.nr_columns.proofs.Empty.{is_laid_empty, part_empty}
 use Rattle.nr_columns.proofs.Laid.{canon, canon_of, delayed_law, laid_by}
 use Rattle.nr_columns.proofs.Tables.{bytes_tested, part_same}
-use Rattle.nr_columns.specs.Columns.{Columns}
 use Rattle.nr_columns.specs.Entries.{contents_of, pairs_of}
-use Rattle.nr_columns.specs.Keys.{delayed_key, queue_key}
+use Rattle.nr_columns.specs.Keys.{delayed_key}
 use Rattle.nr_columns.specs.Orders.{bytes_cmp}
-use Rattle.nr_columns.specs.Tables.{part}
 use Rattle.nr_columns.specs.View.{IsLaid, columns_in, delayed_table, queue_of}
 use Rattle.nr_columns.specs.declared.entry.Entry.{Entry}
 use Rattle.nr_cut.proofs.Maps.{either, find-both}
-use Rattle.nr_split.specs.Owned.{is_owned, is_queued, owned_in, owned_of, picked}
+use Rattle.nr_split.specs.Owned.{is_owned, owned_in, owned_of}
 use Rattle.nr_state.specs.Entries.{is_of}
 use Rattle.nr_state.specs.FromEntries.{AreWholeEntries}
-use Rattle.nr_triedef.specs.Root.{Contents}
 
 -- the first value that is there
 abbrev pub firsts : {A B : Type 0} → (A → Option B) → List A → Option B
@@ -105,7 +102,8 @@ canon_firsts b (es ∷ worlds) all = by (get (contents_of es) b) refl (canon_fir
 pub laid_owned : (x : List ℕ → Bool) (worlds : List (List Entry)) → AllByRecursion AreWholeEntries worlds
     → IsLaid (contents_of (owned_of x worlds))
 laid_owned x worlds all =
-    laid_by (contents_of (owned_of x worlds)) (λ b. subst (λ o. canon b o ≡ o) (sym (found_owned x b worlds)) (by b (is_owned x b)))
+    laid_by (contents_of (owned_of x worlds))
+    (λ b. subst (λ o. canon b o ≡ o) (sym (found_owned x b worlds)) (by b (is_owned x b)))
   where
     by : (b : List ℕ) (owned : Bool)
         → canon b (cond owned (firsts (λ es. get (contents_of es) b) worlds) None)
@@ -124,11 +122,13 @@ none_queued x worlds rest =
     found_owned x (7 ∷ rest) worlds
     ∙ ap (λ b. cond b (firsts (λ es. get (contents_of es) (7 ∷ rest)) worlds) None) (not_owned (is_of x (7 ∷ rest)))
 
-pub no_queue : (x : List ℕ → Bool) (worlds : List (List Entry)) → (columns_in (contents_of (owned_of x worlds))).queue ≡ None
+pub no_queue : (x : List ℕ → Bool) (worlds : List (List Entry))
+    → (columns_in (contents_of (owned_of x worlds))).queue ≡ None
 no_queue x worlds = ap (option_and_then queue_of) (none_queued x worlds [])
 
 pub no_delayed : (x : List ℕ → Bool) (worlds : List (List Entry))
     → (columns_in (contents_of (owned_of x worlds))).delayed ≡ empty
 no_delayed x worlds =
-    sym (part_same delayed_law empty (contents_of (owned_of x worlds)) (λ q. get-empty bytes_cmp (delayed_key q) ∙ sym (none_queued x worlds _)))
+    sym (part_same delayed_law empty (contents_of (owned_of x worlds))
+    (λ q. get-empty bytes_cmp (delayed_key q) ∙ sym (none_queued x worlds _)))
     ∙ part_empty delayed_table

@@ -1,5 +1,6 @@
 -- The trie entries of worlds side by side: of each key the entry of the world that has it.
-use Rattle.std.proofs.Common.{◌≡◌, ℕ, zero, suc, ◌+◌, ◌<◌, Bool, true, false, cond, List, [], ◌∷◌, ◌++◌, map, Option, Some, None, Ordering, refl, sym, ap, subst, ◌∙◌, arith}
+use Rattle.std.proofs.Common.{◌≡◌, ℕ, suc, ◌+◌, ◌<◌, Bool, true, false, cond, List, [], ◌∷◌, map, Option, Some, None}
+use Rattle.std.proofs.Common.{Ordering, refl, sym, ap, subst, ◌∙◌, arith}
 use Rattle.std.specs.Prelude.{◌==◌, ◌||◌, not, slice_get}
 use Rattle.std.specs.Cmp.{IsTotalOrder}
 use Rattle.std.specs.Cmp.Lexicographic.{nat_list_cmp_total}
@@ -16,7 +17,7 @@ use Rattle.nr_columns.specs.Orders.{bytes_cmp, pair_cmp}
 use Rattle.nr_columns.specs.View.{IsLaid, at_first, columns_in, delayed_table, queue_of}
 use Rattle.nr_cut.proofs.Maps.{HasOwners, absent, either, get-joined, get-part, test_of, test_other}
 use Rattle.nr_cut.proofs.Worlds.{Owned, other, owned, owned_beside, owned_none_here, owned_weaker}
-use Rattle.nr_cut.specs.Cut.{AreApart, HasOnly, all_beside, beside, joined, lives_in}
+use Rattle.nr_cut.specs.Cut.{HasOnly, all_beside, beside, joined, lives_in}
 use Rattle.nr_layout.specs.Layout.{shard_of}
 use Rattle.nr_records.specs.declared.receipt.Receipt.{Receipt}
 use Rattle.nr_split.proofs.Found.{firsts, none_of}
@@ -27,7 +28,7 @@ use Rattle.nr_state.proofs.ValidOwned.{exact_data, exact_keys, key_total, pair_t
 use Rattle.nr_state.specs.Entries.{IsReadBack, has_owner, is_of}
 use Rattle.nr_state.specs.Flat.{awaits, columns_of, flat, missing_inputs}
 use Rattle.nr_state.specs.Keyed.{IsKeyed}
-use Rattle.nr_state.specs.Scopes.{all_of, over, over_map, part_of}
+use Rattle.nr_state.specs.Scopes.{all_of, over, over_map}
 use Rattle.nr_state.specs.World.{World, no_world}
 use Rattle.nr_triedef.specs.Root.{Contents}
 
@@ -159,7 +160,8 @@ module _ (x : List ℕ → Bool) (a b : World) (one : HasOnly x (unqueued a)) (t
   other_of (column ∷ rest) e q = by (column == 0 || column == 1) (column == 2) (column == 7) e q
     where
       by : (text key queue : Bool)
-          → cond text (x rest) (cond key (has_owner x (at_first 2 rest)) (cond queue true (has_owner x (at_first 44 rest))))
+          → cond text (x rest) (cond key (has_owner x (at_first 2 rest))
+          (cond queue true (has_owner x (at_first 44 rest))))
           ≡ true
           → queue ≡ false
           → cond text (other x rest)
@@ -281,7 +283,8 @@ module _ (old : List (List ℕ)) where
       let behind : IsFound ws = all_found (n + 1) ws (rest_apart n w ws each) keyed.1 read.1 in
       let one : HasOnly x (unqueued w) = only_unqueued x w (first_apart n w ws each) in
       let two : HasOnly (other x) (unqueued all) =
-      only_unqueued (other x) all (only_owned (other x) all (rest_other n (n + 1) ws (omega arith) (rest_apart n w ws each)))
+      only_unqueued (other x) all (only_owned (other x) all
+      (rest_other n (n + 1) ws (omega arith) (rest_apart n w ws each)))
       in
       record {
         keyed = keyed_beside w all keyed.0 behind.keyed;

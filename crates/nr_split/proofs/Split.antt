@@ -1,9 +1,10 @@
 -- The entries that are put together are those of the worlds of the cut.
-use Rattle.std.proofs.Common.{◌≡◌, ℕ, ◌+◌, ◌^◌, ◌<◌, Bool, true, false, cond, List, [], ◌∷◌, ◌++◌, length, map, Option, Some, None, Ok, Err, refl, sym, ap, subst, ◌∙◌, arith}
-use Rattle.std.specs.Prelude.{◌==◌, ◌&&◌, not, IfOk, OnOk, Result, slice_get}
+use Rattle.std.proofs.Common.{◌≡◌, ℕ, ◌+◌, ◌^◌, ◌<◌, Bool, true, false, cond, List, [], ◌∷◌, ◌++◌, length, map}
+use Rattle.std.proofs.Common.{Option, None, Ok, Err, refl, sym, ap, subst, ◌∙◌, arith}
+use Rattle.std.specs.Prelude.{◌==◌, ◌&&◌, not, IfOk, OnOk, Result}
 use Rattle.std.specs.declared.alloc.AllocError.{AllocError}
 use Rattle.std.specs.Cmp.Lexicographic.{nat_list_cmp_total}
-use Rattle.std.specs.FinMap.{entries, get, retain_keys, same_map}
+use Rattle.std.specs.FinMap.{entries, get, same_map}
 use Rattle.std.specs.List.{AllByRecursion, flat_map, range_with_len}
 use Rattle.std.proofs.lemmas.Map.Lookups.{exact_bytes}
 use Rattle.nr_columns.specs.Columns.{laid_columns}
@@ -15,14 +16,14 @@ use Rattle.nr_cut.proofs.Cuts.{keeps_worlds}
 use Rattle.nr_cut.proofs.Maps.{either, get-part}
 use Rattle.nr_cut.proofs.Worlds.{each_kept}
 use Rattle.nr_cut.specs.Cut.{HasOnly, all_beside, cut_world, cut_worlds, lives_in}
-use Rattle.nr_cut.specs.Laws.{CanCut, KeepsWorlds}
+use Rattle.nr_cut.specs.Laws.{CanCut}
 use Rattle.nr_layout.specs.Layout.{out_to, shard_of}
 use Rattle.nr_records.specs.Receipts.{IsReceipt}
 use Rattle.nr_records.specs.declared.receipt.Receipt.{Receipt}
 use Rattle.nr_split.proofs.Found.{firsts, found_owned}
 use Rattle.nr_split.proofs.Joined.{IsFound, all_found, unqueued}
 use Rattle.nr_split.proofs.Worlds.{all_receipts, fewer, fits_all, fits_part, queued}
-use Rattle.nr_split.specs.Owned.{is_owned, is_queued, owned_of}
+use Rattle.nr_split.specs.Owned.{is_queued, owned_of}
 use Rattle.nr_split.specs.Split.{delayed_of, entries_cut, entries_in, entries_split, with_queue}
 use Rattle.nr_state.proofs.EntryWorlds.{entries_again, entries_whole, flat_again, read_again, world_fits}
 use Rattle.nr_state.proofs.OverEntries.{entries_of_part, read_part}
@@ -77,7 +78,8 @@ as_laid : (w : World) → flat w ≡ laid_columns (columns_of w)
 unfolding flat
 as_laid w = refl
 
-module _ (c : Config) (old new : List (List ℕ)) (worlds : List (List Entry)) (all : AllByRecursion AreWholeEntries worlds)
+module _ (c : Config) (old new : List (List ℕ)) (worlds : List (List Entry))
+    (all : AllByRecursion AreWholeEntries worlds)
     (can : CanCut c old (map world_from worlds)) (few : length (delayed_of worlds) < 2 ^ 64) where
   abbrev ws : List World
   ws = map world_from worlds

@@ -1,5 +1,6 @@
 -- The loops, one turn after the other.
-use Rattle.std.proofs.Common.{◌≡◌, ℕ, ◌+◌, ◌<◌, Bool, List, [], ◌∷◌, ◌++◌, length, map, take, get_or, Ok, Err, refl, sym, ap, ◌∙◌, append_assoc, arith}
+use Rattle.std.proofs.Common.{◌≡◌, ℕ, ◌+◌, ◌<◌, Bool, List, [], ◌∷◌, ◌++◌, length, map, take, get_or, Ok, Err, refl}
+use Rattle.std.proofs.Common.{sym, ap, ◌∙◌, append_assoc, arith}
 use Rattle.std.specs.Prelude.{IfOk, Result}
 use Rattle.std.specs.declared.alloc.AllocError.{AllocError}
 use Rattle.std.specs.Cmp.{nat_cmp_total}
@@ -12,7 +13,6 @@ use Rattle.nr_columns.specs.Columns.{Columns, laid_columns}
 use Rattle.nr_columns.specs.Entries.{contents_of, pairs_of}
 use Rattle.nr_columns.specs.View.{columns_in}
 use Rattle.nr_columns.specs.declared.entry.Entry.{Entry}
-use Rattle.nr_cut.specs.Cut.{lives_in}
 use Rattle.nr_layout.specs.Layout.{out_to, parts}
 use Rattle.nr_records.specs.declared.receipt.Receipt.{Receipt}
 use Rattle.nr_split.specs.Owned.{owned_of}
@@ -82,7 +82,8 @@ cut_answer (Ok found) k j owned x worlds delayed pairs k_is j_is owned_is =
 cut_answer (Err e) k j owned x worlds delayed pairs k_is j_is owned_is = tt
 
 -- ---- a shard more
-pub mapped_step : {A : Type 0} (f : ℕ → A) (n : ℕ) → map f (range_with_len 0 (n + 1)) ≡ map f (range_with_len 0 n) ++ f n ∷ []
+pub mapped_step : {A : Type 0} (f : ℕ → A) (n : ℕ) → map f (range_with_len 0 (n + 1))
+    ≡ map f (range_with_len 0 n) ++ f n ∷ []
 mapped_step f n =
     let e : 0 + n ≡ n = omega arith in
     map-range_with_len_more f 0 n n e

@@ -1,5 +1,6 @@
 -- The records of worlds side by side, and of their parts, fit their fields.
-use Rattle.std.proofs.Common.{◌≡◌, ℕ, ◌+◌, ◌^◌, ◌<◌, Bool, true, false, cond, List, [], ◌∷◌, ◌++◌, length, Option, Some, None, Ordering, refl, sym, ap, ◌∙◌, arith}
+use Rattle.std.proofs.Common.{◌≡◌, ℕ, ◌+◌, ◌^◌, ◌<◌, Bool, true, false, cond, List, [], ◌∷◌, length, Option, Some}
+use Rattle.std.proofs.Common.{None, Ordering, refl, sym, ◌∙◌, arith}
 use Rattle.std.specs.Prelude.{filter}
 use Rattle.std.specs.Cmp.{IsTotalOrder}
 use Rattle.std.specs.Cmp.Lexicographic.{nat_list_cmp_total}
@@ -7,9 +8,8 @@ use Rattle.std.specs.FinMap.{FinMap, IsAntisymmetric, empty, get, get-empty, ret
 use Rattle.std.specs.List.{AllByRecursion, flat_map}
 use Rattle.std.proofs.lemmas.Map.Lookups.{exact_bytes}
 use Rattle.nr_cut.proofs.Maps.{either, get-joined, get-part}
-use Rattle.nr_cut.proofs.Worlds.{each_both, each_kept}
+use Rattle.nr_cut.proofs.Worlds.{each_both}
 use Rattle.nr_cut.specs.Cut.{all_beside, beside, joined}
-use Rattle.nr_ids.specs.declared.key.PublicKey.{PublicKey}
 use Rattle.nr_records.specs.Receipts.{IsReceipt}
 use Rattle.nr_records.specs.declared.receipt.Receipt.{Receipt}
 use Rattle.nr_split.proofs.Joined.{unqueued}
@@ -26,20 +26,20 @@ each_none : {K X : Type 0} (R : K → K → Ordering) (P : K → X → Type 0) �
 each_none {X = X} R P k v e = absurd (let no : ◌≡◌ {A = Option X} None (Some v) = sym (get-empty R k) ∙ e in cc)
 
 module _ {K X : Type 0} {R : K → K → Ordering} (o : IsTotalOrder R) (exact : IsAntisymmetric R) (P : K → X → Type 0)
-    where
-  each_joined : (m n : FinMap R X) → Each P m → Each P n → Each P (joined m n)
-  each_joined m n one two k v e = by (get m k) refl (sym (get-joined o exact m n k) ∙ e)
-    where
-      by : (a : Option X) → get m k ≡ a → either a (get n k) ≡ Some v → P k v
-      by None is e = two k v e
-      by (Some w) is e = one k v (is ∙ e)
+  where
+    each_joined : (m n : FinMap R X) → Each P m → Each P n → Each P (joined m n)
+    each_joined m n one two k v e = by (get m k) refl (sym (get-joined o exact m n k) ∙ e)
+      where
+        by : (a : Option X) → get m k ≡ a → either a (get n k) ≡ Some v → P k v
+        by None is e = two k v e
+        by (Some w) is e = one k v (is ∙ e)
 
-  each_part : (m : FinMap R X) (test : K → Bool) → Each P m → Each P (retain_keys m test)
-  each_part m test all k v e = by (test k) (sym (get-part o exact m test k) ∙ e)
-    where
-      by : (b : Bool) → cond b (get m k) None ≡ Some v → P k v
-      by true e = all k v e
-      by false e = absurd (let no : ◌≡◌ {A = Option X} None (Some v) = e in cc)
+    each_part : (m : FinMap R X) (test : K → Bool) → Each P m → Each P (retain_keys m test)
+    each_part m test all k v e = by (test k) (sym (get-part o exact m test k) ∙ e)
+      where
+        by : (b : Bool) → cond b (get m k) None ≡ Some v → P k v
+        by true e = all k v e
+        by false e = absurd (let no : ◌≡◌ {A = Option X} None (Some v) = e in cc)
 
 -- ---- worlds without their queues
 fits_unqueued : (w : World) → IsWorld w → IsWorld (unqueued w)
@@ -100,7 +100,8 @@ fits_part x w delayed fits receipts few = record {
 }
 
 -- ---- the receipts of all queues
-pub all_receipts : (ws : List World) → AllByRecursion IsWorld ws → AllByRecursion IsReceipt (flat_map (λ w. w.delayed) ws)
+pub all_receipts : (ws : List World) → AllByRecursion IsWorld ws
+    → AllByRecursion IsReceipt (flat_map (λ w. w.delayed) ws)
 all_receipts [] all = tt
 all_receipts (w ∷ ws) all =
     each_both IsReceipt w.delayed (flat_map (λ w. w.delayed) ws) all.0.delayed (all_receipts ws all.1)

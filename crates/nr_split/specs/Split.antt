@@ -36,7 +36,8 @@ entries_in c = map (λ p. record { key = p.0; value = p.1 }) (entries c)
 
 -- those of the world of some accounts: what they own, and these delayed receipts
 abbrev pub entries_cut : (List ℕ → Bool) → List (List Entry) → List Receipt → List Entry
-entries_cut x worlds delayed = entries_in (laid_columns (with_queue (columns_in (contents_of (owned_of x worlds))) delayed))
+entries_cut x worlds delayed = entries_in
+    (laid_columns (with_queue (columns_in (contents_of (owned_of x worlds))) delayed))
 
 -- those of the worlds of the shards under the boundaries
 abbrev pub entries_split : List (List ℕ) → List (List Entry) → List (List Entry)

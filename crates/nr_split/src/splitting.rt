@@ -28,17 +28,15 @@ fn put_receipt(
     number: u64,
     receipt: &Receipt,
 ) -> Result<(), AllocError>
-    ensures { OnOk result (columns.new.columns ≡ record columns.old.columns { delayed = map.insert columns.old.columns.delayed number receipt.now }) }
+    ensures { OnOk result (columns.new.columns
+        ≡ record columns.old.columns { delayed = map.insert columns.old.columns.delayed number receipt.now }) }
 {
     columns.set_delayed(number, receipt)?;
     Ok(())
 }
 
 /// Writes the receipts of a delayed queue of which none was served.
-fn put_receipts(
-    columns: &mut Columns<PlainStore>,
-    delayed: &[Receipt],
-) -> Result<(), AllocError>
+fn put_receipts(columns: &mut Columns<PlainStore>, delayed: &[Receipt]) -> Result<(), AllocError>
     requires none { columns.old.columns.delayed ≡ map.empty }
     ensures receipts { OnOk result (columns.new.columns ≡ with_receipts columns.old.columns delayed.now) }
 {
@@ -91,7 +89,8 @@ fn cut_at(
     requires whole { AllByRecursion AreWholeEntries worlds.now }
     requires lists { lists.now ≡ parts layout.now (length layout.now + 1) (delayed_of worlds.now) }
     requires inside { shard < length layout.now + 1 }
-    ensures { IfOk result (λ found. found ≡ entries_cut (lives_in layout.now shard) worlds.now (out_to layout.now shard (delayed_of worlds.now))) }
+    ensures { IfOk result (λ found. found
+        ≡ entries_cut (lives_in layout.now shard) worlds.now (out_to layout.now shard (delayed_of worlds.now))) }
 {
     cut_world(alloc, worlds, layout, shard, lists[shard as usize].inner())
 }

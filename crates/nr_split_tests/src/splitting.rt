@@ -53,7 +53,13 @@ fn world_of(
     requires { AreSoundEntries config.now genesis.now.entries }
     ensures { IfOk result AreWholeEntries }
 {
-    let state = fill(alloc, genesis, ShardId(shard), PlainStore::new(alloc), config)?;
+    let state = fill(
+        alloc,
+        genesis,
+        ShardId(shard),
+        PlainStore::new(alloc),
+        config,
+    )?;
     state.entries()
 }
 

@@ -19,7 +19,8 @@ bounds-lists-shard c =
 pub returns : goal.returns
 returns c =
     subst
-    (λ (d : List Receipt). IfOk c.cut_world.result (λ found. found ≡ entries_cut (lives_in c.args.layout.now c.args.shard) c.args.worlds.now d))
+    (λ (d : List Receipt). IfOk c.cut_world.result
+    (λ found. found ≡ entries_cut (lives_in c.args.layout.now c.args.shard) c.args.worlds.now d))
     (c.inner.ensures ∙ c.index-lists-shard.is
     ∙ ap (λ (l : List (List Receipt)). get_or l c.args.shard c.index-lists-shard.result) c.requires.lists
     ∙ part_at c.args.layout.now (length c.args.layout.now + 1) (delayed_of c.args.worlds.now) c.args.shard
