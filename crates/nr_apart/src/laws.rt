@@ -18,5 +18,10 @@ pub fn apart_laws()
     ensures genesis { (g : Genesis) → StartsApart (genesis_start g) }
     // So does the cut of any worlds and lists.
     ensures cut { (new : List (List ℕ)) (below : ℕ) (ws : List World) (lists : List (List Receipt))
-        → StartsApart (record { boundaries = new; below = below; worlds = cut_worlds new ws; carried = carried new lists }) }
+        → StartsApart (record {
+          boundaries = new;
+          below = below;
+          worlds = cut_worlds new ws;
+          carried = carried new lists;
+        }) }
 {}

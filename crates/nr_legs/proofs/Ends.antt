@@ -1,36 +1,34 @@
 -- The end of a chain, and the start that is cut of it.
-use Rattle.std.proofs.Common.{◌≡◌, ℕ, zero, suc, ◌+◌, ◌-◌, ◌^◌, ◌<◌, ◌≤◌, Bool, true, false, cond, List, [], ◌∷◌}
-use Rattle.std.proofs.Common.{◌++◌, map, length, Option, Some, None, refl, sym, ap, subst, ◌∙◌, arith}
-use Rattle.std.specs.Prelude.{max, nat_lt, slice_get, sum_by, unwrap_or}
+use Rattle.std.proofs.Common.{◌≡◌, ℕ, zero, suc, ◌+◌, ◌-◌, ◌<◌, ◌≤◌, cond, List, [], ◌∷◌}
+use Rattle.std.proofs.Common.{◌++◌, map, length, Option, Some, None, refl, sym, ap, ◌∙◌, arith}
+use Rattle.std.specs.Prelude.{max, nat_lt, sum_by, unwrap_or}
 use Rattle.std.specs.FinMap.{values}
 use Rattle.std.specs.List.{AllByRecursion, flat_map, range_with_len}
 use Rattle.std.proofs.lemmas.List.{get_or-replicate}
 use Rattle.std.proofs.lemmas.List.FromFn.{length-map-range_with_len}
 use Rattle.std.proofs.lemmas.List.Sums.{sum_by-cons, sum_by-append}
-use Rattle.nr_chunk.specs.Chain.{Chain, IsChain, rules_of, shards_of}
+use Rattle.nr_chunk.specs.Chain.{Chain, IsChain, rules_of}
 use Rattle.nr_chunk.specs.Goodness.{AreGood, IsGood, IsGoodWorld, IsSmall, large}
 use Rattle.nr_chunk.specs.Lasting.{good_sent}
 use Rattle.nr_chunk.specs.Lawful.{good_after}
-use Rattle.nr_chunk.specs.Start.{IsStart, Start, start_tokens}
+use Rattle.nr_chunk.specs.Start.{start_tokens}
 use Rattle.nr_chunk.specs.Views.{Kept, Working}
 use Rattle.nr_chunk.specs.declared.tally.Tally.{Tally}
 use Rattle.nr_config.specs.Config.{Config}
-use Rattle.nr_cut.specs.Cut.{AreApart, carried, cut_worlds, cut_world}
+use Rattle.nr_cut.specs.Cut.{cut_worlds, cut_world}
 use Rattle.nr_cut.specs.Laws.{CanCut, KeepsLists, KeepsWorlds}
 use Rattle.nr_cut.proofs.Maps.{sum_both}
 use Rattle.nr_cut.proofs.Cuts.{each_carried, keeps_lists, keeps_worlds}
 use Rattle.nr_fees.specs.Fees.{receipt_tokens}
-use Rattle.nr_legs.specs.Legs.{CanGoOn, GoesOn, HoldsAcross, HoldsOver, cut_start, last_lists, last_worlds, sent_from}
+use Rattle.nr_legs.specs.Legs.{CanGoOn, GoesOn, HoldsAcross, cut_start, last_lists, last_worlds, sent_from}
 use Rattle.nr_legs.specs.Legs.{sent_to}
 use Rattle.nr_overlap.specs.Balance.{if_some, sum_below}
-use Rattle.nr_overlap.specs.Inside.{AreInside}
-use Rattle.nr_overlap.specs.Moment.{flight_at, report_at, working_at, world_at}
+use Rattle.nr_overlap.specs.Moment.{flight_at, report_at, working_at}
 use Rattle.nr_overlap.specs.Positions.{at, end_at, start}
 use Rattle.nr_overlap.specs.Rules.{Rules}
 use Rattle.nr_overlap.specs.Run.{ending, opening, run_of}
-use Rattle.nr_overlap.specs.Serial.{first_due, list_to, sealing_at, shard_numbers, world_after}
+use Rattle.nr_overlap.specs.Serial.{first_due, list_to, sealing_at, world_after}
 use Rattle.nr_overlap.specs.Whole.{IsWholeRun}
-use Rattle.nr_overlap.specs.declared.event.Event.{Event}
 use Rattle.nr_overlap.specs.declared.position.Position.{Position}
 use Rattle.nr_overlap.proofs.Basics.{is_lt, not_lt}
 use Rattle.nr_overlap.proofs.DueLemmas.{last_here}
@@ -40,7 +38,7 @@ use Rattle.nr_overlap.proofs.Sums.{sum_none, sum_same}
 use Rattle.nr_places.proofs.Adding.{IsAdditive, additive_at}
 use Rattle.nr_places.proofs.Counting.{carried_by, measure_each, measure_flying, sum_add, sums}
 use Rattle.nr_places.proofs.Replay.{end_holds, replay_holds}
-use Rattle.nr_places.specs.Moments.{carried_in, delayed, each_below, executed, flying, postponed, routed, waiting_by}
+use Rattle.nr_places.specs.Moments.{carried_in, delayed, each_below, flying, postponed, waiting_by}
 use Rattle.nr_places.specs.Moments.{waiting_in}
 use Rattle.nr_places.specs.Places.{start_receipts, waiting}
 use Rattle.nr_places.specs.Replay.{Holds}

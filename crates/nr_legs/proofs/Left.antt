@@ -9,15 +9,13 @@ use Rattle.std.proofs.lemmas.Option.{slice_get_cases}
 use Rattle.nr_chunk.specs.Chain.{Chain, IsChain, rules_of}
 use Rattle.nr_chunk.specs.Lawful.{one_each}
 use Rattle.nr_chunk.specs.Views.{Kept, Working}
-use Rattle.nr_ids.specs.declared.number.Height.{Height}
-use Rattle.nr_ids.specs.declared.number.ShardId.{ShardId}
 use Rattle.nr_legs.proofs.Ends.{due_last}
 use Rattle.nr_legs.specs.Legs.{CanGoOn, last_lists, left_of, sent_from, sent_to}
 use Rattle.nr_overlap.proofs.Basics.{is_lt, not_lt}
 use Rattle.nr_overlap.proofs.SerialLemmas.{sealing_there}
 use Rattle.nr_overlap.specs.Outcome.{left_at, left_by_height, left_by_source, left_list, lists_left}
 use Rattle.nr_overlap.specs.Rules.{Rules}
-use Rattle.nr_overlap.specs.Serial.{due_after, first_due, heights_between, list_to, sealing_at, shard_numbers, work}
+use Rattle.nr_overlap.specs.Serial.{due_after, heights_between, list_to, sealing_at, shard_numbers, work}
 use Rattle.nr_records.specs.declared.chunk_result.ChunkResult.{ChunkResult}
 use Rattle.nr_records.specs.declared.receipt.Receipt.{Receipt}
 

@@ -1,0 +1,6 @@
+mod Counting
+mod Steps
+mod Found
+mod Joined
+mod Worlds
+mod Split
