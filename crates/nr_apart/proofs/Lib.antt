@@ -1,3 +1,3 @@
 mod Only
-mod Chunks
-mod Firsts
+pub mod Chunks
+pub mod Firsts

@@ -43,6 +43,11 @@ module _ (x : Chain) where
     carried = carried new last_lists;
   }
 
+  -- there is a last block, and it has each chunk
+  pub record EndsWhole : Type 0 where
+    pub some : 0 < (rules_of x).heights
+    pub there : (s : ℕ) → s < (rules_of x).shards → (rules_of x).present s (rules_of x).heights ≡ true
+
   -- there is a last block, it has each chunk, and each world has what lives in its shard
   pub record CanGoOn : Type 0 where
     pub some : 0 < (rules_of x).heights
