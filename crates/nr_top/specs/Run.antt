@@ -1,5 +1,5 @@
 -- A run to its end, or by the events of a schedule: its chunks as the serial run has them, and the totals where it stands then. After the Nomicon, Chain Specification (Chunks and cross-shard receipts); the report is this project's.
-use Rattle.std.specs.Prelude.{List, ◌++◌}
+use Rattle.std.specs.Prelude.{ℕ, List, ◌++◌}
 use Rattle.nr_blocks.specs.declared.block.Block.{Block}
 use Rattle.nr_blocks.specs.declared.genesis.Genesis.{Genesis}
 use Rattle.nr_chunk.specs.Chain.{Chain, chain_with, rules_of}
