@@ -3,6 +3,10 @@
 ghost use Rattle.std.specs.Prelude.{◌≡◌, IfOk};
 ghost use Rattle.std.specs.Thread.{IsSend};
 ghost use Rattle.nr_blocks.specs.Genesis.{IsSoundGenesis};
+ghost use Rattle.nr_chunk.specs.Chain.{rules_of};
+ghost use Rattle.nr_outcome.specs.Texts.{count_to};
+ghost use Rattle.nr_overlap.specs.Moment.{report_at};
+ghost use Rattle.nr_overlap.specs.Run.{ending};
 ghost use Rattle.nr_top.specs.Generated.{generated_text};
 ghost use Rattle.nr_top.specs.Run.{chain, run_text};
 ghost use Rattle.nr_top.specs.Works.{CanWork, work_text};
@@ -19,7 +23,7 @@ use nr_config::Config;
 use nr_contract::ContractCaller;
 use nr_exchange::Serial;
 use nr_gen::generate;
-use nr_outcome::joined;
+use nr_outcome::{Outcome, joined};
 use nr_overlap::Phases;
 use nr_settle::{Unwatched, Watch, Watched, run_to_end};
 use nr_top::{Work, first_lines};
@@ -52,6 +56,13 @@ fn begin<W: Watch>(
     Serial(Watched { chain, watch })
 }
 
+/// How many chunks a run has. A number that doesn't fit counts as want of memory.
+fn count_of(outcome: &Outcome<ContractCaller>) -> Result<u64, AllocError>
+    ensures { let r = rules_of (chain_in outcome.now.chain) in IfOk result (λ count. count ≡ count_to r.shards (report_at r (ending r)) r.heights) }
+{
+    outcome.chunk_count().ok_or(AllocError)
+}
+
 fn is_send<T: Send>()
     ensures { IsSend T.row }
 {}
@@ -75,7 +86,7 @@ fn parts_of<R: Threads + Wait + Sync, G: Gate + Sync, W: Watch + Drop + Send + S
     let heights = run.0.heights();
     let (outcome, watch) = run_to_end(rt, alloc, gate, run, supply)?;
     let text = chunks_text(rt, alloc, outcome.reports(), heights)?;
-    let chunks = outcome.chunk_count().ok_or(AllocError)?;
+    let chunks = count_of(&outcome)?;
     let end = outcome.totals_text(alloc)?;
     Ok((Written { text, end, chunks }, watch))
 }

@@ -2,7 +2,8 @@ use denote.Exit.{yes}
 use denote.Param.Send.{param_send, param_sync, arg_send, arg_sync}
 use Rattle.nr_contract.specs.contracts.caller.ContractCaller as C
 use Rattle.nr_replay.proofs.Crossing.{caller_send, caller_sync}
-use Rattle.std.proofs.Common.{sym, ap, ◌∙◌}
+use Rattle.std.proofs.Common.{◌≡◌, sym, ap, ◌∙◌}
+use Rattle.nr_chunk.specs.Chain.{Chain, rules_of}
 use Rattle.nr_chunk.specs.Start.{start_tokens}
 use Rattle.nr_chunk.specs.StartSums.{supply_is}
 use Rattle.nr_top.specs.Run.{chain}
@@ -12,12 +13,15 @@ use Rattle.nr_replay.proofs.written.parts_of.Goals as goal
 
 pub run_to_end-requires : goal.run_to_end-requires
 run_to_end-requires g c =
-    supply_is c.args.config c.args.genesis c.requires ∙ ap (λ z. start_tokens z.config z.start) (sym c.begin-run.ensures)
+    supply_is c.args.config c.args.genesis c.requires ∙ ap (λ (z : Chain). start_tokens z.config z.start) (sym c.begin-run.ensures)
 
 pub returns : goal.returns
 returns g c =
-    is_written (chain_in c.begin-run.result.0.chain) (chain c.args.config c.args.genesis c.args.blocks) c.begin-run.ensures
-    c.reports.result.now c.reports.ensures c.heights-heights.result c.in_ok-text.text c.in_ok-end.end c.in_ok-chunks.chunks c.heights-heights.ensures
+    let outcome = c.in_ok-outcome.outcome in
+    let same : chain_in outcome.chain ≡ chain_in c.begin-run.result.0.chain = ap (λ run. chain_in run) c.in_ok-outcome.ensures in
+    is_written (chain_in outcome.chain) (chain c.args.config c.args.genesis c.args.blocks) (same ∙ c.begin-run.ensures)
+    c.reports.result.now c.reports.ensures c.heights-heights.result c.in_ok-text.text c.in_ok-end.end c.in_ok-chunks.chunks
+    (c.heights-heights.ensures ∙ ap (λ (z : Chain). (rules_of z).heights) (sym same))
     c.in_ok-text.ensures c.in_ok-end.ensures c.in_ok-chunks.ensures
 
 pub run_to_end-requires-send-C : goal.run_to_end-requires-send-C
