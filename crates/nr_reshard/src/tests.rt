@@ -32,12 +32,12 @@ fn spelling(at: u64) -> Option<ChainFault> {
 }
 
 /// The file with another byte at a place.
-fn with_byte(alloc: Global, at: usize, byte: u8) -> Result<Vec<u8>, Fail> {
-    let mut all = Vec::from_slice(alloc, CHANGED.as_slice())?;
+fn with_byte(at: usize, byte: u8) -> [u8; 98] {
+    let mut all = CHANGED;
     if let Some(old) = all.get_mut(at) {
         *old = byte;
     }
-    Ok(all)
+    all
 }
 
 /// The height and the count of the other boundaries of a file, and how many blocks it has.
@@ -111,11 +111,11 @@ fn a_cut_file_tells_the_place(rt: HostRuntime) {
 #[test]
 fn what_stands_before_the_blocks_is_judged(rt: HostRuntime) -> Result<(), Fail> {
     let alloc = rt.alloc();
-    let flag = with_byte(alloc, 4, 2)?;
+    let flag = with_byte(4, 2);
     assert!(rt; fault_of(alloc, &flag, 1) == spelling(4));
-    let many = with_byte(alloc, 13, 16)?;
+    let many = with_byte(13, 16);
     assert!(rt; fault_of(alloc, &many, 1) == spelling(13));
-    let id = with_byte(alloc, 22, b'M')?;
+    let id = with_byte(22, b'M');
     assert!(rt; fault_of(alloc, &id, 1) == spelling(17));
     let mut rest = Vec::from_slice(alloc, CHANGED.as_slice())?;
     rest.push(0)?;
@@ -124,19 +124,18 @@ fn what_stands_before_the_blocks_is_judged(rt: HostRuntime) -> Result<(), Fail> 
 }
 
 #[test]
-fn blocks_are_judged_by_the_boundaries_at_their_height(rt: HostRuntime) -> Result<(), Fail> {
+fn blocks_are_judged_by_the_boundaries_at_their_height(rt: HostRuntime) {
     let alloc = rt.alloc();
     let wide = BlocksFault::ShardCount { height: 1 };
     assert!(rt; fault_of(alloc, CHANGED.as_slice(), 2) == Some(ChainFault::Blocks(wide)));
-    let early = with_byte(alloc, 5, 1)?;
+    let early = with_byte(5, 1);
     assert!(rt; fault_of(alloc, &early, 1) == Some(ChainFault::Blocks(wide)));
-    let late = with_byte(alloc, 5, 3)?;
+    let late = with_byte(5, 3);
     let narrow = BlocksFault::ShardCount { height: 2 };
     assert!(rt; fault_of(alloc, &late, 1) == Some(ChainFault::Blocks(narrow)));
-    let order = with_byte(alloc, 60, 3)?;
+    let order = with_byte(60, 3);
     let third = BlocksFault::HeightOrder { height: 3 };
     assert!(rt; fault_of(alloc, &order, 1) == Some(ChainFault::Blocks(third)));
-    Ok(())
 }
 
 fn changed_at(height: u64) -> Option<ChainFault> {
@@ -161,7 +160,7 @@ fn boundaries_change_between_whole_blocks(rt: HostRuntime) -> Result<(), Fail> {
     let behind = joined(alloc, &CHANGED[..93], b"\0", b"")?;
     assert!(rt; fault_of(alloc, &behind, 1) == changed_at(2));
     // From height 1, where block 1 has a second chunk, which is missing.
-    let early = with_byte(alloc, 5, 1)?;
+    let early = with_byte(5, 1);
     let wide = joined(
         alloc,
         &early[..51],
@@ -170,7 +169,7 @@ fn boundaries_change_between_whole_blocks(rt: HostRuntime) -> Result<(), Fail> {
     )?;
     assert!(rt; fault_of(alloc, &wide, 1) == changed_at(1));
     // From height 3, where block 2 has one chunk.
-    let late = with_byte(alloc, 5, 3)?;
+    let late = with_byte(5, 3);
     let narrow = joined(alloc, &late[..84], b"\x01\0\0\0\x01\0\0\0\0", b"")?;
     assert!(rt; fault_of(alloc, &narrow, 1) == changed_at(3));
     Ok(())
