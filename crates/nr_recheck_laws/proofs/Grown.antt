@@ -118,7 +118,7 @@ module _ (x : Chain) (s below : ℕ) where
         let back : pair.0 - 1 + 1 ≡ pair.0 = omega (arith, due.from) in
         subst (λ h. AreGood c (given (list_to r (sealing_at r pair.1 h) s))) back
         (good_given pair.1 (pair.0 - 1) (list_to r (sealing_at r pair.1 (pair.0 - 1 + 1)) s) due.source
-            (omega (arith, due.to, within, due.from)) (ap (r.present pair.1) back ∙ due.there) refl)
+        (omega (arith, due.to, within, due.from)) (ap (r.present pair.1) back ∙ due.there) refl)
 
     pub good_lists : (n : ℕ) → n ≤ length dues → AreGood c (first_lists n)
     good_lists zero l = tt
@@ -126,8 +126,8 @@ module _ (x : Chain) (s below : ℕ) where
         let next = next_of dues n l in
         subst (λ m. AreGood c (first_lists m)) (add-one n)
         (subst (AreGood c) (sym (more n next.item next.there))
-            (each_append (IsGood c) (first_lists n) (due_to x s next.item) (good_lists n (omega (arith, l)))
-                (good_due n next.item next.there)))
+        (each_append (IsGood c) (first_lists n) (due_to x s next.item) (good_lists n (omega (arith, l)))
+        (good_due n next.item next.there)))
 
   -- ---- all of them
   pub all_lists : first_lists (length dues) ≡ due_lists x s below

@@ -71,7 +71,7 @@ module _ (x : Chain) (s below : ℕ) (is : IsChain x) (at : IsGathered x s below
   seal_is =
       ap
       (λ k. seal_chunk x.start.boundaries (shards_of x)
-          (serve_all c x.call (open_chunk c x.call k (transactions x s below)) (taken x s below))) begun_is
+      (serve_all c x.call (open_chunk c x.call k (transactions x s below)) (taken x s below))) begun_is
       ∙ ap r.seals (sym last_is)
 
   pub serial_report : (report : ChunkResult) → TellsChunk c x.call g report → GoesWith c g (state x s below)
@@ -89,7 +89,7 @@ module _ (x : Chain) (s below : ℕ) (is : IsChain x) (at : IsGathered x s below
   all_good =
       each_append (IsGood c) (before x s below).carried (due_lists x s below) good.carried
       (subst (AreGood c) (all_lists x s below)
-          (good_lists x s below is at.inside at.within at.present (length (due_after r s below)) (omega arith)))
+      (good_lists x s below is at.inside at.within at.present (length (due_after r s below)) (omega arith)))
 
   all_tokens : world_tokens c (state x s below) + list_tokens c (taken x s below) ≤ 2 ^ 127
   all_tokens =
