@@ -2,7 +2,7 @@
 use Rattle.std.proofs.Common.{◌≡◌, ℕ, ◌+◌, ◌≤◌, List, [], ◌++◌, refl, ap, subst, ◌∙◌, arith}
 use Rattle.sha2.specs.Hashers.{Holds256}
 use Rattle.sha2.specs.Sha256.{sha256}
-use Rattle.sha2.specs.declared.sha256.Sha256.{Sha256}
+use Rattle.sha2.specs.declared.Sha256.{Sha256}
 use Rattle.nr_chunk.specs.Chain.{Chain, rules_of}
 use Rattle.nr_outcome.specs.Texts.{count_to, heights_text, text_between}
 use Rattle.nr_outcome.specs.Totals.{totals_at}

@@ -10,7 +10,7 @@ use Rattle.nr_top.proofs.generated.hash_chunks.Goals as goal
 pub loop-below-init : goal.loop-below-init
 loop-below-init c =
     let r = rules_of (chain_in c.args.outcome.now.chain) in
-    hashed_none _ (λ h. height_text r.shards (report_at r (ending r)) (h + 1)) c.new.ensures
+    hashed_none _ (λ h. height_text r.shards (report_at r (ending r)) (h + 1)) c.new-hasher.ensures
 
 pub loop-below-preserved : goal.loop-below-preserved
 loop-below-preserved c =

@@ -4,9 +4,9 @@ use Rattle.nr_top.proofs.Entered.{is_chunk}
 use Rattle.nr_top.proofs.commands.gather.gathered_text.Goals as goal
 
 pub extract-requires-clause-inside : goal.extract-requires-clause-inside
-extract-requires-clause-inside c = λ κs. (is_chunk (chain_of c.args.core) c.args.chunk.shard c.args.chunk.height c.requires.there).inside
+extract-requires-clause-inside c = (is_chunk (chain_of c.args.core) c.args.chunk.shard c.args.chunk.height c.requires.there).inside
 
 pub extract-requires-clause-within : goal.extract-requires-clause-within
-extract-requires-clause-within c = λ κs.
+extract-requires-clause-within c =
     let chunk = is_chunk (chain_of c.args.core) c.args.chunk.shard c.args.chunk.height c.requires.there in
     omega (arith, chunk.positive, chunk.below, c.saturating_sub-below.ensures)
