@@ -143,5 +143,6 @@ pub(crate) fn report(
     let heights = outcome.chain().heights();
     let chunks = outcome.text(alloc, Height(0), Height(heights))?;
     let end = outcome.totals_text(alloc)?;
-    joined(chunks, &end)
+    let text = joined(chunks, &end)?;
+    Ok(text)
 }
