@@ -4,6 +4,7 @@ ghost use Rattle.std.specs.Prelude.{◌≡◌, IfOk};
 ghost use Rattle.std.specs.Thread.{IsSend};
 ghost use Rattle.nr_blocks.specs.Genesis.{IsSoundGenesis};
 ghost use Rattle.nr_chunk.specs.Chain.{rules_of};
+ghost use Rattle.nr_chunk.specs.Start.{start_tokens};
 ghost use Rattle.nr_outcome.specs.Texts.{count_to};
 ghost use Rattle.nr_overlap.specs.Moment.{report_at};
 ghost use Rattle.nr_overlap.specs.Run.{ending};
@@ -49,7 +50,8 @@ fn begin<W: Watch>(
     watch: W,
 ) -> Serial<Watched<ContractCaller, W>>
     requires { IsSoundGenesis config genesis }
-    ensures { chain_in result.0.chain ≡ chain config genesis blocks }
+    ensures chain { chain_in result.0.chain ≡ chain config genesis blocks }
+    ensures supply { genesis.supply ≡ start_tokens result.0.chain.config result.0.chain.grounds.start }
 {
     let caller = ContractCaller::new(&config);
     let chain = ChainRun::new(config, genesis, blocks, caller);

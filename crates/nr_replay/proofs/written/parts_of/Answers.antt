@@ -4,22 +4,16 @@ use Rattle.nr_contract.specs.contracts.caller.ContractCaller as C
 use Rattle.nr_replay.proofs.Crossing.{caller_send, caller_sync}
 use Rattle.std.proofs.Common.{◌≡◌, sym, ap, ◌∙◌}
 use Rattle.nr_chunk.specs.Chain.{Chain, rules_of}
-use Rattle.nr_chunk.specs.Start.{start_tokens}
-use Rattle.nr_chunk.specs.StartSums.{supply_is}
 use Rattle.nr_top.specs.Run.{chain}
 use Rattle.nr_replay.specs.Chains.{chain_in}
 use Rattle.nr_replay.proofs.Whole.{is_written}
 use Rattle.nr_replay.proofs.written.parts_of.Goals as goal
 
-pub run_to_end-requires : goal.run_to_end-requires
-run_to_end-requires g c =
-    supply_is c.args.config c.args.genesis c.requires ∙ ap (λ (z : Chain). start_tokens z.config z.start) (sym c.begin-run.ensures)
-
 pub returns : goal.returns
 returns g c =
     let outcome = c.in_ok-outcome.outcome in
     let same : chain_in outcome.chain ≡ chain_in c.begin-run.result.0.chain = ap (λ run. chain_in run) c.in_ok-outcome.ensures in
-    is_written (chain_in outcome.chain) (chain c.args.config c.args.genesis c.args.blocks) (same ∙ c.begin-run.ensures)
+    is_written (chain_in outcome.chain) (chain c.args.config c.args.genesis c.args.blocks) (same ∙ c.begin-run.ensures.chain)
     c.reports.result.now c.reports.ensures c.heights-heights.result c.in_ok-text.text c.in_ok-end.end c.in_ok-chunks.chunks
     (c.heights-heights.ensures ∙ ap (λ (z : Chain). (rules_of z).heights) (sym same))
     c.in_ok-text.ensures c.in_ok-end.ensures c.in_ok-chunks.ensures

@@ -1,0 +1,8 @@
+use Rattle.std.proofs.Common.{sym, ◌∙◌}
+use Rattle.nr_chunk.specs.Start.{start_tokens}
+use Rattle.nr_chunk.specs.StartSums.{supply_is}
+use Rattle.nr_replay.proofs.written.begin.Goals as goal
+
+pub returns-clause-supply : goal.returns-clause-supply
+returns-clause-supply g c =
+    supply_is c.args.config c.args.genesis c.requires ∙ (λ i. start_tokens (sym c.new-chain.ensures.config i) (sym c.new-chain.ensures.start i))
