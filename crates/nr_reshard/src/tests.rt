@@ -168,6 +168,12 @@ fn boundaries_change_between_whole_blocks(rt: HostRuntime) -> Result<(), Fail> {
         &early[60..],
     )?;
     assert!(rt; fault_of(alloc, &wide, 1) == changed_at(1));
+    Ok(())
+}
+
+#[test]
+fn boundaries_change_at_a_block_that_is_there(rt: HostRuntime) -> Result<(), Fail> {
+    let alloc = rt.alloc();
     // From height 3, where block 2 has one chunk.
     let late = with_byte(5, 3);
     let narrow = joined(alloc, &late[..84], b"\x01\0\0\0\x01\0\0\0\0", b"")?;
