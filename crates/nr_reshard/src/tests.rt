@@ -171,12 +171,15 @@ fn boundaries_change_between_whole_blocks(rt: HostRuntime) -> Result<(), Fail> {
     Ok(())
 }
 
+/// Other boundaries from height 3, parted at `mm`, and two blocks, each with one empty chunk.
+const TOO_LATE: [u8; 93] = *b"\
+    NRB3\x01\x03\0\0\0\0\0\0\0\x01\0\0\0\x02\0\0\0mm\x02\0\0\0\
+    \x01\0\0\0\0\0\0\0\x09\0\0\0\0\0\0\0\x05\0\0\0\0\0\0\0\x01\0\0\0\x01\0\0\0\0\
+    \x02\0\0\0\0\0\0\0\x09\0\0\0\0\0\0\0\x07\0\0\0\0\0\0\0\x01\0\0\0\x01\0\0\0\0\
+";
+
 #[test]
-fn boundaries_change_at_a_block_that_is_there(rt: HostRuntime) -> Result<(), Fail> {
+fn boundaries_change_at_a_block_that_is_there(rt: HostRuntime) {
     let alloc = rt.alloc();
-    // From height 3, where block 2 has one chunk.
-    let late = with_byte(5, 3);
-    let narrow = joined(alloc, &late[..84], b"\x01\0\0\0\x01\0\0\0\0", b"")?;
-    assert!(rt; fault_of(alloc, &narrow, 1) == changed_at(3));
-    Ok(())
+    assert!(rt; fault_of(alloc, TOO_LATE.as_slice(), 1) == changed_at(3));
 }
