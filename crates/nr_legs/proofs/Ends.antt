@@ -290,7 +290,7 @@ module _ (x : Chain) (is : IsChain x) (can : CanGoOn x) where
   held : Holds x e
   held = end_holds x is
 
-  can_cut : CanCut c x.start.boundaries (last_worlds x)
+  pub can_cut : CanCut c x.start.boundaries (last_worlds x)
   can_cut = record {
     valid = each_below_is (IsValidWorld c) (λ s. (w_of s).world) n 0
         (λ s l. (good_world_end s (omega (arith, l))).valid);

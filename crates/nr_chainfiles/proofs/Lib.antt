@@ -1,0 +1,2 @@
+-- Lemmas behind the answers.
+pub mod Asking

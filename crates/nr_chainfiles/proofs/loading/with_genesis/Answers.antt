@@ -1,0 +1,16 @@
+use Rattle.nr_shell.proofs.Leading.{stop_follows, then_follows}
+use Rattle.nr_chainfiles.specs.Plans.{by_genesis}
+use Rattle.nr_words.specs.Words.{names_in}
+use Rattle.nr_chainfiles.proofs.loading.with_genesis.Goals as goal
+
+pub returns-in-Ok-clause-follows : goal.returns-in-Ok-clause-follows
+returns-in-Ok-clause-follows g c =
+    then_follows
+    (by_genesis g.E.ConfigRefusal.refusal g.E.ChainRefusal.genesis_refusal g.E.ChainRefusal.blocks_refusal
+    (names_in c.args.names.now) c.args.config) c.in-Ok.ensures.follows c.with_blocks.ensures.follows
+
+pub returns-in-Err-clause-follows : goal.returns-in-Err-clause-follows
+returns-in-Err-clause-follows g c =
+    stop_follows
+    (by_genesis g.E.ConfigRefusal.refusal g.E.ChainRefusal.genesis_refusal g.E.ChainRefusal.blocks_refusal
+    (names_in c.args.names.now) c.args.config) c.in-Err.ensures.follows

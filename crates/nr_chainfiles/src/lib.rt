@@ -1,0 +1,8 @@
+//! The chain that three files give: a configuration, a genesis and the blocks over it.
+#![tactic(auto)]
+
+mod loading;
+mod refusal;
+
+pub use loading::{ChainFiles, load_chain};
+pub use refusal::ChainRefusal;
