@@ -1,9 +1,11 @@
 -- Which files the plan of a command asks for.
-use Rattle.std.proofs.Common.{ℕ, ◌+◌, List, [], ◌∷◌, ◌++◌, length, Option, Some, None, Result, Ok, Err, subst}
-use Rattle.std.proofs.lemmas.List.{append-nil}
-use Rattle.nr_blocks.specs.Judging.{blocks_read, genesis_read}
-use Rattle.nr_blocks.specs.declared.genesis.Genesis.{Genesis}
+use Rattle.std.proofs.Common.{ℕ, List, [], ◌∷◌, ◌++◌, length, Option, Some, None, Result, Ok, Err}
+use Rattle.nr_chainfiles.specs.Plans.{chain_files}
+use Rattle.nr_chainfiles.proofs.Asking.{chain_asks}
+use Rattle.nr_course.specs.Course.{Course, height_in, leg_at}
+use Rattle.nr_course.specs.Texts.{course_text}
 use Rattle.nr_chunk.specs.Chain.{Chain, shards_of}
+use Rattle.nr_course.specs.declared.turn.Turn.{Turn}
 use Rattle.nr_config.specs.Config.{Config}
 use Rattle.nr_configfile.specs.Plans.{config_files, config_plan}
 use Rattle.nr_configfile.proofs.Asking.{config_asks}
@@ -22,15 +24,15 @@ use Rattle.nr_report.specs.Lines.{chunk_text}
 use Rattle.nr_top.specs.Rechecking.{by_gathered, by_gathered_bytes, gathered_plan, gathered_status, recheck_answer, recheck_status}
 use Rattle.nr_shell.specs.Plans.{Plan, Answer, Asks, and_then, by_reading, file_plan}
 use Rattle.nr_shell.proofs.Ends.{file_asks, reading_asks, then_asks}
-use Rattle.nr_top.specs.Plans.{blocks_plan, blocks_status, by_blocks_bytes, by_chain, by_config, by_genesis, by_genesis_bytes, by_schedule_bytes, chain_files, chain_plan, files_of, genesis_plan, genesis_status, plan, prove_plan, recheck_plan, replay_plan, schedule_files, schedule_plan, schedule_status, verify_plan}
+use Rattle.nr_top.specs.Plans.{by_course, by_schedule_bytes, check_by, course_plan, files_of, files_plan, plan, prove_plan, recheck_plan, replay_plan, schedule_files, schedule_plan, schedule_status, verify_plan}
 use Rattle.nr_top.specs.Chunks.{result_at}
 use Rattle.nr_top.specs.Proving.{by_chunk, by_item, by_proof, by_proof_bytes, by_proof_read, roots_text}
 use Rattle.nr_top.specs.Roots.{root_in}
-use Rattle.nr_top.specs.Run.{chain, check_text, run_text}
+use Rattle.nr_top.specs.Run.{check_text, loaded}
 use Rattle.nr_top.specs.Schedule.{schedule_read}
 use Rattle.nr_top.specs.Gathering.{gather_answer}
 use Rattle.nr_top.specs.StateParts.{cut_answer}
-use Rattle.nr_top.proofs.PartAsking.{check_part_asks, cut_asks, gather_asks, join_parts_asks}
+use Rattle.nr_top.proofs.PartAsking.{all_asks, check_part_asks, cut_asks, gather_asks, join_parts_asks}
 use Rattle.nr_top.specs.declared.status.Status.{Status}
 use Rattle.nr_top.specs.declared.status.Status.TheVariants.{Config as faulty_config, Genesis as faulty_genesis, Blocks as faulty_blocks, Schedule as faulty_schedule, Proof as faulty_proof, Gathered as faulty_gathered}
 use Rattle.nr_words.specs.Command.{Command, Replay, Generate, Roots, Prove, Verify, Cut, CheckPart, JoinParts, Gather, Recheck, Names}
@@ -40,42 +42,31 @@ use Rattle.nr_words.specs.declared.words.ChunkItem.{ChunkItem}
 file_alone : {A : Type 0} (name : List ℕ) (limit : ℕ) (long : Status) (next : List ℕ → Plan A Status) → ((bytes : List ℕ) → Asks [] (next bytes)) → Asks (name ∷ []) (and_then (file_plan name limit long) next)
 file_alone name limit long next more = then_asks (name ∷ []) [] (file_plan name limit long) next (file_asks name limit long) more
 
-genesis_asks : (c : Config) (name : List ℕ) → Asks (name ∷ []) (genesis_plan c name)
-genesis_asks c name = file_alone name 67108864 (faulty_genesis 0 0 0 0) (by_genesis_bytes c) (λ b. reading_asks genesis_status (genesis_read c b))
-
-blocks_asks : (shards : ℕ) (name : List ℕ) → Asks (name ∷ []) (blocks_plan shards name)
-blocks_asks shards name = file_alone name 268435456 (faulty_blocks 0 0) (by_blocks_bytes shards) (λ b. reading_asks blocks_status (blocks_read shards b))
-
 schedule_asks : (shards : ℕ) (name : List ℕ) → Asks (name ∷ []) (schedule_plan shards name)
 schedule_asks shards name = file_alone name 1048576 (faulty_schedule 0 0) (by_schedule_bytes shards) (λ b. reading_asks schedule_status (schedule_read shards b))
 
 -- ---- the chain
-by_genesis_asks : (c : Config) (names : Names) (g : Genesis) → Asks (names.blocks ∷ []) (by_genesis c names g)
-by_genesis_asks c names g =
-    then_asks (names.blocks ∷ []) [] (blocks_plan (length g.layout + 1) names.blocks) (λ bs. Answer (chain c g bs)) (blocks_asks (length g.layout + 1) names.blocks) (λ bs. tt)
-
-by_config_asks : (names : Names) (c : Config) → Asks (names.genesis ∷ names.blocks ∷ []) (by_config names c)
-by_config_asks names c =
-    then_asks (names.genesis ∷ []) (names.blocks ∷ []) (genesis_plan c names.genesis) (by_genesis c names) (genesis_asks c names.genesis) (by_genesis_asks c names)
-
-chain_asks : (names : Names) → Asks (chain_files names) (chain_plan names)
-chain_asks names =
-    then_asks (config_files names.config) (names.genesis ∷ names.blocks ∷ []) (config_plan faulty_config names.config) (by_config names) (config_asks faulty_config names.config) (by_config_asks names)
+course_asks : (names : Names) → Asks (chain_files names) (course_plan names)
+course_asks names =
+    all_asks (chain_files names) (files_plan names) (λ files. Answer (loaded files))
+    (chain_asks faulty_config faulty_genesis faulty_blocks names) (λ files. tt)
 
 -- ---- commands
-by_chain_asks : (file : List ℕ) (x : Chain) → Asks (file ∷ []) (by_chain file x)
-by_chain_asks file x =
+check_by_asks : (file : List ℕ) (x : Chain) (t : Option Turn) → Asks (file ∷ []) (check_by file x t)
+check_by_asks file x None =
     then_asks (file ∷ []) [] (schedule_plan (shards_of x) file) (λ lines. Answer (check_text x lines)) (schedule_asks (shards_of x) file) (λ lines. tt)
+check_by_asks file x (Some t) = tt
+
+by_course_asks : (file : List ℕ) (o : Course) → Asks (file ∷ []) (by_course file o)
+by_course_asks file o = check_by_asks file o.first o.turn
 
 replay_asks : (names : Names) (schedule : Option (List ℕ)) → Asks (chain_files names ++ schedule_files schedule) (replay_plan names schedule)
-replay_asks names None = then_asks (chain_files names) [] (chain_plan names) (λ x. Answer (run_text x)) (chain_asks names) (λ x. tt)
-replay_asks names (Some file) = then_asks (chain_files names) (file ∷ []) (chain_plan names) (by_chain file) (chain_asks names) (by_chain_asks file)
+replay_asks names None = then_asks (chain_files names) [] (course_plan names) (λ o. Answer (course_text o)) (course_asks names) (λ o. tt)
+replay_asks names (Some file) = then_asks (chain_files names) (file ∷ []) (course_plan names) (by_course file) (course_asks names) (by_course_asks file)
 
 -- the chain, behind whose files no other is asked for
-chain_alone : (names : Names) (next : Chain → Plan (List ℕ) Status) → ((x : Chain) → Asks [] (next x)) → Asks (chain_files names) (and_then (chain_plan names) next)
-chain_alone names next more =
-    subst (λ (files : List (List ℕ)). Asks files (and_then (chain_plan names) next)) (append-nil (chain_files names))
-    (then_asks (chain_files names) [] (chain_plan names) next (chain_asks names) more)
+course_alone : (names : Names) (next : Course → Plan (List ℕ) Status) → ((o : Course) → Asks [] (next o)) → Asks (chain_files names) (and_then (course_plan names) next)
+course_alone names next more = all_asks (chain_files names) (course_plan names) next (course_asks names) more
 
 proof_asks : (count : ℕ) (p : Option Proof) → Asks [] (by_proof count p)
 proof_asks count None = tt
@@ -86,7 +77,9 @@ chunk_asks item None = tt
 chunk_asks item (Some y) = proof_asks (length (items item.kind y)) (proof_of y item.kind item.place)
 
 prove_asks : (names : Names) (item : ChunkItem) → Asks (chain_files names) (prove_plan names item)
-prove_asks names item = chain_alone names (by_item item) (λ x. chunk_asks item (result_at x item.shard item.height))
+prove_asks names item =
+    course_alone names (by_item item)
+    (λ o. let x = leg_at o item.height in chunk_asks item (result_at x item.shard (height_in x item.height)))
 
 proof_read_asks : (root : Hash32) (r : Result Proof ProofFault) → Asks [] (by_proof_read root r)
 proof_read_asks root (Ok p) = tt
@@ -114,11 +107,11 @@ pub plan_asks : (asked : Option Command) → Asks (files_of asked) (plan asked)
 plan_asks None = tt
 plan_asks (Some (Replay names)) = replay_asks names names.schedule
 plan_asks (Some (Generate start shards blocks)) = tt
-plan_asks (Some (Roots names)) = chain_alone names (λ x. Answer (roots_text x)) (λ x. tt)
+plan_asks (Some (Roots names)) = course_alone names (λ o. Answer (roots_text o)) (λ o. tt)
 plan_asks (Some (Prove names item)) = prove_asks names item
 plan_asks (Some (Verify root name)) = verify_asks root name
-plan_asks (Some (Cut names part)) = chain_alone names (cut_answer part) (cut_asks part)
+plan_asks (Some (Cut names part)) = course_alone names (cut_answer part) (cut_asks part)
 plan_asks (Some (CheckPart word file)) = check_part_asks word file
 plan_asks (Some (JoinParts word count prefix)) = join_parts_asks word count prefix
-plan_asks (Some (Gather names chunk)) = chain_alone names (gather_answer chunk) (gather_asks chunk)
+plan_asks (Some (Gather names chunk)) = course_alone names (gather_answer chunk) (gather_asks chunk)
 plan_asks (Some (Recheck config file)) = recheck_asks config file

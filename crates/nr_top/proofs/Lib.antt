@@ -2,6 +2,7 @@
 pub mod Steps
 pub mod Pieces
 pub mod Onward
+pub mod BothLegs
 pub mod Standing
 pub mod Drives
 pub mod Digesting

@@ -3,6 +3,7 @@ use Rattle.std.proofs.Common.{ℕ, ◌+◌, Bool, true, false, cond, List, [], �
 use Rattle.std.proofs.lemmas.List.{append-nil}
 use Rattle.nr_chunk.specs.Chain.{Chain}
 use Rattle.nr_columns.specs.declared.entry.Entry.{Entry}
+use Rattle.nr_course.specs.Course.{Course, height_in, leg_at}
 use Rattle.nr_ids.specs.declared.key.Hash32.{Hash32}
 use Rattle.nr_parts.specs.Checking.{checked}
 use Rattle.nr_parts.specs.Files.{part_in}
@@ -12,28 +13,34 @@ use Rattle.nr_shell.specs.Plans.{Plan, Answer, Refuse, Asks, and_then, by_readin
 use Rattle.nr_shell.proofs.Ends.{file_asks, reading_asks, then_asks}
 use Rattle.nr_top.specs.Roots.{root_in}
 use Rattle.nr_top.specs.Chunks.{has_chunk}
-use Rattle.nr_top.specs.Gathering.{gather_answer, gather_text}
-use Rattle.nr_top.specs.StateParts.{by_part_bytes, check_answer, check_part_plan, cut_answer, join_answer, join_parts_plan, join_status, part_file_plan, part_line, part_names, part_status, part_text, parts_plan, root_line}
+use Rattle.nr_top.specs.Gathering.{gather_answer, gather_text, leg_gather}
+use Rattle.nr_top.specs.StateParts.{by_part_bytes, check_answer, check_part_plan, cut_answer, join_answer, join_parts_plan, join_status, leg_cut, part_file_plan, part_line, part_names, part_status, part_text, parts_plan, root_line}
 use Rattle.nr_top.specs.declared.status.Status.{Status}
 use Rattle.nr_top.specs.declared.status.Status.TheVariants.{NoItem, Parts as faulty_parts}
 use Rattle.nr_words.specs.declared.words.ChunkPlace.{ChunkPlace}
 use Rattle.nr_words.specs.declared.words.StatePart.{StatePart}
 
 -- ---- `part`
-pub cut_asks : (p : StatePart) (x : Chain) → Asks [] (cut_answer p x)
-cut_asks p x = by (has_chunk x p.shard p.height)
+leg_cut_asks : (p : StatePart) (x : Chain) → Asks [] (leg_cut p x)
+leg_cut_asks p x = by (has_chunk x p.shard p.height)
   where
     by : (b : Bool) → Asks [] (cond {A = Plan (List ℕ) Status} b (Answer (part_text x p)) (Refuse (NoItem 0)))
     by true = tt
     by false = tt
 
+pub cut_asks : (p : StatePart) (o : Course) → Asks [] (cut_answer p o)
+cut_asks p o = let x = leg_at o p.height in leg_cut_asks (record p { height = height_in x p.height }) x
+
 -- ---- `gather`
-pub gather_asks : (p : ChunkPlace) (x : Chain) → Asks [] (gather_answer p x)
-gather_asks p x = by (has_chunk x p.shard p.height)
+leg_gather_asks : (p : ChunkPlace) (x : Chain) → Asks [] (leg_gather p x)
+leg_gather_asks p x = by (has_chunk x p.shard p.height)
   where
     by : (b : Bool) → Asks [] (cond {A = Plan (List ℕ) Status} b (Answer (gather_text x p)) (Refuse (NoItem 0)))
     by true = tt
     by false = tt
+
+pub gather_asks : (p : ChunkPlace) (o : Course) → Asks [] (gather_answer p o)
+gather_asks p o = let x = leg_at o p.height in leg_gather_asks (record p { height = height_in x p.height }) x
 
 -- ---- `checkpart`
 part_file_asks : (position : ℕ) (name : List ℕ) → Asks (name ∷ []) (part_file_plan position name)
@@ -52,7 +59,7 @@ check_part_asks root file =
     (checked_asks (root_in root))
 
 -- behind the files no other is asked for
-all_asks : {A B : Type 0} (names : List (List ℕ)) (p : Plan A Status) (next : A → Plan B Status) → Asks names p → ((a : A) → Asks [] (next a)) → Asks names (and_then p next)
+pub all_asks : {A B : Type 0} (names : List (List ℕ)) (p : Plan A Status) (next : A → Plan B Status) → Asks names p → ((a : A) → Asks [] (next a)) → Asks names (and_then p next)
 all_asks names p next asks more = subst (λ (files : List (List ℕ)). Asks files (and_then p next)) (append-nil names) (then_asks names [] p next asks more)
 
 -- ---- `joinparts`

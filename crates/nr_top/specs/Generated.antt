@@ -2,6 +2,7 @@
 use Rattle.std.specs.Prelude.{ℕ, List, [], ◌∷◌, ◌++◌, codes, decimal}
 use Rattle.nr_chunk.specs.Chain.{Chain, rules_of}
 use Rattle.nr_config.specs.Config.{generated}
+use Rattle.nr_course.specs.Texts.{course_text}
 use Rattle.nr_gen.specs.Chain.{generated_blocks}
 use Rattle.nr_gen.specs.Founding.{generated_genesis}
 use Rattle.nr_ids.specs.declared.key.Hash32.{Hash32}
@@ -11,7 +12,7 @@ use Rattle.nr_outcome.specs.Texts.{count_to}
 use Rattle.nr_outcome.specs.Totals.{totals_at}
 use Rattle.nr_report.specs.Lines.{hash_word, line, totals_text}
 use Rattle.nr_triedef.specs.Node.{digest}
-use Rattle.nr_top.specs.Run.{chain, run_text}
+use Rattle.nr_top.specs.Run.{chain, one_leg}
 
 -- under the configuration for generated chains
 abbrev pub generated_chain : ℕ → ℕ → ℕ → Chain
@@ -28,4 +29,4 @@ unfoldable pub generated_text : ℕ → ℕ → ℕ → List ℕ
 generated_text start shards blocks =
     let x = generated_chain start shards blocks in
     let r = rules_of x in
-    first_lines start shards blocks (count_to r.shards (report_at r (ending r)) r.heights) (digest (run_text x)) ++ totals_text (totals_at x (ending r))
+    first_lines start shards blocks (count_to r.shards (report_at r (ending r)) r.heights) (digest (course_text (one_leg x))) ++ totals_text (totals_at x (ending r))

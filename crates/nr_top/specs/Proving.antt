@@ -1,7 +1,9 @@
 -- The roots of a chain's chunks, the proof of an item of one of them, and what is said of a proof: what is written, or why
 -- nothing is. This project's own.
-use Rattle.std.specs.Prelude.{ℕ, ◌+◌, Bool, true, false, List, [], ◌∷◌, length, Option, Some, None, Result, Ok, Err, codes, decimal}
+use Rattle.std.specs.Prelude.{ℕ, ◌+◌, Bool, true, false, List, [], ◌∷◌, ◌++◌, length, Option, Some, None, Result, Ok, Err, codes, decimal}
 use Rattle.nr_chunk.specs.Chain.{Chain, rules_of}
+use Rattle.nr_course.specs.Course.{Course, height_in, leg_at, second}
+use Rattle.nr_course.specs.declared.turn.Turn.{Turn}
 use Rattle.nr_ids.specs.declared.key.Hash32.{Hash32}
 use Rattle.nr_outproof.specs.Items.{items}
 use Rattle.nr_outproof.specs.Proofs.{accepts, proof_of, root_of}
@@ -32,8 +34,16 @@ abbrev pub height_roots : Chain → ℕ → List ℕ
 height_roots x h = text_below (rules_of x).shards (λ s. roots_told (result_at x s h))
 
 -- by height, from 1, and then shard
-unfoldable pub roots_text : Chain → List ℕ
-roots_text x = text_below (rules_of x).heights (λ h. height_roots x (h + 1))
+unfoldable pub leg_roots : Chain → List ℕ
+leg_roots x = text_below (rules_of x).heights (λ h. height_roots x (h + 1))
+
+abbrev pub later_roots : Chain → Option Turn → List ℕ
+later_roots x None = []
+later_roots x (Some t) = leg_roots (second x t)
+
+-- of the one leg, or of both
+abbrev pub roots_text : Course → List ℕ
+roots_text o = leg_roots o.first ++ later_roots o.first o.turn
 
 -- ---- `prove`: the text of the proof; where there is no such chunk the count is 0, and where the place isn't below the
 -- number of the chunk's items of the kind it is that number
@@ -45,8 +55,8 @@ abbrev pub by_chunk : ChunkItem → Option ChunkResult → Plan (List ℕ) Statu
 by_chunk item None = Refuse (NoItem 0)
 by_chunk item (Some y) = by_proof (length (items item.kind y)) (proof_of y item.kind item.place)
 
-abbrev pub by_item : ChunkItem → Chain → Plan (List ℕ) Status
-by_item item x = by_chunk item (result_at x item.shard item.height)
+abbrev pub by_item : ChunkItem → Course → Plan (List ℕ) Status
+by_item item o = let x = leg_at o item.height in by_chunk item (result_at x item.shard (height_in x item.height))
 
 -- ---- `verify`: whether the proof of a file is accepted against a root; the faults of its text, by kind and line
 abbrev pub judgement : Bool → List ℕ

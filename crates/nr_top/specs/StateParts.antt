@@ -3,6 +3,7 @@ use Rattle.std.specs.Prelude.{ℕ, ◌+◌, cond, List, [], ◌∷◌, ◌++◌,
 use Rattle.std.specs.List.{range_with_len}
 use Rattle.nr_chunk.specs.Chain.{Chain}
 use Rattle.nr_columns.specs.declared.entry.Entry.{Entry}
+use Rattle.nr_course.specs.Course.{Course, height_in, leg_at}
 use Rattle.nr_ids.specs.declared.key.Hash32.{Hash32}
 use Rattle.nr_parts.specs.Checking.{checked}
 use Rattle.nr_parts.specs.Cutting.{part_cut}
@@ -24,8 +25,13 @@ use Rattle.nr_words.specs.declared.words.StatePart.{StatePart}
 unfoldable pub part_text : Chain → StatePart → List ℕ
 part_text x p = part_bytes (part_cut (state_after x p.shard p.height) p.count p.number)
 
-abbrev pub cut_answer : StatePart → Chain → Plan (List ℕ) Status
-cut_answer p x = cond (has_chunk x p.shard p.height) (Answer (part_text x p)) (Refuse (NoItem 0))
+-- of a chain, by the height as it counts there
+abbrev pub leg_cut : StatePart → Chain → Plan (List ℕ) Status
+leg_cut p x = cond (has_chunk x p.shard p.height) (Answer (part_text x p)) (Refuse (NoItem 0))
+
+-- of the leg that has the height
+abbrev pub cut_answer : StatePart → Course → Plan (List ℕ) Status
+cut_answer p o = let x = leg_at o p.height in leg_cut (record p { height = height_in x p.height }) x
 
 -- ---- a part in a file of at most 256 MiB; the faults of the part at a position, by kind and number: the place of a
 -- field, the index of an entry, the position of a part out of order, 0 where the whole has another root, and else the

@@ -2,19 +2,21 @@
 use Rattle.std.specs.Prelude.{◌≡◌, ℕ, List, Result, IfOk}
 use Rattle.std.specs.declared.alloc.AllocError.{AllocError}
 use Rattle.nr_blocks.specs.Genesis.{IsSoundGenesis}
+use Rattle.nr_course.specs.Course.{CanRun}
+use Rattle.nr_course.specs.Texts.{course_text}
 use Rattle.nr_top.specs.Generated.{generated_text}
-use Rattle.nr_top.specs.Run.{chain, run_text}
+use Rattle.nr_top.specs.Run.{loaded}
 use Rattle.nr_top.specs.declared.work.Work.{Work}
 use Rattle.nr_top.specs.declared.work.Work.TheVariants as work
 use Rattle.nr_words.specs.Words.{CanGenerate}
 
 abbrev pub CanWork : Work → Type 0
-CanWork (work.Chain c g bs) = IsSoundGenesis c g
+CanWork (work.Chain files) = IsSoundGenesis files.config files.genesis × CanRun (loaded files)
 CanWork (work.Generated start shards blocks) = CanGenerate shards blocks
 
 -- the report of a chain, and the lines of a generated one
 abbrev pub work_text : Work → List ℕ
-work_text (work.Chain c g bs) = run_text (chain c g bs)
+work_text (work.Chain files) = course_text (loaded files)
 work_text (work.Generated start shards blocks) = generated_text start shards blocks
 
 -- a function that may be called for each work

@@ -1,8 +1,10 @@
 //! A run that a schedule drives, and what is written of it.
 
 ghost use Rattle.std.specs.Prelude.{◌≡◌, ◌<◌, ◌+◌, ◌++◌, ◌^◌, ◌∷◌, [], List as Items, IfOk, OnOk, slice_index, length, codes};
-ghost use Rattle.nr_blocks.specs.Genesis.{IsSoundGenesis};
-ghost use Rattle.nr_chunk.specs.Chain.{rules_of};
+ghost use Rattle.nr_chunk.specs.Chain.{rules_of, shards_of};
+ghost use Rattle.nr_chunk.specs.Runs.{chain_in};
+ghost use Rattle.nr_chunk.specs.Start.{start_tokens};
+ghost use Rattle.nr_outcome.specs.Texts.{report_text};
 ghost use Rattle.nr_overlap.specs.Inside.{IsInside};
 ghost use Rattle.nr_overlap.specs.Moment.{report_at};
 ghost use Rattle.nr_overlap.specs.Next.{left};
@@ -12,17 +14,18 @@ ghost use Rattle.nr_top.specs.Checking.{refused_line, why_line, events_left, eve
 ghost use Rattle.nr_top.specs.Counting.{counted, GrowsInRange, report_by};
 ghost use Rattle.nr_top.specs.Driving.{IsDriven, Drives};
 ghost use Rattle.nr_top.specs.Moments.{chain_of};
-ghost use Rattle.nr_top.specs.Run.{chain, check_text};
+ghost use Rattle.nr_top.specs.Run.{check_text};
 ghost use Rattle.nr_top.specs.Schedule.{IsThere, AreThere};
 
-use crate::run::{Run, add_report, begin, supply_of, totals};
+use crate::run::{Run, opened};
 use crate::schedule::Line;
-use nr_blocks::{Block, Genesis};
-use nr_bytes::{Blob, List};
-use nr_config::Config;
-use nr_ids::Height;
+use crate::tally::totals;
+use nr_bytes::Blob;
+use nr_chunk::ChainRun;
+use nr_contract::ContractCaller;
+use nr_ids::{Height, ShardId};
 use nr_overlap::{Event, Phases, StepFault, Why};
-use nr_report::write_totals;
+use nr_report::{write_chunk, write_totals};
 use std::alloc::{AllocError, Global};
 
 /// A run that is driven.
@@ -64,6 +67,22 @@ fn add_why(alloc: Global, why: Why, text: &mut Blob) -> Result<(), AllocError>
         Why::Due { height, source } => add_refusal(alloc, 2, height, u64::from(source), text),
         Why::Published { number } => add_refusal(alloc, 3, number, 0, text),
         Why::Ended { heights } => add_refusal(alloc, 4, heights, 0, text),
+    }
+}
+
+/// Adds the text of a chunk, where it is sealed.
+fn add_report(
+    alloc: Global,
+    core: &Run,
+    shard: ShardId,
+    height: Height,
+    text: &mut Blob,
+) -> Result<(), AllocError>
+    ensures { OnOk result (text.new ≡ text.old ++ report_text (report_at (rules_of (chain_of core.now)) core.now.positions shard.0 height.0)) }
+{
+    match core.report(shard, height) {
+        Some(report) => write_chunk(alloc, report, text),
+        None => Ok(()),
     }
 }
 
@@ -178,19 +197,13 @@ fn add_lines(alloc: Global, driven: &mut Driven, lines: &[Line]) -> Result<(), A
 }
 
 /// A run before its first event.
-fn driven_from(
-    alloc: Global,
-    config: Config,
-    genesis: Genesis,
-    blocks: List<Block>,
-) -> Result<Driven, AllocError>
-    requires { IsSoundGenesis config genesis }
+fn driven_from(alloc: Global, chain: ChainRun<ContractCaller>) -> Result<Driven, AllocError>
     ensures driven { IfOk result IsDriven }
-    ensures chain { IfOk result (λ driven. chain_of driven.core ≡ chain config genesis blocks) }
+    ensures chain { IfOk result (λ driven. chain_of driven.core ≡ chain_in chain) }
     ensures first { IfOk result (λ driven. driven.core.positions ≡ opening (rules_of (chain_of driven.core))) }
     ensures text { IfOk result (λ driven. driven.text ≡ []) }
 {
-    let core = begin(alloc, config, genesis, blocks)?;
+    let core = opened(alloc, chain)?;
     let published = vec![in alloc; 0; core.phases().shards() as usize]?;
     Ok(Driven {
         core,
@@ -199,24 +212,23 @@ fn driven_from(
     })
 }
 
-/// What a schedule over a chain has written: the lines of its events, and the totals where they lead.
+/// What a schedule over a chain has written: the lines of its events, and the totals where they lead. The supply is all
+/// that the chain starts with in tokens.
 ///
 /// # Errors
 ///
 /// Where memory runs out. It counts as that where a total doesn't fit its number.
 pub(crate) fn check(
     alloc: Global,
-    config: Config,
-    genesis: Genesis,
-    blocks: List<Block>,
+    chain: ChainRun<ContractCaller>,
+    supply: u128,
     lines: &[Line],
 ) -> Result<Blob, AllocError>
-    requires sound { IsSoundGenesis config genesis }
-    requires inside { AreThere (length genesis.layout + 1) lines.now }
-    ensures { IfOk result (λ text. text ≡ check_text (chain config genesis blocks) lines.now) }
+    requires supply { supply ≡ start_tokens chain.config chain.grounds.start }
+    requires inside { AreThere (shards_of (chain_in chain)) lines.now }
+    ensures { IfOk result (λ text. text ≡ check_text (chain_in chain) lines.now) }
 {
-    let supply = supply_of(&config, &genesis);
-    let mut driven = driven_from(alloc, config, genesis, blocks)?;
+    let mut driven = driven_from(alloc, chain)?;
     add_lines(alloc, &mut driven, lines)?;
     let totals = totals(alloc, &driven.core, supply)?;
     let Driven { mut text, .. } = driven;

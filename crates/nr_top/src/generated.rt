@@ -11,8 +11,10 @@ ghost use Rattle.nr_outcome.specs.Texts.{count_to, heights_text};
 ghost use Rattle.nr_top.specs.Generated.{first_lines, generated_chain, generated_text};
 ghost use Rattle.nr_words.specs.Words.{CanGenerate};
 
+use crate::chain::supply_of;
 use crate::run::run_over;
 use nr_bytes::Blob;
+use nr_chunk::ChainRun;
 use nr_config::Config;
 use nr_contract::ContractCaller;
 use nr_gen::generate;
@@ -33,7 +35,11 @@ fn run_generated(
     ensures { IfOk result (λ outcome. chain_in outcome.chain ≡ generated_chain start shards blocks) }
 {
     let (genesis, blocks) = generate(alloc, start, shards, blocks)?;
-    run_over(alloc, Config::generated(), genesis, blocks)
+    let config = Config::generated();
+    let supply = supply_of(&config, &genesis);
+    let caller = ContractCaller::new(&config);
+    let chain = ChainRun::new(config, genesis, blocks, caller);
+    run_over(alloc, chain, supply)
 }
 
 /// How many chunks there are. A number that doesn't fit counts as want of memory.

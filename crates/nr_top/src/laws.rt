@@ -2,10 +2,11 @@
 
 ghost use Rattle.std.specs.Prelude.{◌≡◌, ◌+◌, ◌++◌, ℕ, List, Option, Some, is_some};
 ghost use Rattle.nr_blocks.specs.Genesis.{AreSoundEntries, supply};
-ghost use Rattle.nr_blocks.specs.declared.block.Block.{Block};
-ghost use Rattle.nr_blocks.specs.declared.genesis.Genesis.{Genesis};
-ghost use Rattle.nr_chunk.specs.Chain.{Chain, IsChain, rules_of};
-ghost use Rattle.nr_config.specs.Config.{Config};
+ghost use Rattle.nr_chainfiles.specs.declared.loading.ChainFiles.{ChainFiles};
+ghost use Rattle.nr_chunk.specs.Chain.{Chain, rules_of};
+ghost use Rattle.nr_course.specs.Course.{AreLegs, CanRun, second};
+ghost use Rattle.nr_course.specs.Totals.{course_totals, totals_behind};
+ghost use Rattle.nr_course.specs.declared.turn.Turn.{Turn};
 ghost use Rattle.nr_outcome.specs.Totals.{totals_at};
 ghost use Rattle.nr_overlap.specs.Inside.{AreInside};
 ghost use Rattle.nr_overlap.specs.Next.{left};
@@ -16,24 +17,33 @@ ghost use Rattle.nr_shell.specs.Plans.{LeadsBy, Plan};
 ghost use Rattle.nr_top.specs.Checking.{events_left};
 ghost use Rattle.nr_top.specs.Plans.{files_of, plan};
 ghost use Rattle.nr_top.specs.Chunks.{has_chunk, result_at};
-ghost use Rattle.nr_top.specs.Run.{chain};
+ghost use Rattle.nr_top.specs.Run.{loaded};
 ghost use Rattle.nr_top.specs.Totals.{AddUp};
 ghost use Rattle.nr_top.specs.declared.status.Status.{Status};
 ghost use Rattle.nr_words.specs.Command.{Command};
 
+use nr_course::laws::course_laws;
+
 /// The totals tell the supply of the genesis, and add up: what the accounts have, what receipts hold and what was burnt
 /// are together this supply, and as many receipts were routed as are executed, postponed, delayed and in flight. So it
-/// is of a run, and wherever the events of a schedule lead. From there the events of `rest` lead to the end. It does
+/// is of a run, and wherever steps lead in either leg. From there the events of `rest` lead to the end of the leg. It does
 /// nothing when it runs.
 pub fn totals_law()
-    ensures run { (c : Config) (g : Genesis) (bs : List Block) → AreSoundEntries c g.entries → let x = chain c g bs in
-        IsChain x → AddUp (supply g.entries) (totals_at x (ending (rules_of x))) }
-    ensures check { (c : Config) (g : Genesis) (bs : List Block) → AreSoundEntries c g.entries → let x = chain c g bs in
-        let r = rules_of x in
-        IsChain x → (es : List Event) → AreInside r.shards es
-        → AddUp (supply g.entries) (totals_at x (run_of r (opening r) es)) }
-    ensures rest { (c : Config) (g : Genesis) (bs : List Block) (es : List Event) → let r = rules_of (chain c g bs) in AreInside r.shards es → let ps = run_of r (opening r) es in run_of r ps (events_left r (left r ps) ps) ≡ ending r }
-{}
+    ensures run { (files : ChainFiles) → AreSoundEntries files.config files.genesis.entries → let o = loaded files in
+        AreLegs o → CanRun o → AddUp (supply files.genesis.entries) (course_totals o) }
+    ensures first { (files : ChainFiles) → AreSoundEntries files.config files.genesis.entries → let o = loaded files in
+        let r = rules_of o.first in
+        AreLegs o → CanRun o → (es : List Event) → AreInside r.shards es
+        → AddUp (supply files.genesis.entries) (totals_at o.first (run_of r (opening r) es)) }
+    ensures behind { (files : ChainFiles) → AreSoundEntries files.config files.genesis.entries → let o = loaded files in
+        AreLegs o → CanRun o → (t : Turn) → o.turn ≡ Some t → let r = rules_of (second o.first t) in
+        (es : List Event) → AreInside r.shards es
+        → AddUp (supply files.genesis.entries) (totals_behind o.first t (run_of r (opening r) es)) }
+    ensures rest { (x : Chain) (es : List Event) → let r = rules_of x in AreInside r.shards es
+        → let ps = run_of r (opening r) es in run_of r ps (events_left r (left r ps) ps) ≡ ending r }
+{
+    course_laws();
+}
 
 /// Whatever its plan comes to, a command asks for its own files alone, in their order, and once for each; words that
 /// are no command ask for none. It does nothing when it runs.

@@ -7,6 +7,7 @@ mod commands;
 mod exit;
 mod generated;
 mod laws;
+mod legs;
 mod part_files;
 mod refused;
 mod root_word;
@@ -19,6 +20,7 @@ mod tally;
 mod top;
 mod work;
 
+pub use chain::{Begun, begin};
 pub use generated::first_lines;
 pub use laws::{asked_law, chunks_law, totals_law};
 pub use status::Status;

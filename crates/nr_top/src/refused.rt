@@ -1,69 +1,26 @@
 //! Why a command stops where a file is refused.
 
 ghost use Rattle.std.specs.Prelude.{◌≡◌, true};
-ghost use Rattle.nr_blocks.specs.declared.fault.BlocksFault.TheVariants as blocks;
-ghost use Rattle.nr_blocks.specs.declared.fault.GenesisFault.TheVariants as genesis;
 ghost use Rattle.nr_outproof.specs.declared.fault.ProofFault.TheVariants as proof;
 ghost use Rattle.nr_gathered.specs.declared.fault.GatheredFault.TheVariants as gathered;
 ghost use Rattle.nr_parts.specs.declared.fault.PartFault.TheVariants as part;
 ghost use Rattle.nr_recheck.specs.declared.fault.RecheckFault.TheVariants as recheck;
 ghost use Rattle.nr_shell.specs.Answers.{StopsBy};
 ghost use Rattle.nr_top.specs.Answers.{refuses};
-ghost use Rattle.nr_top.specs.Plans.{blocks_status, genesis_status, schedule_status};
+ghost use Rattle.nr_top.specs.Plans.{schedule_status};
 ghost use Rattle.nr_top.specs.Proving.{proof_status};
 ghost use Rattle.nr_top.specs.Rechecking.{gathered_status, recheck_status};
 ghost use Rattle.nr_top.specs.StateParts.{part_status};
 ghost use Rattle.nr_top.specs.declared.schedule.ScheduleFault.TheVariants as schedule;
-ghost use Rattle.nr_top.specs.declared.status.Status.TheVariants.{Gathered as faulty_gathered, Genesis as faulty_genesis, Parts as faulty_parts};
+ghost use Rattle.nr_top.specs.declared.status.Status.TheVariants.{Gathered as faulty_gathered, Parts as faulty_parts};
 
 use crate::schedule::ScheduleFault;
 use crate::status::Status;
-use nr_blocks::{BlocksFault, GenesisFault};
 use nr_gathered::GatheredFault;
 use nr_outproof::ProofFault;
 use nr_parts::PartFault;
 use nr_recheck::RecheckFault;
 use nr_shell::Stop;
-
-fn genesis_refusal(kind: u32, a: u64, b: u64, c: u64) -> Status
-    ensures value { result ≡ faulty_genesis kind a b c }
-    ensures refuses { refuses result ≡ true }
-{
-    Status::Genesis { kind, a, b, c }
-}
-
-/// Why a faulty genesis stops the command.
-pub(crate) fn genesis_stop(fault: GenesisFault) -> Stop<Status>
-    ensures { StopsBy refuses genesis.Memory genesis_status fault result }
-{
-    match fault {
-        GenesisFault::Spelling { at } => Stop::Refused(genesis_refusal(1, at, 0, 0)),
-        GenesisFault::Duplicate { index } => Stop::Refused(genesis_refusal(2, index, 0, 0)),
-        GenesisFault::NoOwner { index } => Stop::Refused(genesis_refusal(3, index, 0, 0)),
-        GenesisFault::Usage {
-            index,
-            stated,
-            counted,
-        } => Stop::Refused(genesis_refusal(4, index, stated, counted)),
-        GenesisFault::Supply => Stop::Refused(genesis_refusal(5, 0, 0, 0)),
-        GenesisFault::CodeHash { index } => Stop::Refused(genesis_refusal(6, index, 0, 0)),
-        GenesisFault::Memory => Stop::Memory,
-    }
-}
-
-/// Why faulty blocks stop the command.
-pub(crate) fn blocks_stop(fault: BlocksFault) -> Stop<Status>
-    ensures { StopsBy refuses blocks.Memory blocks_status fault result }
-{
-    match fault {
-        BlocksFault::Spelling { at } => Stop::Refused(Status::Blocks { kind: 1, a: at }),
-        BlocksFault::ShardCount { height } => Stop::Refused(Status::Blocks { kind: 2, a: height }),
-        BlocksFault::HeightOrder { height } => Stop::Refused(Status::Blocks { kind: 3, a: height }),
-        BlocksFault::TooMany => Stop::Refused(Status::Blocks { kind: 4, a: 0 }),
-        BlocksFault::Stake { at } => Stop::Refused(Status::Blocks { kind: 5, a: at }),
-        BlocksFault::Memory => Stop::Memory,
-    }
-}
 
 /// Why a faulty schedule stops the command.
 pub(crate) fn schedule_stop(fault: ScheduleFault) -> Stop<Status>

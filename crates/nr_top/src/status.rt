@@ -1,8 +1,9 @@
+use nr_chainfiles::ChainRefusal;
 use nr_configfile::ConfigRefusal;
 
 /// How a call of the program ended.
 ///
-/// A genesis or a blocks file is refused by the first fault that `nr_blocks` gives, with its numbers
+/// A genesis or a blocks file is refused by the first fault that `nr_blocks` or `nr_reshard` gives, with its numbers
 /// in their order and zeros for the rest. Places count bytes from 0, entries count from 0 over all
 /// entries of the file, and a height is the one that the block states.
 #[derive(Clone, Copy, Debug, PartialEq, Eq)]
@@ -23,9 +24,11 @@ pub enum Status {
     Genesis { kind: u32, a: u64, b: u64, c: u64 },
     /// The file has no blocks for the shards of the genesis. The kind is 0 where it is longer than
     /// 256 MiB, 1 where a field can't be read (`a` is its place), 2 where a block hasn't one chunk for
-    /// each shard (`a` is its height), 3 where a block's height isn't its number, from 1 (`a` is its
-    /// height), 4 where there are more than 100,000 blocks, and 5 where an action of staking stands (`a`
-    /// is its place).
+    /// each shard that there is at the height that it states (`a` is this height), 3 where a block's height isn't its
+    /// number, from 1 (`a` is its height), 4 where there are more than 100,000 blocks, 5 where an action
+    /// of staking stands (`a` is its place), and 6 where the boundaries change at a height that is below 2
+    /// or above the count of blocks, or where that block or the one before it misses a chunk (`a` is this
+    /// height). To `check` a file with such a height can't be read.
     Blocks { kind: u32, a: u64 },
     /// The file is no schedule for the shards of the genesis. The kind is 0 where it is longer than
     /// 1 MiB (the line is then 0), and 1 where a line, counted from 1, has none of the forms `open S`,
@@ -69,5 +72,21 @@ impl ConfigRefusal for Status {
 
     fn of_config(kind: u32, entry: u32) -> Self {
         Status::Config { kind, entry }
+    }
+}
+
+impl ChainRefusal for Status {
+    ghost use Rattle.nr_top.specs.declared.status.Status.TheVariants.{Blocks, Genesis};
+
+    ghost genesis_refusal = { λ kind a b c. Genesis kind a b c };
+
+    ghost blocks_refusal = { λ kind a. Blocks kind a };
+
+    fn of_genesis(kind: u32, a: u64, b: u64, c: u64) -> Self {
+        Status::Genesis { kind, a, b, c }
+    }
+
+    fn of_blocks(kind: u32, a: u64) -> Self {
+        Status::Blocks { kind, a }
     }
 }

@@ -2,6 +2,7 @@
 
 ghost use Rattle.std.specs.Prelude.{◌≡◌, ◌+◌, ◌^◌, ◌<◌, ◌≤◌, true, length, IfOk};
 ghost use Rattle.nr_chunk.specs.Chain.{rules_of};
+ghost use Rattle.nr_outcome.specs.Totals.{totals_of};
 ghost use Rattle.nr_overlap.specs.Moment.{report_at, flight_at};
 ghost use Rattle.nr_top.specs.Moments.{IsMoment, chain_of};
 ghost use Rattle.nr_places.specs.Totals.{list_tally, report_tally, flying_from, held_by, plus, sealed_by, tally_of, tally_at, tally_below};
@@ -12,6 +13,7 @@ use nr_ids::{Height, ShardId};
 use nr_outcome::{add_tallies, no_tally};
 use nr_overlap::Phases;
 use nr_records::ChunkResult;
+use nr_report::Totals;
 use std::alloc::{AllocError, Global};
 
 /// The sum of two tallies. One that doesn't fit counts as want of memory.
@@ -128,7 +130,7 @@ fn tally_of(alloc: Global, core: &Run, shard: ShardId) -> Result<Tally, AllocErr
 ///
 /// Where memory runs out, or a sum doesn't fit its number.
 #[tactic(auto, unfolding(nr_places::specs::Totals::tally_below))]
-pub(crate) fn tally_all(alloc: Global, core: &Run) -> Result<Tally, AllocError>
+fn tally_all(alloc: Global, core: &Run) -> Result<Tally, AllocError>
     requires moment { IsMoment core.now }
     ensures { IfOk result (λ tally. tally ≡ tally_at (chain_of core.now) core.now.positions) }
 {
@@ -137,4 +139,24 @@ pub(crate) fn tally_all(alloc: Global, core: &Run) -> Result<Tally, AllocError>
         sum = added(sum, tally_of(alloc, core, ShardId(shard))?)?;
     }
     Ok(sum)
+}
+
+/// The totals, where there was this much at first.
+///
+/// # Errors
+///
+/// As of [`tally_all`].
+pub(crate) fn totals(alloc: Global, core: &Run, supply: u128) -> Result<Totals, AllocError>
+    requires moment { IsMoment core.now }
+    ensures { IfOk result (λ totals. totals ≡ totals_of supply (tally_at (chain_of core.now) core.now.positions)) }
+{
+    let tally = tally_all(alloc, core)?;
+    let places = tally.places;
+    Ok(Totals {
+        supply,
+        accounts: tally.accounts,
+        receipts: tally.receipts,
+        burnt: tally.burnt,
+        places,
+    })
 }

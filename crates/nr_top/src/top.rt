@@ -88,7 +88,9 @@ pub fn serve<F: Fn(Work) -> Result<Blob, AllocError>, S: Shelf, K: Sink>(
 
 /// Does what the words ask for: `run CONFIG GENESIS BLOCKS` replays the blocks of a file over the
 /// genesis of another one, and writes the report. `check CONFIG GENESIS BLOCKS SCHEDULE` drives the
-/// shards by the lines of a schedule, and writes what each line does and the totals where they lead.
+/// shards by the lines of a schedule, and writes what each line does and the totals where they lead. Where the blocks
+/// file names a height from which there are other boundaries, the run goes on under these from there; `check` doesn't
+/// know such a file yet.
 /// CONFIG is `free`, the built-in configuration, or the name of a file. `gen NUMBER SHARDS BLOCKS` runs the
 /// chain that these numbers generate, under the built-in configuration for such chains, and writes the
 /// numbers, how many chunks were sealed, the SHA-256 digest of the report, and the totals.
@@ -124,7 +126,7 @@ pub fn serve<F: Fn(Work) -> Result<Blob, AllocError>, S: Shelf, K: Sink>(
 /// - `Genesis`: the genesis is longer than 64 MiB (kind 0), or its first fault, by the kind and the
 ///   numbers that `Status` says; `nr_blocks::read_genesis` gives it. Nothing was written.
 /// - `Blocks`: the blocks are longer than 256 MiB (kind 0), or their first fault, by the kind and the
-///   number that `Status` says; `nr_blocks::read_blocks` gives it. Nothing was written.
+///   number that `Status` says; `nr_reshard::read_chain` gives it. Nothing was written.
 /// - `Schedule`: the schedule is longer than 1 MiB (kind 0), or has a line of none of the forms or with
 ///   a shard that isn't there (kind 1), by the first such line. Nothing was written.
 /// - `Proof`: the proof is longer than 256 MiB (kind 0), or has a line that isn't of the form or lacks one

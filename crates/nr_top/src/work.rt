@@ -5,16 +5,15 @@ ghost use Rattle.nr_top.specs.Works.{CanWork, work_text};
 
 use crate::generated::generated;
 use crate::run::report;
-use nr_blocks::{Block, Genesis};
-use nr_bytes::{Blob, List};
-use nr_config::Config;
+use nr_bytes::Blob;
+use nr_chainfiles::ChainFiles;
 use std::alloc::{AllocError, Global};
 
 /// What is run to its end.
 #[derive(Drop)]
 pub enum Work {
-    /// The blocks of a chain over its genesis, under a configuration.
-    Chain(Config, Genesis, List<Block>),
+    /// The run that the files of a chain give.
+    Chain(ChainFiles),
     /// The chain that these numbers generate, from 1 to 16 shards and from 1 to 256 blocks.
     Generated {
         start: u64,
@@ -29,7 +28,7 @@ pub(crate) fn run_work(alloc: Global, work: Work) -> Result<Blob, AllocError>
     ensures { IfOk result (λ text. text ≡ work_text work) }
 {
     match work {
-        Work::Chain(config, genesis, blocks) => report(alloc, config, genesis, blocks),
+        Work::Chain(files) => report(alloc, files),
         Work::Generated {
             start,
             shards,

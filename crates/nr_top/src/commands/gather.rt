@@ -3,20 +3,24 @@
 ghost use Rattle.std.specs.Prelude.{◌≡◌, true, IfOk};
 ghost use Rattle.nr_blocks.specs.Genesis.{IsSoundGenesis};
 ghost use Rattle.nr_chunk.specs.Chain.{rules_of};
+ghost use Rattle.nr_course.specs.Course.{CanRun};
 ghost use Rattle.nr_overlap.specs.Run.{opening};
 ghost use Rattle.nr_shell.specs.Answers.{Follows, Judges};
 ghost use Rattle.nr_top.specs.Answers.{refuses};
 ghost use Rattle.nr_top.specs.Chunks.{has_chunk};
-ghost use Rattle.nr_top.specs.Gathering.{gather_answer, gather_text};
+ghost use Rattle.nr_top.specs.Gathering.{gather_answer, gather_text, leg_gather};
 ghost use Rattle.nr_top.specs.Moments.{IsMoment, chain_of};
-ghost use Rattle.nr_top.specs.Plans.{gather_plan, loaded};
+ghost use Rattle.nr_top.specs.Plans.{gather_plan};
+ghost use Rattle.nr_top.specs.Run.{loaded};
 ghost use Rattle.nr_words.specs.Words.{CanGather, names_in};
 
-use crate::chain::{ChainFiles, load_chain};
-use crate::run::{Run, begin};
+use crate::chain::load_course;
+use crate::legs::leg_before;
+use crate::run::Run;
 use crate::state_after::has_chunk;
 use crate::status::Status;
 use nr_bytes::{Blob, Shelf};
+use nr_chainfiles::ChainFiles;
 use nr_extract::extract;
 use nr_gathered::write_gathered;
 use nr_ids::{Height, ShardId};
@@ -45,7 +49,7 @@ fn gathered_if_there(alloc: Global, core: Run, chunk: ChunkPlace) -> Result<Blob
     requires moment { IsMoment core }
     requires first { core.positions ≡ opening (rules_of (chain_of core)) }
     requires chunk { CanGather chunk }
-    ensures { Judges refuses (λ text. text) result (gather_answer chunk (chain_of core)) }
+    ensures { Judges refuses (λ text. text) result (leg_gather chunk (chain_of core)) }
 {
     if !has_chunk(&core, ShardId(chunk.shard), Height(chunk.height)) {
         return Err(Stop::Refused(Status::NoItem { count: 0 }));
@@ -56,14 +60,15 @@ fn gathered_if_there(alloc: Global, core: Run, chunk: ChunkPlace) -> Result<Blob
     }
 }
 
-/// The same of the chain that the files give.
+/// The same of the leg that has the chunk.
 fn gathered(alloc: Global, files: ChainFiles, chunk: ChunkPlace) -> Result<Blob, Stop<Status>>
     requires sound { IsSoundGenesis files.config files.genesis }
+    requires can { CanRun (loaded files) }
     requires chunk { CanGather chunk }
     ensures { Judges refuses (λ text. text) result (gather_answer chunk (loaded files)) }
 {
-    match begin(alloc, files.config, files.genesis, files.blocks) {
-        Ok(core) => gathered_if_there(alloc, core, chunk),
+    match leg_before(alloc, files, chunk.height) {
+        Ok((core, height)) => gathered_if_there(alloc, core, ChunkPlace { height, ..chunk }),
         Err(_) => Err(Stop::Memory),
     }
 }
@@ -80,7 +85,7 @@ pub(crate) fn gather_text<S: Shelf>(
         (S.asked shelf.old) (S.asked shelf.new) (S.faults shelf.old) (S.faults shelf.new)
         result (gather_plan (names_in names.now) chunk) }
 {
-    match load_chain(alloc, names, shelf) {
+    match load_course(alloc, names, shelf) {
         Ok(files) => gathered(alloc, files, chunk),
         Err(stop) => Err(stop),
     }

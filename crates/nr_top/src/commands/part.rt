@@ -3,20 +3,24 @@
 ghost use Rattle.std.specs.Prelude.{◌≡◌, true, IfOk};
 ghost use Rattle.nr_blocks.specs.Genesis.{IsSoundGenesis};
 ghost use Rattle.nr_chunk.specs.Chain.{rules_of};
+ghost use Rattle.nr_course.specs.Course.{CanRun};
 ghost use Rattle.nr_overlap.specs.Run.{opening};
 ghost use Rattle.nr_shell.specs.Answers.{Follows, Judges};
 ghost use Rattle.nr_top.specs.Answers.{refuses};
 ghost use Rattle.nr_top.specs.Moments.{IsMoment, chain_of};
-ghost use Rattle.nr_top.specs.Plans.{loaded, part_plan};
+ghost use Rattle.nr_top.specs.Plans.{part_plan};
 ghost use Rattle.nr_top.specs.Chunks.{has_chunk};
-ghost use Rattle.nr_top.specs.StateParts.{cut_answer, part_text};
+ghost use Rattle.nr_top.specs.StateParts.{cut_answer, leg_cut, part_text};
+ghost use Rattle.nr_top.specs.Run.{loaded};
 ghost use Rattle.nr_words.specs.Words.{CanCut, names_in};
 
-use crate::chain::{ChainFiles, load_chain};
-use crate::run::{Run, begin};
+use crate::chain::load_course;
+use crate::legs::leg_before;
+use crate::run::Run;
 use crate::state_after::{entries_after, has_chunk};
 use crate::status::Status;
 use nr_bytes::{Blob, Shelf};
+use nr_chainfiles::ChainFiles;
 use nr_ids::{Height, ShardId};
 use nr_parts::{cut_part, write_part};
 use nr_shell::Stop;
@@ -44,7 +48,7 @@ fn cut_if_there(alloc: Global, core: Run, part: StatePart) -> Result<Blob, Stop<
     requires moment { IsMoment core }
     requires first { core.positions ≡ opening (rules_of (chain_of core)) }
     requires part { CanCut part }
-    ensures { Judges refuses (λ text. text) result (cut_answer part (chain_of core)) }
+    ensures { Judges refuses (λ text. text) result (leg_cut part (chain_of core)) }
 {
     if !has_chunk(&core, ShardId(part.shard), Height(part.height)) {
         return Err(Stop::Refused(Status::NoItem { count: 0 }));
@@ -55,14 +59,15 @@ fn cut_if_there(alloc: Global, core: Run, part: StatePart) -> Result<Blob, Stop<
     }
 }
 
-/// The same of the chain that the files give.
+/// The same of the leg that has the chunk.
 fn cut(alloc: Global, files: ChainFiles, part: StatePart) -> Result<Blob, Stop<Status>>
     requires sound { IsSoundGenesis files.config files.genesis }
+    requires can { CanRun (loaded files) }
     requires part { CanCut part }
     ensures { Judges refuses (λ text. text) result (cut_answer part (loaded files)) }
 {
-    match begin(alloc, files.config, files.genesis, files.blocks) {
-        Ok(core) => cut_if_there(alloc, core, part),
+    match leg_before(alloc, files, part.height) {
+        Ok((core, height)) => cut_if_there(alloc, core, StatePart { height, ..part }),
         Err(_) => Err(Stop::Memory),
     }
 }
@@ -79,7 +84,7 @@ pub(crate) fn part_text<S: Shelf>(
         (S.asked shelf.old) (S.asked shelf.new) (S.faults shelf.old) (S.faults shelf.new)
         result (part_plan (names_in names.now) part) }
 {
-    match load_chain(alloc, names, shelf) {
+    match load_course(alloc, names, shelf) {
         Ok(files) => cut(alloc, files, part),
         Err(stop) => Err(stop),
     }

@@ -2,20 +2,24 @@
 
 ghost use Rattle.std.specs.Prelude.{◌≡◌, Some};
 ghost use Rattle.nr_blocks.specs.Genesis.{IsSoundGenesis};
-ghost use Rattle.nr_chunk.specs.Chain.{rules_of};
-ghost use Rattle.nr_overlap.specs.Run.{ending};
+ghost use Rattle.nr_chunk.specs.Runs.{chain_in};
+ghost use Rattle.nr_course.specs.Course.{CanRun};
 ghost use Rattle.nr_shell.specs.Answers.{Follows, Judges};
 ghost use Rattle.nr_top.specs.Answers.{refuses};
-ghost use Rattle.nr_top.specs.Moments.{chain_of};
-ghost use Rattle.nr_top.specs.Plans.{loaded, prove_plan};
+ghost use Rattle.nr_top.specs.Chunks.{result_at};
+ghost use Rattle.nr_top.specs.Plans.{prove_plan};
 ghost use Rattle.nr_top.specs.Proving.{by_chunk, by_item, by_proof};
+ghost use Rattle.nr_top.specs.Run.{loaded};
 ghost use Rattle.nr_words.specs.Words.{names_in};
 
-use crate::chain::{ChainFiles, load_chain};
-use crate::run::{Run, run};
+use crate::chain::load_course;
+use crate::legs::leg_over;
 use crate::status::Status;
 use nr_bytes::{Blob, Shelf};
+use nr_chainfiles::ChainFiles;
+use nr_contract::ContractCaller;
 use nr_ids::{Height, ShardId};
+use nr_outcome::Outcome;
 use nr_outproof::{Proof, item_count, prove, write_proof};
 use nr_records::ChunkResult;
 use nr_shell::Stop;
@@ -47,24 +51,29 @@ fn proved_in(alloc: Global, chunk: &ChunkResult, item: ChunkItem) -> Result<Blob
     }
 }
 
-/// The same in a run that is at its end.
-fn proved_by(alloc: Global, core: &Run, item: ChunkItem) -> Result<Blob, Stop<Status>>
-    requires { core.now.positions ≡ ending (rules_of (chain_of core.now)) }
-    ensures { Judges refuses (λ text. text) result (by_item item (chain_of core.now)) }
+/// The same in a leg that was run to its end, where it has the chunk at a height as it counts there.
+fn proved_by(
+    alloc: Global,
+    outcome: &Outcome<ContractCaller>,
+    height: u64,
+    item: ChunkItem,
+) -> Result<Blob, Stop<Status>>
+    ensures { Judges refuses (λ text. text) result (by_chunk item (result_at (chain_in outcome.now.chain) item.shard height)) }
 {
-    match core.report(ShardId(item.shard), Height(item.height)) {
+    match outcome.report(ShardId(item.shard), Height(height)) {
         Some(chunk) => proved_in(alloc, chunk, item),
         None => Err(Stop::Refused(Status::NoItem { count: 0 })),
     }
 }
 
-/// The same in the chain that files hold, run to its end.
+/// The same in the leg that has the height, run to its end.
 fn proved(alloc: Global, files: ChainFiles, item: ChunkItem) -> Result<Blob, Stop<Status>>
-    requires { IsSoundGenesis files.config files.genesis }
+    requires sound { IsSoundGenesis files.config files.genesis }
+    requires can { CanRun (loaded files) }
     ensures { Judges refuses (λ text. text) result (by_item item (loaded files)) }
 {
-    match run(alloc, files.config, files.genesis, files.blocks) {
-        Ok(core) => proved_by(alloc, &core, item),
+    match leg_over(alloc, files, item.height) {
+        Ok((outcome, height)) => proved_by(alloc, &outcome, height, item),
         Err(_) => Err(Stop::Memory),
     }
 }
@@ -80,7 +89,7 @@ pub(crate) fn prove_text<S: Shelf>(
         (S.asked shelf.old) (S.asked shelf.new) (S.faults shelf.old) (S.faults shelf.new)
         result (prove_plan (names_in names.now) item) }
 {
-    match load_chain(alloc, names, shelf) {
+    match load_course(alloc, names, shelf) {
         Ok(files) => proved(alloc, files, item),
         Err(stop) => Err(stop),
     }

@@ -1,25 +1,27 @@
 //! `roots CONFIG GENESIS BLOCKS`.
 
-ghost use Rattle.std.specs.Prelude.{◌≡◌, ◌++◌, IfOk, OnOk, string_bytes};
+ghost use Rattle.std.specs.Prelude.{◌≡◌, ◌++◌, Some, IfOk, OnOk, string_bytes};
 ghost use Rattle.nr_blocks.specs.Genesis.{IsSoundGenesis};
-ghost use Rattle.nr_chunk.specs.Chain.{rules_of};
-ghost use Rattle.nr_overlap.specs.Run.{ending};
+ghost use Rattle.nr_chunk.specs.Runs.{chain_in};
+ghost use Rattle.nr_course.specs.Course.{CanRun, CanTurn};
+ghost use Rattle.nr_course.specs.declared.turn.Turn.{Turn as Turned};
 ghost use Rattle.nr_shell.specs.Answers.{Follows, Makes};
 ghost use Rattle.nr_top.specs.Answers.{refuses};
-ghost use Rattle.nr_top.specs.Moments.{chain_of};
-ghost use Rattle.nr_top.specs.Plans.{loaded, roots_plan};
+ghost use Rattle.nr_top.specs.Plans.{roots_plan};
 ghost use Rattle.nr_top.specs.Chunks.{result_at};
-ghost use Rattle.nr_top.specs.Proving.{height_roots, roots_line, roots_text, roots_told};
-ghost use Rattle.nr_top.specs.Run.{chain};
+ghost use Rattle.nr_top.specs.Proving.{height_roots, later_roots, leg_roots, roots_line, roots_text, roots_told};
+ghost use Rattle.nr_top.specs.Run.{loaded};
 ghost use Rattle.nr_words.specs.Words.{names_in};
 
-use crate::chain::{ChainFiles, load_chain};
-use crate::run::{Run, run};
+use crate::chain::{begin, load_course};
+use crate::run::run_over;
 use crate::status::Status;
-use nr_blocks::{Block, Genesis};
-use nr_bytes::{Blob, List, Shelf};
-use nr_config::Config;
+use nr_bytes::{Blob, Shelf};
+use nr_chainfiles::ChainFiles;
+use nr_contract::ContractCaller;
+use nr_course::{Turn, cross};
 use nr_ids::{Height, ShardId};
+use nr_outcome::Outcome;
 use nr_outproof::chunk_root;
 use nr_overlap::Phases;
 use nr_records::ChunkResult;
@@ -44,15 +46,14 @@ fn line_of(alloc: Global, chunk: &ChunkResult) -> Result<String, AllocError>
 /// Adds the line of a chunk, where there is one.
 fn add_chunk(
     alloc: Global,
-    core: &Run,
+    outcome: &Outcome<ContractCaller>,
     shard: ShardId,
     height: Height,
     text: &mut Blob,
 ) -> Result<(), AllocError>
-    requires { core.now.positions ≡ ending (rules_of (chain_of core.now)) }
-    ensures { OnOk result (text.new ≡ text.old ++ roots_told (result_at (chain_of core.now) shard.0 height.0)) }
+    ensures { OnOk result (text.new ≡ text.old ++ roots_told (result_at (chain_in outcome.now.chain) shard.0 height.0)) }
 {
-    let Some(chunk) = core.report(shard, height) else {
+    let Some(chunk) = outcome.report(shard, height) else {
         return Ok(());
     };
     let line = line_of(alloc, chunk)?;
@@ -61,50 +62,74 @@ fn add_chunk(
 
 /// Adds the lines of the chunks of a height.
 #[tactic(auto, unfolding(nr_outcome::specs::Texts::text_below))]
-fn add_height(alloc: Global, core: &Run, height: Height, text: &mut Blob) -> Result<(), AllocError>
-    requires { core.now.positions ≡ ending (rules_of (chain_of core.now)) }
-    ensures { OnOk result (text.new ≡ text.old ++ height_roots (chain_of core.now) height.0) }
+fn add_height(
+    alloc: Global,
+    outcome: &Outcome<ContractCaller>,
+    height: Height,
+    text: &mut Blob,
+) -> Result<(), AllocError>
+    ensures { OnOk result (text.new ≡ text.old ++ height_roots (chain_in outcome.now.chain) height.0) }
 {
-    for shard in 0..core.phases().shards() {
-        add_chunk(alloc, core, ShardId(shard), height, text)?;
+    for shard in 0..outcome.chain().shards() {
+        add_chunk(alloc, outcome, ShardId(shard), height, text)?;
     }
     Ok(())
 }
 
-/// The lines of all chunks of a run that is at its end.
-#[tactic(auto, unfolding(nr_outcome::specs::Texts::text_below, crate::specs::Proving::roots_text))]
-fn lines_of(alloc: Global, core: &Run) -> Result<Blob, AllocError>
-    requires { core.now.positions ≡ ending (rules_of (chain_of core.now)) }
-    ensures { IfOk result (λ text. text ≡ roots_text (chain_of core.now)) }
+/// Adds the lines of all chunks of a leg.
+#[tactic(auto, unfolding(nr_outcome::specs::Texts::text_below, crate::specs::Proving::leg_roots))]
+fn add_leg(
+    alloc: Global,
+    outcome: &Outcome<ContractCaller>,
+    text: &mut Blob,
+) -> Result<(), AllocError>
+    ensures { OnOk result (text.new ≡ text.old ++ leg_roots (chain_in outcome.now.chain)) }
 {
-    let mut text = Blob::of(Vec::new(alloc));
-    for below in 0..core.phases().heights() {
-        add_height(alloc, core, Height(below + 1), &mut text)?;
+    for below in 0..outcome.chain().heights() {
+        add_height(alloc, outcome, Height(below + 1), text)?;
     }
-    Ok(text)
+    Ok(())
+}
+
+/// Adds the lines of the leg that goes on behind the first one, if there is one.
+fn add_later(
+    alloc: Global,
+    outcome: Outcome<ContractCaller>,
+    turn: Option<Turn>,
+    text: &mut Blob,
+) -> Result<(), AllocError>
+    requires { (t : Turned) → turn ≡ Some t → CanTurn (chain_in outcome.chain) t }
+    ensures { OnOk result (text.new ≡ text.old ++ later_roots (chain_in outcome.chain) turn) }
+{
+    let Some(turn) = turn else {
+        return Ok(());
+    };
+    let crossed = cross(alloc, outcome, turn)?;
+    let last = run_over(alloc, crossed.chain, crossed.supply)?;
+    add_leg(alloc, &last, text)
 }
 
 /// Runs all blocks, and makes the lines of the chunks.
-fn roots_of(
-    alloc: Global,
-    config: Config,
-    genesis: Genesis,
-    blocks: List<Block>,
-) -> Result<Blob, AllocError>
-    requires { IsSoundGenesis config genesis }
-    ensures { IfOk result (λ text. text ≡ roots_text (chain config genesis blocks)) }
+fn roots_of(alloc: Global, files: ChainFiles) -> Result<Blob, AllocError>
+    requires sound { IsSoundGenesis files.config files.genesis }
+    requires can { CanRun (loaded files) }
+    ensures { IfOk result (λ text. text ≡ roots_text (loaded files)) }
 {
-    let core = run(alloc, config, genesis, blocks)?;
-    let text = lines_of(alloc, &core)?;
+    let begun = begin(files)?;
+    let outcome = run_over(alloc, begun.chain, begun.supply)?;
+    let mut text = Blob::of(Vec::new(alloc));
+    add_leg(alloc, &outcome, &mut text)?;
+    add_later(alloc, outcome, begun.turn, &mut text)?;
     Ok(text)
 }
 
-/// The same of the chain that files hold.
+/// The same, or why not.
 fn rooted(alloc: Global, files: ChainFiles) -> Result<Blob, Stop<Status>>
-    requires { IsSoundGenesis files.config files.genesis }
+    requires sound { IsSoundGenesis files.config files.genesis }
+    requires can { CanRun (loaded files) }
     ensures { Makes result (roots_text (loaded files)) }
 {
-    match roots_of(alloc, files.config, files.genesis, files.blocks) {
+    match roots_of(alloc, files) {
         Ok(text) => Ok(text),
         Err(_) => Err(Stop::Memory),
     }
@@ -120,7 +145,7 @@ pub(crate) fn roots_text<S: Shelf>(
         (S.asked shelf.old) (S.asked shelf.new) (S.faults shelf.old) (S.faults shelf.new)
         result (roots_plan (names_in names.now)) }
 {
-    match load_chain(alloc, names, shelf) {
+    match load_course(alloc, names, shelf) {
         Ok(files) => rooted(alloc, files),
         Err(stop) => Err(stop),
     }

@@ -1,39 +1,45 @@
-use Rattle.std.proofs.Common.{List, ◌∙◌}
+use Rattle.std.proofs.Common.{◌≡◌, ◌∙◌}
 use Rattle.nr_blocks.specs.Genesis.{AreSoundEntries, supply}
-use Rattle.nr_blocks.specs.declared.block.Block.{Block}
 use Rattle.nr_blocks.specs.declared.genesis.Genesis.{Genesis}
+use Rattle.nr_chainfiles.specs.declared.loading.ChainFiles.{ChainFiles}
 use Rattle.nr_chunk.specs.Chain.{rules_of}
 use Rattle.nr_chunk.specs.Lasting.{reached_by}
 use Rattle.nr_chunk.specs.StartSums.{genesis_tokens}
-use Rattle.nr_config.specs.Config.{Config}
+use Rattle.nr_course.specs.Totals.{AddUp as AddUpFrom}
+use Rattle.nr_course.specs.Totals.{receipts_at_first}
 use Rattle.nr_overlap.specs.Run.{opening, run_of}
-use Rattle.nr_overlap.specs.declared.position.Position.{Position}
 use Rattle.nr_places.proofs.Founded.{none_first}
-use Rattle.nr_places.proofs.Replay.{end_holds, replay_holds}
-use Rattle.nr_places.specs.Replay.{Holds}
-use Rattle.nr_places.specs.Totals.{tally_at}
+use Rattle.nr_report.specs.declared.totals.Totals.{Totals}
 use Rattle.nr_top.proofs.Onward.{rest_ends}
-use Rattle.nr_top.specs.Run.{chain}
-use Rattle.nr_outcome.specs.Totals.{totals_at}
+use Rattle.nr_top.specs.Run.{loaded}
 use Rattle.nr_top.specs.Totals.{AddUp}
 use Rattle.nr_top.proofs.laws.totals_law.Goals as goal
 
-adds_up : (c : Config) (g : Genesis) (bs : List Block) (ps : List Position) → AreSoundEntries c g.entries
-    → Holds (chain c g bs) ps → AddUp (supply g.entries) (totals_at (chain c g bs) ps)
-adds_up c g bs ps sound holds = record {
-  supply = genesis_tokens c g sound;
-  tokens = holds.tokens ∙ genesis_tokens c g sound;
-  places = none_first g (tally_at (chain c g bs) ps).places holds.printed;
+-- a genesis has no receipts at first, and its supply in tokens
+adds_up : (files : ChainFiles) (t : Totals) → AreSoundEntries files.config files.genesis.entries
+    → t.supply ≡ supply files.genesis.entries → AddUpFrom (receipts_at_first (loaded files).first) t
+    → AddUp (supply files.genesis.entries) t
+adds_up files t sound told up = record {
+  supply = told;
+  tokens = up.tokens ∙ told;
+  places = none_first files.genesis t.places up.places;
 }
 
 pub returns-clause-run : goal.returns-clause-run
-returns-clause-run c = λ config g bs sound is. adds_up config g bs _ sound (end_holds (chain config g bs) is)
+returns-clause-run c = λ files sound legs can.
+    adds_up files _ sound (genesis_tokens files.config files.genesis sound) (c.course_laws.ensures.adds (loaded files) legs can).end
 
-pub returns-clause-check : goal.returns-clause-check
-returns-clause-check c = λ config g bs sound is es inside.
-    adds_up config g bs _ sound (replay_holds (chain config g bs) is es inside)
+pub returns-clause-first : goal.returns-clause-first
+returns-clause-first c = λ files sound legs can es inside.
+    adds_up files _ sound (genesis_tokens files.config files.genesis sound)
+    ((c.course_laws.ensures.adds (loaded files) legs can).first es inside)
+
+pub returns-clause-behind : goal.returns-clause-behind
+returns-clause-behind c = λ files sound legs can t is es inside.
+    adds_up files _ sound (genesis_tokens files.config files.genesis sound)
+    ((c.course_laws.ensures.adds (loaded files) legs can).behind t is es inside)
 
 pub returns-clause-rest : goal.returns-clause-rest
-returns-clause-rest c = λ config g bs es inside.
-    let r = rules_of (chain config g bs) in
+returns-clause-rest c = λ x es inside.
+    let r = rules_of x in
     rest_ends r (run_of r (opening r) es) (reached_by r es inside)

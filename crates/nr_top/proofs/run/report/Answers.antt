@@ -1,11 +1,21 @@
-use Rattle.std.proofs.Common.{ap, ◌∙◌}
-use Rattle.nr_chunk.specs.Chain.{rules_of}
+use Rattle.std.proofs.Common.{sym, ap, subst, ◌∙◌}
 use Rattle.nr_chunk.specs.Runs.{chain_in}
-use Rattle.nr_top.proofs.Digesting.{run_is}
-use Rattle.nr_top.specs.Run.{chain}
+use Rattle.nr_chunk.specs.Start.{start_tokens}
+use Rattle.nr_course.specs.Course.{CanTurn}
+use Rattle.nr_top.specs.Run.{loaded}
+use Rattle.nr_top.proofs.BothLegs.{can_turn, report_is}
 use Rattle.nr_top.proofs.run.report.Goals as goal
+
+pub reported-requires-clause-can : goal.reported-requires-clause-can
+reported-requires-clause-can c =
+    can_turn (loaded c.args.files) (chain_in c.in_ok-outcome.outcome.chain) c.in_ok-begun.begun.turn
+    (ap (λ run. chain_in run) c.in_ok-outcome.ensures ∙ c.in_ok-begun.ensures.first) c.in_ok-begun.ensures.turn
+    c.requires.can
 
 pub returns : goal.returns
 returns c =
-    run_is (chain_in c.in_ok-outcome.outcome.chain) (chain c.args.config c.args.genesis c.args.blocks) _ c.in_ok-chunks.chunks c.in_ok-end.end _
-    c.in_ok-outcome.ensures (c.heights-heights.ensures ∙ ap (λ q. (rules_of (chain_in q)).heights) c.chain.ensures) c.in_ok-chunks.ensures c.in_ok-end.ensures c.in_ok-text.ensures
+    let same = ap (λ run. chain_in run) c.in_ok-outcome.ensures in
+    report_is (loaded c.args.files) (chain_in c.in_ok-outcome.outcome.chain) c.in_ok-begun.begun.turn
+    c.in_ok-begun.begun.supply c.in_ok-text.text (same ∙ c.in_ok-begun.ensures.first) c.in_ok-begun.ensures.turn
+    (c.in_ok-begun.ensures.supply ∙ ap (λ run. start_tokens run.config run.grounds.start) (sym c.in_ok-outcome.ensures))
+    c.in_ok-text.ensures

@@ -1,7 +1,7 @@
 use Rattle.std.proofs.Common.{sym, ◌∙◌}
 use Rattle.nr_chunk.specs.Start.{start_tokens}
 use Rattle.nr_chunk.specs.StartSums.{supply_is}
-use Rattle.nr_replay.proofs.written.begin.Goals as goal
+use Rattle.nr_replay.proofs.written.begin_generated.Goals as goal
 
 pub returns-clause-supply : goal.returns-clause-supply
 returns-clause-supply g c =

@@ -1,5 +1,5 @@
 use Rattle.std.proofs.Common.{sym, ◌∙◌}
-use Rattle.nr_top.proofs.run.supply_of.Goals as goal
+use Rattle.nr_top.proofs.chain.supply_of.Goals as goal
 
 pub returns : goal.returns
 returns c = c.requires.tokens ∙ sym (c.genesis_laws.ensures.supply c.args.config.now c.args.genesis.now c.requires.entries)
