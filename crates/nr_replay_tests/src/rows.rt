@@ -35,6 +35,37 @@ const CHUNKS: &str =
 const TOTALS: &str = "total supply 0\ntotal accounts 0\ntotal receipts 0\ntotal burnt 0\n\
                       total places 0 0 0 0 0\n";
 
+/// A genesis of one shard with `aa`, who has a key, and `zz`.
+const BOTH_ACCOUNTS: &str =
+    "4e5247310000000003000000000200000061616400000000000000000000000000000000000000000000\
+     0000000000000000000000000000000000000000000000000000000000000000000000000000000000b6\
+     0000000000000000020000007a7a14000000000000000000000000000000000000000000000000000000\
+     000000000000000000000000000000000000000000000000000000000000000000000000640000000000\
+     000002020000006161000101010101010101010101010101010101010101010101010101010101010101\
+     000000000000000001";
+
+/// Two blocks, with the boundary `mm` from the second on. In the first `aa` sends 5 to `zz`.
+const RESHARDED: &str =
+    "4e52423301020000000000000001000000020000006d6d02000000010000000000000000000000000000\
+     000000000000000000010000000101000000020000006161000101010101010101010101010101010101\
+     0101010101010101010101010101010100000000000000020000007a7a00000000000000000000000000\
+     000000000000000000000000000000000000000100000003050000000000000000000000000000000200\
+     000000000000000000000000000000000000000000000200000001000000000100000000";
+
+/// The report of `RESHARDED`, as an independent program has it.
+const RESHARDED_REPORT: &str =
+    "chunk 1 0 7757743af9852ef5e2f4552a5c1e3a235e2cee28f01b976a9f3cae12fac9314a 0 0\n\
+     tx 68ba1b92cfc77daf015212a50bbe064742146c91f6794aabc05f12e46e67c808 ok c2d22bdf02078d767c38be7392e2ecedb8f563b9364388a4772a04cf76425e1f\n\
+     out 0 c2d22bdf02078d767c38be7392e2ecedb8f563b9364388a4772a04cf76425e1f e4f5b20417e49d09c23379c016b1365b1b791630557da21028132b012c67500b\n\
+     chunk 2 0 496f3edddc3cf5abb17cb1a8dc4c244678caebdc891b1be78bb80ad7c43ff2f3 0 0\n\
+     chunk 2 1 15b163b25276c7daa508b4f99c2b8aae11c51d9d8cb0f86a4c72696459992e88 0 0\n\
+     run c2d22bdf02078d767c38be7392e2ecedb8f563b9364388a4772a04cf76425e1f value - 0 0\n\
+     total supply 120\n\
+     total accounts 120\n\
+     total receipts 0\n\
+     total burnt 0\n\
+     total places 1 1 0 0 0\n";
+
 /// A replay of `B` over `G`.
 const REPLAY: [&str; 4] = ["replay", "free", "G", "B"];
 
@@ -60,14 +91,30 @@ pub(crate) fn words_of(alloc: Global, of: &[&str; 4]) -> Result<Vec<String>, Fai
 }
 
 /// A shelf with the genesis `G` and blocks `B`, given in hexadecimal.
-fn shelf_of(alloc: Global, blocks: &str) -> Result<MemoryShelf, Fail> {
+fn shelf_of(alloc: Global, genesis: &str, blocks: &str) -> Result<MemoryShelf, Fail> {
     let mut files = Vec::new(alloc);
-    files.push((String::from_str(alloc, "G")?, hex::decode(alloc, GENESIS)?))?;
+    files.push((String::from_str(alloc, "G")?, hex::decode(alloc, genesis)?))?;
     files.push((String::from_str(alloc, "B")?, hex::decode(alloc, blocks)?))?;
     Ok(MemoryShelf::new(files, Vec::new(alloc)))
 }
 
-/// Whether the words, through a gate, write just this text.
+/// Whether the words over these files, through a gate, write just this text.
+fn writes_over<R: Threads + Wait + Sync, G: Gate + Sync>(
+    rt: &R,
+    alloc: Global,
+    words: &[&str; 4],
+    (genesis, blocks): (&str, &str),
+    gate: &G,
+    text: &str,
+) -> Result<bool, Fail> {
+    let words = words_of(alloc, words)?;
+    let mut shelf = shelf_of(alloc, genesis, blocks)?;
+    let mut sink = MemorySink::new(alloc, 64, Vec::new(alloc), 4096)?;
+    let status = replay(rt, alloc, &words, &mut shelf, &mut sink, gate);
+    Ok(status == Status::Done && sink.bytes() == text.as_bytes())
+}
+
+/// The same over the genesis of two shards.
 fn writes<R: Threads + Wait + Sync, G: Gate + Sync>(
     rt: &R,
     alloc: Global,
@@ -76,11 +123,7 @@ fn writes<R: Threads + Wait + Sync, G: Gate + Sync>(
     gate: &G,
     text: &str,
 ) -> Result<bool, Fail> {
-    let words = words_of(alloc, words)?;
-    let mut shelf = shelf_of(alloc, blocks)?;
-    let mut sink = MemorySink::new(alloc, 64, Vec::new(alloc), 4096)?;
-    let status = replay(rt, alloc, &words, &mut shelf, &mut sink, gate);
-    Ok(status == Status::Done && sink.bytes() == text.as_bytes())
+    writes_over(rt, alloc, words, (GENESIS, blocks), gate, text)
 }
 
 #[test]
@@ -112,6 +155,13 @@ fn missing_chunks_give_totals_alone(rt: HostRuntime) -> Result<(), Fail> {
 }
 
 #[test]
+fn boundaries_change_where_all_threads_have_ended(rt: HostRuntime) -> Result<(), Fail> {
+    let files = (BOTH_ACCOUNTS, RESHARDED);
+    assert!(rt; writes_over(&rt, rt.alloc(), &REPLAY, files, &OpenGate, RESHARDED_REPORT)?);
+    Ok(())
+}
+
+#[test]
 fn a_generated_chain_has_its_digest(rt: HostRuntime) -> Result<(), Fail> {
     assert!(rt; writes(&rt, rt.alloc(), &GENERATED, NONE, &OpenGate, SUMMARY)?);
     Ok(())
@@ -121,7 +171,7 @@ fn a_generated_chain_has_its_digest(rt: HostRuntime) -> Result<(), Fail> {
 fn the_serial_call_knows_no_replay(rt: HostRuntime) -> Result<(), Fail> {
     let alloc = rt.alloc();
     let words = words_of(alloc, &REPLAY)?;
-    let mut shelf = shelf_of(alloc, BOTH)?;
+    let mut shelf = shelf_of(alloc, GENESIS, BOTH)?;
     let mut sink = MemorySink::new(alloc, 64, Vec::new(alloc), 4096)?;
     let status = serial(alloc, &words, &mut shelf, &mut sink);
     assert!(rt; status == Status::Usage);

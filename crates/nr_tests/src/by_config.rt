@@ -2,7 +2,7 @@
 
 use crate::config_text::{FEES, config_text};
 use crate::setting::{end_of, run_by, shelf_of, shelf_with};
-use crate::{contracts, sharded, worked};
+use crate::{contracts, resharded, sharded, worked};
 use nr_top::Status;
 use std::alloc::Global;
 use std::test::Fail;
@@ -24,7 +24,13 @@ struct Row {
     report: &'static str,
 }
 
-const ROWS: [Row; 14] = [
+const ROWS: [Row; 15] = [
+    Row {
+        changes: &[&[("chunk_gas_limit", "1"), ("action_receipt_send_local", "1")]],
+        genesis: worked::GENESIS,
+        blocks: resharded::DELAYED_BLOCKS,
+        report: resharded::DELAYED_REPORT,
+    },
     Row {
         changes: &[&FEES],
         genesis: worked::GENESIS,

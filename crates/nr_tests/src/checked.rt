@@ -2,7 +2,7 @@
 
 use crate::config_text::{FEES, config_text};
 use crate::setting::{Ended, ROOM, end_of, shelf_of_all, shelf_with, text_of, words_of};
-use crate::{schedules, sharded, worked};
+use crate::{resharded, schedules, sharded, worked};
 use nr_bytes::MemorySink;
 use nr_top::{Status, serial};
 use std::alloc::Global;
@@ -83,6 +83,14 @@ fn schedules_write_their_steps(rt: HostRuntime) -> Result<(), Fail> {
         assert!(rt; ended.asked(rt.alloc(), ALL)?);
         assert_eq!(rt; ended.sink.bytes(), text.as_bytes());
     }
+    Ok(())
+}
+
+#[test]
+fn boundaries_that_change_are_not_driven_yet(rt: HostRuntime) -> Result<(), Fail> {
+    let ended = check(rt.alloc(), resharded::GENESIS, resharded::BLOCKS, b"rest\n")?;
+    assert_eq!(rt; ended.status, Status::Blocks { kind: 1, a: 0 });
+    assert!(rt; ended.wrote_nothing(rt.alloc(), "Some([\"G\", \"B\"])")?);
     Ok(())
 }
 

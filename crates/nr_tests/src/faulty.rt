@@ -5,7 +5,7 @@ use crate::pieces::{
     NO_BOUNDARIES, ONE, ONE_CHUNK, SYSTEM, TO_BOB, USES_100, USES_185,
 };
 use crate::setting::{run, text_of};
-use crate::worked;
+use crate::{resharded, worked};
 use nr_top::Status;
 use std::test::Fail;
 
@@ -190,7 +190,7 @@ fn faulty_geneses_are_refused(rt: HostRuntime) -> Result<(), Fail> {
 }
 
 /// Blocks with a fault, and the numbers of the status.
-const FAULTY_BLOCKS: [(Pieces, u32, u64); 7] = [
+const FAULTY_BLOCKS: [(Pieces, u32, u64); 9] = [
     // The magic word is another, the count of blocks is cut, a byte stands behind the blocks.
     (&["4e524731", "00000000"], 1, 0),
     (&["4e52423100"], 1, 4),
@@ -240,6 +240,10 @@ const FAULTY_BLOCKS: [(Pieces, u32, u64); 7] = [
         5,
         143,
     ),
+    // The boundaries change at the first height: it hasn't a chunk for each shard then, or the one that it has is
+    // missing.
+    (&[resharded::AT_ONE], 2, 1),
+    (&[resharded::AT_ONE_MISSING], 6, 1),
 ];
 
 #[test]

@@ -28,6 +28,8 @@ mod proving;
 #[cfg(test)]
 mod refused;
 #[cfg(test)]
+mod resharded;
+#[cfg(test)]
 mod rows;
 #[cfg(test)]
 mod schedules;

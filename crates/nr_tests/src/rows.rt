@@ -1,7 +1,7 @@
 //! Runs that end with a report.
 
 use crate::setting::run;
-use crate::{contracts, sharded, worked};
+use crate::{contracts, resharded, sharded, worked};
 use nr_top::Status;
 use std::test::Fail;
 
@@ -12,7 +12,7 @@ struct Row {
     report: &'static str,
 }
 
-const ROWS: [Row; 16] = [
+const ROWS: [Row; 17] = [
     Row {
         genesis: worked::GENESIS,
         blocks: worked::TRANSFER,
@@ -62,6 +62,11 @@ const ROWS: [Row; 16] = [
         genesis: sharded::MISSING_GENESIS,
         blocks: sharded::MISSING_BLOCKS,
         report: sharded::MISSING_REPORT,
+    },
+    Row {
+        genesis: resharded::GENESIS,
+        blocks: resharded::BLOCKS,
+        report: resharded::REPORT,
     },
     Row {
         genesis: sharded::BY_BYTES_GENESIS,
