@@ -141,9 +141,14 @@ fn reported<R: Threads + Wait + Sync, G: Gate + Sync>(
     ensures { let x = chain_in leg.outcome.chain in IfOk result (λ text. text
         ≡ legs_by x turn ++ totals_text (totals_of supply (tally_by x turn))) }
 {
+    let Leg {
+        outcome,
+        text,
+        watch: _,
+    } = leg;
     match turn {
-        None => one_leg(alloc, &leg.outcome, leg.text),
-        Some(turn) => both_legs(rt, alloc, gate, leg.outcome, leg.text, turn, supply),
+        None => one_leg(alloc, &outcome, text),
+        Some(turn) => both_legs(rt, alloc, gate, outcome, text, turn, supply),
     }
 }
 

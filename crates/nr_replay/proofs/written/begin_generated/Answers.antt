@@ -4,5 +4,5 @@ use Rattle.nr_chunk.specs.StartSums.{supply_is}
 use Rattle.nr_replay.proofs.written.begin_generated.Goals as goal
 
 pub returns-clause-supply : goal.returns-clause-supply
-returns-clause-supply g c =
+returns-clause-supply c =
     supply_is c.args.config c.args.genesis c.requires ∙ (λ i. start_tokens (sym c.new-chain.ensures.config i) (sym c.new-chain.ensures.start i))

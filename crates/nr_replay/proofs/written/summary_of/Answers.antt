@@ -12,7 +12,7 @@ returns g c =
     let outcome = c.in_ok-leg.leg.outcome in
     let same = ap (λ run. chain_in run) c.in_ok-leg.ensures.chain in
     generated_is c.args.start c.args.shards c.args.blocks (chain_in outcome.chain) _ _ c.in_ok-end.end c.in_ok-text.text
-    (same ∙ c.begin_generated.ensures.chain ∙ (λ i. chain (c.generated.ensures i) (made.genesis i) (made.blocks i)))
+    (same ∙ c.begin_generated-chain.ensures.chain ∙ (λ i. chain (c.generated.ensures i) (made.genesis i) (made.blocks i)))
     c.in_ok-chunks.ensures c.in_ok-end.ensures
     (c.end-hash.ensures ∙ ap (λ (t : List ℕ). sha256 (t ++ c.in_ok-end.end)) (c.in_ok-leg.ensures.text ∙ ap leg_text (sym same)))
     (c.in_ok-text.ensures ∙ ap (λ (t : List ℕ). t ++ c.in_ok-end.end) c.in_ok-first.ensures)
