@@ -5,4 +5,4 @@ use Rattle.nr_replay.proofs.written.begin_generated.Goals as goal
 
 pub returns-clause-supply : goal.returns-clause-supply
 returns-clause-supply c =
-    supply_is c.args.config c.args.genesis c.requires ∙ (λ i. start_tokens (sym c.new-chain.ensures.config i) (sym c.new-chain.ensures.start i))
+    supply_is c.args.config c.args.genesis c.requires ∙ (λ i. start_tokens (sym c.new.ensures.config i) (sym c.new.ensures.start i))
