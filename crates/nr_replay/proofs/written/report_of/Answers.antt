@@ -7,11 +7,11 @@ use Rattle.nr_top.proofs.BothLegs.{can_turn, report_is}
 use Rattle.nr_replay.proofs.written.report_of.Goals as goal
 
 pub reported-requires-clause-first : goal.reported-requires-clause-first
-reported-requires-clause-first g c = λ κs.
+reported-requires-clause-first g c = λ κs within.
     c.in_ok-leg.ensures.text ∙ ap leg_text (sym (ap (λ run. chain_in run) c.in_ok-leg.ensures.chain))
 
 pub reported-requires-clause-can : goal.reported-requires-clause-can
-reported-requires-clause-can g c = λ κs.
+reported-requires-clause-can g c = λ κs within.
     can_turn (loaded c.args.files) (chain_in c.in_ok-leg.leg.outcome.chain) c.in_ok-begun.begun.turn
     (ap (λ run. chain_in run) c.in_ok-leg.ensures.chain ∙ c.in_ok-begun.ensures.first) c.in_ok-begun.ensures.turn
     c.requires.can
