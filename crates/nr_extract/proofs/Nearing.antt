@@ -9,18 +9,20 @@ use Rattle.nr_overlap.specs.Moves.{moved, moved_by, next_due}
 use Rattle.nr_overlap.specs.Next.{IsNext, IsNextOf, event_at, left, take_or_seal}
 use Rattle.nr_overlap.specs.Positions.{at, end_at, start}
 use Rattle.nr_overlap.specs.Rules.{Rules}
-use Rattle.nr_overlap.specs.Run.{ending, opening, tried, whole_at}
+use Rattle.nr_overlap.specs.Serial.{first_due}
+use Rattle.nr_overlap.specs.Moment.{took}
+use Rattle.nr_overlap.specs.Run.{ending, tried, whole_at}
 use Rattle.nr_overlap.specs.declared.event.Event.{Event}
 use Rattle.nr_overlap.specs.declared.event.Event.TheVariants.{OpenChunk, TakeList, SealChunk, PublishLists}
 use Rattle.nr_overlap.specs.declared.position.Position.{Position}
 use Rattle.nr_overlap.specs.declared.position.Stage.{Stage}
 use Rattle.nr_overlap.specs.declared.position.Stage.TheVariants.{Idle, Opened, Sealed}
-use Rattle.nr_overlap.proofs.Basics.{same_or_not}
+use Rattle.nr_overlap.proofs.Basics.{lt_of, same_or_not}
+use Rattle.nr_overlap.proofs.DueLemmas.{first_small}
 use Rattle.nr_overlap.proofs.Ended.{is_ending}
-use Rattle.nr_overlap.proofs.Founding.{at_replicate, first_reached}
 use Rattle.nr_overlap.proofs.Reaching.{becomes, keeps_reached}
 use Rattle.nr_overlap.proofs.Running.{tries_made}
-use Rattle.nr_extract.specs.Reaching.{HavePublished, IsNextUpTo, IsUpTo, LagsOne, Nears}
+use Rattle.nr_extract.specs.Reaching.{AreBehind, HavePublished, IsNextUpTo, IsUpTo, LagsOne, Nears}
 
 -- a step of a shard below the height doesn't pass it
 below_up : (h n : ℕ) (t : Stage) → n < h → IsUpTo h t n
@@ -79,17 +81,32 @@ module _ {W K L R : Type 0} (r : Rules W K L R) where
   stands h s Opened n k l m most = absurd (omega (arith, l, m))
   stands h s Sealed n k l m none = absurd (omega (arith, l, m))
 
+-- ---- where all stand right behind a height
+module _ {W K L R : Type 0} (r : Rules W K L R) (n : ℕ) (ps : List Position) (is : ps ≡ replicate r.shards (end_at n)) where
+  pub stands_behind : (s : ℕ) → s < r.shards → at ps s ≡ end_at n
+  stands_behind s inside = ap (λ (qs : List Position). at qs s) is ∙ get_or-replicate r.shards s (end_at n) start inside
+
+  took_small : (d h s : ℕ) → took r d (end_at n) h s ≡ true → h ≤ n
+  took_small d h s e = let l : h < first_due r d n = lt_of h (first_due r d n) e in omega (arith, l, first_small r d n)
+
+  pub behind_reached : n ≤ r.heights → IsReached r ps
+  behind_reached within = record {
+    count = ap length is ∙ length-replicate r.shards (end_at n);
+    in_chunk = λ s inside. rw (stands_behind s inside) within;
+    has_taken = λ s inside. rw (stands_behind s inside) refl;
+    published = λ d s h to from positive there taken.
+        rw (stands_behind s from) (took_small d h s (ap (λ (p : Position). took r d p h s) (sym (stands_behind d to)) ∙ taken));
+  }
+
 -- ---- on the way
 module _ {W K L R P : Type 0} (r : Rules W K L R) (h : ℕ) where
-  pub nears_first : (core : CoreView P) → core.lost ≡ false → core.positions ≡ opening r → Nears r h core core
-  nears_first core whole first =
-      let here : (j : ℕ) → at core.positions j ≡ start = λ j. ap (λ (ps : List Position). at ps j) first ∙ at_replicate r.shards j in
-      record {
-        phases = refl;
-        whole = whole;
-        reached = first_reached r core.positions (ap length first ∙ length-replicate r.shards start) here;
-        places = λ s l. subst (λ (p : Position). IsUpTo h p.stage p.number) (sym (here s)) (omega arith);
-      }
+  pub nears_first : (core : CoreView P) → h ≤ r.heights → core.lost ≡ false → AreBehind r.shards h core.positions → Nears r h core core
+  nears_first core within whole are = record {
+    phases = refl;
+    whole = whole;
+    reached = behind_reached r are.from core.positions are.places (omega (arith, are.most, within));
+    places = λ s inside. subst (λ (p : Position). IsUpTo h p.stage p.number) (sym (stands_behind r are.from core.positions are.places s inside)) are.most;
+  }
 
   moves : (mid new : CoreView P) (e : Event) → IsNext r mid.positions e → new ≡ whole_at mid (tried r mid.positions e) → new.positions ≡ moved mid.positions e
   moves mid new e next made = ap (λ (v : CoreView P). v.positions) made ∙ tries_made r mid.positions e next.enabled

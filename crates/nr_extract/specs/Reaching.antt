@@ -1,14 +1,20 @@
 -- How a run comes to a height with all shards. This project's own.
-use Rattle.std.specs.Prelude.{◌≡◌, ℕ, ◌<◌, ◌≤◌, false, List, Option, Some, None}
+use Rattle.std.specs.Prelude.{◌≡◌, ℕ, ◌<◌, ◌≤◌, false, List, Option, Some, None, replicate}
 use Rattle.nr_overlap.specs.CoreView.{CoreView}
 use Rattle.nr_overlap.specs.Held.{IsReached}
 use Rattle.nr_overlap.specs.Next.{IsNext}
-use Rattle.nr_overlap.specs.Positions.{at}
+use Rattle.nr_overlap.specs.Positions.{at, end_at}
 use Rattle.nr_overlap.specs.Rules.{Rules}
 use Rattle.nr_overlap.specs.declared.event.Event.{Event}
 use Rattle.nr_overlap.specs.declared.position.Position.{Position}
 use Rattle.nr_overlap.specs.declared.position.Stage.{Stage}
 use Rattle.nr_overlap.specs.declared.position.Stage.TheVariants.{Idle, Opened, Sealed}
+
+-- all of so many shards stand right behind one height, which is at most this one
+pub record AreBehind (shards height : ℕ) (ps : List Position) : Type 0 where
+  pub from : ℕ
+  pub most : from ≤ height
+  pub places : ps ≡ replicate shards (end_at from)
 
 -- all of so many shards have published a height
 abbrev pub HavePublished : ℕ → ℕ → List Position → Type 0

@@ -17,8 +17,8 @@ ghost use Rattle.nr_stateless.specs.Accounts.{searched_of};
 ghost use Rattle.nr_triedef.specs.Root.{paths, root_of};
 
 use crate::accounts::touched_by;
+use crate::reaching::run_up_to;
 use crate::receipts::taken_by;
-use crate::run_up_to::run_up_to;
 use nr_blocks::Block;
 use nr_bytes::{Blob, List};
 use nr_chunk::{ChainRun, ChunkStore, ChunkWorld};
@@ -129,7 +129,7 @@ fn chunk_of<C: Caller<ChunkStore>>(
     })
 }
 
-/// The chunk of a shard at the height after `below`, taken out of a chain before its first chunk: all that it takes,
+/// The chunk of a shard at the height after `below`, where all shards stand right behind `below`: all that it takes,
 /// and the texts of the trie before it that it is run again from. Heights count from 1 here, whatever lies below the
 /// chain's first block; the chunk has its true height. Where the shard has no chunk there, it is one without
 /// transactions.
@@ -137,6 +137,32 @@ fn chunk_of<C: Caller<ChunkStore>>(
 /// # Errors
 ///
 /// Where memory runs out. It counts as that where more than 2^63 receipts were ever delayed.
+pub fn chunk_behind<C: Caller<ChunkStore>>(
+    alloc: Global,
+    core: &Core<ChainRun<C>>,
+    shard: ShardId,
+    below: u64,
+) -> Result<Gathered, AllocError>
+    requires whole { core.now.lost ≡ false }
+    requires inside { shard.0 < (rules_of (chain_in core.now.phases)).shards }
+    requires places { core.now.positions ≡ replicate (rules_of (chain_in core.now.phases)).shards (end_at below) }
+    requires within { below < (rules_of (chain_in core.now.phases)).heights }
+    ensures chunk { IfOk result (λ chunk. chunk ≡ gathered_chunk (chain_in core.now.phases) shard.0 below) }
+    // The state before it is one that a chunk is run again from.
+    ensures shown { IfOk result (λ _. IsShown (before (chain_in core.now.phases) shard.0 below).world) }
+{
+    match core.world(shard) {
+        Some(world) => chunk_of(alloc, core, world, shard, below),
+        None => unreachable!(),
+    }
+}
+
+/// The chunk of a shard at the height after `below`, as [`chunk_behind`] has it, taken out of a chain before its first
+/// chunk.
+///
+/// # Errors
+///
+/// As of [`chunk_behind`].
 pub fn extract<C: Caller<ChunkStore> + Drop>(
     alloc: Global,
     core: Core<ChainRun<C>>,
@@ -153,8 +179,6 @@ pub fn extract<C: Caller<ChunkStore> + Drop>(
 {
     let mut core = core;
     run_up_to(&mut core, Height(below))?;
-    match core.world(shard) {
-        Some(world) => chunk_of(alloc, &core, world, shard, below),
-        None => unreachable!(),
-    }
+    let chunk = chunk_behind(alloc, &core, shard, below)?;
+    Ok(chunk)
 }

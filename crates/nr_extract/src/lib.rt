@@ -1,9 +1,10 @@
-//! A chunk of a chain taken out of its run, with all that it is run again from.
+//! Chunks of a chain taken out of its run, each with all that it is run again from.
 #![tactic(auto)]
 
 mod accounts;
 mod extracting;
+mod reaching;
 mod receipts;
-mod run_up_to;
 
-pub use extracting::extract;
+pub use extracting::{chunk_behind, extract};
+pub use reaching::run_up_to;

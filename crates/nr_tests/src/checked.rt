@@ -25,7 +25,7 @@ struct Row {
     text: &'static [&'static str],
 }
 
-const ROWS: [Row; 5] = [
+const ROWS: [Row; 7] = [
     Row {
         genesis: sharded::MISSING_GENESIS,
         blocks: sharded::MISSING_BLOCKS,
@@ -53,6 +53,33 @@ const ROWS: [Row; 5] = [
         blocks: worked::TRANSFER,
         schedule: &["rest\n"],
         text: &[schedules::REST_ALONE_LINES],
+    },
+    Row {
+        genesis: resharded::GENESIS,
+        blocks: resharded::BLOCKS,
+        schedule: &["open 0\nseal 0\nreshard\npublish 0\nopen 1\nreshard\nopen 1\nseal 1\n"],
+        text: &[
+            "ok\nok\n",
+            resharded::FIRST_CHUNK,
+            "no 5 0 0\nok\nno 7 1 0\nok\nok\nok\n",
+            resharded::LAST_CHUNK,
+            resharded::TOTALS,
+        ],
+    },
+    Row {
+        genesis: resharded::GENESIS,
+        blocks: resharded::BLOCKS,
+        schedule: &["rest\nreshard\n"],
+        text: &[
+            "ok\nok\n",
+            resharded::FIRST_CHUNK,
+            "ok\nok\nok\nok\n",
+            "chunk 2 0 496f3edddc3cf5abb17cb1a8dc4c244678caebdc891b1be78bb80ad7c43ff2f3 0 0\n",
+            "ok\nok\nok\n",
+            resharded::LAST_CHUNK,
+            "ok\nno 6 0 0\n",
+            resharded::TOTALS,
+        ],
     },
     Row {
         genesis: worked::NO_GENESIS,
@@ -83,14 +110,6 @@ fn schedules_write_their_steps(rt: HostRuntime) -> Result<(), Fail> {
         assert!(rt; ended.asked(rt.alloc(), ALL)?);
         assert_eq!(rt; ended.sink.bytes(), text.as_bytes());
     }
-    Ok(())
-}
-
-#[test]
-fn boundaries_that_change_are_not_driven_yet(rt: HostRuntime) -> Result<(), Fail> {
-    let ended = check(rt.alloc(), resharded::GENESIS, resharded::BLOCKS, b"rest\n")?;
-    assert_eq!(rt; ended.status, Status::Blocks { kind: 1, a: 0 });
-    assert!(rt; ended.wrote_nothing(rt.alloc(), "Some([\"G\", \"B\"])")?);
     Ok(())
 }
 

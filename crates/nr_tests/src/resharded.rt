@@ -31,6 +31,24 @@ pub(crate) const REPORT: &str =
      total burnt 0\n\
      total places 1 1 0 0 0\n";
 
+/// The lines of its first chunk.
+pub(crate) const FIRST_CHUNK: &str =
+    "chunk 1 0 7757743af9852ef5e2f4552a5c1e3a235e2cee28f01b976a9f3cae12fac9314a 0 0\n\
+     tx 68ba1b92cfc77daf015212a50bbe064742146c91f6794aabc05f12e46e67c808 ok c2d22bdf02078d767c38be7392e2ecedb8f563b9364388a4772a04cf76425e1f\n\
+     out 0 c2d22bdf02078d767c38be7392e2ecedb8f563b9364388a4772a04cf76425e1f e4f5b20417e49d09c23379c016b1365b1b791630557da21028132b012c67500b\n";
+
+/// Those of the chunk of the second shard at the second height.
+pub(crate) const LAST_CHUNK: &str =
+    "chunk 2 1 15b163b25276c7daa508b4f99c2b8aae11c51d9d8cb0f86a4c72696459992e88 0 0\n\
+     run c2d22bdf02078d767c38be7392e2ecedb8f563b9364388a4772a04cf76425e1f value - 0 0\n";
+
+/// The totals at the end.
+pub(crate) const TOTALS: &str = "total supply 120\n\
+    total accounts 120\n\
+    total receipts 0\n\
+    total burnt 0\n\
+    total places 1 1 0 0 0\n";
+
 /// The same blocks, with the boundaries from the first on.
 pub(crate) const AT_ONE: &str =
     "4e52423301010000000000000001000000020000006d6d02000000010000000000000000000000000000\

@@ -24,12 +24,13 @@ use Rattle.nr_report.specs.Lines.{chunk_text}
 use Rattle.nr_top.specs.Rechecking.{by_gathered, by_gathered_bytes, gathered_plan, gathered_status, recheck_answer, recheck_status}
 use Rattle.nr_shell.specs.Plans.{Plan, Answer, Asks, and_then, by_reading, file_plan}
 use Rattle.nr_shell.proofs.Ends.{file_asks, reading_asks, then_asks}
-use Rattle.nr_top.specs.Plans.{by_course, by_schedule_bytes, check_by, course_plan, files_of, files_plan, plan, prove_plan, recheck_plan, replay_plan, schedule_files, schedule_plan, schedule_status, verify_plan}
+use Rattle.nr_top.specs.Plans.{by_course, by_schedule_bytes, course_plan, files_of, files_plan, most_shards, plan, prove_plan, recheck_plan, replay_plan, schedule_files, schedule_plan, schedule_status, verify_plan}
 use Rattle.nr_top.specs.Chunks.{result_at}
 use Rattle.nr_top.specs.Proving.{by_chunk, by_item, by_proof, by_proof_bytes, by_proof_read, roots_text}
 use Rattle.nr_top.specs.Roots.{root_in}
-use Rattle.nr_top.specs.Run.{check_text, loaded}
-use Rattle.nr_top.specs.Schedule.{schedule_read}
+use Rattle.nr_top.specs.Run.{loaded}
+use Rattle.nr_schedule.specs.Checking.{check_text}
+use Rattle.nr_schedule.specs.Schedule.{schedule_read}
 use Rattle.nr_top.specs.Gathering.{gather_answer}
 use Rattle.nr_top.specs.StateParts.{cut_answer}
 use Rattle.nr_top.proofs.PartAsking.{all_asks, check_part_asks, cut_asks, gather_asks, join_parts_asks}
@@ -52,13 +53,10 @@ course_asks names =
     (chain_asks faulty_config faulty_genesis faulty_blocks names) (λ files. tt)
 
 -- ---- commands
-check_by_asks : (file : List ℕ) (x : Chain) (t : Option Turn) → Asks (file ∷ []) (check_by file x t)
-check_by_asks file x None =
-    then_asks (file ∷ []) [] (schedule_plan (shards_of x) file) (λ lines. Answer (check_text x lines)) (schedule_asks (shards_of x) file) (λ lines. tt)
-check_by_asks file x (Some t) = tt
-
 by_course_asks : (file : List ℕ) (o : Course) → Asks (file ∷ []) (by_course file o)
-by_course_asks file o = check_by_asks file o.first o.turn
+by_course_asks file o =
+    then_asks (file ∷ []) [] (schedule_plan (most_shards o) file) (λ lines. Answer (check_text o lines))
+    (schedule_asks (most_shards o) file) (λ lines. tt)
 
 replay_asks : (names : Names) (schedule : Option (List ℕ)) → Asks (chain_files names ++ schedule_files schedule) (replay_plan names schedule)
 replay_asks names None = then_asks (chain_files names) [] (course_plan names) (λ o. Answer (course_text o)) (course_asks names) (λ o. tt)

@@ -1,10 +1,5 @@
 -- Lemmas behind the answers.
-pub mod Steps
-pub mod Pieces
-pub mod Onward
 pub mod BothLegs
-pub mod Standing
-pub mod Drives
 pub mod Digesting
 pub mod Arrival
 pub mod Entered

@@ -1,11 +1,7 @@
 pub mod Totals
-pub mod Schedule
-pub mod Checking
-pub mod Counting
 pub mod Run
 pub mod Generated
 pub mod Moments
-pub mod Driving
 pub mod Arriving
 pub mod Works
 pub mod Chunks

@@ -1,6 +1,6 @@
 -- What each command does, as a plan: the files that it asks for in their order, and what it answers or refuses. This
 -- project's own commands and limits.
-use Rattle.std.specs.Prelude.{ℕ, List, [], ◌∷◌, ◌++◌, Option, Some, None}
+use Rattle.std.specs.Prelude.{ℕ, ◌+◌, cond, nat_lt, List, [], ◌∷◌, ◌++◌, Option, Some, None, length}
 use Rattle.nr_words.specs.Command.{Command, Replay, Generate, Roots, Prove, Verify, Cut, CheckPart, JoinParts, Gather, Recheck, Names}
 use Rattle.nr_words.specs.declared.words.ChunkItem.{ChunkItem}
 use Rattle.nr_words.specs.declared.words.ChunkPlace.{ChunkPlace}
@@ -8,22 +8,23 @@ use Rattle.nr_words.specs.declared.words.StatePart.{StatePart}
 use Rattle.nr_configfile.specs.Plans.{config_files, config_plan}
 use Rattle.nr_chainfiles.specs.Plans.{chain_files, chain_plan}
 use Rattle.nr_chainfiles.specs.declared.loading.ChainFiles.{ChainFiles}
-use Rattle.nr_chunk.specs.Chain.{Chain, shards_of}
+use Rattle.nr_chunk.specs.Chain.{shards_of}
 use Rattle.nr_course.specs.Course.{Course}
 use Rattle.nr_course.specs.Texts.{course_text}
 use Rattle.nr_course.specs.declared.turn.Turn.{Turn}
+use Rattle.nr_schedule.specs.Checking.{check_text}
+use Rattle.nr_schedule.specs.Schedule.{schedule_read}
+use Rattle.nr_schedule.specs.declared.schedule.Line.{Line}
+use Rattle.nr_schedule.specs.declared.schedule.ScheduleFault.{ScheduleFault}
+use Rattle.nr_schedule.specs.declared.schedule.ScheduleFault.TheVariants as schedule
 use Rattle.nr_shell.specs.Plans.{Plan, Answer, Refuse, and_then, by_reading, file_plan}
 use Rattle.nr_top.specs.Gathering.{gather_answer}
 use Rattle.nr_top.specs.Generated.{generated_text}
 use Rattle.nr_top.specs.Proving.{by_item, by_proof_bytes, roots_text}
 use Rattle.nr_top.specs.Rechecking.{by_gathered}
 use Rattle.nr_top.specs.Roots.{root_in}
-use Rattle.nr_top.specs.Run.{check_text, loaded}
-use Rattle.nr_top.specs.Schedule.{schedule_read}
+use Rattle.nr_top.specs.Run.{loaded}
 use Rattle.nr_top.specs.StateParts.{check_part_plan, cut_answer, join_parts_plan, part_names}
-use Rattle.nr_top.specs.declared.schedule.Line.{Line}
-use Rattle.nr_top.specs.declared.schedule.ScheduleFault.{ScheduleFault}
-use Rattle.nr_top.specs.declared.schedule.ScheduleFault.TheVariants as schedule
 use Rattle.nr_top.specs.declared.status.Status.{Status}
 use Rattle.nr_top.specs.declared.status.Status.TheVariants.{Usage, Config as faulty_config, Genesis as faulty_genesis, Blocks as faulty_blocks, Schedule as faulty_schedule, Proof as faulty_proof, NoMemory}
 
@@ -50,14 +51,16 @@ course_plan names = and_then (files_plan names) (λ files. Answer (loaded files)
 abbrev pub run_plan : Names → Plan (List ℕ) Status
 run_plan names = and_then (course_plan names) (λ o. Answer (course_text o))
 
--- `check`, over a schedule for the shards of the chain. It doesn't know boundaries that change: a blocks file that has
--- them is refused as its readers of earlier versions refuse it
-abbrev pub check_by : List ℕ → Chain → Option Turn → Plan (List ℕ) Status
-check_by file x None = and_then (schedule_plan (shards_of x) file) (λ lines. Answer (check_text x lines))
-check_by file x (Some t) = Refuse (faulty_blocks 1 0)
+-- `check`, over a schedule that names the shards of any leg: as many as the greater of the two shard counts
+abbrev pub most_by : ℕ → Option Turn → ℕ
+most_by shards None = shards
+most_by shards (Some t) = cond (nat_lt shards (length t.layout + 1)) (length t.layout + 1) shards
+
+abbrev pub most_shards : Course → ℕ
+most_shards o = most_by (shards_of o.first) o.turn
 
 abbrev pub by_course : List ℕ → Course → Plan (List ℕ) Status
-by_course file o = check_by file o.first o.turn
+by_course file o = and_then (schedule_plan (most_shards o) file) (λ lines. Answer (check_text o lines))
 
 abbrev pub check_plan : Names → List ℕ → Plan (List ℕ) Status
 check_plan names file = and_then (course_plan names) (by_course file)

@@ -9,12 +9,12 @@ ghost use Rattle.nr_course.specs.Totals.{course_totals, totals_behind};
 ghost use Rattle.nr_course.specs.declared.turn.Turn.{Turn};
 ghost use Rattle.nr_outcome.specs.Totals.{totals_at};
 ghost use Rattle.nr_overlap.specs.Inside.{AreInside};
-ghost use Rattle.nr_overlap.specs.Next.{left};
-ghost use Rattle.nr_overlap.specs.Run.{ending, opening, run_of};
+ghost use Rattle.nr_overlap.specs.Run.{opening, run_of};
 ghost use Rattle.nr_overlap.specs.declared.event.Event.{Event};
 ghost use Rattle.nr_records.specs.declared.chunk_result.ChunkResult.{ChunkResult};
+ghost use Rattle.nr_schedule.specs.Checking.{standing_after, totals_there};
+ghost use Rattle.nr_schedule.specs.declared.schedule.Line.{Line};
 ghost use Rattle.nr_shell.specs.Plans.{LeadsBy, Plan};
-ghost use Rattle.nr_top.specs.Checking.{events_left};
 ghost use Rattle.nr_top.specs.Plans.{files_of, plan};
 ghost use Rattle.nr_top.specs.Chunks.{has_chunk, result_at};
 ghost use Rattle.nr_top.specs.Run.{loaded};
@@ -23,11 +23,12 @@ ghost use Rattle.nr_top.specs.declared.status.Status.{Status};
 ghost use Rattle.nr_words.specs.Command.{Command};
 
 use nr_course::laws::course_laws;
+use nr_schedule::laws::schedule_laws;
 
 /// The totals tell the supply of the genesis, and add up: what the accounts have, what receipts hold and what was burnt
 /// are together this supply, and as many receipts were routed as are executed, postponed, delayed and in flight. So it
-/// is of a run, and wherever steps lead in either leg. From there the events of `rest` lead to the end of the leg. It does
-/// nothing when it runs.
+/// is of a run, wherever the lines of a schedule lead, and wherever steps lead in either leg. It does nothing when it
+/// runs.
 pub fn totals_law()
     ensures run { (files : ChainFiles) → AreSoundEntries files.config files.genesis.entries → let o = loaded files in
         AreLegs o → CanRun o → AddUp (supply files.genesis.entries) (course_totals o) }
@@ -35,14 +36,16 @@ pub fn totals_law()
         let r = rules_of o.first in
         AreLegs o → CanRun o → (es : List Event) → AreInside r.shards es
         → AddUp (supply files.genesis.entries) (totals_at o.first (run_of r (opening r) es)) }
+    ensures driven { (files : ChainFiles) → AreSoundEntries files.config files.genesis.entries → let o = loaded files in
+        AreLegs o → CanRun o → (lines : List Line)
+        → AddUp (supply files.genesis.entries) (totals_there (standing_after o lines)) }
     ensures behind { (files : ChainFiles) → AreSoundEntries files.config files.genesis.entries → let o = loaded files in
         AreLegs o → CanRun o → (t : Turn) → o.turn ≡ Some t → let r = rules_of (second o.first t) in
         (es : List Event) → AreInside r.shards es
         → AddUp (supply files.genesis.entries) (totals_behind o.first t (run_of r (opening r) es)) }
-    ensures rest { (x : Chain) (es : List Event) → let r = rules_of x in AreInside r.shards es
-        → let ps = run_of r (opening r) es in run_of r ps (events_left r (left r ps) ps) ≡ ending r }
 {
     course_laws();
+    schedule_laws();
 }
 
 /// Whatever its plan comes to, a command asks for its own files alone, in their order, and once for each; words that

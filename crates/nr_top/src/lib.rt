@@ -2,7 +2,6 @@
 #![tactic(auto)]
 
 mod chain;
-mod checking;
 mod commands;
 mod exit;
 mod generated;
@@ -13,10 +12,8 @@ mod refused;
 mod root_word;
 mod run;
 mod run_to;
-mod schedule;
 mod state_after;
 mod status;
-mod tally;
 mod top;
 mod work;
 

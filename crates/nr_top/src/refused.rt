@@ -5,21 +5,21 @@ ghost use Rattle.nr_outproof.specs.declared.fault.ProofFault.TheVariants as proo
 ghost use Rattle.nr_gathered.specs.declared.fault.GatheredFault.TheVariants as gathered;
 ghost use Rattle.nr_parts.specs.declared.fault.PartFault.TheVariants as part;
 ghost use Rattle.nr_recheck.specs.declared.fault.RecheckFault.TheVariants as recheck;
+ghost use Rattle.nr_schedule.specs.declared.schedule.ScheduleFault.TheVariants as schedule;
 ghost use Rattle.nr_shell.specs.Answers.{StopsBy};
 ghost use Rattle.nr_top.specs.Answers.{refuses};
 ghost use Rattle.nr_top.specs.Plans.{schedule_status};
 ghost use Rattle.nr_top.specs.Proving.{proof_status};
 ghost use Rattle.nr_top.specs.Rechecking.{gathered_status, recheck_status};
 ghost use Rattle.nr_top.specs.StateParts.{part_status};
-ghost use Rattle.nr_top.specs.declared.schedule.ScheduleFault.TheVariants as schedule;
 ghost use Rattle.nr_top.specs.declared.status.Status.TheVariants.{Gathered as faulty_gathered, Parts as faulty_parts};
 
-use crate::schedule::ScheduleFault;
 use crate::status::Status;
 use nr_gathered::GatheredFault;
 use nr_outproof::ProofFault;
 use nr_parts::PartFault;
 use nr_recheck::RecheckFault;
+use nr_schedule::ScheduleFault;
 use nr_shell::Stop;
 
 /// Why a faulty schedule stops the command.

@@ -2,15 +2,11 @@ use Rattle.std.proofs.Common.{◌≡◌, ◌∙◌}
 use Rattle.nr_blocks.specs.Genesis.{AreSoundEntries, supply}
 use Rattle.nr_blocks.specs.declared.genesis.Genesis.{Genesis}
 use Rattle.nr_chainfiles.specs.declared.loading.ChainFiles.{ChainFiles}
-use Rattle.nr_chunk.specs.Chain.{rules_of}
-use Rattle.nr_chunk.specs.Lasting.{reached_by}
 use Rattle.nr_chunk.specs.StartSums.{genesis_tokens}
 use Rattle.nr_course.specs.Totals.{AddUp as AddUpFrom}
 use Rattle.nr_course.specs.Totals.{receipts_at_first}
-use Rattle.nr_overlap.specs.Run.{opening, run_of}
 use Rattle.nr_places.proofs.Founded.{none_first}
 use Rattle.nr_report.specs.declared.totals.Totals.{Totals}
-use Rattle.nr_top.proofs.Onward.{rest_ends}
 use Rattle.nr_top.specs.Run.{loaded}
 use Rattle.nr_top.specs.Totals.{AddUp}
 use Rattle.nr_top.proofs.laws.totals_law.Goals as goal
@@ -39,7 +35,8 @@ returns-clause-behind c = λ files sound legs can t is es inside.
     adds_up files _ sound (genesis_tokens files.config files.genesis sound)
     ((c.course_laws.ensures.adds (loaded files) legs can).behind t is es inside)
 
-pub returns-clause-rest : goal.returns-clause-rest
-returns-clause-rest c = λ x es inside.
-    let r = rules_of x in
-    rest_ends r (run_of r (opening r) es) (reached_by r es inside)
+pub returns-clause-driven : goal.returns-clause-driven
+returns-clause-driven c = λ files sound legs can lines.
+    adds_up files _ sound
+    (c.schedule_laws.ensures.supply (loaded files) lines ∙ genesis_tokens files.config files.genesis sound)
+    (c.schedule_laws.ensures.adds (loaded files) legs can lines)

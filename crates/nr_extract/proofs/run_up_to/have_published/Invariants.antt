@@ -1,6 +1,0 @@
-use Rattle.std.proofs.Common.{ℕ, ◌<◌, ◌≤◌}
-use Rattle.nr_overlap.specs.Positions.{at}
-use Rattle.nr_extract.proofs.run_up_to.have_published.Given as goal
-
-abbrev pub invariant-loop-shard : goal.invariant-loop-shard
-invariant-loop-shard g l = (s : ℕ) → s < l.shard → l.height.0 ≤ (at l.core.positions s).number

@@ -1,0 +1,13 @@
+use Rattle.std.proofs.Common.{◌+◌, ◌∷◌, take, sym, ap, ◌∙◌, arith, length-drop}
+use Rattle.std.proofs.lemmas.List.{take_rest}
+use Rattle.nr_schedule.specs.Schedule.{pieces}
+use Rattle.nr_schedule.proofs.Pieces.{first_piece, one_piece, within_bytes}
+use Rattle.nr_schedule.proofs.schedule.cut.Goals as goal
+
+pub returns-in-Some-clause-pieces : goal.returns-in-Some-clause-pieces
+returns-in-Some-clause-pieces c =
+    first_piece c.args.separator c.args.bytes.now c.in-Some.at (sym c.place_of.ensures ∙ c.in-Some.is)
+    ∙ ap (λ t. take c.in-Some.at c.args.bytes.now ∷ pieces c.args.separator t) (sym (take_rest c.args.bytes.now (c.in-Some.at + 1)))
+
+pub returns-in-None-clause-pieces : goal.returns-in-None-clause-pieces
+returns-in-None-clause-pieces c = one_piece c.args.separator c.args.bytes.now (sym c.place_of.ensures ∙ c.in-None.is)

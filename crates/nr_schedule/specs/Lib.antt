@@ -1,0 +1,5 @@
+pub mod Schedule
+pub mod Checking
+pub mod Moments
+pub mod Driving
+pub mod Laws
