@@ -1,0 +1,5 @@
+-- Lemmas behind the answers.
+mod Standing
+mod Opening
+mod Over
+mod Turning
