@@ -1,0 +1,3 @@
+mod Verdict
+mod Decoding
+mod Ending
