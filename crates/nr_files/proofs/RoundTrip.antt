@@ -1,6 +1,5 @@
 -- What is shown of a file is made into its bytes.
-use Rattle.std.proofs.Common.{◌≡◌, ◌≤◌, ℕ, Bool, true, false, ltb, cond, List, [], ◌∷◌, length, map, Result, Ok, Err, refl, sym, ap, subst, ◌∙◌}
-use Rattle.std.proofs.lemmas.Bool.{le-ltb}
+use Rattle.std.proofs.Common.{◌≡◌, ℕ, false, List, [], ◌∷◌, map, Result, Ok, Err, refl, sym, ap, subst, ◌∙◌}
 use Rattle.nr_bytes.specs.Numbers.{IsBytes}
 use Rattle.nr_bytes.specs.Reading.{◌>>=◌}
 use Rattle.nr_bytes.proofs.Whole.{whole_taken}
@@ -23,10 +22,9 @@ use Rattle.nr_blocks.specs.declared.genesis_file.GenesisFile.{GenesisFile}
 use Rattle.nr_json.specs.Blocks.{blocks_json, blocks_of}
 use Rattle.nr_json.specs.Genesis.{genesis_json, genesis_of}
 use Rattle.nr_json.proofs.FileLaws as forms
-use Rattle.nr_files.specs.Due.{Output, Bytes, Json, IsTextOf, IsWritten, value_in, made_blocks, shown_blocks, made_genesis, shown_genesis, due, of_bytes, file_limit}
+use Rattle.nr_files.specs.Due.{Output, Bytes, Json, IsTextOf, IsWritten, value_in, made_blocks, shown_blocks, made_genesis, shown_genesis, of_bytes}
 use Rattle.nr_files.specs.Filling.{filled, filled_entry, plain, stated, stated_entry}
-use Rattle.nr_files.specs.Lines.{genesis_line, unread_line, too_long}
-use Rattle.nr_files.specs.declared.command.Work.{Work}
+use Rattle.nr_files.specs.Lines.{genesis_line, unread_line}
 use Rattle.nr_files.specs.declared.command.Work.TheVariants.{MakeBlocks, MakeGenesis, ShowBlocks, ShowGenesis}
 use Rattle.nr_files.proofs.Depths.{blocks_depth, genesis_depth}
 use Rattle.nr_files.proofs.Held.{blocks_held, genesis_held}
@@ -41,9 +39,9 @@ blocks_again bytes text file fits is shown =
     let read : blocks_of (blocks_json file) ≡ Ok file = forms.blocks_law file (blocks_held file taken.0 (subst IsBytes taken.1 fits)) in
     rw (value, read) (ap (λ (b : List ℕ). Ok (Bytes b)) (sym taken.1))
 
-blocks_back : (bytes text : List ℕ) (o : Output) → IsBytes bytes → shown_blocks bytes ≡ Ok o → IsWritten o text → made_blocks text ≡ Ok (Bytes bytes)
+pub blocks_trip : (c : Config) (bytes text : List ℕ) (o : Output) → IsBytes bytes → of_bytes ShowBlocks c bytes ≡ Ok o → IsWritten o text → of_bytes MakeBlocks c text ≡ Ok (Bytes bytes)
 unfolding shown_blocks
-blocks_back bytes text o fits e written = go (all_of blocks_at bytes) refl e
+blocks_trip c bytes text o fits e written = go (all_of blocks_at bytes) refl e
   where
     go : (r : Result BlocksFile RecordFault) → all_of blocks_at bytes ≡ r → (with_fault unread_line r >>= λ file. Ok (Json (blocks_json file))) ≡ Ok o → made_blocks text ≡ Ok (Bytes bytes)
     go (Err f) is e = absurd cc
@@ -101,31 +99,12 @@ genesis_again c bytes text g fits is shown =
     let bytes_again : genesis_bytes (filled c (stated (file_of g))) ≡ bytes = ap genesis_bytes (filled_again c (file_of g)) ∙ sym taken.1 in
     rw (value, read, bytes_again, is) refl
 
-genesis_back : (c : Config) (bytes text : List ℕ) (o : Output) → IsBytes bytes → shown_genesis c bytes ≡ Ok o → IsWritten o text → made_genesis c text ≡ Ok (Bytes bytes)
+pub genesis_trip : (c : Config) (bytes text : List ℕ) (o : Output) → IsBytes bytes → of_bytes ShowGenesis c bytes ≡ Ok o → IsWritten o text → of_bytes MakeGenesis c text ≡ Ok (Bytes bytes)
 unfolding shown_genesis
-genesis_back c bytes text o fits e written = go (genesis_read c bytes) refl e
+genesis_trip c bytes text o fits e written = go (genesis_read c bytes) refl e
   where
     go : (r : Result Genesis GenesisFault) → genesis_read c bytes ≡ r → (with_fault (genesis_line false) r >>= λ g. Ok (Json (genesis_json (stated (file_of g))))) ≡ Ok o → made_genesis c text ≡ Ok (Bytes bytes)
     go (Err f) is e = absurd cc
     go (Ok g) is e =
         let same : Json (genesis_json (stated (file_of g))) ≡ o = cc in
         genesis_again c bytes text g fits is (subst (λ x. IsWritten x text) (sym same) written)
-
--- ---- within the limit
-given_is : (work : Work) (c : Config) (bytes : List ℕ) (o : Output) → due work c bytes ≡ Ok o → of_bytes work c bytes ≡ Ok o
-given_is work c bytes o e = go (ltb file_limit (length bytes)) e
-  where
-    go : (t : Bool) → cond t (Err too_long) (of_bytes work c bytes) ≡ Ok o → of_bytes work c bytes ≡ Ok o
-    go true e = absurd cc
-    go false e = e
-
-within : (work : Work) (c : Config) (text : List ℕ) → length text ≤ file_limit → due work c text ≡ of_bytes work c text
-within work c text short =
-    let fits : ltb file_limit (length text) ≡ false = le-ltb file_limit (length text) short in
-    rw fits refl
-
-pub blocks_trip : (c : Config) (bytes text : List ℕ) (o : Output) → IsBytes bytes → due ShowBlocks c bytes ≡ Ok o → IsWritten o text → length text ≤ file_limit → due MakeBlocks c text ≡ Ok (Bytes bytes)
-blocks_trip c bytes text o fits e written short = within MakeBlocks c text short ∙ blocks_back bytes text o fits (given_is ShowBlocks c bytes o e) written
-
-pub genesis_trip : (c : Config) (bytes text : List ℕ) (o : Output) → IsBytes bytes → due ShowGenesis c bytes ≡ Ok o → IsWritten o text → length text ≤ file_limit → due MakeGenesis c text ≡ Ok (Bytes bytes)
-genesis_trip c bytes text o fits e written short = within MakeGenesis c text short ∙ genesis_back c bytes text o fits (given_is ShowGenesis c bytes o e) written

@@ -1,5 +1,5 @@
 -- What a file asks for: the bytes or the JSON value that are written for it, or the line that says why not. Borsh 1.0 and RFC 8259; the lines are this project's own.
-use Rattle.std.specs.Prelude.{◌≡◌, ℕ, ◌≤◌, List, length, true, false, cond, Option, Some, None, Result, Ok, Err, nat_lt, IsUtf8}
+use Rattle.std.specs.Prelude.{◌≡◌, ℕ, ◌≤◌, List, true, false, cond, Option, Some, None, Result, Ok, Err, IsUtf8}
 use Rattle.std.specs.Str.{is_utf8}
 use Rattle.json.specs.Layout.{pretty}
 use Rattle.json.specs.Lex.{tokens}
@@ -21,7 +21,7 @@ use Rattle.nr_parts.specs.Files.{part_in}
 use Rattle.nr_files.specs.declared.command.Work.{Work}
 use Rattle.nr_files.specs.declared.command.Work.TheVariants.{MakeBlocks, MakeGenesis, ShowBlocks, ShowGenesis, ShowReport, ShowPart, ShowProof, ShowGathered}
 use Rattle.nr_files.specs.Filling.{filled, stated}
-use Rattle.nr_files.specs.Lines.{fault_line, gathered_line, genesis_line, no_json, part_line, proof_line, report_line, unread_line, too_long}
+use Rattle.nr_files.specs.Lines.{fault_line, gathered_line, genesis_line, no_json, part_line, proof_line, report_line, unread_line}
 use Rattle.nr_shown.specs.Gathered.{gathered_json}
 use Rattle.nr_shown.specs.Part.{part_json}
 use Rattle.nr_shown.specs.Proof.{proof_json}
@@ -68,17 +68,16 @@ shown_blocks bytes = do
 
 -- ---- the first state
 -- bytes that were made, where they are a genesis
-abbrev pub judged : Config → List ℕ → Result (List ℕ) (List ℕ)
+abbrev pub judged : Config → List ℕ → Due
 judged c bytes = do
   sound ← with_fault (genesis_line true) (genesis_read c bytes)
-  Ok bytes
+  Ok (Bytes bytes)
 
 unfoldable pub made_genesis : Config → List ℕ → Due
 made_genesis c text = do
   d ← value_in text
   g ← with_fault fault_line (genesis_of d)
-  bytes ← judged c (genesis_bytes (filled c g))
-  Ok (Bytes bytes)
+  judged c (genesis_bytes (filled c g))
 
 unfoldable pub shown_genesis : Config → List ℕ → Due
 shown_genesis c bytes = do
@@ -107,10 +106,7 @@ shown_gathered bytes = do
   g ← with_fault gathered_line (gathered_in bytes)
   Ok (Json (gathered_json g))
 
--- ---- at most 256 MiB
-abbrev pub file_limit : ℕ
-file_limit = 268435456
-
+-- ---- all commands
 abbrev pub of_bytes : Work → Config → List ℕ → Due
 of_bytes MakeBlocks c bytes = made_blocks bytes
 of_bytes MakeGenesis c bytes = made_genesis c bytes
@@ -120,6 +116,3 @@ of_bytes ShowReport c bytes = shown_report bytes
 of_bytes ShowPart c bytes = shown_part bytes
 of_bytes ShowProof c bytes = shown_proof bytes
 of_bytes ShowGathered c bytes = shown_gathered bytes
-
-abbrev pub due : Work → Config → List ℕ → Due
-due work c bytes = cond (nat_lt file_limit (length bytes)) (Err too_long) (of_bytes work c bytes)

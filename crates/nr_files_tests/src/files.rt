@@ -333,3 +333,36 @@ fn entries_that_do_not_hold_together_are_told(rt: HostRuntime) -> Result<(), Fai
     }
     Ok(())
 }
+
+#[test]
+fn words_are_told(rt: HostRuntime) -> Result<(), Fail> {
+    let alloc = rt.alloc();
+    let (told, version) = ended(alloc, &["version"], b"")?;
+    assert_eq!(rt; told.exit_status(), 0);
+    assert_eq!(rt; version.as_slice(), b"near_files 0.1.0\n".as_slice());
+    let (helped, help) = ended(alloc, &["help"], b"")?;
+    assert_eq!(rt; helped.exit_status(), 0);
+    assert!(rt; help.starts_with(b"near_files genesis CONFIG JSON\n"));
+    Ok(())
+}
+
+#[test]
+fn words_and_files_are_refused_in_order(rt: HostRuntime) -> Result<(), Fail> {
+    let alloc = rt.alloc();
+    let rows: [(&[&str], &str); 8] = [
+        (&[], "1"),
+        (&["help", "gen"], "1"),
+        (&["version", "1"], "1"),
+        (&["blocks", "-F"], "1"),
+        (&["genesis", "", "G"], "1"),
+        (&["genesis", "C", "F"], "5"),
+        (&["genesis", "F", "G"], "2 1 0"),
+        (&["genesis", "free", "G"], "5"),
+    ];
+    for (words, line) in rows {
+        let (status, written) = ended(alloc, words, b"")?;
+        assert_eq!(rt; format!(in alloc; "{status}")?.as_str(), line);
+        assert!(rt; written.is_empty());
+    }
+    Ok(())
+}

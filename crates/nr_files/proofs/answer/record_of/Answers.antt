@@ -5,4 +5,4 @@ use Rattle.nr_files.proofs.Steps.{told_fault}
 use Rattle.nr_files.proofs.answer.record_of.Goals as goal
 
 pub returns-in-Err : goal.returns-in-Err
-returns-in-Err g c = told_fault c.unread_status.result unread_line c.in-Err.fault Memory (all_of g.T.Spelled.reading c.args.bytes.now) c.unread_status.ensures.tells c.unread_status.ensures.memory c.in-Err.ensures.exact
+returns-in-Err g c = told_fault c.unread_words.result unread_line c.in-Err.fault Memory (all_of g.T.Spelled.reading c.args.bytes.now) c.unread_words.ensures.tells c.unread_words.ensures.memory c.in-Err.ensures.exact
