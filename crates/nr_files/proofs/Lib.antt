@@ -5,3 +5,4 @@ pub mod Held
 pub mod Depths
 pub mod RoundTrip
 pub mod Asking
+pub mod Third

@@ -7,19 +7,18 @@ use Rattle.serde_json.specs.Data.{Data}
 use Rattle.serde_json.specs.Read.{read}
 use Rattle.nr_bytes.specs.Reading.{◌>>=◌}
 use Rattle.nr_config.specs.Config.{Config}
-use Rattle.nr_records.specs.Reading.{all_of}
-use Rattle.nr_blocks.specs.Files.{blocks_at, blocks_bytes, genesis_bytes}
+use Rattle.nr_blocks.specs.Files.{genesis_bytes}
 use Rattle.nr_blocks.specs.Judging.{with_fault, genesis_read}
 use Rattle.nr_blocks.specs.Spellings.{file_of}
-use Rattle.nr_blocks.specs.declared.blocks_file.BlocksFile.{BlocksFile}
 use Rattle.nr_blocks.specs.declared.genesis.Genesis.{Genesis}
 use Rattle.nr_explain.specs.Report.{report_json}
 use Rattle.nr_gathered.specs.Files.{gathered_in}
 use Rattle.nr_gathered.specs.declared.gathered.Gathered.{Gathered}
 use Rattle.nr_explain.specs.declared.report.ReportFault.{ReportFault}
 use Rattle.nr_explain.specs.declared.report.ReportFault.TheVariants as report
-use Rattle.nr_json.specs.Blocks.{blocks_json, blocks_of}
+use Rattle.nr_json.specs.ChainFiles.{stated_json, stated_of}
 use Rattle.nr_json.specs.Genesis.{genesis_json, genesis_of}
+use Rattle.nr_json.specs.declared.chain_file.StatedBlocks.{StatedBlocks}
 use Rattle.nr_json.specs.declared.genesis.StatedGenesis.{StatedGenesis}
 use Rattle.nr_outproof.specs.Texts.{proof_read}
 use Rattle.nr_outproof.specs.declared.proof.Proof.{Proof}
@@ -29,6 +28,7 @@ use Rattle.nr_files.specs.Answers.{Tells, TellsText, Refuses, AnswersAs}
 use Rattle.nr_files.specs.Due.{Due, Output, Bytes, Json, value_in, made_blocks, shown_blocks, judged, made_genesis, shown_genesis, shown_part, shown_proof, shown_gathered, shown_report}
 use Rattle.nr_files.specs.Filling.{filled, stated}
 use Rattle.nr_files.specs.Lines.{fault_line, gathered_line, genesis_line, no_json, part_line, proof_line, report_line, unread_line}
+use Rattle.nr_files.specs.Versions.{blocks_read, stated_bytes}
 use Rattle.nr_shown.specs.Gathered.{gathered_json}
 use Rattle.nr_shown.specs.Part.{part_json}
 use Rattle.nr_shown.specs.Proof.{proof_json}
@@ -73,11 +73,11 @@ written bytes = Ok (Bytes bytes)
 abbrev shown_as : Data → Due
 shown_as d = Ok (Json d)
 
-pub made : (text : List ℕ) (d : Data) (file : BlocksFile) (bytes : List ℕ) → value_in text ≡ Ok d → with_fault fault_line (blocks_of d) ≡ Ok file → bytes ≡ blocks_bytes file → made_blocks text ≡ Ok (Bytes bytes)
+pub made : (text : List ℕ) (d : Data) (file : StatedBlocks) (bytes : List ℕ) → value_in text ≡ Ok d → with_fault fault_line (stated_of d) ≡ Ok file → bytes ≡ stated_bytes file → made_blocks text ≡ Ok (Bytes bytes)
 unfolding made_blocks
 made text d file bytes one two is = rw (one, two) (ap written (sym is))
 
-pub shown : (bytes : List ℕ) (file : BlocksFile) (json : Data) → with_fault unread_line (all_of blocks_at bytes) ≡ Ok file → json ≡ blocks_json file → shown_blocks bytes ≡ Ok (Json json)
+pub shown : (bytes : List ℕ) (file : StatedBlocks) (json : Data) → with_fault unread_line (blocks_read bytes) ≡ Ok file → json ≡ stated_json file → shown_blocks bytes ≡ Ok (Json json)
 unfolding shown_blocks
 shown bytes file json one is = rw one (ap shown_as (sym is))
 

@@ -7,12 +7,11 @@ use Rattle.serde_json.specs.Data.{Data, depth}
 use Rattle.serde_json.specs.Read.{read, max_depth}
 use Rattle.serde_json.specs.Written.{IsInOrder}
 use Rattle.nr_bytes.specs.Reading.{◌>>=◌}
-use Rattle.nr_records.specs.Reading.{all_of}
 use Rattle.nr_config.specs.Config.{Config}
-use Rattle.nr_blocks.specs.Files.{blocks_at, blocks_bytes, genesis_bytes}
+use Rattle.nr_blocks.specs.Files.{genesis_bytes}
 use Rattle.nr_blocks.specs.Judging.{with_fault, genesis_read}
 use Rattle.nr_blocks.specs.Spellings.{file_of}
-use Rattle.nr_json.specs.Blocks.{blocks_json, blocks_of}
+use Rattle.nr_json.specs.ChainFiles.{stated_json, stated_of}
 use Rattle.nr_json.specs.Genesis.{genesis_json, genesis_of}
 use Rattle.nr_explain.specs.Report.{report_json}
 use Rattle.nr_gathered.specs.Files.{gathered_in}
@@ -22,6 +21,7 @@ use Rattle.nr_files.specs.declared.command.Work.{Work}
 use Rattle.nr_files.specs.declared.command.Work.TheVariants.{MakeBlocks, MakeGenesis, ShowBlocks, ShowGenesis, ShowReport, ShowPart, ShowProof, ShowGathered}
 use Rattle.nr_files.specs.Filling.{filled, stated}
 use Rattle.nr_files.specs.Lines.{fault_line, gathered_line, genesis_line, no_json, part_line, proof_line, report_line, unread_line}
+use Rattle.nr_files.specs.Versions.{blocks_read, stated_bytes}
 use Rattle.nr_shown.specs.Gathered.{gathered_json}
 use Rattle.nr_shown.specs.Part.{part_json}
 use Rattle.nr_shown.specs.Proof.{proof_json}
@@ -58,13 +58,13 @@ value_in text = cond (is_utf8 text) (value_of (read text)) (Err no_json)
 unfoldable pub made_blocks : List ℕ → Due
 made_blocks text = do
   d ← value_in text
-  file ← with_fault fault_line (blocks_of d)
-  Ok (Bytes (blocks_bytes file))
+  file ← with_fault fault_line (stated_of d)
+  Ok (Bytes (stated_bytes file))
 
 unfoldable pub shown_blocks : List ℕ → Due
 shown_blocks bytes = do
-  file ← with_fault unread_line (all_of blocks_at bytes)
-  Ok (Json (blocks_json file))
+  file ← with_fault unread_line (blocks_read bytes)
+  Ok (Json (stated_json file))
 
 -- ---- the first state
 -- bytes that were made, where they are a genesis

@@ -2,6 +2,7 @@ pub mod Help
 pub mod Command
 pub mod Lines
 pub mod Filling
+pub mod Versions
 pub mod Due
 pub mod Plans
 pub mod Answers

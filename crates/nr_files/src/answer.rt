@@ -2,7 +2,6 @@
 
 ghost use Rattle.std.specs.Prelude.{◌≡◌, IfOk, OnErr, Err};
 ghost use Rattle.serde_json.specs.View.{view};
-ghost use Rattle.nr_records.specs.Reading.{all_of};
 ghost use Rattle.nr_blocks.specs.Judging.{with_fault, genesis_read};
 ghost use Rattle.nr_outproof.specs.Texts.{proof_read};
 ghost use Rattle.nr_gathered.specs.Files.{gathered_in};
@@ -12,6 +11,7 @@ ghost use Rattle.nr_files.specs.Answers.{AnswersAs, output_in, refuses};
 ghost use Rattle.nr_files.specs.Due.{value_in, made_blocks, shown_blocks, judged, made_genesis, shown_genesis, shown_part, shown_proof, shown_gathered, shown_report, of_bytes};
 ghost use Rattle.nr_files.specs.Lines.{fault_line, gathered_line, genesis_line, part_line, proof_line, unread_line};
 ghost use Rattle.nr_files.specs.Plans.{by_bytes};
+ghost use Rattle.nr_files.specs.Versions.{blocks_read, stated_bytes};
 ghost use Rattle.nr_files.specs.declared.fault.Fault.TheVariants.{Memory};
 
 use crate::command::Work;
@@ -23,15 +23,15 @@ use crate::telling::{
     faulty, gathered_words, genesis_words, json_words, part_words, proof_words, report_words,
     unread_words,
 };
-use nr_blocks::{BlocksFile, Genesis, read_genesis};
+use crate::versions::{blocks_read, stated_bytes};
+use nr_blocks::{Genesis, read_genesis};
 use nr_bytes::Blob;
 use nr_config::Config;
 use nr_explain::show_report;
 use nr_gathered::{Gathered, read_gathered};
-use nr_json::{Form, StatedGenesis};
+use nr_json::{Form, StatedBlocks, StatedGenesis};
 use nr_outproof::{Proof, read_proof};
 use nr_parts::{Part, read_part};
-use nr_records::{Spelled, decode, encode};
 use nr_shell::Stop;
 use nr_shown::{gathered_json, part_json, proof_json};
 use serde_json::Value;
@@ -58,22 +58,22 @@ fn record_in<T: Form>(alloc: Global, value: &Value) -> Result<T, Fault>
     }
 }
 
-/// The record that bytes spell.
-fn record_of<T: Spelled>(alloc: Global, bytes: &[u8]) -> Result<T, Fault>
-    ensures { AnswersAs (λ x. x) result (with_fault unread_line (all_of T.reading bytes.now)) }
+/// The blocks that bytes spell.
+fn blocks_of(alloc: Global, bytes: &[u8]) -> Result<StatedBlocks, Fault>
+    ensures { AnswersAs (λ x. x) result (with_fault unread_line (blocks_read bytes.now)) }
 {
-    match decode::<T>(alloc, bytes) {
+    match blocks_read(alloc, bytes) {
         Ok(found) => Ok(found),
         Err(fault) => Err(unread_words(alloc, fault)),
     }
 }
 
-/// The bytes that spell a record.
-fn spelling_of<T: Spelled>(alloc: Global, value: &T) -> Result<Blob, Fault>
-    ensures ok { IfOk result (λ bytes. bytes ≡ T.spelling value.now) }
+/// The bytes that spell blocks.
+fn spelling_of(alloc: Global, file: StatedBlocks) -> Result<Blob, Fault>
+    ensures ok { IfOk result (λ bytes. bytes ≡ stated_bytes file) }
     ensures err { OnErr result (result ≡ Err Memory) }
 {
-    match encode(alloc, value) {
+    match stated_bytes(alloc, file) {
         Ok(bytes) => Ok(bytes),
         Err(_) => Err(Fault::Memory),
     }
@@ -95,8 +95,8 @@ fn made_blocks(alloc: Global, text: &[u8]) -> Result<Output, Fault>
     ensures { AnswersAs output_in result (made_blocks text.now) }
 {
     let value = value_in(alloc, text)?;
-    let file = record_in::<BlocksFile>(alloc, &value)?;
-    let bytes = spelling_of(alloc, &file)?;
+    let file = record_in::<StatedBlocks>(alloc, &value)?;
+    let bytes = spelling_of(alloc, file)?;
     Ok(Output::Bytes(bytes))
 }
 
@@ -104,7 +104,7 @@ fn made_blocks(alloc: Global, text: &[u8]) -> Result<Output, Fault>
 fn shown_blocks(alloc: Global, bytes: &[u8]) -> Result<Output, Fault>
     ensures { AnswersAs output_in result (shown_blocks bytes.now) }
 {
-    let file = record_of::<BlocksFile>(alloc, bytes)?;
+    let file = blocks_of(alloc, bytes)?;
     let json = json_of(alloc, &file)?;
     Ok(Output::Json(json))
 }

@@ -14,6 +14,7 @@ mod output;
 mod status;
 mod telling;
 mod top;
+mod versions;
 
 pub use laws::{asked_law, round_trips};
 pub use status::Status;

@@ -22,3 +22,4 @@ pub use chain_file::ChainFile;
 pub use fault::ChainFault;
 pub use reading::read_chain;
 pub use reshard::Reshard;
+pub use third::{begins_third, decode_third};

@@ -16,7 +16,7 @@ use nr_records::{RecordFault, Spelled};
 use std::alloc::Global;
 
 /// Whether the bytes begin as a file of the third version does.
-pub(crate) fn begins_third(bytes: &[u8]) -> bool
+pub fn begins_third(bytes: &[u8]) -> bool
     ensures { result ≡ starts_with ◌==◌ bytes.now third_magic }
 {
     bytes.starts_with(b"NRB3")
@@ -43,9 +43,13 @@ fn file_of(alloc: Global, reader: &mut Reader<'_>) -> Result<ChainFile, RecordFa
     Ok(ChainFile { reshard, blocks })
 }
 
-/// The file that all of the bytes spell.
+/// The file of the third version that all of the bytes spell, whatever its blocks are.
+///
+/// # Errors
+///
+/// The fault of the first field that can't be read; `Memory`.
 #[tactic(auto, unfolding(nr_bytes::specs::Fields::all_of))]
-pub(crate) fn decode_third(alloc: Global, bytes: &[u8]) -> Result<ChainFile, RecordFault>
+pub fn decode_third(alloc: Global, bytes: &[u8]) -> Result<ChainFile, RecordFault>
     ensures { Gives Memory result (all_of third_at bytes.now) }
 {
     let mut reader = Reader::new(bytes);
