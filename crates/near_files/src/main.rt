@@ -3,11 +3,11 @@
 //! wrote.
 //!
 //! The words are `genesis CONFIG JSON`, `blocks JSON`, `show genesis CONFIG FILE`, `show blocks FILE`,
-//! `show report FILE`, `show part FILE`, `show proof FILE`, `show gathered FILE` or `explain WORDS..`, where
-//! CONFIG is `free` or the name of a file. The exit status is 0 where it was written; 1 where the words are no command, 2 where CONFIG is no
-//! configuration, 5 where a file could not be read, 6 where the output could not be written, 7 where
-//! memory ran out and 20 where a file is refused. A line on standard error then has the status with its
-//! numbers, or for 20 the words that say what is wrong.
+//! `show report FILE`, `show part FILE`, `show proof FILE`, `show gathered FILE`, `explain WORDS..`, `help`
+//! or `version`, where CONFIG is `free` or the name of a file. The exit status is 0 where it was written; 1
+//! where the words are no command, 2 where CONFIG is no configuration, 5 where a file could not be read, 6
+//! where the output could not be written, 7 where memory ran out and 20 where a file is refused. A line on
+//! standard error then has the status with its numbers, or for 20 the words that say what is wrong.
 #![tactic(auto)]
 
 use nr_bytes::{FileShelf, StdoutSink};

@@ -8,6 +8,7 @@ use Rattle.serde_json.specs.Read.{max_depth}
 use Rattle.serde_json.specs.View.{items_of}
 use Rattle.nr_records.specs.declared.access_key.Permission.TheVariants.{Call, Full}
 use Rattle.nr_records.specs.declared.action.Action.TheVariants.{CreateAccount, DeployContract, FunctionCall, Transfer, AddKey, DeleteKey, DeleteAccount}
+use Rattle.nr_reshard.specs.declared.chain_file.ChainFile.{ChainFile}
 use Rattle.nr_json.specs.AccessKeys.{call_permission_json, permission_json, access_key_json}
 use Rattle.nr_json.specs.Actions.{action_json}
 use Rattle.nr_json.specs.Blocks.{chunk_json, block_json, version_json, stated_version, blocks_json}
@@ -15,12 +16,14 @@ use Rattle.nr_blocks.specs.declared.block.Block.{Block}
 use Rattle.nr_blocks.specs.declared.blocks_file.BlocksFile.{BlocksFile}
 use Rattle.nr_blocks.specs.declared.version.Version.{Version}
 use Rattle.nr_blocks.specs.declared.version.Version.TheVariants.{One, Two}
+use Rattle.nr_json.specs.ChainFiles.{reshard_json, stated_json, third_json}
 use Rattle.nr_json.specs.Genesis.{account_members, entry_json, genesis_json}
 use Rattle.nr_json.specs.Keys.{hash_json}
 use Rattle.nr_json.specs.Lists.{list_json, option_json}
 use Rattle.nr_json.specs.Members.{with_optional}
 use Rattle.nr_json.specs.Plain.{number_json, amount_json}
 use Rattle.nr_json.specs.Transactions.{transaction_json}
+use Rattle.nr_json.specs.declared.chain_file.StatedBlocks.TheVariants.{Plain, Third}
 use Rattle.nr_json.specs.declared.genesis.StatedAccount.{StatedAccount}
 use Rattle.nr_json.specs.declared.genesis.StatedEntry.TheVariants.{Account, Code, Key, Datum}
 
@@ -97,10 +100,25 @@ version_depth : AreShallow version_json 12
 version_depth One = omega arith
 version_depth Two = omega arith
 
-pub blocks_depth : AreShallow blocks_json max_depth
-blocks_depth file =
+plain_depth : AreShallow blocks_json max_depth
+plain_depth file =
     let rest : members_depth (unversioned file) ≤ 12 = omega (arith, list_depth block_json 11 block_depth file.blocks) in
     omega (arith, optional_depth (codes "version") version_json (stated_version file.version) (unversioned file) 12 version_depth rest)
+
+reshard_depth : AreShallow reshard_json 2
+reshard_depth r = omega (arith, list_depth string 0 (λ x. omega arith) r.layout)
+
+abbrev unresharded : ChainFile → Members
+unresharded file = put (codes "version") (number_json 3) (put (codes "blocks") (list_json block_json file.blocks) no_members)
+
+third_depth : AreShallow third_json max_depth
+third_depth file =
+    let rest : members_depth (unresharded file) ≤ 12 = omega (arith, list_depth block_json 11 block_depth file.blocks) in
+    omega (arith, optional_depth (codes "reshard") reshard_json file.reshard (unresharded file) 12 (λ r. omega (arith, reshard_depth r)) rest)
+
+pub stated_depth : AreShallow stated_json max_depth
+stated_depth (Plain file) = plain_depth file
+stated_depth (Third file) = third_depth file
 
 -- ---- the first state
 abbrev tokens : StatedAccount → Members

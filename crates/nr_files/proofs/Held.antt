@@ -24,9 +24,14 @@ use Rattle.nr_blocks.specs.GenesisFiles.{entry_bytes, IsEntry}
 use Rattle.nr_blocks.specs.declared.genesis_entry.GenesisEntry.TheVariants as kind
 use Rattle.nr_blocks.specs.declared.genesis_file.GenesisFile.{GenesisFile}
 use Rattle.nr_blocks.specs.declared.version.Version.{Version}
+use Rattle.nr_blocks.specs.declared.version.Version.TheVariants.{Two}
+use Rattle.nr_reshard.specs.Files.{IsThird, reshard_bytes, third_bytes, third_magic}
 use Rattle.nr_json.specs.Fits.{FitsKey, FitsPermission, FitsAction, FitsTransaction}
-use Rattle.nr_json.specs.FitsFiles.{FitsBlock, FitsBlocks, FitsEntry, FitsGenesis}
+use Rattle.nr_json.specs.FitsFiles.{FitsBlock, FitsBlocks, FitsEntry, FitsGenesis, FitsStated, FitsThird}
+use Rattle.nr_json.specs.declared.chain_file.StatedBlocks.{StatedBlocks}
+use Rattle.nr_json.specs.declared.chain_file.StatedBlocks.TheVariants.{Plain, Third}
 use Rattle.nr_files.specs.Filling.{stated_entry, stated}
+use Rattle.nr_files.specs.Versions.{stated_bytes}
 
 -- ---- parts of bytes
 front : (a b : List ℕ) → IsBytes (a ++ b) → IsBytes a
@@ -108,9 +113,23 @@ block_held version b is h =
     let rest : IsBytes priced = behind (little 8 b.timestamp) priced (behind (little 8 b.height.0) (little 8 b.timestamp ++ priced) h) in
     (is.1.1.0, list_held chunk_bytes IsChunk (IsOption (AllByRecursion FitsTransaction)) chunk_held b.chunks is.1.1.1 (behind (price_bytes b.price) chunks rest))
 
-pub blocks_held : Held blocks_bytes IsBlocksFile FitsBlocks
-blocks_held file is h =
+plain_held : Held blocks_bytes IsBlocksFile FitsBlocks
+plain_held file is h =
     list_held block_bytes (IsBlock file.version) (FitsBlock file.version) (block_held file.version) file.blocks is (behind (blocks_magic file.version) (list block_bytes file.blocks) h)
+
+third_held : Held third_bytes IsThird FitsThird
+third_held file is h =
+    let reshard = option_bytes reshard_bytes file.reshard in
+    let blocks = list block_bytes file.blocks in
+    (list_held block_bytes (IsBlock Two) (FitsBlock Two) (block_held Two) file.blocks is.1 (behind reshard blocks (behind third_magic (reshard ++ blocks) h)), is.0)
+
+abbrev pub IsStated : StatedBlocks → Type 0
+IsStated (Plain file) = IsBlocksFile file
+IsStated (Third file) = IsThird file
+
+pub stated_held : Held stated_bytes IsStated FitsStated
+stated_held (Plain file) is h = plain_held file is h
+stated_held (Third file) is h = third_held file is h
 
 -- ---- the first state
 entry_held : Held entry_bytes IsEntry (λ e. FitsEntry (stated_entry e))

@@ -1,7 +1,8 @@
-pub mod Growth
-pub mod Commands
+-- Lemmas behind the answers.
 pub mod Steps
 pub mod Sums
 pub mod Held
 pub mod Depths
 pub mod RoundTrip
+pub mod Asking
+pub mod Third

@@ -1,8 +1,10 @@
 -- What is shown of a file is made into its bytes.
-use Rattle.std.proofs.Common.{◌≡◌, ◌≤◌, ℕ, Bool, true, false, ltb, cond, List, [], ◌∷◌, length, map, Result, Ok, Err, refl, sym, ap, subst, ◌∙◌}
-use Rattle.std.proofs.lemmas.Bool.{le-ltb}
+use Rattle.std.proofs.Common.{◌≡◌, ℕ, Bool, true, false, cond, List, [], ◌∷◌, map, Result, Ok, Err, refl, sym, ap, subst, ◌∙◌}
+use Rattle.std.specs.List.{starts_with}
+use Rattle.std.specs.Prelude.{◌==◌}
 use Rattle.nr_bytes.specs.Numbers.{IsBytes}
 use Rattle.nr_bytes.specs.Reading.{◌>>=◌}
+use Rattle.nr_bytes.proofs.Steps.{bind_ok}
 use Rattle.nr_bytes.proofs.Whole.{whole_taken}
 use Rattle.nr_config.specs.Config.{Config}
 use Rattle.nr_ids.specs.declared.key.Hash32.{Hash32}
@@ -20,35 +22,61 @@ use Rattle.nr_blocks.specs.declared.genesis.Genesis.{Genesis}
 use Rattle.nr_blocks.specs.declared.genesis_entry.GenesisEntry.{GenesisEntry}
 use Rattle.nr_blocks.specs.declared.genesis_entry.GenesisEntry.TheVariants as kind
 use Rattle.nr_blocks.specs.declared.genesis_file.GenesisFile.{GenesisFile}
-use Rattle.nr_json.specs.Blocks.{blocks_json, blocks_of}
+use Rattle.nr_json.specs.ChainFiles.{stated_json, stated_of}
 use Rattle.nr_json.specs.Genesis.{genesis_json, genesis_of}
+use Rattle.nr_json.specs.declared.chain_file.StatedBlocks.{StatedBlocks}
+use Rattle.nr_json.specs.declared.chain_file.StatedBlocks.TheVariants.{Plain, Third}
+use Rattle.nr_json.proofs.ChainLaws as chains
 use Rattle.nr_json.proofs.FileLaws as forms
-use Rattle.nr_files.specs.Due.{Output, Bytes, Json, IsTextOf, IsWritten, value_in, made_blocks, shown_blocks, made_genesis, shown_genesis, due, of_bytes, file_limit}
+use Rattle.nr_reshard.specs.FileLaws.{third_law}
+use Rattle.nr_reshard.specs.Files.{IsThird, third_at, third_bytes, third_magic}
+use Rattle.nr_reshard.specs.declared.chain_file.ChainFile.{ChainFile}
+use Rattle.nr_files.specs.Due.{Output, Bytes, Json, IsTextOf, IsWritten, value_in, made_blocks, shown_blocks, made_genesis, shown_genesis, of_bytes}
 use Rattle.nr_files.specs.Filling.{filled, filled_entry, plain, stated, stated_entry}
-use Rattle.nr_files.specs.Lines.{genesis_line, unread_line, too_long}
-use Rattle.nr_files.specs.declared.command.Work.{Work}
+use Rattle.nr_files.specs.Lines.{genesis_line, unread_line}
+use Rattle.nr_files.specs.Versions.{blocks_read, plain_read, stated_bytes, third_read}
 use Rattle.nr_files.specs.declared.command.Work.TheVariants.{MakeBlocks, MakeGenesis, ShowBlocks, ShowGenesis}
-use Rattle.nr_files.proofs.Depths.{blocks_depth, genesis_depth}
-use Rattle.nr_files.proofs.Held.{blocks_held, genesis_held}
+use Rattle.nr_files.proofs.Depths.{genesis_depth, stated_depth}
+use Rattle.nr_files.proofs.Held.{IsStated, genesis_held, stated_held}
 use Rattle.nr_files.proofs.Steps.{value_found}
 
 -- ---- blocks
-blocks_again : (bytes text : List ℕ) (file : BlocksFile) → IsBytes bytes → all_of blocks_at bytes ≡ Ok file → IsTextOf (blocks_json file) text → made_blocks text ≡ Ok (Bytes bytes)
+abbrev third_as : ChainFile → Result StatedBlocks RecordFault
+third_as file = Ok (Third file)
+
+abbrev plain_as : BlocksFile → Result StatedBlocks RecordFault
+plain_as file = Ok (Plain file)
+
+blocks_taken : (bytes : List ℕ) (s : StatedBlocks) → IsBytes bytes → blocks_read bytes ≡ Ok s → IsStated s × (bytes ≡ stated_bytes s)
+unfolding blocks_read
+blocks_taken bytes s fits e = go (starts_with ◌==◌ bytes third_magic) e
+  where
+    go : (third : Bool) → cond third (third_read bytes) (plain_read bytes) ≡ Ok s → IsStated s × (bytes ≡ stated_bytes s)
+    go true e =
+        let x = bind_ok (all_of third_at bytes) third_as s e in
+        let same : Third x.0 ≡ s = cc in
+        subst (λ (t : StatedBlocks). IsStated t × (bytes ≡ stated_bytes t)) same (whole_taken record_fault third_at third_bytes IsThird third_law bytes x.0 fits x.1)
+    go false e =
+        let x = bind_ok (all_of blocks_at bytes) plain_as s e in
+        let same : Plain x.0 ≡ s = cc in
+        subst (λ (t : StatedBlocks). IsStated t × (bytes ≡ stated_bytes t)) same (whole_taken record_fault blocks_at blocks_bytes IsBlocksFile blocks_law bytes x.0 fits x.1)
+
+blocks_again : (bytes text : List ℕ) (file : StatedBlocks) → IsBytes bytes → blocks_read bytes ≡ Ok file → IsTextOf (stated_json file) text → made_blocks text ≡ Ok (Bytes bytes)
 unfolding made_blocks
 blocks_again bytes text file fits is shown =
-    let taken : IsBlocksFile file × (bytes ≡ blocks_bytes file) = whole_taken record_fault blocks_at blocks_bytes IsBlocksFile blocks_law bytes file fits is in
-    let value : value_in text ≡ Ok (blocks_json file) = value_found text (blocks_json file) shown.utf8 (shown.back (blocks_depth file)) in
-    let read : blocks_of (blocks_json file) ≡ Ok file = forms.blocks_law file (blocks_held file taken.0 (subst IsBytes taken.1 fits)) in
+    let taken : IsStated file × (bytes ≡ stated_bytes file) = blocks_taken bytes file fits is in
+    let value : value_in text ≡ Ok (stated_json file) = value_found text (stated_json file) shown.utf8 (shown.back (stated_depth file)) in
+    let read : stated_of (stated_json file) ≡ Ok file = chains.stated_law file (stated_held file taken.0 (subst IsBytes taken.1 fits)) in
     rw (value, read) (ap (λ (b : List ℕ). Ok (Bytes b)) (sym taken.1))
 
-blocks_back : (bytes text : List ℕ) (o : Output) → IsBytes bytes → shown_blocks bytes ≡ Ok o → IsWritten o text → made_blocks text ≡ Ok (Bytes bytes)
+pub blocks_trip : (c : Config) (bytes text : List ℕ) (o : Output) → IsBytes bytes → of_bytes ShowBlocks c bytes ≡ Ok o → IsWritten o text → of_bytes MakeBlocks c text ≡ Ok (Bytes bytes)
 unfolding shown_blocks
-blocks_back bytes text o fits e written = go (all_of blocks_at bytes) refl e
+blocks_trip c bytes text o fits e written = go (blocks_read bytes) refl e
   where
-    go : (r : Result BlocksFile RecordFault) → all_of blocks_at bytes ≡ r → (with_fault unread_line r >>= λ file. Ok (Json (blocks_json file))) ≡ Ok o → made_blocks text ≡ Ok (Bytes bytes)
+    go : (r : Result StatedBlocks RecordFault) → blocks_read bytes ≡ r → (with_fault unread_line r >>= λ file. Ok (Json (stated_json file))) ≡ Ok o → made_blocks text ≡ Ok (Bytes bytes)
     go (Err f) is e = absurd cc
     go (Ok file) is e =
-        let same : Json (blocks_json file) ≡ o = cc in
+        let same : Json (stated_json file) ≡ o = cc in
         blocks_again bytes text file fits is (subst (λ x. IsWritten x text) (sym same) written)
 
 -- ---- the first state
@@ -101,31 +129,12 @@ genesis_again c bytes text g fits is shown =
     let bytes_again : genesis_bytes (filled c (stated (file_of g))) ≡ bytes = ap genesis_bytes (filled_again c (file_of g)) ∙ sym taken.1 in
     rw (value, read, bytes_again, is) refl
 
-genesis_back : (c : Config) (bytes text : List ℕ) (o : Output) → IsBytes bytes → shown_genesis c bytes ≡ Ok o → IsWritten o text → made_genesis c text ≡ Ok (Bytes bytes)
+pub genesis_trip : (c : Config) (bytes text : List ℕ) (o : Output) → IsBytes bytes → of_bytes ShowGenesis c bytes ≡ Ok o → IsWritten o text → of_bytes MakeGenesis c text ≡ Ok (Bytes bytes)
 unfolding shown_genesis
-genesis_back c bytes text o fits e written = go (genesis_read c bytes) refl e
+genesis_trip c bytes text o fits e written = go (genesis_read c bytes) refl e
   where
     go : (r : Result Genesis GenesisFault) → genesis_read c bytes ≡ r → (with_fault (genesis_line false) r >>= λ g. Ok (Json (genesis_json (stated (file_of g))))) ≡ Ok o → made_genesis c text ≡ Ok (Bytes bytes)
     go (Err f) is e = absurd cc
     go (Ok g) is e =
         let same : Json (genesis_json (stated (file_of g))) ≡ o = cc in
         genesis_again c bytes text g fits is (subst (λ x. IsWritten x text) (sym same) written)
-
--- ---- within the limit
-given_is : (work : Work) (c : Config) (bytes : List ℕ) (o : Output) → due work c bytes ≡ Ok o → of_bytes work c bytes ≡ Ok o
-given_is work c bytes o e = go (ltb file_limit (length bytes)) e
-  where
-    go : (t : Bool) → cond t (Err too_long) (of_bytes work c bytes) ≡ Ok o → of_bytes work c bytes ≡ Ok o
-    go true e = absurd cc
-    go false e = e
-
-within : (work : Work) (c : Config) (text : List ℕ) → length text ≤ file_limit → due work c text ≡ of_bytes work c text
-within work c text short =
-    let fits : ltb file_limit (length text) ≡ false = le-ltb file_limit (length text) short in
-    rw fits refl
-
-pub blocks_trip : (c : Config) (bytes text : List ℕ) (o : Output) → IsBytes bytes → due ShowBlocks c bytes ≡ Ok o → IsWritten o text → length text ≤ file_limit → due MakeBlocks c text ≡ Ok (Bytes bytes)
-blocks_trip c bytes text o fits e written short = within MakeBlocks c text short ∙ blocks_back bytes text o fits (given_is ShowBlocks c bytes o e) written
-
-pub genesis_trip : (c : Config) (bytes text : List ℕ) (o : Output) → IsBytes bytes → due ShowGenesis c bytes ≡ Ok o → IsWritten o text → length text ≤ file_limit → due MakeGenesis c text ≡ Ok (Bytes bytes)
-genesis_trip c bytes text o fits e written short = within MakeGenesis c text short ∙ genesis_back c bytes text o fits (given_is ShowGenesis c bytes o e) written

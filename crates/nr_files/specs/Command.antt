@@ -1,15 +1,14 @@
--- The words of the command line: `blocks JSON`, `genesis CONFIG JSON`, `show genesis CONFIG FILE`, or `show blocks`, `show report`, `show part`, `show proof` or `show gathered` with FILE. The commands are this project's own.
-use Rattle.std.specs.Prelude.{ℕ, List, [], ◌∷◌, ◌++◌, map, Bool, false, cond, not, ◌&&◌, ◌==◌, Option, Some, None, codes, string_bytes}
-use Rattle.std.specs.Global.{Global}
+-- The words of the command line: `genesis CONFIG JSON`, `blocks JSON`, `show` with `genesis CONFIG FILE`, `blocks FILE`, `report FILE`, `part FILE`, `proof FILE` or `gathered FILE`, `explain WORDS..`, `help` or `version`. The commands are this project's own.
+use Rattle.std.specs.Prelude.{ℕ, List, [], ◌∷◌, cond, Option, Some, None, codes, option_and_then}
 use Rattle.std.specs.Str.{bytes_eq}
-use Rattle.std.specs.declared.string.String.{String}
+use Rattle.nr_words.specs.Forms.{Value, Text, read}
+use Rattle.nr_explain.specs.Sentences.{explained}
+use Rattle.nr_files.specs.Help.{help_text, made_forms, shown_forms, version_text}
+use Rattle.nr_files.specs.declared.command.Asked.{Asked as LentAsked}
+use Rattle.nr_files.specs.declared.command.Asked.TheVariants as lent
 use Rattle.nr_files.specs.declared.command.Request.{Request as LentRequest}
 use Rattle.nr_files.specs.declared.command.Work.{Work}
 use Rattle.nr_files.specs.declared.command.Work.TheVariants.{MakeBlocks, MakeGenesis, ShowBlocks, ShowGenesis, ShowReport, ShowPart, ShowProof, ShowGathered}
-use Rattle.nr_explain.specs.Sentences.{explained}
-
-abbrev pub texts : List (String Global) → List (List ℕ)
-texts words = map (λ word. string_bytes word) words
 
 -- what is done, under which configuration, and with which file
 pub record Request : Type 0 where
@@ -17,92 +16,75 @@ pub record Request : Type 0 where
   pub config : List ℕ
   pub file : List ℕ
 
-abbrev pub request_of : Work → List ℕ → List ℕ → Option Request
-request_of work config file = Some (record { work = work; config = config; file = file })
-
--- a word that isn't empty and doesn't begin with a dash
-abbrev pub is_plain : List ℕ → Bool
-is_plain [] = false
-is_plain (b ∷ bytes) = not (b == 45)
-
--- the word of the built-in configuration, which loads no file
-abbrev pub free_word : List ℕ
-free_word = codes "free"
-
-abbrev pub is_free : List ℕ → Bool
-is_free word = bytes_eq word free_word
-
-abbrev pub two_words : List ℕ → List ℕ → Option Request
-two_words verb file = cond (bytes_eq verb (codes "blocks") && is_plain file) (request_of MakeBlocks free_word file) None
-
--- what is shown of a file by no configuration
-abbrev pub shown_by : List ℕ → Option Work
-shown_by what =
-    cond (bytes_eq what (codes "blocks")) (Some ShowBlocks)
-    (cond (bytes_eq what (codes "report")) (Some ShowReport)
-    (cond (bytes_eq what (codes "part")) (Some ShowPart)
-    (cond (bytes_eq what (codes "proof")) (Some ShowProof)
-    (cond (bytes_eq what (codes "gathered")) (Some ShowGathered) None))))
-
-abbrev pub shown_request : Option Work → List ℕ → Option Request
-shown_request None file = None
-shown_request (Some work) file = request_of work free_word file
-
-abbrev pub three_words : List ℕ → List ℕ → List ℕ → Option Request
-three_words verb second file =
-    cond (is_plain file)
-    (cond (bytes_eq verb (codes "genesis") && is_plain second) (request_of MakeGenesis second file)
-    (cond (bytes_eq verb (codes "show")) (shown_request (shown_by second) file) None))
-    None
-
-abbrev pub four_words : List ℕ → List ℕ → List ℕ → List ℕ → Option Request
-four_words verb what config file =
-    cond (bytes_eq verb (codes "show") && (bytes_eq what (codes "genesis") && (is_plain config && is_plain file))) (request_of ShowGenesis config file) None
-
-unfoldable pub command : List (List ℕ) → Option Request
-command [] = None
-command (a ∷ []) = None
-command (a ∷ b ∷ []) = two_words a b
-command (a ∷ b ∷ c ∷ []) = three_words a b c
-command (a ∷ b ∷ c ∷ d ∷ []) = four_words a b c d
-command (a ∷ b ∷ c ∷ d ∷ e ∷ words) = None
-
--- ---- what the words ask for: nothing that there is, a file's, or a sentence
+-- what the words ask for: nothing that there is, a file's, or a text that is written
 pub data Asked : Type 0 where
   Nothing : Asked
   File : Request → Asked
-  Sentence : List ℕ → Asked
+  Written : List ℕ → Asked
 
-abbrev pub of_request : Option Request → Asked
-of_request None = Nothing
-of_request (Some r) = File r
+-- ---- what the words of a form are
+abbrev pub request : Work → List ℕ → List ℕ → Asked
+request work config name = File (record { work = work; config = config; file = name })
 
+abbrev pub with_config : Work → List Value → Asked
+with_config work (Text config ∷ Text name ∷ []) = request work config name
+with_config work values = Nothing
+
+-- under the built-in configuration, which loads no file
+abbrev pub without_config : Work → List Value → Asked
+without_config work (Text name ∷ []) = request work (codes "free") name
+without_config work values = Nothing
+
+abbrev pub made_of : List ℕ × List Value → Asked
+made_of found =
+    cond (bytes_eq found.0 (codes "genesis")) (with_config MakeGenesis found.1)
+    (cond (bytes_eq found.0 (codes "blocks")) (without_config MakeBlocks found.1) Nothing)
+
+abbrev pub shown_of : List ℕ × List Value → Asked
+shown_of found =
+    cond (bytes_eq found.0 (codes "genesis")) (with_config ShowGenesis found.1)
+    (cond (bytes_eq found.0 (codes "blocks")) (without_config ShowBlocks found.1)
+    (cond (bytes_eq found.0 (codes "report")) (without_config ShowReport found.1)
+    (cond (bytes_eq found.0 (codes "part")) (without_config ShowPart found.1)
+    (cond (bytes_eq found.0 (codes "proof")) (without_config ShowProof found.1)
+    (cond (bytes_eq found.0 (codes "gathered")) (without_config ShowGathered found.1) Nothing)))))
+
+abbrev pub by_form : (List ℕ × List Value → Asked) → Option (List ℕ × List Value) → Asked
+by_form meaning None = Nothing
+by_form meaning (Some found) = meaning found
+
+-- ---- what is written without a file
 abbrev pub of_sentence : Option (List ℕ) → Asked
 of_sentence None = Nothing
-of_sentence (Some line) = Sentence line
+of_sentence (Some text) = Written text
 
--- the words behind `explain`
-abbrev pub numbers_of : List (List ℕ) → Option (List (List ℕ))
-numbers_of [] = None
-numbers_of (verb ∷ words) = cond (bytes_eq verb (codes "explain")) (Some words) None
+-- a text, where no word stands behind its own
+abbrev pub alone : List ℕ → List (List ℕ) → Asked
+alone text [] = Written text
+alone text (word ∷ words) = Nothing
 
-abbrev pub by_numbers : Option (List (List ℕ)) → List (List ℕ) → Asked
-by_numbers None words = of_request (command words)
-by_numbers (Some numbers) words = of_sentence (explained numbers)
+-- ---- commands
+abbrev pub verb_of : List (List ℕ) → List ℕ
+verb_of [] = []
+verb_of (verb ∷ words) = verb
 
-abbrev pub meant : List (List ℕ) → Asked
-meant words = by_numbers (numbers_of words) words
+abbrev pub behind : List (List ℕ) → List (List ℕ)
+behind [] = []
+behind (verb ∷ words) = words
 
--- ---- a file's request
--- the request that lent words are
+unfoldable pub meant : List (List ℕ) → Asked
+meant words =
+    cond (bytes_eq (verb_of words) (codes "explain")) (of_sentence (explained (behind words)))
+    (cond (bytes_eq (verb_of words) (codes "help")) (alone help_text (behind words))
+    (cond (bytes_eq (verb_of words) (codes "version")) (alone version_text (behind words))
+    (cond (bytes_eq (verb_of words) (codes "show")) (by_form shown_of (read shown_forms (behind words)))
+    (by_form made_of (read made_forms words)))))
+
+-- ---- lent words
 abbrev pub request_in : LentRequest → Request
 request_in r = record { work = r.work; config = r.config.now; file = r.file.now }
 
--- the files that are loaded, in order
-abbrev pub config_files : List ℕ → List (List ℕ)
-config_files word = cond (is_free word) [] (word ∷ [])
-
-abbrev pub files_of : Asked → List (List ℕ)
-files_of Nothing = []
-files_of (Sentence line) = []
-files_of (File r) = config_files r.config ++ r.file ∷ []
+abbrev pub asked_in : LentAsked → Asked
+asked_in lent.Nothing = Nothing
+asked_in (lent.File request) = File (request_in request)
+asked_in (lent.Written text) = Written text

@@ -1,5 +1,5 @@
 -- What a file asks for: the bytes or the JSON value that are written for it, or the line that says why not. Borsh 1.0 and RFC 8259; the lines are this project's own.
-use Rattle.std.specs.Prelude.{◌≡◌, ℕ, ◌≤◌, List, length, true, false, cond, Option, Some, None, Result, Ok, Err, nat_lt, IsUtf8}
+use Rattle.std.specs.Prelude.{◌≡◌, ℕ, ◌≤◌, List, true, false, cond, Option, Some, None, Result, Ok, Err, IsUtf8}
 use Rattle.std.specs.Str.{is_utf8}
 use Rattle.json.specs.Layout.{pretty}
 use Rattle.json.specs.Lex.{tokens}
@@ -7,12 +7,11 @@ use Rattle.serde_json.specs.Data.{Data, depth}
 use Rattle.serde_json.specs.Read.{read, max_depth}
 use Rattle.serde_json.specs.Written.{IsInOrder}
 use Rattle.nr_bytes.specs.Reading.{◌>>=◌}
-use Rattle.nr_records.specs.Reading.{all_of}
 use Rattle.nr_config.specs.Config.{Config}
-use Rattle.nr_blocks.specs.Files.{blocks_at, blocks_bytes, genesis_bytes}
+use Rattle.nr_blocks.specs.Files.{genesis_bytes}
 use Rattle.nr_blocks.specs.Judging.{with_fault, genesis_read}
 use Rattle.nr_blocks.specs.Spellings.{file_of}
-use Rattle.nr_json.specs.Blocks.{blocks_json, blocks_of}
+use Rattle.nr_json.specs.ChainFiles.{stated_json, stated_of}
 use Rattle.nr_json.specs.Genesis.{genesis_json, genesis_of}
 use Rattle.nr_explain.specs.Report.{report_json}
 use Rattle.nr_gathered.specs.Files.{gathered_in}
@@ -21,7 +20,8 @@ use Rattle.nr_parts.specs.Files.{part_in}
 use Rattle.nr_files.specs.declared.command.Work.{Work}
 use Rattle.nr_files.specs.declared.command.Work.TheVariants.{MakeBlocks, MakeGenesis, ShowBlocks, ShowGenesis, ShowReport, ShowPart, ShowProof, ShowGathered}
 use Rattle.nr_files.specs.Filling.{filled, stated}
-use Rattle.nr_files.specs.Lines.{fault_line, gathered_line, genesis_line, no_json, part_line, proof_line, report_line, unread_line, too_long}
+use Rattle.nr_files.specs.Lines.{fault_line, gathered_line, genesis_line, no_json, part_line, proof_line, report_line, unread_line}
+use Rattle.nr_files.specs.Versions.{blocks_read, stated_bytes}
 use Rattle.nr_shown.specs.Gathered.{gathered_json}
 use Rattle.nr_shown.specs.Part.{part_json}
 use Rattle.nr_shown.specs.Proof.{proof_json}
@@ -58,27 +58,26 @@ value_in text = cond (is_utf8 text) (value_of (read text)) (Err no_json)
 unfoldable pub made_blocks : List ℕ → Due
 made_blocks text = do
   d ← value_in text
-  file ← with_fault fault_line (blocks_of d)
-  Ok (Bytes (blocks_bytes file))
+  file ← with_fault fault_line (stated_of d)
+  Ok (Bytes (stated_bytes file))
 
 unfoldable pub shown_blocks : List ℕ → Due
 shown_blocks bytes = do
-  file ← with_fault unread_line (all_of blocks_at bytes)
-  Ok (Json (blocks_json file))
+  file ← with_fault unread_line (blocks_read bytes)
+  Ok (Json (stated_json file))
 
 -- ---- the first state
 -- bytes that were made, where they are a genesis
-abbrev pub judged : Config → List ℕ → Result (List ℕ) (List ℕ)
+abbrev pub judged : Config → List ℕ → Due
 judged c bytes = do
   sound ← with_fault (genesis_line true) (genesis_read c bytes)
-  Ok bytes
+  Ok (Bytes bytes)
 
 unfoldable pub made_genesis : Config → List ℕ → Due
 made_genesis c text = do
   d ← value_in text
   g ← with_fault fault_line (genesis_of d)
-  bytes ← judged c (genesis_bytes (filled c g))
-  Ok (Bytes bytes)
+  judged c (genesis_bytes (filled c g))
 
 unfoldable pub shown_genesis : Config → List ℕ → Due
 shown_genesis c bytes = do
@@ -107,10 +106,7 @@ shown_gathered bytes = do
   g ← with_fault gathered_line (gathered_in bytes)
   Ok (Json (gathered_json g))
 
--- ---- at most 256 MiB
-abbrev pub file_limit : ℕ
-file_limit = 268435456
-
+-- ---- all commands
 abbrev pub of_bytes : Work → Config → List ℕ → Due
 of_bytes MakeBlocks c bytes = made_blocks bytes
 of_bytes MakeGenesis c bytes = made_genesis c bytes
@@ -120,6 +116,3 @@ of_bytes ShowReport c bytes = shown_report bytes
 of_bytes ShowPart c bytes = shown_part bytes
 of_bytes ShowProof c bytes = shown_proof bytes
 of_bytes ShowGathered c bytes = shown_gathered bytes
-
-abbrev pub due : Work → Config → List ℕ → Due
-due work c bytes = cond (nat_lt file_limit (length bytes)) (Err too_long) (of_bytes work c bytes)

@@ -1,7 +1,9 @@
+pub mod Help
 pub mod Command
-pub mod Input
 pub mod Lines
 pub mod Filling
+pub mod Versions
 pub mod Due
+pub mod Plans
 pub mod Answers
 pub mod Exit

@@ -1,7 +1,17 @@
 //! The words of the command line.
 
-ghost use Rattle.std.specs.Prelude.{◌≡◌, option_map};
-ghost use Rattle.nr_files.specs.Command.{texts, is_plain, two_words, three_words, four_words, shown_by, shown_request, command, request_in, is_free, numbers_of};
+ghost use Rattle.std.specs.Prelude.{◌≡◌, IfOk, map, option_map};
+ghost use Rattle.nr_words.specs.Words.{found_in, table_in, texts, value_in};
+ghost use Rattle.nr_explain.specs.Sentences.{explained};
+ghost use Rattle.nr_files.specs.Command.{alone, asked_in, behind, by_form, made_of, meant, of_sentence, shown_of, verb_of, with_config, without_config};
+ghost use Rattle.nr_files.specs.Help.{made_forms, shown_forms};
+ghost use Rattle.nr_words.specs.Forms.{read};
+
+use crate::help::{help_text, version_text};
+use nr_bytes::Blob;
+use nr_explain::explain;
+use nr_words::{Form, Found, Place, Value, read_words};
+use std::alloc::{AllocError, Global};
 
 /// What is done with a file.
 #[derive(Clone, Copy, Debug)]
@@ -32,128 +42,201 @@ pub(crate) struct Request<'a> {
     pub(crate) file: &'a str,
 }
 
-/// A word that isn't empty and doesn't begin with a dash.
-fn is_plain(word: &str) -> bool
-    ensures { result ≡ is_plain word.now }
+/// What the words ask for.
+#[derive(Debug, Drop)]
+pub(crate) enum Asked<'a> {
+    /// Nothing that there is.
+    Nothing,
+    /// A file is made or shown.
+    File(Request<'a>),
+    /// A text is written.
+    Written(Blob),
+}
+
+/// The commands that make a file: `genesis CONFIG JSON` and `blocks JSON`.
+const MADE: &[Form] = &[
+    Form {
+        verb: "genesis",
+        places: &[Place::File("CONFIG"), Place::File("JSON")],
+    },
+    Form {
+        verb: "blocks",
+        places: &[Place::File("JSON")],
+    },
+];
+
+/// What may stand behind `show`: `genesis CONFIG FILE`, or another word and FILE.
+const SHOWN: &[Form] = &[
+    Form {
+        verb: "genesis",
+        places: &[Place::File("CONFIG"), Place::File("FILE")],
+    },
+    Form {
+        verb: "blocks",
+        places: &[Place::File("FILE")],
+    },
+    Form {
+        verb: "report",
+        places: &[Place::File("FILE")],
+    },
+    Form {
+        verb: "part",
+        places: &[Place::File("FILE")],
+    },
+    Form {
+        verb: "proof",
+        places: &[Place::File("FILE")],
+    },
+    Form {
+        verb: "gathered",
+        places: &[Place::File("FILE")],
+    },
+];
+
+fn made_forms() -> &'static [Form]
+    ensures { table_in result.now ≡ made_forms }
 {
-    match word.as_bytes() {
-        [] => false,
-        [first, ..] => *first != b'-',
+    MADE
+}
+
+fn shown_forms() -> &'static [Form]
+    ensures { table_in result.now ≡ shown_forms }
+{
+    SHOWN
+}
+
+fn with_config<'a>(work: Work, values: &[Value<'a>]) -> Asked<'a>
+    ensures { asked_in result ≡ with_config work (map value_in values.now) }
+{
+    match values {
+        [Value::Text(config), Value::Text(file)] => Asked::File(Request { work, config, file }),
+        _ => Asked::Nothing,
     }
 }
 
-fn two_words<'a>(verb: &str, file: &'a str) -> Option<Request<'a>>
-    ensures { option_map request_in result ≡ two_words verb.now file.now }
+fn without_config<'a>(work: Work, values: &[Value<'a>]) -> Asked<'a>
+    ensures { asked_in result ≡ without_config work (map value_in values.now) }
 {
-    if verb == "blocks" && is_plain(file) {
-        Some(Request {
-            work: Work::MakeBlocks,
-            config: "free",
-            file,
-        })
-    } else {
-        None
-    }
-}
-
-/// What is shown of a file by no configuration.
-fn shown_by(what: &str) -> Option<Work>
-    ensures { result ≡ shown_by what.now }
-{
-    match what {
-        "blocks" => Some(Work::ShowBlocks),
-        "report" => Some(Work::ShowReport),
-        "part" => Some(Work::ShowPart),
-        "proof" => Some(Work::ShowProof),
-        "gathered" => Some(Work::ShowGathered),
-        _ => None,
-    }
-}
-
-fn shown_request<'a>(work: Option<Work>, file: &'a str) -> Option<Request<'a>>
-    ensures { option_map request_in result ≡ shown_request work file.now }
-{
-    match work {
-        Some(work) => Some(Request {
+    match values {
+        [Value::Text(file)] => Asked::File(Request {
             work,
             config: "free",
             file,
         }),
-        None => None,
+        _ => Asked::Nothing,
     }
 }
 
-fn three_words<'a>(verb: &str, second: &'a str, file: &'a str) -> Option<Request<'a>>
-    ensures { option_map request_in result ≡ three_words verb.now second.now file.now }
+fn made_of<'a>(found: &Found<'a>) -> Asked<'a>
+    ensures { asked_in result ≡ made_of (found_in found.now) }
 {
-    if !is_plain(file) {
-        return None;
+    let values = found.values.as_slice();
+    match found.verb {
+        "genesis" => with_config(Work::MakeGenesis, values),
+        "blocks" => without_config(Work::MakeBlocks, values),
+        _ => Asked::Nothing,
     }
-    if verb == "genesis" && is_plain(second) {
-        return Some(Request {
-            work: Work::MakeGenesis,
-            config: second,
-            file,
-        });
-    }
-    if verb == "show" {
-        return shown_request(shown_by(second), file);
-    }
-    None
 }
 
-fn four_words<'a>(verb: &str, what: &str, config: &'a str, file: &'a str) -> Option<Request<'a>>
-    ensures { option_map request_in result ≡ four_words verb.now what.now config.now file.now }
+fn shown_of<'a>(found: &Found<'a>) -> Asked<'a>
+    ensures { asked_in result ≡ shown_of (found_in found.now) }
 {
-    if verb == "show" && what == "genesis" && is_plain(config) && is_plain(file) {
-        Some(Request {
-            work: Work::ShowGenesis,
-            config,
-            file,
-        })
-    } else {
-        None
+    let values = found.values.as_slice();
+    match found.verb {
+        "genesis" => with_config(Work::ShowGenesis, values),
+        "blocks" => without_config(Work::ShowBlocks, values),
+        "report" => without_config(Work::ShowReport, values),
+        "part" => without_config(Work::ShowPart, values),
+        "proof" => without_config(Work::ShowProof, values),
+        "gathered" => without_config(Work::ShowGathered, values),
+        _ => Asked::Nothing,
     }
 }
 
-/// What the words ask for, where they are a command.
-#[tactic(auto, unfolding(crate::specs::Command::command))]
-pub(crate) fn command_of(words: &[String]) -> Option<Request<'_>>
-    ensures { option_map request_in result ≡ command (texts words.now) }
+/// What words that make a file ask for.
+fn made(alloc: Global, words: &[String]) -> Result<Asked<'_>, AllocError>
+    ensures { IfOk result (λ asked. asked_in asked ≡ by_form made_of (read made_forms (texts words.now))) }
 {
-    match words {
-        [verb, file] => two_words(verb.as_str(), file.as_str()),
-        [verb, second, file] => three_words(verb.as_str(), second.as_str(), file.as_str()),
-        [verb, what, config, file] => four_words(
-            verb.as_str(),
-            what.as_str(),
-            config.as_str(),
-            file.as_str(),
-        ),
-        [_, _, _, _, _, ..] => None,
-        _ => None,
+    match read_words(alloc, "near_files", made_forms(), words)? {
+        Some(found) => Ok(made_of(&found)),
+        None => Ok(Asked::Nothing),
     }
 }
 
-/// The words behind `explain`, where it is the first one.
-pub(crate) fn numbers_of(words: &[String]) -> Option<&[String]>
-    ensures { option_map (λ numbers. texts numbers.now) result ≡ numbers_of (texts words.now) }
+/// What the words behind `show` ask for.
+fn shown(alloc: Global, words: &[String]) -> Result<Asked<'_>, AllocError>
+    ensures { IfOk result (λ asked. asked_in asked ≡ by_form shown_of (read shown_forms (texts words.now))) }
+{
+    match read_words(alloc, "near_files", shown_forms(), words)? {
+        Some(found) => Ok(shown_of(&found)),
+        None => Ok(Asked::Nothing),
+    }
+}
+
+/// What a word asks for that stands alone: its text.
+fn alone<'a>(alloc: Global, text: &str, words: &[String]) -> Result<Asked<'a>, AllocError>
+    ensures { IfOk result (λ asked. asked_in asked ≡ alone text.now (texts words.now)) }
 {
     match words {
-        [verb, numbers @ ..] => {
-            if verb.as_str() == "explain" {
-                Some(numbers)
-            } else {
-                None
-            }
+        [] => {
+            let bytes = Vec::from_slice(alloc, text.as_bytes())?;
+            Ok(Asked::Written(Blob::of(bytes)))
         }
-        [] => None,
+        [_, ..] => Ok(Asked::Nothing),
     }
 }
 
-/// The word for the built-in configuration, which loads nothing.
-pub(crate) fn is_free(word: &str) -> bool
-    ensures { result ≡ is_free word.now }
+fn of_sentence<'a>(sentence: Option<Blob>) -> Asked<'a>
+    ensures { asked_in result ≡ of_sentence sentence }
 {
-    word == "free"
+    match sentence {
+        Some(text) => Asked::Written(text),
+        None => Asked::Nothing,
+    }
+}
+
+/// What the words behind `explain` ask for.
+fn explained<'a>(alloc: Global, words: &[String]) -> Result<Asked<'a>, AllocError>
+    ensures { IfOk result (λ asked. asked_in asked ≡ of_sentence (explained (texts words.now))) }
+{
+    let sentence = explain(alloc, words)?;
+    Ok(of_sentence(sentence))
+}
+
+/// The first word, or an empty one where there is none.
+fn verb_of(words: &[String]) -> &str
+    ensures { result.now ≡ verb_of (texts words.now) }
+{
+    match words {
+        [verb, ..] => verb.as_str(),
+        [] => "",
+    }
+}
+
+/// The words behind the first one.
+fn behind(words: &[String]) -> &[String]
+    ensures { texts result.now ≡ behind (texts words.now) }
+{
+    match words {
+        [_, rest @ ..] => rest,
+        [] => words,
+    }
+}
+
+/// What the words ask for.
+///
+/// # Errors
+///
+/// Where memory runs out.
+#[tactic(auto, unfolding(crate::specs::Command::meant))]
+pub(crate) fn asked_of(alloc: Global, words: &[String]) -> Result<Asked<'_>, AllocError>
+    ensures { IfOk result (λ asked. asked_in asked ≡ meant (texts words.now)) }
+{
+    match verb_of(words) {
+        "explain" => explained(alloc, behind(words)),
+        "help" => alone(alloc, help_text(), behind(words)),
+        "version" => alone(alloc, version_text(), behind(words)),
+        "show" => shown(alloc, behind(words)),
+        _ => made(alloc, words),
+    }
 }

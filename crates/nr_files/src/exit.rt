@@ -8,7 +8,7 @@ use std::fmt;
 
 impl Status {
     /// The exit status of a program that ends with this answer: 0 `Done`, 1 `Usage`, 2 `Config`,
-    /// 5 `ReadFault`, 6 `WriteFault`, 7 `NoMemory` and 20 `Faulty`.
+    /// 5 `ReadFault`, 6 `WriteFault`, 7 `NoMemory`, 20 `TooLong` and `Faulty`.
     pub fn exit_status(&self) -> u8
         ensures { result ≡ exit_status self.now }
     {
@@ -19,6 +19,7 @@ impl Status {
             Status::ReadFault => 5,
             Status::WriteFault => 6,
             Status::NoMemory => 7,
+            Status::TooLong => 20,
             Status::Faulty { .. } => 20,
         }
     }
@@ -33,6 +34,7 @@ impl fmt::Display for Status {
         let number = self.exit_status();
         match self {
             Status::Config { kind, entry } => write!(f, "{number} {kind} {entry}"),
+            Status::TooLong => f.write_str("the file is longer than 268435456 bytes"),
             Status::Faulty { line } => f.write_str(line.inner()),
             Status::Done => write!(f, "{number}"),
             Status::Usage => write!(f, "{number}"),

@@ -4,16 +4,18 @@
 
 mod answer;
 mod command;
-mod configuration;
 mod counting;
 mod exit;
+mod fault;
 mod filling;
+mod help;
 mod laws;
+mod output;
 mod status;
 mod telling;
 mod top;
-mod writing;
+mod versions;
 
-pub use laws::round_trips;
+pub use laws::{asked_law, round_trips};
 pub use status::Status;
 pub use top::serve_files;

@@ -1,4 +1,5 @@
 use nr_bytes::Text;
+use nr_configfile::ConfigRefusal;
 
 /// How a call ended.
 #[derive(Debug, Drop)]
@@ -11,7 +12,9 @@ pub enum Status {
     /// object, 2 where an entry is missing, 3 where it is no whole number, and 4 where it is outside
     /// its bounds. The entry counts from 1, and is 0 for the kinds 0 and 1.
     Config { kind: u32, entry: u32 },
-    /// The file is refused, and this says why: the path of a member and what is wrong with it.
+    /// The file is longer than 256 MiB.
+    TooLong,
+    /// The file is refused, and this says why: the path of a member or the place of a byte, and what is wrong.
     Faulty { line: Text },
     /// A file could not be read.
     ReadFault,
@@ -19,4 +22,17 @@ pub enum Status {
     WriteFault,
     /// Memory ran out.
     NoMemory,
+}
+
+impl ConfigRefusal for Status {
+    ghost use Rattle.nr_files.specs.Answers.{refuses};
+    ghost use Rattle.nr_files.specs.declared.status.Status.TheVariants.{Config};
+
+    ghost refuses = { refuses };
+
+    ghost refusal = { λ kind entry. Config kind entry };
+
+    fn of_config(kind: u32, entry: u32) -> Self {
+        Status::Config { kind, entry }
+    }
 }

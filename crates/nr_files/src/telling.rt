@@ -2,8 +2,8 @@
 
 ghost use Rattle.std.specs.Prelude.{◌≡◌, IfOk, string_bytes};
 ghost use Rattle.nr_files.specs.Answers.{Tells, TellsText};
-ghost use Rattle.nr_files.specs.Lines.{subject, fault_line, at_line, gathered_line, too_long, unread_line, entry_line, genesis_line, part_line, proof_line, report_line, usage_words};
-ghost use Rattle.nr_files.specs.declared.status.Status.TheVariants.{NoMemory};
+ghost use Rattle.nr_files.specs.Lines.{subject, fault_line, at_line, gathered_line, unread_line, entry_line, genesis_line, part_line, proof_line, report_line, usage_words};
+ghost use Rattle.nr_files.specs.declared.fault.Fault.TheVariants.{Memory};
 ghost use Rattle.nr_json.specs.declared.fault.JsonFault.TheVariants as json;
 ghost use Rattle.nr_records.specs.declared.fault.RecordFault.TheVariants as record_faults;
 ghost use Rattle.nr_blocks.specs.declared.fault.GenesisFault.TheVariants as genesis;
@@ -12,7 +12,7 @@ ghost use Rattle.nr_outproof.specs.declared.fault.ProofFault.TheVariants as proo
 ghost use Rattle.nr_parts.specs.declared.fault.PartFault.TheVariants as part;
 ghost use Rattle.nr_gathered.specs.declared.fault.GatheredFault.TheVariants as gathered;
 
-use crate::status::Status;
+use crate::fault::Fault;
 use nr_blocks::GenesisFault;
 use nr_bytes::Text;
 use nr_explain::ReportFault;
@@ -24,30 +24,21 @@ use nr_records::RecordFault;
 use std::alloc::{AllocError, Global};
 use std::fmt::Write;
 
-fn told(text: Result<String, AllocError>) -> Status
+fn told(text: Result<String, AllocError>) -> Fault
     ensures { TellsText result text }
 {
     match text {
-        Ok(line) => Status::Faulty {
-            line: Text::of(line),
-        },
-        Err(_) => Status::NoMemory,
+        Ok(line) => Fault::Words(Text::of(line)),
+        Err(_) => Fault::Memory,
     }
 }
 
 /// A line of these words.
 #[tactic(auto, using(crate::proofs::Steps::tells_text))]
-pub(crate) fn faulty(alloc: Global, words: &str) -> Status
+pub(crate) fn faulty(alloc: Global, words: &str) -> Fault
     ensures { Tells result words.now }
 {
     told(String::from_str(alloc, words))
-}
-
-/// The line of a file that is longer than its limit.
-pub(crate) fn too_long(alloc: Global) -> Status
-    ensures { Tells result too_long }
-{
-    faulty(alloc, "the file is longer than 268435456 bytes")
 }
 
 fn subject(path: &str) -> &str
@@ -68,13 +59,13 @@ fn fault_text(alloc: Global, path: &str, wrong: Wrong) -> Result<String, AllocEr
 
 /// The line of a faulty JSON value.
 #[tactic(auto, using(crate::proofs::Steps::tells_text))]
-pub(crate) fn json_status(alloc: Global, fault: JsonFault) -> Status
+pub(crate) fn json_words(alloc: Global, fault: JsonFault) -> Fault
     ensures tells { Tells result (fault_line fault) }
-    ensures memory { fault ≡ json.Memory → result ≡ NoMemory }
+    ensures memory { fault ≡ json.Memory → result ≡ Memory }
 {
     match fault {
         JsonFault::At { path, wrong } => told(fault_text(alloc, path.inner(), wrong)),
-        JsonFault::Memory => Status::NoMemory,
+        JsonFault::Memory => Fault::Memory,
     }
 }
 
@@ -88,9 +79,9 @@ fn at_text(alloc: Global, at: u64) -> Result<String, AllocError>
 
 /// The line of a file that can't be read.
 #[tactic(auto, using(crate::proofs::Steps::tells_text))]
-pub(crate) fn unread_status(alloc: Global, fault: RecordFault) -> Status
+pub(crate) fn unread_words(alloc: Global, fault: RecordFault) -> Fault
     ensures tells { Tells result (unread_line fault) }
-    ensures memory { fault ≡ record_faults.Memory → result ≡ NoMemory }
+    ensures memory { fault ≡ record_faults.Memory → result ≡ Memory }
 {
     match fault {
         RecordFault::Short { at } => told(at_text(alloc, at as u64)),
@@ -101,7 +92,7 @@ pub(crate) fn unread_status(alloc: Global, fault: RecordFault) -> Status
         RecordFault::Stake { at } => told(at_text(alloc, at as u64)),
         RecordFault::TooManyBoundaries { at } => told(at_text(alloc, at as u64)),
         RecordFault::BoundaryOrder { at } => told(at_text(alloc, at as u64)),
-        RecordFault::Memory => Status::NoMemory,
+        RecordFault::Memory => Fault::Memory,
     }
 }
 
@@ -115,13 +106,13 @@ fn report_text(alloc: Global, line: u64) -> Result<String, AllocError>
 
 /// The line of a text that is no report.
 #[tactic(auto, using(crate::proofs::Steps::tells_text))]
-pub(crate) fn report_status(alloc: Global, fault: ReportFault) -> Status
+pub(crate) fn report_words(alloc: Global, fault: ReportFault) -> Fault
     ensures tells { Tells result (report_line fault) }
-    ensures memory { fault ≡ report.Memory → result ≡ NoMemory }
+    ensures memory { fault ≡ report.Memory → result ≡ Memory }
 {
     match fault {
         ReportFault::NoLine { line } => told(report_text(alloc, line)),
-        ReportFault::Memory => Status::NoMemory,
+        ReportFault::Memory => Fault::Memory,
     }
 }
 
@@ -135,21 +126,21 @@ fn proof_text(alloc: Global, line: u64) -> Result<String, AllocError>
 
 /// The line of a text that is no proof.
 #[tactic(auto, using(crate::proofs::Steps::tells_text))]
-pub(crate) fn proof_status(alloc: Global, fault: ProofFault) -> Status
+pub(crate) fn proof_words(alloc: Global, fault: ProofFault) -> Fault
     ensures tells { Tells result (proof_line fault) }
-    ensures memory { fault ≡ proof.Memory → result ≡ NoMemory }
+    ensures memory { fault ≡ proof.Memory → result ≡ Memory }
 {
     match fault {
         ProofFault::Form { line } => told(proof_text(alloc, line)),
-        ProofFault::Memory => Status::NoMemory,
+        ProofFault::Memory => Fault::Memory,
     }
 }
 
 /// The line of a file that is no part of a state. The faults of a part that was read don't come up.
 #[tactic(auto, using(crate::proofs::Steps::tells_text))]
-pub(crate) fn part_status(alloc: Global, fault: PartFault) -> Status
+pub(crate) fn part_words(alloc: Global, fault: PartFault) -> Fault
     ensures tells { Tells result (part_line fault) }
-    ensures memory { fault ≡ part.Memory → result ≡ NoMemory }
+    ensures memory { fault ≡ part.Memory → result ≡ Memory }
 {
     match fault {
         PartFault::Spelling { at } => told(at_text(alloc, at)),
@@ -161,20 +152,20 @@ pub(crate) fn part_status(alloc: Global, fault: PartFault) -> Status
         | PartFault::Order { .. }
         | PartFault::Whole { .. }
         | PartFault::TooMany => faulty(alloc, "the file is no part of a state"),
-        PartFault::Memory => Status::NoMemory,
+        PartFault::Memory => Fault::Memory,
     }
 }
 
 /// The line of a file that is no gathered chunk.
 #[tactic(auto, using(crate::proofs::Steps::tells_text))]
-pub(crate) fn gathered_status(alloc: Global, fault: GatheredFault) -> Status
+pub(crate) fn gathered_words(alloc: Global, fault: GatheredFault) -> Fault
     ensures tells { Tells result (gathered_line fault) }
-    ensures memory { fault ≡ gathered.Memory → result ≡ NoMemory }
+    ensures memory { fault ≡ gathered.Memory → result ≡ Memory }
 {
     match fault {
         GatheredFault::Spelling { at } => told(at_text(alloc, at)),
         GatheredFault::Stake { at } => told(at_text(alloc, at)),
-        GatheredFault::Memory => Status::NoMemory,
+        GatheredFault::Memory => Fault::Memory,
     }
 }
 
@@ -199,9 +190,9 @@ fn usage_text(alloc: Global, index: u64, stated: u64, counted: u64) -> Result<St
 
 /// The line of a genesis that is refused: one that was made of a JSON value, or one that was read.
 #[tactic(auto, using(crate::proofs::Steps::tells_text))]
-pub(crate) fn genesis_status(alloc: Global, made: bool, fault: GenesisFault) -> Status
+pub(crate) fn genesis_words(alloc: Global, made: bool, fault: GenesisFault) -> Fault
     ensures tells { Tells result (genesis_line made fault) }
-    ensures memory { fault ≡ genesis.Memory → result ≡ NoMemory }
+    ensures memory { fault ≡ genesis.Memory → result ≡ Memory }
 {
     match fault {
         GenesisFault::Spelling { at } => if made {
@@ -229,6 +220,6 @@ pub(crate) fn genesis_status(alloc: Global, made: bool, fault: GenesisFault) -> 
             index,
             ".code_hash isn't the SHA-256 of the code",
         )),
-        GenesisFault::Memory => Status::NoMemory,
+        GenesisFault::Memory => Fault::Memory,
     }
 }

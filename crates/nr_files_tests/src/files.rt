@@ -37,6 +37,18 @@ const PRICED_HEX: &str =
     0003000000626f6200000000000000000000000000000000000000000000000000000000000000000100000003\
     0500000000000000000000000000000002000000000000000700000000000000ffffffffffffffff0100000000";
 
+/// An empty block at each of two heights, and other boundaries from the second one on.
+const RESHARDED: &str =
+    "{\"version\": 3, \"reshard\": {\"height\": 2, \"boundaries\": [\"mm\"]}, \"blocks\": [\
+    {\"height\": 1, \"timestamp\": 9, \"price\": 5, \"chunks\": [[]]},\
+    {\"height\": 2, \"timestamp\": 9, \"price\": 7, \"chunks\": [[], null]}]}";
+
+/// The bytes of these blocks.
+const RESHARDED_BYTES: &[u8] = b"\
+    NRB3\x01\x02\0\0\0\0\0\0\0\x01\0\0\0\x02\0\0\0mm\x02\0\0\0\
+    \x01\0\0\0\0\0\0\0\x09\0\0\0\0\0\0\0\x05\0\0\0\0\0\0\0\x01\0\0\0\x01\0\0\0\0\
+    \x02\0\0\0\0\0\0\0\x09\0\0\0\0\0\0\0\x07\0\0\0\0\0\0\0\x02\0\0\0\x01\0\0\0\0\0";
+
 /// A genesis with alice, who has a key, and bob. What may be left out is left out.
 const GENESIS: &str = "{\"boundaries\": [], \"entries\": [\
     {\"kind\": \"account\", \"account_id\": \"alice\", \"amount\": \"100\", \"locked\": \"0\"},\
@@ -182,10 +194,11 @@ fn prices_are_made_and_shown(rt: HostRuntime) -> Result<(), Fail> {
 #[test]
 fn a_version_stands_without_blocks(rt: HostRuntime) -> Result<(), Fail> {
     let alloc = rt.alloc();
-    let rows: [(&str, &[u8]); 3] = [
+    let rows: [(&str, &[u8]); 4] = [
         ("{\"blocks\": []}", b"NRB1\0\0\0\0"),
         ("{\"version\": 1, \"blocks\": []}", b"NRB1\0\0\0\0"),
         ("{\"version\": 2, \"blocks\": []}", b"NRB2\0\0\0\0"),
+        ("{\"version\": 3, \"blocks\": []}", b"NRB3\0\0\0\0\0"),
     ];
     for (text, want) in rows {
         let (made, bytes) = ended(alloc, &["blocks", "F"], text.as_bytes())?;
@@ -197,6 +210,60 @@ fn a_version_stands_without_blocks(rt: HostRuntime) -> Result<(), Fail> {
         assert_eq!(rt; again.exit_status(), 0);
         assert!(rt; same.as_slice() == want);
     }
+    Ok(())
+}
+
+#[test]
+fn other_boundaries_are_made_and_shown(rt: HostRuntime) -> Result<(), Fail> {
+    let alloc = rt.alloc();
+    let (made, bytes) = ended(alloc, &["blocks", "F"], RESHARDED.as_bytes())?;
+    assert_eq!(rt; made.exit_status(), 0);
+    assert_eq!(rt; bytes.as_slice(), RESHARDED_BYTES);
+    let (shown, text) = ended(alloc, &["show", "blocks", "F"], RESHARDED_BYTES)?;
+    assert_eq!(rt; shown.exit_status(), 0);
+    let (again, same) = ended(alloc, &["blocks", "F"], &text)?;
+    assert_eq!(rt; again.exit_status(), 0);
+    assert!(rt; same == bytes);
+    Ok(())
+}
+
+#[test]
+fn other_boundaries_stand_by_the_version(rt: HostRuntime) -> Result<(), Fail> {
+    let alloc = rt.alloc();
+    let rows: [(&str, &str); 6] = [
+        (
+            "{\"blocks\": [], \"reshard\": {\"height\": 2, \"boundaries\": [\"mm\"]}}",
+            ".reshard is in no file of version 1 or 2",
+        ),
+        (
+            "{\"version\": 2, \"blocks\": [], \"reshard\": null}",
+            ".reshard is in no file of version 1 or 2",
+        ),
+        (
+            "{\"version\": 3, \"blocks\": [], \"reshard\": null}",
+            ".reshard is no object",
+        ),
+        (
+            "{\"version\": 3, \"blocks\": [], \"reshard\": {\"height\": 2}}",
+            ".reshard.boundaries is missing",
+        ),
+        (
+            "{\"version\": 3, \"blocks\": [], \"reshard\": {\"height\": 2, \"boundaries\": [\"mm\", \"ab\"]}}",
+            ".reshard.boundaries are more than 15, or one isn't above the one before it",
+        ),
+        (
+            "{\"version\": 3, \"blocks\": [{\"height\": 1, \"timestamp\": 0, \"chunks\": []}]}",
+            ".blocks[0].price is missing",
+        ),
+    ];
+    for (text, line) in rows {
+        assert!(rt; refuses(alloc, &["blocks", "F"], text, line)?, "{text}");
+    }
+    let (cut, _) = ended(alloc, &["show", "blocks", "F"], b"NRB3\x02")?;
+    assert_eq!(rt;
+        format!(in alloc; "{cut}")?.as_str(),
+        "the field at byte 4 can't be read"
+    );
     Ok(())
 }
 
@@ -223,8 +290,8 @@ fn prices_stand_by_the_version(rt: HostRuntime) -> Result<(), Fail> {
             ".blocks[0].price is in no block of version 1",
         ),
         (
-            "{\"version\": 3, \"blocks\": []}",
-            ".version is no version: 1 or 2",
+            "{\"version\": 4, \"blocks\": []}",
+            ".version is no version: 1, 2 or 3",
         ),
         (
             "{\"blocks\": [{\"height\": 1, \"timestamp\": 0, \"price\": null, \"chunks\": []}]}",
@@ -330,6 +397,39 @@ fn entries_that_do_not_hold_together_are_told(rt: HostRuntime) -> Result<(), Fai
             refuses(alloc, &["genesis", "free", "F"], text, line)?,
             "{text}"
         );
+    }
+    Ok(())
+}
+
+#[test]
+fn words_are_told(rt: HostRuntime) -> Result<(), Fail> {
+    let alloc = rt.alloc();
+    let (told, version) = ended(alloc, &["version"], b"")?;
+    assert_eq!(rt; told.exit_status(), 0);
+    assert_eq!(rt; version.as_slice(), b"near_files 0.1.0\n".as_slice());
+    let (helped, help) = ended(alloc, &["help"], b"")?;
+    assert_eq!(rt; helped.exit_status(), 0);
+    assert!(rt; help.starts_with(b"near_files genesis CONFIG JSON\n"));
+    Ok(())
+}
+
+#[test]
+fn words_and_files_are_refused_in_order(rt: HostRuntime) -> Result<(), Fail> {
+    let alloc = rt.alloc();
+    let rows: [(&[&str], &str); 8] = [
+        (&[], "1"),
+        (&["help", "gen"], "1"),
+        (&["version", "1"], "1"),
+        (&["blocks", "-F"], "1"),
+        (&["genesis", "", "G"], "1"),
+        (&["genesis", "C", "F"], "5"),
+        (&["genesis", "F", "G"], "2 1 0"),
+        (&["genesis", "free", "G"], "5"),
+    ];
+    for (words, line) in rows {
+        let (status, written) = ended(alloc, words, b"")?;
+        assert_eq!(rt; format!(in alloc; "{status}")?.as_str(), line);
+        assert!(rt; written.is_empty());
     }
     Ok(())
 }

@@ -15,7 +15,7 @@ use Rattle.serde_json.specs.Data.{Data, string, object, Members}
 use Rattle.serde_json.specs.Find.{get_member}
 use Rattle.nr_json.specs.Faults.{Read}
 use Rattle.nr_json.specs.Fits.{FitsTransaction}
-use Rattle.nr_json.specs.FitsFiles.{FitsBlock, FitsBlocks, FitsEntry, FitsGenesis}
+use Rattle.nr_json.specs.FitsFiles.{FitsBlock, FitsEntry, FitsGenesis}
 use Rattle.nr_json.specs.Members.{member_of, optional_of}
 use Rattle.nr_json.specs.Plain.{number_of, amount_json, amount_of, text_of, bytes_json, bytes_of}
 use Rattle.nr_json.specs.Keys.{id_of, hash_json, hash_of, key_json, key_of}
@@ -44,7 +44,7 @@ block_case height timestamp None chunks fits =
 block_case height timestamp (Some price) chunks fits =
     rw (member_is (codes "chunks") (list_of chunk_of) (block_members (block_with height timestamp (Some price) chunks)) (list_json chunk_json chunks) chunks refl (list_law chunk_json chunk_of (IsOption (AllByRecursion FitsTransaction)) chunk_law chunks fits)) refl
 
-block_law : (version : Version) → Law block_json block_of (FitsBlock version)
+pub block_law : (version : Version) → Law block_json block_of (FitsBlock version)
 block_law version b fits = block_case b.height.0 b.timestamp b.price b.chunks fits.1
 
 price_passes : (version : Version) (price : Option ℕ) → IsPrice version price → price_in version price ≡ Ok tt
@@ -53,7 +53,7 @@ price_passes One (Some price) fits = absurd fits
 price_passes Two None fits = absurd fits
 price_passes Two (Some price) fits = refl
 
-prices_pass : (version : Version) (n : ℕ) (bs : List Block) → AllByRecursion (FitsBlock version) bs → each_from (has_price version) n bs ≡ Ok tt
+pub prices_pass : (version : Version) (n : ℕ) (bs : List Block) → AllByRecursion (FitsBlock version) bs → each_from (has_price version) n bs ≡ Ok tt
 unfolding each_from
 prices_pass version n [] all = refl
 prices_pass version n (b ∷ bs) all = rw (price_passes version b.price all.0.0, prices_pass version (n + 1) bs all.1) refl
@@ -70,21 +70,18 @@ first_says : (bs : List Block) → AllByRecursion (FitsBlock One) bs → version
 first_says [] all = refl
 first_says (b ∷ bs) all = version_of_none b.price all.0.0
 
-abbrev file_with : Version → List Block → BlocksFile
+abbrev pub file_with : Version → List Block → BlocksFile
 file_with version blocks = record { version = version; blocks = blocks }
 
-blocks_case : (version : Version) (bs : List Block) → AllByRecursion (FitsBlock version) bs → blocks_of (blocks_json (file_with version bs)) ≡ Ok (file_with version bs)
+pub blocks_case : (version : Version) (bs : List Block) → AllByRecursion (FitsBlock version) bs → blocks_of (blocks_json (file_with version bs)) ≡ Ok (file_with version bs)
 unfolding blocks_of
 blocks_case One bs fits =
     rw (member_is (codes "blocks") (list_of block_of) (blocks_members (file_with One bs)) (list_json block_json bs) bs refl (list_law block_json block_of (FitsBlock One) (block_law One) bs fits), first_says bs fits) (file_is One bs fits)
 blocks_case Two bs fits =
     rw (member_is (codes "blocks") (list_of block_of) (blocks_members (file_with Two bs)) (list_json block_json bs) bs refl (list_law block_json block_of (FitsBlock Two) (block_law Two) bs fits)) (file_is Two bs fits)
 
-pub blocks_law : Law blocks_json blocks_of FitsBlocks
-blocks_law file fits = blocks_case file.version file.blocks fits
-
 -- ---- the first state
-optional_is : {X : Type 0} (name : List ℕ) (reading : Data → Read X) (ms : Members) (d : Data) (x : X) → get_member name ms ≡ Some d → reading d ≡ Ok x → optional_of name reading (object ms) ≡ Ok (Some x)
+pub optional_is : {X : Type 0} (name : List ℕ) (reading : Data → Read X) (ms : Members) (d : Data) (x : X) → get_member name ms ≡ Some d → reading d ≡ Ok x → optional_of name reading (object ms) ≡ Ok (Some x)
 optional_is name reading ms d x e h = rw (e, h) refl
 
 optional_not : {X : Type 0} (name : List ℕ) (reading : Data → Read X) (ms : Members) → get_member name ms ≡ None → optional_of name reading (object ms) ≡ Ok None

@@ -4,3 +4,4 @@ pub mod Only
 pub mod PlainLaws
 pub mod RecordLaws
 pub mod FileLaws
+pub mod ChainLaws

@@ -6,9 +6,14 @@ use Rattle.nr_blocks.specs.BlocksFiles.{IsPrice}
 use Rattle.nr_blocks.specs.declared.block.Block.{Block}
 use Rattle.nr_blocks.specs.declared.blocks_file.BlocksFile.{BlocksFile}
 use Rattle.nr_blocks.specs.declared.version.Version.{Version}
+use Rattle.nr_blocks.specs.declared.version.Version.TheVariants.{Two}
 use Rattle.nr_records.specs.Ids.{IsId}
 use Rattle.nr_records.specs.Options.{IsOption}
+use Rattle.nr_reshard.specs.Files.{IsReshard}
+use Rattle.nr_reshard.specs.declared.chain_file.ChainFile.{ChainFile}
 use Rattle.nr_json.specs.Fits.{FitsHash, FitsKey, FitsPermission, FitsTransaction}
+use Rattle.nr_json.specs.declared.chain_file.StatedBlocks.{StatedBlocks}
+use Rattle.nr_json.specs.declared.chain_file.StatedBlocks.TheVariants.{Plain, Third}
 use Rattle.nr_json.specs.declared.genesis.StatedAccount.{StatedAccount}
 use Rattle.nr_json.specs.declared.genesis.StatedEntry.{StatedEntry}
 use Rattle.nr_json.specs.declared.genesis.StatedEntry.TheVariants.{Account, Code, Key, Datum}
@@ -20,6 +25,13 @@ FitsBlock version b = IsPrice version b.price × AllByRecursion (IsOption (AllBy
 
 abbrev pub FitsBlocks : BlocksFile → Type 0
 FitsBlocks file = AllByRecursion (FitsBlock file.version) file.blocks
+
+abbrev pub FitsThird : ChainFile → Type 0
+FitsThird file = AllByRecursion (FitsBlock Two) file.blocks × IsOption IsReshard file.reshard
+
+abbrev pub FitsStated : StatedBlocks → Type 0
+FitsStated (Plain file) = FitsBlocks file
+FitsStated (Third file) = FitsThird file
 
 -- ---- the first state
 abbrev pub FitsAccount : StatedAccount → Type 0

@@ -10,6 +10,7 @@ pub mod AccessKeys
 pub mod Actions
 pub mod Transactions
 pub mod Blocks
+pub mod ChainFiles
 pub mod Genesis
 pub mod Fits
 pub mod FitsFiles

@@ -1,7 +1,7 @@
 -- What is wrong with a value, in words that follow its path. This project's own.
 use Rattle.std.specs.Prelude.{ℕ, List, codes}
 use Rattle.nr_json.specs.declared.fault.Wrong.{Wrong}
-use Rattle.nr_json.specs.declared.fault.Wrong.TheVariants.{Missing, NoObject, NoList, NoText, NoNumber, NoAmount, NoBytes, NoHash, NoKey, NoAccountId, NoAction, NoPermission, NoKind, NoVersion, NoPrice}
+use Rattle.nr_json.specs.declared.fault.Wrong.TheVariants.{Missing, NoObject, NoList, NoText, NoNumber, NoAmount, NoBytes, NoHash, NoKey, NoAccountId, NoAction, NoPermission, NoKind, NoVersion, NoPrice, NoReshard, NoBoundaries}
 
 abbrev pub words : Wrong → List ℕ
 words Missing = codes "is missing"
@@ -17,5 +17,7 @@ words NoAccountId = codes "is no account id"
 words NoAction = codes "is no action"
 words NoPermission = codes "is no permission"
 words NoKind = codes "is no kind of entry: `account`, `code`, `key` or `datum`"
-words NoVersion = codes "is no version: 1 or 2"
+words NoVersion = codes "is no version: 1, 2 or 3"
 words NoPrice = codes "is in no block of version 1"
+words NoReshard = codes "is in no file of version 1 or 2"
+words NoBoundaries = codes "are more than 15, or one isn't above the one before it"

@@ -132,7 +132,11 @@ fn has_price(alloc: Global, version: Version, number: usize, block: &Block) -> R
 
 /// Each block has a price exactly where the version has one.
 #[tactic(auto, using(nr_blocks::proofs::Turns::each_begins, nr_blocks::proofs::Turns::each_ends))]
-fn all_have_price(alloc: Global, version: Version, blocks: &[Block]) -> Result<(), JsonFault>
+pub(crate) fn all_have_price(
+    alloc: Global,
+    version: Version,
+    blocks: &[Block],
+) -> Result<(), JsonFault>
     ensures { Gives Memory result (each (has_price version) blocks.now) }
 {
     for number in 0..blocks.len() {

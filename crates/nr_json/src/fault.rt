@@ -38,10 +38,14 @@ pub enum Wrong {
     NoPermission,
     /// It is no kind of entry: `account`, `code`, `key` or `datum`.
     NoKind,
-    /// It is no version of a blocks file: 1 or 2.
+    /// It is no version of a blocks file: 1, 2 or 3.
     NoVersion,
     /// It is the price of a block, and blocks of version 1 have none.
     NoPrice,
+    /// It tells other boundaries, and a file of version 1 or 2 has none.
+    NoReshard,
+    /// It is no list of at most 15 account ids, each above the one before it in byte order.
+    NoBoundaries,
 }
 
 impl Wrong {
@@ -67,8 +71,10 @@ impl Wrong {
             Wrong::NoAction => "is no action",
             Wrong::NoPermission => "is no permission",
             Wrong::NoKind => "is no kind of entry: `account`, `code`, `key` or `datum`",
-            Wrong::NoVersion => "is no version: 1 or 2",
+            Wrong::NoVersion => "is no version: 1, 2 or 3",
             Wrong::NoPrice => "is in no block of version 1",
+            Wrong::NoReshard => "is in no file of version 1 or 2",
+            Wrong::NoBoundaries => "are more than 15, or one isn't above the one before it",
         }
     }
 }

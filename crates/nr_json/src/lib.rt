@@ -7,6 +7,7 @@
 mod access_key;
 mod action;
 mod block;
+mod chain_file;
 mod fault;
 mod form;
 mod genesis;
@@ -17,6 +18,7 @@ mod plain;
 mod transaction;
 mod variants;
 
+pub use chain_file::StatedBlocks;
 pub use fault::{JsonFault, Wrong};
 pub use form::Form;
 pub use genesis::{StatedAccount, StatedEntry, StatedGenesis};

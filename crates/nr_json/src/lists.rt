@@ -25,7 +25,8 @@ fn items_of<T: Form>(alloc: Global, values: &[Value]) -> Result<Vec<T>, JsonFaul
     Ok(items)
 }
 
-fn values_of<T: Form>(alloc: Global, items: &[T]) -> Result<Vec<Value>, AllocError>
+/// The JSON values of items.
+pub(crate) fn values_of<T: Form>(alloc: Global, items: &[T]) -> Result<Vec<Value>, AllocError>
     ensures { IfOk result (λ values. map view values.items ≡ map T.json items.now) }
 {
     let mut values = Vec::new(alloc);

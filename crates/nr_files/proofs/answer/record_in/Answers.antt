@@ -5,4 +5,4 @@ use Rattle.nr_files.proofs.Steps.{told_fault}
 use Rattle.nr_files.proofs.answer.record_in.Goals as goal
 
 pub returns-in-Err : goal.returns-in-Err
-returns-in-Err g c = told_fault c.json_status.result fault_line c.in-Err.fault Memory (g.T.Form.reading (view c.args.value.now)) c.json_status.ensures.tells c.json_status.ensures.memory c.in-Err.ensures
+returns-in-Err g c = told_fault c.json_words.result fault_line c.in-Err.fault Memory (g.T.Form.reading (view c.args.value.now)) c.json_words.ensures.tells c.json_words.ensures.memory c.in-Err.ensures

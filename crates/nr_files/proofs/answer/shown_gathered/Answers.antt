@@ -3,4 +3,4 @@ use Rattle.nr_files.proofs.Steps.{gathered_shown}
 use Rattle.nr_files.proofs.answer.shown_gathered.Goals as goal
 
 pub returns : goal.returns
-returns c = gathered_shown c.args.bytes.now c.in_ok-gathered.gathered (view c.in-Ok.json) c.in_ok-text.text c.in_ok-gathered.ensures c.in-Ok.ensures c.in_ok-text.ensures.ok
+returns c = gathered_shown c.args.bytes.now c.in_ok-gathered.gathered (view c.in-Ok.json) c.in_ok-gathered.ensures c.in-Ok.ensures

@@ -3,4 +3,4 @@ use Rattle.nr_files.proofs.Steps.{part_shown}
 use Rattle.nr_files.proofs.answer.shown_part.Goals as goal
 
 pub returns : goal.returns
-returns c = part_shown c.args.bytes.now c.in_ok-part.part (view c.in-Ok.json) c.in_ok-text.text c.in_ok-part.ensures c.in-Ok.ensures c.in_ok-text.ensures.ok
+returns c = part_shown c.args.bytes.now c.in_ok-part.part (view c.in-Ok.json) c.in_ok-part.ensures c.in-Ok.ensures

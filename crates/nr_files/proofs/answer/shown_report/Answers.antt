@@ -5,4 +5,4 @@ pub returns-in-Ok : goal.returns-in-Ok
 returns-in-Ok c = report_shown c.args.bytes.now c.in-Ok.text c.in-Ok.ensures
 
 pub returns-in-Err : goal.returns-in-Err
-returns-in-Err c = report_refused c.args.bytes.now c.report_status.result c.in-Err.fault c.report_status.ensures.tells c.report_status.ensures.memory c.in-Err.ensures
+returns-in-Err c = report_refused c.args.bytes.now c.report_words.result c.in-Err.fault c.report_words.ensures.tells c.report_words.ensures.memory c.in-Err.ensures
