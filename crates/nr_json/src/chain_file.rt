@@ -4,7 +4,8 @@ ghost use Rattle.std.specs.Prelude.{◌≡◌};
 ghost use Rattle.nr_bytes.specs.Answers.{Gives};
 ghost use Rattle.serde_json.specs.Data.{string};
 ghost use Rattle.serde_json.specs.View.{view};
-ghost use Rattle.nr_json.specs.ChainFiles.{is_third, is_three, layout_in, layout_of, plain_of, reshard_json, reshard_of, stated_json, stated_of, third_json, third_of, without_reshard};
+ghost use Rattle.nr_json.specs.ChainFiles.{is_third, is_three, layout_in, layout_of, plain_of, reshard_json};
+ghost use Rattle.nr_json.specs.ChainFiles.{reshard_of, stated_json, stated_of, third_json, third_of, without_reshard};
 ghost use Rattle.nr_json.specs.Lists.{list_json};
 ghost use Rattle.nr_json.specs.declared.fault.JsonFault.TheVariants.{Memory};
 
