@@ -11,7 +11,7 @@ bounds-files-shard g c =
     omega (arith, count, c.loop-shard-test.true, c.shards-shard-end.ensures.count, ap (λ p. (rules_of (chain_in p)).shards) c.phases-shard-end.ensures)
 
 pub add_if_there-requires-clause-file : goal.add_if_there-requires-clause-file
-add_if_there-requires-clause-file g c = λ κs within.
+add_if_there-requires-clause-file g c =
     c.index-files-shard.is
     ∙ file_at (λ shard. chunk_bytes (chain_in c.args.core.now.phases) shard c.args.below) c.args.files.now _ c.loop-shard.shard c.index-files-shard.result c.requires.files
     (omega (arith, c.loop-shard-test.true, c.shards-shard-end.ensures.count, ap (λ p. (rules_of (chain_in p)).shards) c.phases-shard-end.ensures))
