@@ -18,6 +18,8 @@ mod faulty;
 #[cfg(test)]
 mod four_parts;
 #[cfg(test)]
+mod gathered;
+#[cfg(test)]
 mod lengths;
 #[cfg(test)]
 mod parts;

@@ -14,7 +14,7 @@ ghost use Rattle.nr_overlap.specs.declared.event.Event.{Event};
 ghost use Rattle.nr_records.specs.declared.chunk_result.ChunkResult.{ChunkResult};
 ghost use Rattle.nr_schedule.specs.Checking.{standing_after, totals_there};
 ghost use Rattle.nr_schedule.specs.declared.schedule.Line.{Line};
-ghost use Rattle.nr_shell.specs.Plans.{LeadsBy, Plan};
+ghost use Rattle.nr_shell.specs.Plans.{Answer, LeadsBy, Plan};
 ghost use Rattle.nr_top.specs.Plans.{files_of, plan};
 ghost use Rattle.nr_top.specs.Chunks.{has_chunk, result_at};
 ghost use Rattle.nr_top.specs.Run.{loaded};
@@ -48,11 +48,14 @@ pub fn totals_law()
     schedule_laws();
 }
 
-/// Whatever its plan comes to, a command asks for its own files alone, in their order, and once for each; words that
-/// are no command ask for none. It does nothing when it runs.
+/// Whatever its plan comes to, a command asks for its own files alone, in their order, and once for each; where it
+/// comes to an answer, it has asked for all of them. Words that are no command ask for none. It does nothing when it
+/// runs.
 pub fn asked_law()
-    ensures { (held : List ℕ → Option (List ℕ)) (asked : Option Command) (names : List (List ℕ)) (q : Plan (List ℕ) Status)
+    ensures front { (held : List ℕ → Option (List ℕ)) (asked : Option Command) (names : List (List ℕ)) (q : Plan (List ℕ) Status)
         → LeadsBy held names (plan asked) q → (rest : List (List ℕ)) × (files_of asked ≡ names ++ rest) }
+    ensures all { (held : List ℕ → Option (List ℕ)) (asked : Option Command) (names : List (List ℕ)) (text : List ℕ)
+        → LeadsBy held names (plan asked) (Answer text) → names ≡ files_of asked }
 {}
 
 /// A run to its end has the result of a chunk exactly where the chain has the chunk, and it states the chunk's shard

@@ -89,8 +89,7 @@ pub fn serve<F: Fn(Work) -> Result<Blob, AllocError>, S: Shelf, K: Sink>(
 /// Does what the words ask for: `run CONFIG GENESIS BLOCKS` replays the blocks of a file over the
 /// genesis of another one, and writes the report. `check CONFIG GENESIS BLOCKS SCHEDULE` drives the
 /// shards by the lines of a schedule, and writes what each line does and the totals where they lead. Where the blocks
-/// file names a height from which there are other boundaries, the run goes on under these from there; `check` doesn't
-/// know such a file yet.
+/// file names a height from which there are other boundaries, the run goes on under these from there.
 /// CONFIG is `free`, the built-in configuration, or the name of a file. `gen NUMBER SHARDS BLOCKS` runs the
 /// chain that these numbers generate, under the built-in configuration for such chains, and writes the
 /// numbers, how many chunks were sealed, the SHA-256 digest of the report, and the totals.
