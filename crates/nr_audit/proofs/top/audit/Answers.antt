@@ -1,0 +1,6 @@
+use Rattle.std.proofs.Common.{refl}
+use Rattle.nr_shell.proofs.Leading.{begun}
+use Rattle.nr_audit.proofs.top.audit.Goals as goal
+
+pub returns-in-Err-clause-serves : goal.returns-in-Err-clause-serves
+returns-in-Err-clause-serves g c = (begun _ _ _, refl)

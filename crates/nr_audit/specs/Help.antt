@@ -1,0 +1,20 @@
+-- The table of the program's forms, and what `help` and `version` write. This project's own.
+use Rattle.std.specs.Prelude.{ℕ, List, [], ◌∷◌, ◌++◌, codes}
+use Rattle.std.specs.List.{flat_map}
+use Rattle.nr_words.specs.Command.{files, form}
+use Rattle.nr_words.specs.Forms.{Form, name_of}
+
+abbrev pub forms : List Form
+forms = form (codes "gather") files ∷ form (codes "help") [] ∷ form (codes "version") [] ∷ []
+
+-- the words of a form behind the program's name, parted by single spaces
+abbrev pub form_line : List ℕ → Form → List ℕ
+form_line program form = program ++ 32 ∷ form.verb ++ flat_map (λ p. 32 ∷ name_of p) form.places ++ 10 ∷ []
+
+-- a line for each form, and one that says what one of its words may be
+abbrev pub help_text : List ℕ
+help_text =
+    flat_map (form_line (codes "near_audit")) forms ++ codes "CONFIG is free or the name of a file." ++ 10 ∷ []
+
+abbrev pub version_text : List ℕ
+version_text = codes "near_audit 0.1.0" ++ 10 ∷ []

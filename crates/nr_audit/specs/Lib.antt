@@ -1,0 +1,6 @@
+pub mod Archive
+pub mod Help
+pub mod Command
+pub mod Plans
+pub mod Answers
+pub mod Exit

@@ -1,0 +1,66 @@
+use nr_chainfiles::ChainRefusal;
+use nr_configfile::ConfigRefusal;
+
+/// How a call of the program ended.
+///
+/// A genesis or a blocks file is refused by the first fault that `nr_blocks` or `nr_reshard` gives, with its numbers in
+/// their order and zeros for the rest. Places count bytes from 0, entries count from 0 over all entries of the file,
+/// and a height is the one that the block states.
+#[derive(Clone, Copy, Debug, PartialEq, Eq)]
+pub enum Status {
+    /// The archive, or the text of `help` or `version`, was written.
+    Done,
+    /// The words are no command.
+    Usage,
+    /// The file is no configuration. The kind is 0 where it is longer than 1 MiB, 1 where it is no JSON object, 2 where
+    /// an entry is missing, 3 where it is no whole number, and 4 where it is outside its bounds. The entry counts from
+    /// 1, and is 0 for the kinds 0 and 1.
+    Config { kind: u32, entry: u32 },
+    /// The file is no genesis. The kind is 0 where it is longer than 64 MiB, 1 where a field can't be read (`a` is its
+    /// place), 2 where an earlier entry has the same trie key (`a` is the entry), 3 where an entry has no owner (`a` is
+    /// the entry), 4 where an account states another storage usage than its entries count (`a` is the entry, `b` the
+    /// stated and `c` the counted bytes), 5 where the supply passes 2^127, and 6 where a code hash is off (`a` is the
+    /// entry).
+    Genesis { kind: u32, a: u64, b: u64, c: u64 },
+    /// The file has no blocks for the shards of the genesis. The kind is 0 where it is longer than 256 MiB, 1 where a
+    /// field can't be read (`a` is its place), 2 where a block hasn't one chunk for each shard that there is at the
+    /// height that it states (`a` is this height), 3 where a block's height isn't its number, from 1 (`a` is its
+    /// height), 4 where there are more than 100,000 blocks, 5 where an action of staking stands (`a` is its place), and
+    /// 6 where the boundaries can't change at the height that the file says (`a` is this height).
+    Blocks { kind: u32, a: u64 },
+    /// A file could not be read.
+    ReadFault,
+    /// The archive or the text could not be written whole.
+    WriteFault,
+    /// Memory ran out.
+    NoMemory,
+}
+
+impl ConfigRefusal for Status {
+    ghost use Rattle.nr_audit.specs.Answers.{refuses};
+    ghost use Rattle.nr_audit.specs.declared.status.Status.TheVariants.{Config};
+
+    ghost refuses = { refuses };
+
+    ghost refusal = { λ kind entry. Config kind entry };
+
+    fn of_config(kind: u32, entry: u32) -> Self {
+        Status::Config { kind, entry }
+    }
+}
+
+impl ChainRefusal for Status {
+    ghost use Rattle.nr_audit.specs.declared.status.Status.TheVariants.{Blocks, Genesis};
+
+    ghost genesis_refusal = { λ kind a b c. Genesis kind a b c };
+
+    ghost blocks_refusal = { λ kind a. Blocks kind a };
+
+    fn of_genesis(kind: u32, a: u64, b: u64, c: u64) -> Self {
+        Status::Genesis { kind, a, b, c }
+    }
+
+    fn of_blocks(kind: u32, a: u64) -> Self {
+        Status::Blocks { kind, a }
+    }
+}
