@@ -9,8 +9,8 @@ add_chunk-requires-clause-file g c =
     let r = rules_of (chain_in c.args.core.now.phases) in
     (some_there (r.present c.args.shard.0 (c.args.below + 1)) _ c.in-Some.file (sym c.in-Some.is ∙ c.requires.file)).1
 
-pub returns-in-Some : goal.returns-in-Some
-returns-in-Some g c =
+pub returns-in_ok-add_chunk-in-Some : goal.returns-in_ok-add_chunk-in-Some
+returns-in_ok-add_chunk-in-Some g c =
     files_added (chain_in c.args.core.now.phases) c.args.shard.0 c.args.below c.args.archive.now c.add_chunk.new.archive
     c.in-Some.file (sym c.in-Some.is ∙ c.requires.file) c.in_ok-add_chunk.ensures
 
