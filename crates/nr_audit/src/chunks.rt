@@ -132,10 +132,10 @@ fn add_chunk<C: Caller<ChunkStore>>(
         ++ (file_bytes (chunk_file (chain_in core.now.phases) shard.0 below)
         ++ file_bytes (lines_file (chain_in core.now.phases) shard.0 below))) }
 {
-    let height = core.phases().place(Height(below + 1)).height;
-    add_named(alloc, archive, height, shard, ".chunk", file.inner())?;
+    let place = core.phases().place(Height(below + 1));
+    add_named(alloc, archive, place.height, shard, ".chunk", file.inner())?;
     let lines = lines_of(alloc, core, shard, Height(below + 1))?;
-    add_named(alloc, archive, height, shard, ".lines", lines.inner())?;
+    add_named(alloc, archive, place.height, shard, ".lines", lines.inner())?;
     Ok(())
 }
 
@@ -156,7 +156,10 @@ fn add_if_there<C: Caller<ChunkStore>>(
         ++ flat_map file_bytes (chunk_files (chain_in core.now.phases) shard.0 below)) }
 {
     match file {
-        Some(file) => add_chunk(alloc, core, shard, below, file, archive),
+        Some(file) => {
+            add_chunk(alloc, core, shard, below, file, archive)?;
+            Ok(())
+        }
         None => Ok(()),
     }
 }
