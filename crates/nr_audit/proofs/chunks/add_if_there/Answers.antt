@@ -12,7 +12,7 @@ add_chunk-requires-clause-file g c =
 pub returns-in_ok-add_chunk-in-Some : goal.returns-in_ok-add_chunk-in-Some
 returns-in_ok-add_chunk-in-Some g c =
     files_added (chain_in c.args.core.now.phases) c.args.shard.0 c.args.below c.args.archive.now c.add_chunk.new.archive
-    c.in-Some.file (sym c.in-Some.is ∙ c.requires.file) c.in_ok-add_chunk.ensures
+    c.in-Some.file (sym c.in-Some.is ∙ c.requires.file) c.in_ok-add_chunk-in-Some.ensures
 
 pub returns-in-None : goal.returns-in-None
 returns-in-None g c =
