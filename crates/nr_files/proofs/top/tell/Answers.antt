@@ -11,6 +11,6 @@ pub returns-in-Ok-write_all-clause-serves : goal.returns-in-Ok-write_all-clause-
 returns-in-Ok-write_all-clause-serves g c = λ p held asked asks comes.
     (output_in c.args.output, c.inner.result.now, comes, subst (λ (b : List ℕ). IsWritten (output_in c.args.output) b) (sym c.inner.ensures) c.in-Ok.ensures, c.in-Ok-write_all.ensures.ok)
 
-pub returns-in-Err-clause-serves : goal.returns-in-Err-clause-serves
-returns-in-Err-clause-serves g c = λ p held asked asks comes.
+pub returns-clause-serves : goal.returns-clause-serves
+returns-clause-serves g c = λ p held asked asks comes.
     (output_in c.args.output, c.inner.result.now, comes, subst (λ (b : List ℕ). IsWritten (output_in c.args.output) b) (sym c.inner.ensures) c.in-Ok.ensures, c.in-Err.ensures.err)
