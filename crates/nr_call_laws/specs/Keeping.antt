@@ -58,7 +58,7 @@ module _ (x : Chain) where
   pub record KeepsSealed (k : Working) : Type 0 where
     pub tokens : working_tokens x.config k
         ≡ kept_tokens x.config (sealed k).world + lists_tokens x.config (sealed k).lists + (sealed k).report.burnt
-    -- those that waited wait, and those that were made for others are in the lists
+    -- those that waited and those that go out wait or are in the lists
     pub receipts : (f : Receipt → ℕ) → waiting f k.world + sum_by f k.outgoing
         ≡ kept_receipts f (sealed k).world + sum_by (sum_by f) (sealed k).lists
 

@@ -11,8 +11,8 @@ ghost use Rattle.nr_records.specs.declared.receipt.Receipt.{Receipt};
 /// tokens. It does nothing when it runs.
 pub fn call_laws()
     ensures opens { (x : Chain) → IsChain x → (s h : ℕ) (w : Kept) → CanOpen x s h w → KeepsOpened x s h w }
-    // Postponed and executed receipts are terms of their own: so what was postponed and is no more, since a datum of
-    // any shard set it free, is executed in this call, once.
+    // Postponed and executed receipts are terms of their own, and late ones are receipts of the list: so what was
+    // postponed and is no more, since a datum of any shard set it free, is executed in this call, once.
     ensures takes { (x : Chain) → IsChain x → (k : Working) (list : List Receipt) → CanTake x k list
         → KeepsTaken x k list }
     // Of each working state.

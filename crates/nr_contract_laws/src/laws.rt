@@ -47,7 +47,7 @@ pub fn ending_laws()
     // A run comes to what it comes to in any number of steps in which it is over.
     ensures comes { (s : HostState) (m : MachineView) (f n : ℕ) → 1 ≤ m.limits.cost → IsOver (steps s m f n)
         → run s m f ≡ over (steps s m f n) }
-    // In twice the gas that is left, and two steps, or any more, it is over.
+    // In twice as many steps as gas is left and two more, or in any more, it is over.
     ensures ends { (s : HostState) (m : MachineView) (f n : ℕ) → 1 ≤ m.limits.cost → enough (meaning.gas s) ≤ n
         → IsOver (steps s m f n) }
 {

@@ -85,7 +85,7 @@ entry_line index words = codes ".entries[" ++ decimal index ++ 93 ∷ words
 abbrev pub usage_words : ℕ → ℕ → List ℕ
 usage_words stated counted = codes ".storage_usage is " ++ (decimal stated ++ (codes ", but " ++ (decimal counted ++ codes " is counted")))
 
--- a genesis that was made of a JSON value can only be faulty in its boundaries
+-- of the fields of a genesis that was made of a JSON value only the boundaries can be unreadable
 abbrev pub boundaries_line : List ℕ
 boundaries_line = codes ".boundaries are more than 15, or one isn't above the one before it"
 

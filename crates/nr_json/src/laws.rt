@@ -1,4 +1,4 @@
-//! What holds of all records.
+//! What holds of genesis and blocks files.
 
 ghost use Rattle.std.specs.Prelude.{◌≡◌, Ok};
 ghost use Rattle.nr_json.specs.ChainFiles.{stated_json, stated_of};

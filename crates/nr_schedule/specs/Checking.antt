@@ -133,7 +133,7 @@ abbrev pub by_reshard : Standing → Standing
 by_reshard d = turn_by d d.turn
 
 -- ---- what a line does
--- the layout in force has so many shards, which a step may not know
+-- whether the layout in force, of so many shards, has those that a step names
 abbrev pub names_there : ℕ → Event → Bool
 names_there shards (OpenChunk s) = nat_lt s.0 shards
 names_there shards (TakeList d s h) = nat_lt d.0 shards && nat_lt s.0 shards

@@ -311,7 +311,8 @@ fn totals<C: Caller<ChunkStore>>(
 ///
 /// # Errors
 ///
-/// Where memory runs out. It counts as that where a total doesn't fit its number.
+/// Where memory runs out. It counts as that where a total doesn't fit its number, and, over a change of boundaries,
+/// where a sum or a count of a report doesn't.
 pub fn check<C: Caller<ChunkStore> + Drop>(
     alloc: Global,
     first: ChainRun<C>,

@@ -26,7 +26,7 @@ pub fn schedule_laws()
     // Where no event of the leg in force is left but a change of boundaries is, the change can be made.
     ensures enabled { (o : Course) (lines : List Line) (t : Turn) → let d = standing_after o lines in d.turn ≡ Some t
         → next_event (rules_of d.leg) d.positions ≡ None → by_reshard d ≡ crossed d t }
-    // From there `rest` leads to the end.
+    // From wherever lines lead `rest` leads to the end.
     ensures rest { (o : Course) (lines : List Line) → IsOver (by_rest (standing_after o lines)) }
 {
     course_laws();

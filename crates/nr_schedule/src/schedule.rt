@@ -1,4 +1,4 @@
-//! Schedules: the lines of a file, each a step of a shard or the run to the end.
+//! Schedules: the lines of a file, each a step of a shard, the change of boundaries or the run to the end.
 
 ghost use Rattle.std.specs.Prelude.{◌≡◌, ◌∷◌, [], ◌<◌, ◌==◌, IfSome, MatchOption, length, position};
 ghost use Rattle.nr_bytes.specs.Answers.{GivesAs};
