@@ -1,0 +1,7 @@
+mod Numbers
+mod Lists
+mod Effects
+mod Preserved
+mod First
+mod Constants
+mod Machines
