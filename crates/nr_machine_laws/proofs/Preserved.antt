@@ -93,15 +93,15 @@ module _ {S : Type 0} (w : Rules S) (law : IsHost w.host) (sound : IsSound w.pro
   body_is f sig body at = (sound.fits f (Coded sig body) at, body_constants prog constants f sig body at)
 
   module _ (c : Context) (s : Runtime S) (guest : IsTypedGuest prog.code s.guest) (own : List ℕ) (locals : AreOf c.locals own) (out : List ValType) where
-    abbrev Ok : Step S → Type 0
-    Ok step = IsTypedStep prog c out step
+    abbrev Fits : Step S → Type 0
+    Fits step = IsTypedStep prog c out step
 
-    answered_typed : (t : Runtime S) → IsTypedGuest prog.code t.guest → (ty : Types?) (answer : Answer) (below : List ValType) (values : List ℕ) (code : Code) → GivesOf ty answer → AreOf below values → IsCode c code (types ty ++ below) out → Ok (answered t answer own values code)
+    answered_typed : (t : Runtime S) → IsTypedGuest prog.code t.guest → (ty : Types?) (answer : Answer) (below : List ValType) (values : List ℕ) (code : Code) → GivesOf ty answer → AreOf below values → IsCode c code (types ty ++ below) out → Fits (answered t answer own values code)
     answered_typed t g ty (Gives value) below values code h k l = (g, locals, (types ty ++ below, answer_on ty value below values h k, l))
     answered_typed t g ty OutOfGas below values code h k l = tt
     answered_typed t g ty (Fails kind) below values code h k l = tt
 
-    rewritten_typed : (code : Code) (e : Effect) → IsAnswered w.host s e → IsTypedEffect prog c code out e → Ok (rewritten w.host s own code e)
+    rewritten_typed : (code : Code) (e : Effect) → IsAnswered w.host s e → IsTypedEffect prog c code out e → Fits (rewritten w.host s own code e)
     rewritten_typed code (Goes more values) a f = (guest, f.0, (f.1, f.2, f.3))
     rewritten_typed code (Writes new values) a f = (f.0, locals, (f.1, f.2, f.3))
     rewritten_typed code (Opens values n target body) a f = (guest, locals, (f.0, f.1, f.2, f.3, f.4, ([], tt, f.5), f.6, f.7))
@@ -117,15 +117,15 @@ module _ {S : Type 0} (w : Rules S) (law : IsHost w.host) (sound : IsSound w.pro
     rewritten_typed code Stuck a f = tt
 
     -- so many operands of the inner sequence, on those
-    left_over_typed : (t : Types?) (n : ℕ) (others below : List ValType) (inner values : List ℕ) (code : Code) → n ≡ arity_of t → AreOf (types t ++ others) inner → AreOf below values → IsCode c code (types t ++ below) out → Ok (left_over s own n inner values code)
+    left_over_typed : (t : Types?) (n : ℕ) (others below : List ValType) (inner values : List ℕ) (code : Code) → n ≡ arity_of t → AreOf (types t ++ others) inner → AreOf below values → IsCode c code (types t ++ below) out → Fits (left_over s own n inner values code)
     left_over_typed t n others below inner values code e h k l =
         let taken : AreOf (types t) (take n inner) = subst (λ m. AreOf (types t) (take m inner)) (arity_is t ∙ sym e) (front (types t) others inner h) in
-        elim (nat_lt (length inner) n) as (λ b. Ok (cond b NoRule (To s own (Plain (take n inner ++ values) code)))) [
+        elim (nat_lt (length inner) n) as (λ b. Fits (cond b NoRule (To s own (Plain (take n inner ++ values) code)))) [
           | true ↦ tt
           | false ↦ (guest, locals, (types t ++ below, joined (types t) below (take n inner) values taken k, l))
         ]
 
-    in_label_typed : (label leaves : Types?) (below : List ValType) (values : List ℕ) (n : ℕ) (target code : Code) (step : Step S) → n ≡ arity_of label → AreOf below values → IsCode c target (types label ++ below) out → IsCode c code (types leaves ++ below) out → IsTypedStep prog (within label c) (types leaves) step → Ok (in_label s own values n target code step)
+    in_label_typed : (label leaves : Types?) (below : List ValType) (values : List ℕ) (n : ℕ) (target code : Code) (step : Step S) → n ≡ arity_of label → AreOf below values → IsCode c target (types label ++ below) out → IsCode c code (types leaves ++ below) out → IsTypedStep prog (within label c) (types leaves) step → Fits (in_label s own values n target code step)
     in_label_typed label leaves below values n target code (To t more inner) e h k l f = (f.0, f.1, (label, leaves, below, e, h, f.2, k, l))
     in_label_typed label leaves below values n target code (Over inner) e h k l f = (guest, locals, (types leaves ++ below, joined (types leaves) below inner values f h, l))
     in_label_typed label leaves below values n target code (Branching zero inner) e h k l f =
@@ -136,7 +136,7 @@ module _ {S : Type 0} (w : Rules S) (law : IsHost w.host) (sound : IsSound w.pro
     in_label_typed label leaves below values n target code (Stopping t stop) e h k l f = tt
     in_label_typed label leaves below values n target code NoRule e h k l f = tt
 
-    in_frame_typed : (f : ℕ) (sig : FuncType) (body : Body) (below : List ValType) (values : List ℕ) (n : ℕ) (code : Code) (step : Step S) → func_at prog f ≡ Some (Coded sig body) → n ≡ arity_of sig.result → AreOf below values → IsCode c code (types sig.result ++ below) out → IsTypedStep prog (in_body (func_context prog.code sig body)) (types sig.result) step → Ok (in_frame s own values n code step)
+    in_frame_typed : (f : ℕ) (sig : FuncType) (body : Body) (below : List ValType) (values : List ℕ) (n : ℕ) (code : Code) (step : Step S) → func_at prog f ≡ Some (Coded sig body) → n ≡ arity_of sig.result → AreOf below values → IsCode c code (types sig.result ++ below) out → IsTypedStep prog (in_body (func_context prog.code sig body)) (types sig.result) step → Fits (in_frame s own values n code step)
     in_frame_typed f sig body below values n code (To t more inner) at e h l g = (g.0, locals, (f, sig, body, below, at, e, h, g.1, g.2, l))
     in_frame_typed f sig body below values n code (Over inner) at e h l g = (guest, locals, (types sig.result ++ below, joined (types sig.result) below inner values g h, l))
     in_frame_typed f sig body below values n code (Branching zero inner) at e h l g =

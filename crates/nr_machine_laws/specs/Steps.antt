@@ -43,8 +43,8 @@ LeadsTo w step c = (step ≡ To c.store c.locals c.seq) × (is_too_large w c.loc
 
 -- So many steps of the run of the function with the number f lead here, and each answer of the host was of its type.
 abbrev pub Reaches : {S : Type 0} → Rules S → Runtime S → ℕ → ℕ → Config S → Type 0
-Reaches w s f zero c = LeadsTo w (first_step s (func_at w.program f)) c
-Reaches w s f (suc n) c =
+Reaches {S} w s f zero c = LeadsTo w (first_step s (func_at w.program f)) c
+Reaches {S} w s f (suc n) c =
     (b : Config S) × Reaches w s f n b × AnswersNext w (paid w b.store) b.locals b.seq × LeadsTo w (stepped w b) c
 
 -- ---- what is next
