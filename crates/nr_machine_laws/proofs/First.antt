@@ -1,5 +1,6 @@
 -- The guest of a machine before its first run is of its types.
-use Rattle.std.proofs.Common.{◌≡◌, ℕ, zero, suc, ◌+◌, ◌*◌, ◌%◌, ◌≤◌, Bool, true, false, List, [], ◌∷◌, ◌++◌, length, replicate, min}
+use Rattle.std.proofs.Common.{◌≡◌, ℕ, zero, suc, ◌+◌, ◌*◌, ◌%◌, ◌≤◌, Bool, true, false, List, [], ◌∷◌, ◌++◌, length}
+use Rattle.std.proofs.Common.{replicate, min}
 use Rattle.std.proofs.Common.{Option, Some, None, Result, Ok, refl, sym, ap, ◌∙◌, subst, arith}
 use Rattle.std.specs.Prelude.{map, option_and_then, slice_get}
 use Rattle.nr_machine_laws.proofs.Effects.{put_size}
@@ -7,7 +8,8 @@ use Rattle.nr_machine_laws.specs.Typed.{AreOf, AreConstants, IsFirst, IsTypedGue
 use Rattle.nr_wasmexec.proofs.Branches.{some_is}
 use Rattle.nr_wasmexec.proofs.Linked.{both_ok, holds_first}
 use Rattle.nr_wasmexec.proofs.Made.{memory_fits}
-use Rattle.nr_wasmexec.specs.Making.{FitsFirst, all_into, constant_of, element_into, entries_of, first_guest, globals_of, guest_with}
+use Rattle.nr_wasmexec.specs.Making.{FitsFirst, all_into, constant_of, element_into, entries_of, first_guest}
+use Rattle.nr_wasmexec.specs.Making.{globals_of, guest_with}
 use Rattle.nr_wasmexec.specs.Making.{memory_of, most_of, segment_into}
 use Rattle.nr_wasmmem.specs.Bytes.{IsMemory, MemoryView, page}
 use Rattle.nr_wasmmem.specs.declared.guest.Guest.{Guest}
@@ -21,8 +23,10 @@ use Rattle.nr_wasmtypes.specs.declared.module.Limits.{Limits as Sizes}
 use Rattle.nr_wasmtypes.specs.declared.module.Module.{Module}
 use Rattle.nr_wasmtypes.specs.declared.module.Segment.{Segment}
 use Rattle.nr_wasmvalid.specs.Modules.{IsValid}
-use Rattle.nr_wasmvalid.specs.Parts.{Demand, count_asks, each, element_asks, export_asks, func_asks, func_indices, global_asks, import_asks}
-use Rattle.nr_wasmvalid.specs.Parts.{init_asks, memory_asks, outcome, outcomes, parts_outcome, segment_asks, table_asks}
+use Rattle.nr_wasmvalid.specs.Parts.{Demand, count_asks, each, element_asks, export_asks, func_asks, func_indices}
+use Rattle.nr_wasmvalid.specs.Parts.{global_asks, import_asks}
+use Rattle.nr_wasmvalid.specs.Parts.{init_asks, memory_asks, outcome, outcomes, parts_outcome, segment_asks}
+use Rattle.nr_wasmvalid.specs.Parts.{table_asks}
 use Rattle.nr_wasmvalid.specs.Rules.{same_type}
 
 -- ---- globals
@@ -44,7 +48,8 @@ is_i64 I32 e = absurd cc
 is_i64 I64 e = refl
 
 -- a first value, and the demands behind it
-first_value : (n : ℕ) (t : ValType) (x : ConstExpr) (ds : List Demand) → IsFirst x → outcome (init_asks n t x ++ ds) ≡ Ok tt → IsOf t (constant_of [] x) × (outcome ds ≡ Ok tt)
+first_value : (n : ℕ) (t : ValType) (x : ConstExpr) (ds : List Demand) → IsFirst x
+    → outcome (init_asks n t x ++ ds) ≡ Ok tt → IsOf t (constant_of [] x) × (outcome ds ≡ Ok tt)
 first_value n t (constant.I32 v) ds is e =
     let met = holds_first (same_type t I32) (outcome ds) _ e in
     (subst (λ u. IsOf u v) (is_i32 t met.0) is, met.1)
@@ -53,7 +58,8 @@ first_value n t (constant.I64 v) ds is e =
     (subst (λ u. IsOf u v) (is_i64 t met.0) is, met.1)
 first_value n t (constant.Get g) ds is e = absurd cc
 
-values_typed : (n : ℕ) (gs : List Global) → ((k : ℕ) (g : Global) → slice_get gs k ≡ Some g → IsFirst g.init) → outcome (each global_asks n gs) ≡ Ok tt → AreOf (map kind_of gs) (globals_of gs)
+values_typed : (n : ℕ) (gs : List Global) → ((k : ℕ) (g : Global) → slice_get gs k ≡ Some g → IsFirst g.init)
+    → outcome (each global_asks n gs) ≡ Ok tt → AreOf (map kind_of gs) (globals_of gs)
 values_typed n [] are e = tt
 values_typed n (g ∷ gs) are e =
     let first = first_value n g.kind g.init (each global_asks (n + 1) gs) (are 0 g refl) e in
@@ -81,27 +87,32 @@ memory_is pages (first ∷ others) le fits =
       small = most_small first.most pages le;
     }
 
-into_some : (o : Option (List ℕ)) (go : List ℕ → Option (List ℕ)) (u : List ℕ) → option_and_then go o ≡ Some u → (t : List ℕ) × (o ≡ Some t) × (go t ≡ Some u)
+into_some : (o : Option (List ℕ)) (go : List ℕ → Option (List ℕ)) (u : List ℕ) → option_and_then go o ≡ Some u
+    → (t : List ℕ) × (o ≡ Some t) × (go t ≡ Some u)
 into_some None go u e = absurd cc
 into_some (Some t) go u e = (t, refl, e)
 
-segments_size : (globals : List ℕ) (ss : List Segment) (bytes new : List ℕ) → all_into (segment_into globals) bytes ss ≡ Some new → length new ≡ length bytes
+segments_size : (globals : List ℕ) (ss : List Segment) (bytes new : List ℕ)
+    → all_into (segment_into globals) bytes ss ≡ Some new → length new ≡ length bytes
 segments_size globals [] bytes new e = ap length (sym (some_is bytes new e))
 segments_size globals (x ∷ ss) bytes new e =
     let next = into_some (segment_into globals bytes x) (λ z. all_into (segment_into globals) z ss) new e in
     segments_size globals ss next.0 new next.2 ∙ put_size bytes (constant_of globals x.offset) x.bytes next.0 next.1
 
 -- ---- the guest
-guest_parts : (globals : List ℕ) (most : ℕ) (t : Option (List (Option ℕ))) (b : Option (List ℕ)) (g : Guest) → guest_with globals most t b ≡ Some g → (b ≡ Some g.memory.bytes) × (g.globals ≡ globals) × (g.memory.most ≡ most)
+guest_parts : (globals : List ℕ) (most : ℕ) (t : Option (List (Option ℕ))) (b : Option (List ℕ)) (g : Guest)
+    → guest_with globals most t b ≡ Some g → (b ≡ Some g.memory.bytes) × (g.globals ≡ globals) × (g.memory.most ≡ most)
 guest_parts globals most None b g e = absurd cc
 guest_parts globals most (Some t) None g e = absurd cc
 guest_parts globals most (Some t) (Some b) g e =
     let made : Guest = record { memory = record { bytes = b; most = most }; globals = globals; table = t } in
     let is : made ≡ g = some_is made g e in
-    (ap (λ (x : Guest). Some x.memory.bytes) is, ap (λ (x : Guest). x.globals) (sym is), ap (λ (x : Guest). x.memory.most) (sym is))
+    (ap (λ (x : Guest). Some x.memory.bytes) is, ap (λ (x : Guest). x.globals) (sym is), ap
+    (λ (x : Guest). x.memory.most) (sym is))
 
 -- the same size, and as many pages at most
-like_memory : (old new : MemoryView) → IsMemory old → length new.bytes ≡ length old.bytes → new.most ≡ old.most → IsMemory new
+like_memory : (old new : MemoryView) → IsMemory old → length new.bytes ≡ length old.bytes → new.most ≡ old.most
+    → IsMemory new
 like_memory old new h e f =
     record {
       whole = ap (λ n. n % page) e ∙ h.whole;
@@ -109,12 +120,19 @@ like_memory old new h e f =
       small = omega (arith, f, h.small);
     }
 
-pub first_typed : (pages : ℕ) (m : Module) (g : Guest) → pages ≤ 2048 → IsValid pages m → AreConstants m → first_guest pages m ≡ Some g → IsTypedGuest m g
+pub first_typed : (pages : ℕ) (m : Module) (g : Guest) → pages ≤ 2048 → IsValid pages m → AreConstants m
+    → first_guest pages m ≡ Some g → IsTypedGuest m g
 first_typed pages m g le valid constants e =
     let globals : List ℕ = globals_of m.globals in
     let memory : MemoryView = memory_of pages m.memories in
-    let parts = guest_parts globals memory.most (all_into (element_into globals) (replicate (entries_of m.tables) None) m.elements) (all_into (segment_into globals) memory.bytes m.segments) g e in
+    let parts =
+    guest_parts globals memory.most (all_into (element_into globals) (replicate (entries_of m.tables) None) m.elements)
+    (all_into (segment_into globals) memory.bytes m.segments) g e in
     record {
-      globals = subst (AreOf (map kind_of m.globals)) (sym parts.1) (values_typed 0 m.globals constants.globals (globals_met pages m valid.parts));
-      memory = like_memory memory g.memory (memory_is pages m.memories le (memory_fits pages m valid)) (segments_size globals m.segments memory.bytes g.memory.bytes parts.0) parts.2;
+      globals =
+          subst (AreOf (map kind_of m.globals)) (sym parts.1)
+          (values_typed 0 m.globals constants.globals (globals_met pages m valid.parts));
+      memory =
+          like_memory memory g.memory (memory_is pages m.memories le (memory_fits pages m valid))
+          (segments_size globals m.segments memory.bytes g.memory.bytes parts.0) parts.2;
     }

@@ -13,7 +13,8 @@ use Rattle.nr_wasmexec.proofs.Linked.{program_sound}
 use Rattle.nr_wasmexec.proofs.Made.{pages_bound}
 use Rattle.nr_wasmexec.specs.Functions.{func_at, links}
 use Rattle.nr_wasmexec.specs.Machine.{rules_of, runtime}
-use Rattle.nr_wasmexec.specs.Making.{MachineView, first_guest, is_method, limits_of, machine_of, machine_with, program_of}
+use Rattle.nr_wasmexec.specs.Making.{MachineView, first_guest, is_method, limits_of, machine_of, machine_with}
+use Rattle.nr_wasmexec.specs.Making.{program_of}
 use Rattle.nr_wasmexec.specs.Reduction.{Config as State}
 use Rattle.nr_wasmexec.specs.declared.making.MakeFault.{MakeFault}
 use Rattle.nr_wasmexec.specs.declared.program.Limits.{Limits}
@@ -31,7 +32,8 @@ machine_is : (config : Config) (m : Module) (o : Option Guest) (x : MachineView)
 machine_is config m None x e = absurd cc
 machine_is config m (Some g) x e = (g, refl, let same : made_of config m g ≡ x = cc in same)
 
-pub first : (config : Config) (m : Module) (g : Guest) → IsValidConfig config → IsValid (max_pages config) m → AreConstants m
+pub first : (config : Config) (m : Module) (g : Guest) → IsValidConfig config → IsValid (max_pages config) m
+    → AreConstants m
     → first_guest (max_pages config) m ≡ Some g → IsTypedGuest m g
 first config m g bounds valid constants e =
     first_typed (max_pages config) m g (pages_bound config bounds) valid constants e

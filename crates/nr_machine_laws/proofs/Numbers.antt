@@ -1,8 +1,10 @@
 -- What the operations give is a number of the type.
-use Rattle.std.proofs.Common.{◌≡◌, ℕ, zero, suc, ◌+◌, ◌-◌, ◌*◌, ◌/◌, ◌%◌, ◌^◌, ◌<◌, ◌≤◌, Bool, true, false, ◌==◌, ◌&&◌, arith}
+use Rattle.std.proofs.Common.{◌≡◌, ℕ, zero, suc, ◌+◌, ◌-◌, ◌*◌, ◌/◌, ◌%◌, ◌^◌, ◌<◌, ◌≤◌, Bool, true, false, ◌==◌, ◌&&◌}
+use Rattle.std.proofs.Common.{arith}
 use Rattle.std.proofs.Common.{Result, Ok, Err, ℤ, pos, negsuc, neg_ℤ, mod-lt, div-le_self, pow_pos}
 use Rattle.std.specs.Prelude.{if◌then◌else◌, bit_and, bit_or, bit_xor, count_ones, int_div, int_rem}
-use Rattle.std.specs.Int.{Width, w8, w16, w32, w64, cast_signed, cast_unsigned, int_shr, rotate_left, rotate_right, from_bool}
+use Rattle.std.specs.Int.{Width, w8, w16, w32, w64, cast_signed, cast_unsigned, int_shr, rotate_left, rotate_right}
+use Rattle.std.specs.Int.{from_bool}
 use Rattle.std.proofs.lemmas.Nat.{and_le_l, or_lt, xor_lt, leading_le, trailing_le, ones-le}
 use native.Mathlib.Nat.{mod-le}
 use lib.Signed.{mag, mag_rem, mag_shr}
@@ -20,7 +22,8 @@ use Rattle.nr_wasmtypes.specs.declared.instr.Load.{Load}
 use Rattle.nr_wasmtypes.specs.declared.instr.Load.TheVariants as load
 use Rattle.nr_wasmtypes.specs.declared.instr.ValType.{ValType}
 use Rattle.nr_wasmtypes.specs.declared.instr.ValType.TheVariants.{I32, I64}
-use Rattle.nr_wasmnum.specs.Integers.{IsOf, arith_of, arith_on, bit_count_of, bits_of, compare_of, convert_of, count_on}
+use Rattle.nr_wasmnum.specs.Integers.{IsOf, arith_of, arith_on, bit_count_of, bits_of, compare_of, convert_of}
+use Rattle.nr_wasmnum.specs.Integers.{count_on}
 use Rattle.nr_wasmnum.specs.Integers.{holds, load_of, low, sign_extended, signed, signed_quotient, signed_remainder}
 use Rattle.nr_wasmnum.specs.Integers.{unsigned, width_of, zero_test_of}
 use Rattle.nr_wasmnum.specs.declared.fault.NumFault.{NumFault}
@@ -45,11 +48,14 @@ quotient_size (negsuc a) (pos b) = omega (arith, neg_size (suc a / b), div-le_se
 quotient_size (negsuc a) (negsuc b) = omega (arith, div-le_self (suc a) (suc b))
 
 -- a number that is no larger than one more than a signed one
-signed_fits : (w : Width) (a : ℕ) (z : ℤ) → a < 2 ^ bits w → mag z ≤ suc (mag (cast_signed w a)) → cast_unsigned w z < 2 ^ bits w
+signed_fits : (w : Width) (a : ℕ) (z : ℤ) → a < 2 ^ bits w → mag z ≤ suc (mag (cast_signed w a))
+    → cast_unsigned w z < 2 ^ bits w
 signed_fits w a z h le = unsigned_fits w z (omega (arith, le, signed_size w a h, pow-bits w, pow_pos (hbits w)))
 
-extended_fits : (narrow wide : Width) (n : ℕ) → n < 2 ^ bits narrow → 2 ^ hbits narrow ≤ 2 ^ bits wide → sign_extended narrow wide n < 2 ^ bits wide
-extended_fits narrow wide n h le = unsigned_fits wide (cast_signed narrow n) (omega (arith, signed_size narrow n h, le))
+extended_fits : (narrow wide : Width) (n : ℕ) → n < 2 ^ bits narrow → 2 ^ hbits narrow ≤ 2 ^ bits wide
+    → sign_extended narrow wide n < 2 ^ bits wide
+extended_fits narrow wide n h le =
+    unsigned_fits wide (cast_signed narrow n) (omega (arith, signed_size narrow n h, le))
 
 rotated_left_fits : (w : Width) (a k : ℕ) → a < 2 ^ bits w → rotate_left w a k < 2 ^ bits w
 rotated_left_fits w a k h =
@@ -96,12 +102,14 @@ quotient_fits t a b h =
     let z : ℤ = int_div (signed t a) (signed t b) in
     let too_large : Bool = a == 2 ^ (bits_of t - 1) && b == 2 ^ bits_of t - 1 in
     either t (b == 0) (Err ByZero) (if too_large then Err Overflow else Ok (unsigned t z)) tt
-    (either t too_large (Err Overflow) (Ok (unsigned t z)) tt (signed_is t a z h (quotient_size (signed t a) (signed t b))))
+    (either t too_large (Err Overflow) (Ok (unsigned t z)) tt
+    (signed_is t a z h (quotient_size (signed t a) (signed t b))))
 
 remainder_fits : (t : ValType) (a b : ℕ) → IsOf t a → OkIs t (signed_remainder t a b)
 remainder_fits t a b h =
     let z : ℤ = int_rem (signed t a) (signed t b) in
-    either t (b == 0) (Err ByZero) (Ok (unsigned t z)) tt (signed_is t a z h (omega (arith, mag_rem (signed t a) (signed t b))))
+    either t (b == 0) (Err ByZero) (Ok (unsigned t z)) tt
+    (signed_is t a z h (omega (arith, mag_rem (signed t a) (signed t b))))
 
 shifted_fits : (t : ValType) (a k : ℕ) → IsOf t a → IsOf t (unsigned t (int_shr (signed t a) k))
 shifted_fits t a k h = signed_is t a (int_shr (signed t a) k) h (omega (arith, mag_shr (signed t a) (2 ^ k)))
@@ -117,7 +125,8 @@ arith_on_fits t act.Add a b h k = remains t (a + b)
 arith_on_fits t act.Sub a b h k = remains t (a + (2 ^ bits_of t - b))
 arith_on_fits t act.Mul a b h k = remains t (a * b)
 arith_on_fits t act.DivS a b h k = quotient_fits t a b h
-arith_on_fits t act.DivU a b h k = either t (b == 0) (Err ByZero) (Ok (a / b)) tt (no_more t (a / b) a h (div-le_self a b))
+arith_on_fits t act.DivU a b h k =
+    either t (b == 0) (Err ByZero) (Ok (a / b)) tt (no_more t (a / b) a h (div-le_self a b))
 arith_on_fits t act.RemS a b h k = remainder_fits t a b h
 arith_on_fits t act.RemU a b h k = either t (b == 0) (Err ByZero) (Ok (a % b)) tt (no_more t (a % b) a h (mod-le a b))
 arith_on_fits t act.And a b h k = no_more t (bit_and a b) a h (and_le_l a b)
@@ -127,9 +136,11 @@ arith_on_fits t act.Shl a b h k = remains t (a * 2 ^ (b % bits_of t))
 arith_on_fits t act.ShrS a b h k = shifted_fits t a (b % bits_of t) h
 arith_on_fits t act.ShrU a b h k = no_more t (a / 2 ^ (b % bits_of t)) a h (div-le_self a (2 ^ (b % bits_of t)))
 arith_on_fits t act.Rotl a b h k =
-    of_width t (rotate_left (width_of t) a (b % bits_of t)) (rotated_left_fits (width_of t) a (b % bits_of t) (to_width t a h))
+    of_width t (rotate_left (width_of t) a (b % bits_of t))
+    (rotated_left_fits (width_of t) a (b % bits_of t) (to_width t a h))
 arith_on_fits t act.Rotr a b h k =
-    of_width t (rotate_right (width_of t) a (b % bits_of t)) (rotated_right_fits (width_of t) a (b % bits_of t) (to_width t a h))
+    of_width t (rotate_right (width_of t) a (b % bits_of t))
+    (rotated_right_fits (width_of t) a (b % bits_of t) (to_width t a h))
 
 pub arith_fits : (t : ValType) (op : Arith) (a b : ℕ) → OkIs t (arith_of t op a b)
 arith_fits t op a b = arith_on_fits t op (low t a) (low t b) (low_is t a) (low_is t b)

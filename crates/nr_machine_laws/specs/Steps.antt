@@ -1,8 +1,11 @@
--- WebAssembly Core 1.0, "Execution": the configurations that a run comes to, step by step; the numbers that rows look at.
-use Rattle.std.specs.Prelude.{◌≡◌, ℕ, zero, suc, Bool, true, false, List, [], ◌∷◌, length, replicate, Option, Some, None}
+-- WebAssembly Core 1.0, "Execution": the configurations that a run comes to, step by step; the numbers that rows look
+-- at.
+use Rattle.std.specs.Prelude.{◌≡◌, ℕ, zero, suc, Bool, true, false, List, [], ◌∷◌, length, replicate, Option, Some}
+use Rattle.std.specs.Prelude.{None}
 use Rattle.nr_machine_laws.specs.Typed.{AreOf}
 use Rattle.nr_wasmexec.specs.Functions.{Func, Hosted, Coded, func_at}
-use Rattle.nr_wasmexec.specs.Reduction.{Asks, Config, Effect, Frame, Label, NoRule, Plain, Rules, Runtime, Seq, Step, To}
+use Rattle.nr_wasmexec.specs.Reduction.{Asks, Config, Effect, Frame, Label, NoRule, Plain, Rules, Runtime, Seq, Step}
+use Rattle.nr_wasmexec.specs.Reduction.{To}
 use Rattle.nr_wasmexec.specs.Reduction.{call_of, effect, is_too_large, on_those, paid, stepped}
 use Rattle.nr_wasmmem.specs.Meaning.{Answer, Gives, OutOfGas, Fails, HostMeaning}
 use Rattle.nr_wasmnum.specs.Integers.{IsOf}

@@ -1,4 +1,5 @@
--- WebAssembly Core 1.0, appendix "Soundness": the typing of instruction sequences that run, with what stands on the operands,
+-- WebAssembly Core 1.0, appendix "Soundness": the typing of instruction sequences that run, with what stands on the
+-- operands,
 -- in locals and in globals.
 use Rattle.std.specs.Prelude.{◌≡◌, ℕ, List, [], ◌∷◌, ◌++◌, map, Some, None, slice_get}
 use Rattle.nr_wasmexec.specs.Functions.{Coded, func_at}
@@ -59,9 +60,9 @@ pub record AreConstants (m : Module) : Type 0 where
 abbrev pub IsCode : Context → Code → List ValType → List ValType → Type 0
 IsCode c code before after = Typed c code before after × HoldsConstants code
 
--- The sequence leaves operands of these types. The operands at each place in it are of the types from which the code behind
--- them is typed; a branch to a label goes on with those that it takes; a frame is that of a function of the program, with
--- locals of the types that the function states.
+-- The sequence leaves operands of these types. The operands at each place in it are of the types from which the code
+-- behind them is typed; a branch to a label goes on with those that it takes; a frame is that of a function of the
+-- program, with locals of the types that the function states.
 abbrev pub IsSeq : Program → Context → Seq → List ValType → Type 0
 IsSeq p c (Plain values code) out = (ts : List ValType) × AreOf ts values × IsCode c code ts out
 IsSeq p c (Label values n target inner code) out =

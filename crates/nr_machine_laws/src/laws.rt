@@ -4,13 +4,13 @@
 ghost use Rattle.std.specs.Prelude.{◌≡◌, ◌+◌, ℕ, IsTrue, List, Some, Ok};
 ghost use Rattle.nr_bytes.specs.Numbers.{IsBytes};
 ghost use Rattle.nr_config.specs.Config.{Config, IsValidConfig, max_pages};
-ghost use Rattle.nr_machine_laws.specs.Steps.{HasI32, Reaches, code_at, takes_raw, values_at};
+ghost use Rattle.nr_machine_laws.specs.Steps.{AnswersNext, HasI32, Reaches, code_at, takes_raw, values_at};
 ghost use Rattle.nr_machine_laws.specs.Typed.{AreConstants, IsTypedConfig, IsTypedGuest};
 ghost use Rattle.nr_wasmbin.specs.Grammar.{IsModule};
 ghost use Rattle.nr_wasmexec.specs.Functions.{func_at, links};
 ghost use Rattle.nr_wasmexec.specs.Machine.{rules_of, runtime};
 ghost use Rattle.nr_wasmexec.specs.Making.{MachineView, first_guest, is_method, machine_of};
-ghost use Rattle.nr_wasmexec.specs.Reduction.{Config as State, run_by, runs};
+ghost use Rattle.nr_wasmexec.specs.Reduction.{Config as State, Unfinished, paid, run_by, runs};
 ghost use Rattle.nr_wasmexec.specs.declared.program.Limits.{Limits};
 ghost use Rattle.nr_wasmexec.specs.declared.program.Program.{Program};
 ghost use Rattle.nr_wasmmem.specs.declared.guest.Guest.{Guest};
@@ -47,4 +47,10 @@ pub fn typing_laws<H: Host>()
     ensures run { (p : Program) (l : Limits) (s : H.State) (g : Guest) (f n k : ℕ) (c : State H.State)
         → Reaches (rules_of H.meaning p l) (runtime s g) f n c
         → run_by (rules_of H.meaning p l) (runtime s g) f (n + k) ≡ runs (rules_of H.meaning p l) k c }
+    // As long as the host's answers are of their types, a run that isn't over in so many steps is where they reach.
+    ensures each { (p : Program) (l : Limits) (s : H.State) (g : Guest) (f n : ℕ)
+        → ((k : ℕ) (c : State H.State) → Reaches (rules_of H.meaning p l) (runtime s g) f k c
+        → AnswersNext (rules_of H.meaning p l) (paid (rules_of H.meaning p l) c.store) c.locals c.seq)
+        → run_by (rules_of H.meaning p l) (runtime s g) f n ≡ Unfinished
+        → (c : State H.State) × Reaches (rules_of H.meaning p l) (runtime s g) f n c }
 {}
