@@ -1,5 +1,5 @@
--- WebAssembly Core 1.0, "Execution": the configurations that a run comes to, step by step; the numbers that rows look
--- at.
+-- WebAssembly Core 1.0, "Execution": the configurations that a run comes to, step by step, and the numbers that rows
+-- look at.
 use Rattle.std.specs.Prelude.{◌≡◌, ℕ, zero, suc, Bool, true, false, List, [], ◌∷◌, length, replicate, Option, Some}
 use Rattle.std.specs.Prelude.{None}
 use Rattle.nr_machine_laws.specs.Typed.{AreOf}

@@ -1,6 +1,5 @@
 -- WebAssembly Core 1.0, appendix "Soundness": the typing of instruction sequences that run, with what stands on the
--- operands,
--- in locals and in globals.
+-- operands, in locals and in globals.
 use Rattle.std.specs.Prelude.{◌≡◌, ℕ, List, [], ◌∷◌, ◌++◌, map, Some, None, slice_get}
 use Rattle.nr_wasmexec.specs.Functions.{Coded, func_at}
 use Rattle.nr_wasmexec.specs.Reduction.{Config, Frame, Label, Plain, Seq}
