@@ -133,7 +133,7 @@ section_holds {X} id item P each xs text a h = by_presence (rest_bytes h.0 h.1 (
         absurd (let f : slice_get [] k ≡ Some x = ap (λ (ys : List X). slice_get ys k) (sym none.1) ∙ e in cc)
     by_presence b (inr there) k x e =
         let inner : IsBytes there.1 = rest_bytes there.0 there.1 (subst IsBytes there.2 b) in
-        list_holds item P each xs there.4.1 (filled (list item xs) there.1 inner there.4) there.4.3 k x e
+        list_holds item P each xs there.4.1 (filled (list item xs) there.1 inner there.4) there.4.4 k x e
 
 body_holds : (b : Body) (text : List ℕ) → IsBytes text → body b text → HoldsConstants b.code
 body_holds b text a h =
