@@ -1,8 +1,7 @@
 -- The constants of a module that its bytes spell are numbers of their types.
 use Rattle.std.proofs.Common.{◌≡◌, ℕ, zero, suc, ◌+◌, ◌-◌, ◌*◌, ◌^◌, ◌<◌, ◌≤◌, ◌⊎◌, Bool, true, false, List, [], ◌∷◌}
-use Rattle.std.proofs.Common.{◌++◌, length, Option, Some, None}
-use Rattle.std.proofs.Common.{refl, sym, ap, ◌∙◌, subst, inl, inr, arith, pow_pos, pow-add, pow-suc, slice_get}
-use Rattle.std.proofs.Common.{slice_index}
+use Rattle.std.proofs.Common.{◌++◌, Some}
+use Rattle.std.proofs.Common.{sym, ap, ◌∙◌, subst, inl, inr, arith, pow_pos, pow-add, pow-suc, slice_get}
 use Rattle.nr_bytes.specs.Numbers.{IsBytes}
 use Rattle.nr_machine_laws.specs.Typed.{IsConstant, HoldsConstants, IsFirst, AreConstants}
 use Rattle.nr_wasmbin.specs.Grammar.{Language, ◌▸◌, IsModule, IsOther, IsSequence, back, body, byte, constant}

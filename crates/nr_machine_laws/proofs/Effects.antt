@@ -1,16 +1,16 @@
 -- The effect of an instruction on operands, locals and globals of its types.
-use Rattle.std.proofs.Common.{◌≡◌, ℕ, zero, suc, ◌+◌, ◌-◌, ◌*◌, ◌/◌, ◌%◌, ◌^◌, ◌<◌, ◌≤◌, Bool, true, false, cond, ◌&&◌}
+use Rattle.std.proofs.Common.{◌≡◌, ℕ, zero, suc, ◌+◌, ◌-◌, ◌*◌, ◌%◌, ◌^◌, ◌≤◌, Bool, true, false, cond, ◌&&◌}
 use Rattle.std.proofs.Common.{List, [], ◌∷◌, ◌++◌, length, take, drop}
 use Rattle.std.proofs.Common.{replicate, Option, Some, None, Result, Ok, Err, nat_lt, refl, sym, ap, ◌∙◌, subst, arith}
 use Rattle.std.proofs.Common.{length-append, length-drop, length-take}
-use Rattle.std.specs.Prelude.{map, reverse, slice_get, slice_set, ◌==◌, IsTrue, is_some, nat_le, option_and_then}
+use Rattle.std.specs.Prelude.{map, reverse, slice_get, slice_set, ◌==◌, is_some, nat_le, option_and_then}
 use Rattle.std.proofs.lemmas.Option.{cond_some}
 use Rattle.std.proofs.lemmas.Bool.{leb-true}
 use Rattle.nr_machine_laws.proofs.Lists.{joined, arguments, under_arguments, zeros, got, put, mapped_at, one, two}
 use Rattle.nr_machine_laws.proofs.Lists.{three}
 use Rattle.nr_machine_laws.proofs.Numbers.{OkIs, arith_fits, compare_fits, zero_test_fits, bit_count_fits}
 use Rattle.nr_machine_laws.proofs.Numbers.{convert_fits, load_fits}
-use Rattle.nr_machine_laws.specs.Typed.{AreOf, IsConstant, HoldsConstants, IsCode, kind_of, IsTypedGuest}
+use Rattle.nr_machine_laws.specs.Typed.{AreOf, IsConstant, IsCode, kind_of, IsTypedGuest}
 use Rattle.nr_wasmexec.proofs.Branches.{some_is}
 use Rattle.nr_wasmexec.proofs.Signatures.{same_types_are, same_sig_is}
 use Rattle.nr_wasmexec.specs.Functions.{Func, Hosted, Coded, sig_of, func_at}
@@ -40,7 +40,7 @@ use Rattle.nr_wasmtypes.specs.declared.module.Global.{Global}
 use Rattle.nr_wasmvalid.specs.Parts.{same_sig, func_indices}
 use Rattle.nr_wasmvalid.specs.Rules.{Types?, types, Context, within, Ask, Take, Give, Leave, Must, named, func_type}
 use Rattle.nr_wasmvalid.specs.Rules.{is_label, are_labels, rule}
-use Rattle.nr_wasmvalid.specs.Typing.{Obey, Typed}
+use Rattle.nr_wasmvalid.specs.Typing.{Obey}
 use Rattle.nr_wasmvalid.specs.declared.refusal.Refusal.TheVariants as kind
 
 -- ---- what an effect is

@@ -1,7 +1,7 @@
 -- The guest of a machine before its first run is of its types.
-use Rattle.std.proofs.Common.{◌≡◌, ℕ, zero, suc, ◌+◌, ◌*◌, ◌%◌, ◌≤◌, Bool, true, false, List, [], ◌∷◌, ◌++◌, length}
-use Rattle.std.proofs.Common.{replicate, min}
-use Rattle.std.proofs.Common.{Option, Some, None, Result, Ok, refl, sym, ap, ◌∙◌, subst, arith}
+use Rattle.std.proofs.Common.{◌≡◌, ℕ, zero, suc, ◌+◌, ◌*◌, ◌%◌, ◌≤◌, true, List, [], ◌∷◌, ◌++◌, length}
+use Rattle.std.proofs.Common.{replicate}
+use Rattle.std.proofs.Common.{Option, Some, None, Ok, refl, sym, ap, ◌∙◌, subst, arith}
 use Rattle.std.specs.Prelude.{map, option_and_then, slice_get}
 use Rattle.nr_machine_laws.proofs.Effects.{put_size}
 use Rattle.nr_machine_laws.specs.Typed.{AreOf, AreConstants, IsFirst, IsTypedGuest, kind_of}
@@ -23,9 +23,9 @@ use Rattle.nr_wasmtypes.specs.declared.module.Limits.{Limits as Sizes}
 use Rattle.nr_wasmtypes.specs.declared.module.Module.{Module}
 use Rattle.nr_wasmtypes.specs.declared.module.Segment.{Segment}
 use Rattle.nr_wasmvalid.specs.Modules.{IsValid}
-use Rattle.nr_wasmvalid.specs.Parts.{Demand, count_asks, each, element_asks, export_asks, func_asks, func_indices}
+use Rattle.nr_wasmvalid.specs.Parts.{Demand, each, func_asks}
 use Rattle.nr_wasmvalid.specs.Parts.{global_asks, import_asks}
-use Rattle.nr_wasmvalid.specs.Parts.{init_asks, memory_asks, outcome, outcomes, parts_outcome, segment_asks}
+use Rattle.nr_wasmvalid.specs.Parts.{init_asks, memory_asks, outcome, parts_outcome}
 use Rattle.nr_wasmvalid.specs.Parts.{table_asks}
 use Rattle.nr_wasmvalid.specs.Rules.{same_type}
 

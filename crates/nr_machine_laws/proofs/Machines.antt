@@ -1,5 +1,5 @@
 -- Runs of a valid module, and of the machine that is made of one.
-use Rattle.std.proofs.Common.{◌≡◌, ℕ, List, Option, Some, None, Result, Ok, Err, refl, sym, subst}
+use Rattle.std.proofs.Common.{◌≡◌, ℕ, List, Option, Some, None, Ok, refl, subst}
 use Rattle.std.specs.Prelude.{IsTrue}
 use Rattle.nr_bytes.specs.Numbers.{IsBytes}
 use Rattle.nr_config.specs.Config.{Config, IsValidConfig, max_pages}
@@ -16,7 +16,6 @@ use Rattle.nr_wasmexec.specs.Machine.{rules_of, runtime}
 use Rattle.nr_wasmexec.specs.Making.{MachineView, first_guest, is_method, limits_of, machine_of, machine_with}
 use Rattle.nr_wasmexec.specs.Making.{program_of}
 use Rattle.nr_wasmexec.specs.Reduction.{Config as State}
-use Rattle.nr_wasmexec.specs.declared.making.MakeFault.{MakeFault}
 use Rattle.nr_wasmexec.specs.declared.program.Limits.{Limits}
 use Rattle.nr_wasmexec.specs.declared.program.Program.{Program}
 use Rattle.nr_wasmmem.specs.Meaning.{HostMeaning, IsHost}

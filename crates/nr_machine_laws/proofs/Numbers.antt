@@ -1,8 +1,8 @@
 -- What the operations give is a number of the type.
-use Rattle.std.proofs.Common.{◌≡◌, ℕ, zero, suc, ◌+◌, ◌-◌, ◌*◌, ◌/◌, ◌%◌, ◌^◌, ◌<◌, ◌≤◌, Bool, true, false, ◌==◌, ◌&&◌}
+use Rattle.std.proofs.Common.{ℕ, zero, suc, ◌+◌, ◌-◌, ◌*◌, ◌/◌, ◌%◌, ◌^◌, ◌<◌, ◌≤◌, Bool, true, false, ◌==◌, ◌&&◌}
 use Rattle.std.proofs.Common.{arith}
 use Rattle.std.proofs.Common.{Result, Ok, Err, ℤ, pos, negsuc, neg_ℤ, mod-lt, div-le_self, pow_pos}
-use Rattle.std.specs.Prelude.{if◌then◌else◌, bit_and, bit_or, bit_xor, count_ones, int_div, int_rem}
+use Rattle.std.specs.Prelude.{if◌then◌else◌, bit_and, int_div, int_rem}
 use Rattle.std.specs.Int.{Width, w8, w16, w32, w64, cast_signed, cast_unsigned, int_shr, rotate_left, rotate_right}
 use Rattle.std.specs.Int.{from_bool}
 use Rattle.std.proofs.lemmas.Nat.{and_le_l, or_lt, xor_lt, leading_le, trailing_le, ones-le}

@@ -1,6 +1,6 @@
 -- A step of a typed configuration leads to a typed one, and so does each number of steps.
-use Rattle.std.proofs.Common.{◌≡◌, ℕ, zero, suc, ◌+◌, ◌-◌, ◌≤◌, Bool, true, false, cond, List, [], ◌∷◌, ◌++◌, length}
-use Rattle.std.proofs.Common.{take, drop, replicate}
+use Rattle.std.proofs.Common.{◌≡◌, ℕ, zero, suc, ◌+◌, ◌-◌, Bool, true, false, cond, List, [], ◌∷◌, ◌++◌, length}
+use Rattle.std.proofs.Common.{take, replicate}
 use Rattle.std.proofs.Common.{Option, Some, None, nat_lt, refl, sym, ap, ◌∙◌, subst, arith}
 use Rattle.std.specs.Prelude.{IsTrue, is_some, nat_eq, not, ◌&&◌, slice_get, option_and_then}
 use Rattle.std.proofs.lemmas.Bool.Decides.{Decides-eqb}
@@ -13,7 +13,7 @@ use Rattle.nr_machine_laws.specs.Typed.{IsTypedConfig}
 use Rattle.nr_wasmexec.proofs.Branches.{some_is}
 use Rattle.nr_wasmexec.specs.Functions.{Func, Hosted, Coded, coded, own_func, hosted, host_func, func_at}
 use Rattle.nr_wasmexec.specs.Making.{is_method}
-use Rattle.nr_wasmexec.specs.Reduction.{Seq, Plain, Label, Frame, Stop, GasExceeded, Effect, Goes, Writes, Opens}
+use Rattle.nr_wasmexec.specs.Reduction.{Seq, Plain, Label, Frame, GasExceeded, Effect, Goes, Writes, Opens}
 use Rattle.nr_wasmexec.specs.Reduction.{Invokes, Asks, Branches, Returns, Traps, Stuck}
 use Rattle.nr_wasmexec.specs.Reduction.{effect, Runtime, Step, To, Over, Branching, Returning, Stopping, NoRule, Rules}
 use Rattle.nr_wasmexec.specs.Reduction.{on_those, call_of, behind_call, answered, rewritten}
@@ -22,14 +22,12 @@ use Rattle.nr_wasmexec.specs.Reduction.{stepped, Outcome, Halted, Unfinished, Tr
 use Rattle.nr_wasmexec.specs.Standing.{IsSound}
 use Rattle.nr_wasmexec.specs.declared.program.HostLink.{HostLink}
 use Rattle.nr_wasmexec.specs.declared.program.Program.{Program}
-use Rattle.nr_wasmmem.specs.Meaning.{Answer, Gives, OutOfGas, Fails, HostMeaning, IsHost}
-use Rattle.nr_wasmnum.specs.Integers.{IsOf}
+use Rattle.nr_wasmmem.specs.Meaning.{Answer, Gives, OutOfGas, Fails, IsHost}
 use Rattle.nr_wasmtypes.specs.Body.{Body}
 use Rattle.nr_wasmtypes.specs.Code.{Code, End, Then, Block, Loop, Choice, after, begins}
 use Rattle.nr_wasmtypes.specs.Host.{host_type}
 use Rattle.nr_wasmtypes.specs.Tables.{arity_of}
 use Rattle.nr_wasmtypes.specs.declared.host.HostFn.{HostFn}
-use Rattle.nr_wasmtypes.specs.declared.instr.Plain.{Plain as Op}
 use Rattle.nr_wasmtypes.specs.declared.instr.Plain.TheVariants as op
 use Rattle.nr_wasmtypes.specs.declared.instr.ValType.{ValType}
 use Rattle.nr_wasmtypes.specs.declared.instr.ValType.TheVariants.{I32}

@@ -1,4 +1,4 @@
-use Rattle.std.proofs.Common.{ℕ, ◌+◌, ◌≡◌, ap, ◌∙◌, arith}
+use Rattle.std.proofs.Common.{◌+◌, ◌≡◌, ap, ◌∙◌, arith}
 use Rattle.nr_wasmexec.specs.Reduction.{run_by}
 use Rattle.nr_wasmexec.specs.Machine.{rules_of, runtime}
 use Rattle.nr_machine_laws.proofs.Machines.{kept, whole}
