@@ -77,24 +77,29 @@ code_constants : (depth : ℕ) (text : List ℕ) (code : Code) (stands : Bool) �
     → IsSequence depth text code stands → HoldsConstants code
 code_constants depth text End stands a h = tt
 code_constants depth text (Then p rest) stands a h =
-    let parts : IsBytes (h.1 ++ h.2) = tail_bytes h.0 (h.1 ++ h.2) (subst IsBytes h.3 a) in
-    (constant_is p h.1 (front_bytes h.1 h.2 parts) h.4.1, code_constants depth h.2 rest stands
-    (rest_bytes h.1 h.2 parts) h.5)
+    let parts : IsBytes (h.1 ++ h.2) = tail_bytes h.0 (h.1 ++ h.2) (subst IsBytes h.3 a) in (
+      constant_is p h.1 (front_bytes h.1 h.2 parts) h.4.1,
+      code_constants depth h.2 rest stands
+          (rest_bytes h.1 h.2 parts) h.5,
+    )
 code_constants depth text (Block ty body rest) stands a h =
-    let parts : IsBytes (h.2 ++ h.3) = behind_type h.0 h.1 h.2 h.3 (subst IsBytes h.4 a) in
-    (code_constants (depth + 1) h.2 body false (front_bytes h.2 h.3 parts) h.8, code_constants depth h.3 rest stands
-    (rest_bytes h.2 h.3 parts) h.9)
+    let parts : IsBytes (h.2 ++ h.3) = behind_type h.0 h.1 h.2 h.3 (subst IsBytes h.4 a) in (
+      code_constants (depth + 1) h.2 body false (front_bytes h.2 h.3 parts) h.8,
+      code_constants depth h.3 rest stands
+          (rest_bytes h.2 h.3 parts) h.9,
+    )
 code_constants depth text (Loop ty body rest) stands a h =
-    let parts : IsBytes (h.2 ++ h.3) = behind_type h.0 h.1 h.2 h.3 (subst IsBytes h.4 a) in
-    (code_constants (depth + 1) h.2 body false (front_bytes h.2 h.3 parts) h.8, code_constants depth h.3 rest stands
-    (rest_bytes h.2 h.3 parts) h.9)
+    let parts : IsBytes (h.2 ++ h.3) = behind_type h.0 h.1 h.2 h.3 (subst IsBytes h.4 a) in (
+      code_constants (depth + 1) h.2 body false (front_bytes h.2 h.3 parts) h.8,
+      code_constants depth h.3 rest stands
+          (rest_bytes h.2 h.3 parts) h.9,
+    )
 code_constants depth text (Choice ty one other rest) stands a h =
     let parts : IsBytes (h.2 ++ (h.3 ++ h.4)) = behind_type h.0 h.1 h.2 (h.3 ++ h.4) (subst IsBytes h.5 a) in
-    let others : IsBytes (h.3 ++ h.4) = rest_bytes h.2 (h.3 ++ h.4) parts in
-    (
+    let others : IsBytes (h.3 ++ h.4) = rest_bytes h.2 (h.3 ++ h.4) parts in (
       code_constants (depth + 1) h.2 one h.9 (front_bytes h.2 (h.3 ++ h.4) parts) h.10,
       other_side depth other h.9 h.3 (λ k. code_constants (depth + 1) h.3 other false (front_bytes h.3 h.4 others) k)
-      h.11,
+          h.11,
       code_constants depth h.4 rest stands (rest_bytes h.3 h.4 others) h.12,
     )
 

@@ -207,7 +207,7 @@ module _ (p : Program) (sound : IsSound p) (c : Context) (body : IsInside p c) (
           refl,
           under_arguments sig.params below values h,
           joined sig.params fn_body.locals (reverse (take n values)) (replicate (length fn_body.locals) 0)
-          (arguments sig.params below values h) (zeros fn_body.locals),
+              (arguments sig.params below values h) (zeros fn_body.locals),
           refl,
           k,
         )
@@ -258,8 +258,11 @@ module _ (p : Program) (sound : IsSound p) (c : Context) (body : IsInside p c) (
         by_room None is = tt
         by_room (Some bytes) is =
             writes (with_memory guest bytes) vs us
-            (record { globals = typed.globals; memory = same_size guest.memory bytes typed.memory
-            (put_size guest.memory.bytes at (little width v) bytes is) }) h e
+            (record {
+              globals = typed.globals;
+              memory = same_size guest.memory bytes typed.memory
+                  (put_size guest.memory.bytes at (little width v) bytes is);
+            }) h e
 
     growing : (pages : ℕ) (vs : List ℕ) (us : List ValType) → AreOf us vs → next ≡ I32 ∷ us
         → E (grows guest (grown guest.memory pages) vs)
@@ -326,7 +329,7 @@ module _ (p : Program) (sound : IsSound p) (c : Context) (body : IsInside p c) (
         (λ v below vi bs.
         elim (nat_lt n (length own)) as (λ b. E (cond b (Goes (slice_set own n v) below) Stuck)) [
           | true ↦ goes (slice_set own n v) below found.2.0 (put c.locals own n found.0 v locals found.1 vi) bs
-          found.2.2
+              found.2.2
           | false ↦ tt
         ])
     plain_typed (op.LocalTee n) is o =
@@ -336,7 +339,7 @@ module _ (p : Program) (sound : IsSound p) (c : Context) (body : IsInside p c) (
         (λ v below vi bs.
         elim (nat_lt n (length own)) as (λ b. E (cond b (Goes (slice_set own n v) (v ∷ below)) Stuck)) [
           | true ↦ goes (slice_set own n v) (v ∷ below) (found.0 ∷ found.2.0)
-          (put c.locals own n found.0 v locals found.1 vi) (vi, bs) (found.2.2.2 ∙ found.2.2.1)
+              (put c.locals own n found.0 v locals found.1 vi) (vi, bs) (found.2.2.2 ∙ found.2.2.1)
           | false ↦ tt
         ])
     plain_typed (op.GlobalGet n) is o =
@@ -348,9 +351,11 @@ module _ (p : Program) (sound : IsSound p) (c : Context) (body : IsInside p c) (
             → slice_get guest.globals n ≡ v → E (with_value v (λ v. Goes own (v ∷ values)))
         by_value g at e None here = tt
         by_value g at e (Some v) here =
-            goes own (v ∷ values) (g.kind ∷ ts) locals
-            (got (map kind_of p.code.globals) guest.globals n g.kind v typed.globals
-            (mapped_at kind_of p.code.globals n g at) here, operands) e
+            goes own (v ∷ values) (g.kind ∷ ts) locals (
+              got (map kind_of p.code.globals) guest.globals n g.kind v typed.globals
+                  (mapped_at kind_of p.code.globals n g at) here,
+              operands,
+            ) e
     plain_typed (op.GlobalSet n) is o =
         let found =
         found_for (slice_get c.globals n) (λ g. Take (g.kind ∷ []) ∷ Must kind.Index g.mutable ∷ []) ts next o in
@@ -362,9 +367,12 @@ module _ (p : Program) (sound : IsSound p) (c : Context) (body : IsInside p c) (
         elim (nat_lt n (length guest.globals)) as (λ b. E
         (cond b (Writes (record guest { globals = slice_set guest.globals n v }) below) Stuck)) [
           | true ↦ writes (record guest { globals = slice_set guest.globals n v }) below found.2.0
-            (record { globals = put (map kind_of p.code.globals) guest.globals n found.0.kind v typed.globals
-            (mapped_at kind_of p.code.globals n found.0 at) vi; memory = typed.memory })
-            bs (found.2.2.2 ∙ found.2.2.1.1)
+              (record {
+                globals = put (map kind_of p.code.globals) guest.globals n found.0.kind v typed.globals
+                    (mapped_at kind_of p.code.globals n found.0 at) vi;
+                memory = typed.memory;
+              })
+              bs (found.2.2.2 ∙ found.2.2.1.1)
           | false ↦ tt
         ])
     plain_typed (op.Load what align offset) n o =
@@ -404,8 +412,13 @@ module _ (p : Program) (sound : IsSound p) (c : Context) (body : IsInside p c) (
         label_for (slice_get c.labels table.1)
         (λ us. Take (types us) ∷ Must kind.Label (are_labels us c.labels table.0) ∷ Leave ∷ []) o.0 next o.2 in
         one I32 o.0 values (on (I32 ∷ o.0) o.1) (λ vs. E (plain_effect p guest own vs (op.BrTable table)))
-        (λ v below vi bs. (found.0, found.2.0, label_at found.0 c.labels table.0 v table.1 found.2.2.1.0 found.1, subst
-        (λ (xs : List ValType). AreOf xs below) found.2.1 bs))
+        (λ v below vi bs. (
+          found.0,
+          found.2.0,
+          label_at found.0 c.labels table.0 v table.1 found.2.2.1.0 found.1,
+          subst
+              (λ (xs : List ValType). AreOf xs below) found.2.1 bs,
+        ))
     plain_typed op.Return n o = (o.0, on (types c.result ++ o.0) o.1)
     plain_typed (op.Call f) n o =
         let found =
@@ -458,7 +471,7 @@ effect_typed p sound c body guest typed (Choice ty first second rest) ts out own
       refl,
       bs,
       elim (v == 0) as (λ b. IsCode (within ty c) (cond b second first) [] (types ty))
-      [ true ↦ (h.0.3, h.1.1) | false ↦ (h.0.2, h.1.0) ],
+          [ true ↦ (h.0.3, h.1.1) | false ↦ (h.0.2, h.1.0) ],
       (h.0.4, h.1.2),
       (h.0.4, h.1.2),
     ))

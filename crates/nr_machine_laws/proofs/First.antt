@@ -106,9 +106,12 @@ guest_parts globals most None b g e = absurd cc
 guest_parts globals most (Some t) None g e = absurd cc
 guest_parts globals most (Some t) (Some b) g e =
     let made : Guest = record { memory = record { bytes = b; most = most }; globals = globals; table = t } in
-    let is : made ≡ g = some_is made g e in
-    (ap (λ (x : Guest). Some x.memory.bytes) is, ap (λ (x : Guest). x.globals) (sym is), ap
-    (λ (x : Guest). x.memory.most) (sym is))
+    let is : made ≡ g = some_is made g e in (
+      ap (λ (x : Guest). Some x.memory.bytes) is,
+      ap (λ (x : Guest). x.globals) (sym is),
+      ap
+          (λ (x : Guest). x.memory.most) (sym is),
+    )
 
 -- the same size, and as many pages at most
 like_memory : (old new : MemoryView) → IsMemory old → length new.bytes ≡ length old.bytes → new.most ≡ old.most

@@ -129,15 +129,34 @@ module _ {S : Type 0} (w : Rules S) (law : IsHost w.host) (sound : IsSound w.pro
     rewritten_typed code (Writes new values) a f = (f.0, locals, (f.1, f.2, f.3))
     rewritten_typed code (Opens values n target body) a f =
         (guest, locals, (f.0, f.1, f.2, f.3, f.4, ([], tt, f.5), f.6, f.7))
-    rewritten_typed code (Invokes values n more body) a f =
-        (guest, locals,
-        (f.0, f.1, f.2, f.3, f.4, f.5, f.6, f.7,
-        ([], tt, subst (λ (b : Code). IsCode (in_body (func_context prog.code f.1 f.2)) b [] (types f.1.result))
-        (sym f.8) (body_is f.0 f.1 f.2 f.4)), f.9))
+    rewritten_typed code (Invokes values n more body) a f = (
+      guest,
+      locals,
+      (
+        f.0,
+        f.1,
+        f.2,
+        f.3,
+        f.4,
+        f.5,
+        f.6,
+        f.7,
+        (
+          [],
+          tt,
+          subst (λ (b : Code). IsCode (in_body (func_context prog.code f.1 f.2)) b [] (types f.1.result))
+              (sym f.8) (body_is f.0 f.1 f.2 f.4),
+        ),
+        f.9,
+      ),
+    )
     rewritten_typed code (Asks name args values) a f =
         answered_typed (behind_call s (call_of w.host s name args).store)
-        (record { globals = guest.globals; memory = same_size s.guest.memory (call_of w.host s name args).store.memory
-        guest.memory (law.size (record { host = s.host; memory = s.guest.memory.bytes }) name args) })
+        (record {
+          globals = guest.globals;
+          memory = same_size s.guest.memory (call_of w.host s name args).store.memory
+              guest.memory (law.size (record { host = s.host; memory = s.guest.memory.bytes }) name args);
+        })
         (host_type name).result (call_of w.host s name args).answer f.0 values code a f.1 f.2
     rewritten_typed code (Branches depth values) a f = f
     rewritten_typed code (Returns values) a f = f
