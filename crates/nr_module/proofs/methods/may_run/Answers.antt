@@ -6,7 +6,7 @@ use Rattle.nr_module.proofs.methods.may_run.Goals as goal
 
 pub returns : goal.returns
 returns c =
-    let valid = c.module.ensures.valid in
+    let valid = c.module-module.ensures.valid in
     c.is_method.ensures
-    ∙ (ap (λ (m : Module). is_method m c.args.func) c.module.ensures.value
+    ∙ (ap (λ (m : Module). is_method m c.args.func) c.module-module.ensures.value
     ∙ method_runs valid.0 c.args.valid.now valid.1 c.args.func)
