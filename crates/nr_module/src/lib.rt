@@ -9,7 +9,7 @@ mod help;
 mod judging;
 mod laws;
 mod listing;
-mod methods;
+mod lookup;
 mod offer;
 mod printed;
 mod question;

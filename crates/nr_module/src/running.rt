@@ -11,7 +11,7 @@ ghost use Rattle.nr_module.specs.Running.{IsCheck, IsRun, IsRunIn, RunsTo, told}
 
 use crate::command::Work;
 use crate::counter::Counter;
-use crate::methods::method_named;
+use crate::lookup::method_named;
 use crate::verdict::Answer;
 use nr_config::Config;
 use nr_wasmexec::{Machine, MakeFault, RunStop};

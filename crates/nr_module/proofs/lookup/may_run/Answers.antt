@@ -2,7 +2,7 @@ use Rattle.std.proofs.Common.{◌∙◌, ap}
 use Rattle.nr_wasmtypes.specs.declared.module.Module.{Module}
 use Rattle.nr_module.proofs.Methods.{method_runs}
 use Rattle.nr_module.specs.Listing.{is_method}
-use Rattle.nr_module.proofs.methods.may_run.Goals as goal
+use Rattle.nr_module.proofs.lookup.may_run.Goals as goal
 
 pub returns : goal.returns
 returns c =

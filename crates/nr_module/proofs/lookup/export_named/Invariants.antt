@@ -2,7 +2,7 @@ use Rattle.std.proofs.Common.{◌≡◌, drop}
 use Rattle.std.specs.Prelude.{find}
 use Rattle.std.specs.Str.{bytes_eq}
 use Rattle.nr_wasmtypes.specs.declared.module.Export.{Export}
-use Rattle.nr_module.proofs.methods.export_named.Given as goal
+use Rattle.nr_module.proofs.lookup.export_named.Given as goal
 
 abbrev pub invariant-loop-export : goal.invariant-loop-export
 invariant-loop-export l =
