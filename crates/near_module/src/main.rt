@@ -4,7 +4,9 @@
 //! CONFIG is `free` or the name of a file. The exit status is 0 after `ok`, `end BURNT` and what `list`,
 //! `help` and `version` write, and 20 after each other line; 1 where the words are no command, 2 where CONFIG is no
 //! configuration, 5 where a file could not be read, 6 where the line could not be written, and 7 where
-//! memory ran out. For those a line on standard error has the status, with its numbers.
+//! memory ran out. For those a line on standard error has the status, with its numbers. Beside `ok` the line
+//! `make 21` stands there where the module is valid, but an element or a segment doesn't fit, so that no
+//! method can run.
 #![tactic(auto)]
 
 use nr_bytes::{FileShelf, StdoutSink};
@@ -46,10 +48,9 @@ fn run<R: Env + Files + Print + AllocGlobal>(rt: &R, alloc: Global) -> Status {
 
 fn main(rt: HostRuntime) -> ExitCode {
     let status = run(&rt, rt.alloc());
-    let number = status.exit_status();
-    if number > 0 && number != 20 {
+    if status != Status::Sound && status != Status::Faulty {
         // A line that can't be printed changes no status.
         let _ = rt.eprintln(status);
     }
-    ExitCode::from(number)
+    ExitCode::from(status.exit_status())
 }

@@ -1,5 +1,5 @@
 -- What is listed as good is what validity asks of imports.
-use Rattle.std.proofs.Common.{◌≡◌, ℕ, ◌&&◌, Bool, true, false, cond, [], ◌∷◌, Option, Some, None, is_some, Result, Ok, refl}
+use Rattle.std.proofs.Common.{◌≡◌, ℕ, ◌&&◌, Bool, true, false, cond, [], ◌∷◌, Option, Some, None, is_some, Ok, refl}
 use Rattle.std.specs.Prelude.{◌↔◌, List, codes, slice_get}
 use Rattle.std.specs.Str.{bytes_eq}
 use Rattle.nr_wasmtypes.specs.Host.{host_named, host_type}

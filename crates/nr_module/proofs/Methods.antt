@@ -1,8 +1,8 @@
 -- The methods that are listed of a valid module are those that may be run.
-use Rattle.std.proofs.Common.{◌≡◌, ℕ, suc, ◌+◌, ◌-◌, ◌<◌, ◌≤◌, ◌&&◌, Bool, true, false, cond, List, [], ◌∷◌, ◌++◌, length}
+use Rattle.std.proofs.Common.{◌≡◌, ℕ, suc, ◌+◌, ◌-◌, ◌≤◌, ◌&&◌, Bool, true, false, cond, List, [], ◌∷◌, ◌++◌, length}
 use Rattle.std.proofs.Common.{Option, Some, None, refl, sym, ap, ◌∙◌, arith}
 use Rattle.std.specs.Prelude.{IsSome, count_by, nat_le, nat_lt, option_and_then, slice_get}
-use Rattle.std.specs.List.{cons_option, filter_map}
+use Rattle.std.specs.List.{cons_option}
 use Rattle.std.proofs.lemmas.Bool.{le-leb, lt-leb, ltb-false, ltb-true}
 use Rattle.std.proofs.lemmas.List.Sums.{sum_by-cons}
 use Rattle.nr_wasmtypes.specs.Body.{Body}
@@ -18,7 +18,7 @@ use Rattle.nr_wasmexec.specs.Functions.{Func, coded, func_at, host_func, hosted,
 use Rattle.nr_wasmexec.specs.Making as making
 use Rattle.nr_wasmexec.specs.Making.{program_of}
 use Rattle.nr_wasmexec.specs.declared.program.HostLink.{HostLink}
-use Rattle.nr_module.specs.Listing.{imported_count, is_bare, is_function, is_method}
+use Rattle.nr_module.specs.Listing.{is_bare, is_function, is_method}
 
 -- ---- how many functions are imported
 one_counted : (kind : ImportKind) (n : ℕ) (ts : List ℕ) → n ≡ length ts

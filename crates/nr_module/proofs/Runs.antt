@@ -1,22 +1,41 @@
--- From a run's end to its answer.
-use Rattle.std.proofs.Common.{◌≡◌, ◌∙◌, ℕ, ◌-◌, Some, Result, Ok, Err, IfOk, ap}
+-- From a run's end to its answer, and what a machine that is made may run.
+use Rattle.std.proofs.Common.{◌≡◌, ◌∙◌, ℕ, ◌-◌, Option, Some, None, Result, Ok, Err, IfOk, ap, subst}
+use Rattle.std.specs.Prelude.{IsTrue}
 use Rattle.std.specs.declared.alloc.AllocError.{AllocError}
+use Rattle.nr_config.specs.Config.{Config, max_pages}
+use Rattle.nr_wasmtypes.specs.declared.module.Module.{Module}
 use Rattle.nr_wasmmem.specs.declared.guest.Guest.{Guest}
+use Rattle.nr_wasmexec.specs.Functions.{func_at}
 use Rattle.nr_wasmexec.specs.Machine.{Ends}
-use Rattle.nr_wasmexec.specs.Making.{MachineView}
+use Rattle.nr_wasmexec.specs.Making.{MachineView, first_guest, is_method, limits_of, machine_of, machine_with}
+use Rattle.nr_wasmexec.specs.Making.{program_of}
+use Rattle.nr_wasmexec.specs.declared.program.Program.{Program}
 use Rattle.nr_wasmexec.specs.declared.stop.RunStop.{RunStop}
 use Rattle.nr_wasmexec.specs.declared.stop.RunStop.TheVariants as stop
 use Rattle.nr_module.specs.Running.{run_from, over, RunsTo, told}
 use Rattle.nr_module.specs.declared.counter.Counter.{Counter}
 use Rattle.nr_module.specs.declared.verdict.Answer.{Answer}
 
-told_so : (m : MachineView) (gas f : ℕ) (r : Result (Unit {0}) RunStop) (host : Counter) (guest : Guest) (a : Answer) → Ends r host guest (run_from m gas f) → told r (gas - host.gas) ≡ Some a → RunsTo m gas (Some f) a
+told_so : (m : MachineView) (gas f : ℕ) (r : Result (Unit {0}) RunStop) (host : Counter) (guest : Guest) (a : Answer) → Ends r host guest (run_from m gas f) → told r (gas - host.gas) ≡ Some a → RunsTo m gas f a
 told_so m gas f (Ok u) host guest a e is = (e.0, ap (over gas) e.1 ∙ is)
 told_so m gas f (Err (stop.Trap kind)) host guest a e is = (e.0, ap (over gas) e.1 ∙ is)
 told_so m gas f (Err stop.GasExceeded) host guest a e is = (e.0, ap (over gas) e.1 ∙ is)
 told_so m gas f (Err (stop.HostFault kind)) host guest a e is = (e.0, ap (over gas) e.1 ∙ is)
 told_so m gas f (Err stop.Memory) host guest a e is = let wrong : ⊥ = cc in absurd wrong
 
-pub came : (m : MachineView) (gas f : ℕ) (r : Result (Unit {0}) RunStop) (host : Counter) (guest : Guest) (answer : Result Answer AllocError) → Ends r host guest (run_from m gas f) → IfOk answer (λ a. told r (gas - host.gas) ≡ Some a) → IfOk answer (λ a. RunsTo m gas (Some f) a)
+pub came : (m : MachineView) (gas f : ℕ) (r : Result (Unit {0}) RunStop) (host : Counter) (guest : Guest) (answer : Result Answer AllocError) → Ends r host guest (run_from m gas f) → IfOk answer (λ a. told r (gas - host.gas) ≡ Some a) → IfOk answer (λ a. RunsTo m gas f a)
 came m gas f r host guest (Ok a) e is = told_so m gas f r host guest a e is
 came m gas f r host guest (Err fault) e is = tt
+
+-- a machine that is made runs what its module runs
+made_with : (c : Config) (m : Module) (o : Option Guest) (v : MachineView) → machine_with c m o ≡ Ok v
+    → program_of m ≡ v.program
+made_with c m None v e = absurd cc
+made_with c m (Some guest) v e =
+    let same : record { program = program_of m; limits = limits_of c; guest = guest } ≡ v = cc in
+    ap (λ (x : MachineView). x.program) same
+
+pub made_runs : (c : Config) (m : Module) (v : MachineView) (f : ℕ) → machine_of c m ≡ Ok v
+    → IsTrue (is_method (func_at (program_of m) f)) → IsTrue (is_method (func_at v.program f))
+made_runs c m v f made runs =
+    subst (λ (p : Program). IsTrue (is_method (func_at p f))) (made_with c m (first_guest (max_pages c) m) v made) runs

@@ -12,18 +12,22 @@ use Rattle.nr_wasmbin.specs.Modules.{decoded}
 use Rattle.nr_wasmbin.specs.declared.fault.DecodeFault.{DecodeFault}
 use Rattle.nr_wasmbin.specs.declared.fault.DecodeFault.TheVariants as decode
 use Rattle.nr_wasmtypes.specs.declared.module.Module.{Module}
-use Rattle.nr_module.specs.Lines.{decode_text, is_sound, verdict_text}
+use Rattle.nr_module.specs.Lines.{decode_text, rated, verdict_text}
 use Rattle.nr_module.specs.Listing.{module_text}
 use Rattle.nr_module.specs.Plans.{Question, Due, Judge, Tell, Write}
 use Rattle.nr_module.specs.Verdicts.{IsVerdict}
 use Rattle.nr_module.specs.declared.status.Status.{Status}
-use Rattle.nr_module.specs.declared.status.Status.TheVariants.{Sound, Faulty, Usage, Config, ReadFault, WriteFault, NoMemory}
+use Rattle.nr_module.specs.declared.status.Status.TheVariants.{Sound, Unfit, Faulty, Usage, Config, ReadFault, WriteFault}
+use Rattle.nr_module.specs.declared.status.Status.TheVariants.{NoMemory}
 use Rattle.nr_module.specs.declared.telling.Line.{Line}
+use Rattle.nr_module.specs.declared.verdict.Rating.{Rating}
+use Rattle.nr_module.specs.declared.verdict.Rating.TheVariants as rating
 use Rattle.nr_module.specs.declared.verdict.Verdict.{Verdict}
 
 -- a plan refuses words, a configuration, and a module's file that is too long
 abbrev pub refuses : Status → Bool
 refuses Sound = false
+refuses Unfit = false
 refuses Faulty = true
 refuses Usage = true
 refuses (Config kind entry) = true
@@ -37,39 +41,39 @@ stop_status Unread = ReadFault
 stop_status Memory = NoMemory
 stop_status (Refused status) = status
 
--- the line of a right verdict on bytes, and whether it is a sound one
-abbrev pub TellsVerdict : Question → List ℕ → Bool → Type 0
-TellsVerdict q line sound = (v : Verdict) × IsVerdict q v × (line ≡ verdict_text v) × (sound ≡ is_sound v)
+-- the line of a right verdict on bytes, and how well it is
+abbrev pub TellsVerdict : Question → List ℕ → Rating → Type 0
+TellsVerdict q line r = (v : Verdict) × IsVerdict q v × (line ≡ verdict_text v) × (r ≡ rated v)
 
 -- a text, which is well
-abbrev pub TellsText : List ℕ → List ℕ → Bool → Type 0
-TellsText text line sound = (line ≡ text) × (sound ≡ true)
+abbrev pub TellsText : List ℕ → List ℕ → Rating → Type 0
+TellsText text line r = (line ≡ text) × (r ≡ rating.Sound)
 
 -- the lines of what is decoded, which is well, or the line of the first fault
-abbrev pub TellsDecoded : ℕ → Result Module DecodeFault → List ℕ → Bool → Type 0
-TellsDecoded size (Ok m) line sound = (line ≡ module_text size m) × (sound ≡ true)
-TellsDecoded size (Err fault) line sound = (fault ≢ decode.Memory) × (line ≡ decode_text fault) × (sound ≡ false)
+abbrev pub TellsDecoded : ℕ → Result Module DecodeFault → List ℕ → Rating → Type 0
+TellsDecoded size (Ok m) line r = (line ≡ module_text size m) × (r ≡ rating.Sound)
+TellsDecoded size (Err fault) line r = (fault ≢ decode.Memory) × (line ≡ decode_text fault) × (r ≡ rating.Faulty)
 
 -- those of a file's bytes
-abbrev pub TellsListing : List ℕ → List ℕ → Bool → Type 0
-TellsListing bytes line sound = TellsDecoded (length bytes) (decoded (max_code free) bytes) line sound
+abbrev pub TellsListing : List ℕ → List ℕ → Rating → Type 0
+TellsListing bytes line r = TellsDecoded (length bytes) (decoded (max_code free) bytes) line r
 
 -- what tells an end of a plan: the line of a verdict on what the files give, the lines of a module, a text, or `long` for
 -- a file that is too long
-abbrev pub Tells : Plan Due Status → List ℕ → Bool → Type 0
-Tells (Answer (Judge q)) line sound = TellsVerdict q line sound
-Tells (Answer (Tell bytes)) line sound = TellsListing bytes line sound
-Tells (Answer (Write text)) line sound = TellsText text line sound
-Tells (Refuse status) line sound = (status ≡ Faulty) × (line ≡ codes "long" ++ 10 ∷ []) × (sound ≡ false)
-Tells (Ask name limit long by_bytes) line sound = ⊥
+abbrev pub Tells : Plan Due Status → List ℕ → Rating → Type 0
+Tells (Answer (Judge q)) line r = TellsVerdict q line r
+Tells (Answer (Tell bytes)) line r = TellsListing bytes line r
+Tells (Answer (Write text)) line r = TellsText text line r
+Tells (Refuse status) line r = (status ≡ Faulty) × (line ≡ codes "long" ++ 10 ∷ []) × (r ≡ rating.Faulty)
+Tells (Ask name limit long by_bytes) line r = ⊥
 
 -- a line that tells the end to which the files lead was written
-pub record Writes (sound : Bool) (plan : Plan Due Status) (held : List ℕ → Option (List ℕ)) (asked asks : List (List ℕ))
+pub record Writes (r : Rating) (plan : Plan Due Status) (held : List ℕ → Option (List ℕ)) (asked asks : List (List ℕ))
     (took takes : Option (List ℕ)) : Type 0 where
   pub end : Plan Due Status
   pub line : List ℕ
   pub comes : Comes held asked asks plan end
-  pub tells : Tells end line sound
+  pub tells : Tells end line r
   pub grew : Grew took takes line
 
 -- or a front of it
@@ -77,17 +81,18 @@ pub record Begins (plan : Plan Due Status) (held : List ℕ → Option (List ℕ
     (took takes : Option (List ℕ)) : Type 0 where
   pub end : Plan Due Status
   pub line : List ℕ
-  pub sound : Bool
+  pub rated_as : Rating
   pub comes : Comes held asked asks plan end
-  pub tells : Tells end line sound
+  pub tells : Tells end line rated_as
   pub grew : GrewInPart took takes line
 
 -- The answer is right for the plan and the files, only files of the plan were asked for, in their order, and the sink
 -- took what belongs to it.
 abbrev pub Serves : Status → Plan Due Status → (List ℕ → Option (List ℕ)) → List (List ℕ) → List (List ℕ)
     → Option (List ℕ) → Option (List ℕ) → Type 0
-Serves Sound plan held asked asks took takes = Writes true plan held asked asks took takes
-Serves Faulty plan held asked asks took takes = Writes false plan held asked asks took takes
+Serves Sound plan held asked asks took takes = Writes rating.Sound plan held asked asks took takes
+Serves Unfit plan held asked asks took takes = Writes rating.Unfit plan held asked asks took takes
+Serves Faulty plan held asked asks took takes = Writes rating.Faulty plan held asked asks took takes
 Serves WriteFault plan held asked asks took takes = Begins plan held asked asks took takes
 Serves ReadFault plan held asked asks took takes = Breaks held asked asks plan × (takes ≡ took)
 Serves NoMemory plan held asked asks took takes = Stops held asked asks plan × (takes ≡ took)
@@ -97,8 +102,9 @@ Serves (Config kind entry) plan held asked asks took takes =
 
 -- what the telling of a line comes to, where memory sufficed for it: the sink took it, or a front of it
 abbrev pub Told : Result Line AllocError → Status → Option (List ℕ) → Option (List ℕ) → Type 0
-Told (Ok line) Sound took takes = (line.is_sound ≡ true) × Grew took takes (string_bytes line.text)
-Told (Ok line) Faulty took takes = (line.is_sound ≡ false) × Grew took takes (string_bytes line.text)
+Told (Ok line) Sound took takes = (line.rating ≡ rating.Sound) × Grew took takes (string_bytes line.text)
+Told (Ok line) Unfit took takes = (line.rating ≡ rating.Unfit) × Grew took takes (string_bytes line.text)
+Told (Ok line) Faulty took takes = (line.rating ≡ rating.Faulty) × Grew took takes (string_bytes line.text)
 Told (Ok line) WriteFault took takes = GrewInPart took takes (string_bytes line.text)
 Told (Ok line) Usage took takes = ⊥
 Told (Ok line) (Config kind entry) took takes = ⊥

@@ -1,11 +1,14 @@
 -- The line that tells what a file is or how a run of a method ended, and whether that is well. This project's own.
-use Rattle.std.specs.Prelude.{ℕ, Bool, true, false, List, [], ◌∷◌, ◌++◌, codes, decimal}
+use Rattle.std.specs.Prelude.{ℕ, List, [], ◌∷◌, ◌++◌, codes, decimal}
 use Rattle.nr_wasmbin.specs.declared.fault.DecodeFault.{DecodeFault}
 use Rattle.nr_wasmbin.specs.declared.fault.DecodeFault.TheVariants as decode
 use Rattle.nr_wasmvalid.specs.declared.fault.ValidFault.{ValidFault}
 use Rattle.nr_wasmvalid.specs.declared.fault.ValidFault.TheVariants as valid
 use Rattle.nr_module.specs.declared.verdict.Answer.{Answer}
-use Rattle.nr_module.specs.declared.verdict.Answer.TheVariants.{Good, NoMethod, Unmade, Ended, Trapped, Failed, OutOfGas}
+use Rattle.nr_module.specs.declared.verdict.Answer.TheVariants.{Good, Unfit, NoMethod, Unmade, Ended, Trapped, Failed}
+use Rattle.nr_module.specs.declared.verdict.Answer.TheVariants.{OutOfGas}
+use Rattle.nr_module.specs.declared.verdict.Rating.{Rating}
+use Rattle.nr_module.specs.declared.verdict.Rating.TheVariants as rating
 use Rattle.nr_module.specs.declared.verdict.Verdict.{Verdict}
 use Rattle.nr_module.specs.declared.verdict.Verdict.TheVariants.{Undecoded, Invalid, Done}
 
@@ -44,6 +47,7 @@ stop_line word kind burnt = word ++ 32 ∷ decimal kind ++ 32 ∷ decimal burnt 
 
 abbrev pub answer_text : Answer → List ℕ
 answer_text Good = codes "ok" ++ 10 ∷ []
+answer_text Unfit = codes "ok" ++ 10 ∷ []
 answer_text (Ended burnt) = burnt_line (codes "end") burnt
 answer_text (Trapped kind burnt) = stop_line (codes "trap") kind burnt
 answer_text (Failed kind burnt) = stop_line (codes "fault") kind burnt
@@ -56,17 +60,18 @@ verdict_text (Done a) = answer_text a
 verdict_text (Undecoded fault) = decode_text fault
 verdict_text (Invalid fault) = valid_text fault
 
--- ---- what is well: a valid module, whose method's run, if one was asked for, came to its end
-abbrev pub ends_well : Answer → Bool
-ends_well Good = true
-ends_well (Ended burnt) = true
-ends_well (Trapped kind burnt) = false
-ends_well (Failed kind burnt) = false
-ends_well (OutOfGas burnt) = false
-ends_well Unmade = false
-ends_well NoMethod = false
+-- ---- how well it is: a valid module, of which a machine can be made or can't, a run that came to its end, or none of them
+abbrev pub rated_answer : Answer → Rating
+rated_answer Good = rating.Sound
+rated_answer Unfit = rating.Unfit
+rated_answer (Ended burnt) = rating.Sound
+rated_answer (Trapped kind burnt) = rating.Faulty
+rated_answer (Failed kind burnt) = rating.Faulty
+rated_answer (OutOfGas burnt) = rating.Faulty
+rated_answer Unmade = rating.Faulty
+rated_answer NoMethod = rating.Faulty
 
-abbrev pub is_sound : Verdict → Bool
-is_sound (Done a) = ends_well a
-is_sound (Undecoded fault) = false
-is_sound (Invalid fault) = false
+abbrev pub rated : Verdict → Rating
+rated (Done a) = rated_answer a
+rated (Undecoded fault) = rating.Faulty
+rated (Invalid fault) = rating.Faulty

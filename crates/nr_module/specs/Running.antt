@@ -1,9 +1,9 @@
--- What the run of a method comes to. Machines and their runs by WebAssembly Core 1.0; the host, which only counts gas,
--- and the answers are this project's own.
-use Rattle.std.specs.Prelude.{◌≡◌, ℕ, ◌-◌, List, Option, Some, None, Result, Ok, Err}
+-- What the run of a method comes to, and what a check says of a valid module. Machines and their runs by WebAssembly
+-- Core 1.0; the host, which only counts gas, the order of a run's steps and the answers are this project's own.
+use Rattle.std.specs.Prelude.{◌≡◌, ℕ, ◌-◌, Option, Some, None, Result, Ok, Err}
 use Rattle.nr_wasmexec.specs.Reduction.{Stop, Trap, GasExceeded, HostFault, Outcome, Done, Halted, NeverFits, Unfinished, run_by}
 use Rattle.nr_wasmexec.specs.Machine.{rules_of, runtime}
-use Rattle.nr_wasmexec.specs.Making.{MachineView, method_of}
+use Rattle.nr_wasmexec.specs.Making.{MachineView}
 use Rattle.nr_wasmexec.specs.declared.making.MakeFault.{MakeFault}
 use Rattle.nr_wasmexec.specs.declared.making.MakeFault.TheVariants as make
 use Rattle.nr_wasmexec.specs.declared.stop.RunStop.{RunStop}
@@ -11,7 +11,8 @@ use Rattle.nr_wasmexec.specs.declared.stop.RunStop.TheVariants as stop
 use Rattle.nr_module.specs.Counter.{counter}
 use Rattle.nr_module.specs.declared.counter.Counter.{Counter}
 use Rattle.nr_module.specs.declared.verdict.Answer.{Answer}
-use Rattle.nr_module.specs.declared.verdict.Answer.TheVariants.{NoMethod, Unmade, Ended, Trapped, Failed, OutOfGas}
+use Rattle.nr_module.specs.declared.verdict.Answer.TheVariants.{Good, Unfit, NoMethod, Unmade, Ended, Trapped, Failed}
+use Rattle.nr_module.specs.declared.verdict.Answer.TheVariants.{OutOfGas}
 
 -- a function's run from the machine's first state, with so much gas
 abbrev pub run_from : MachineView → ℕ → ℕ → ℕ → Outcome Counter
@@ -29,16 +30,26 @@ over gas (Halted s stop) = Some (stopped (gas - s.host.gas) stop)
 over gas NeverFits = None
 over gas Unfinished = None
 
--- the run comes to it after some number of steps
-abbrev pub RunsTo : MachineView → ℕ → Option ℕ → Answer → Type 0
-RunsTo m gas None a = a ≡ NoMethod
-RunsTo m gas (Some f) a = (n : ℕ) × (over gas (run_from m gas f n) ≡ Some a)
+-- the function's run comes to it after some number of steps
+abbrev pub RunsTo : MachineView → ℕ → ℕ → Answer → Type 0
+RunsTo m gas f a = (n : ℕ) × (over gas (run_from m gas f n) ≡ Some a)
 
--- the answer of a method's run, where the machine can be made
-abbrev pub IsRun : Result MachineView MakeFault → List ℕ → ℕ → Answer → Type 0
-IsRun (Err make.Segment) method gas a = a ≡ Unmade
-IsRun (Err make.Memory) method gas a = ⊥
-IsRun (Ok m) method gas a = RunsTo m gas (method_of m.program method) a
+-- the answer of a function's run, where the machine can be made
+abbrev pub IsRunIn : Result MachineView MakeFault → ℕ → ℕ → Answer → Type 0
+IsRunIn (Err make.Segment) gas f a = a ≡ Unmade
+IsRunIn (Err make.Memory) gas f a = ⊥
+IsRunIn (Ok m) gas f a = RunsTo m gas f a
+
+-- the answer of a method's run: whether there is such a method comes first, then whether the machine can be made
+abbrev pub IsRun : Option ℕ → Result MachineView MakeFault → ℕ → Answer → Type 0
+IsRun None made gas a = a ≡ NoMethod
+IsRun (Some f) made gas a = IsRunIn made gas f a
+
+-- what a check says: whether the machine can be made
+abbrev pub IsCheck : Result MachineView MakeFault → Answer → Type 0
+IsCheck (Err make.Segment) a = a ≡ Unfit
+IsCheck (Err make.Memory) a = ⊥
+IsCheck (Ok m) a = a ≡ Good
 
 -- the answer of a run that ended so and burnt so much gas; none where memory ran out
 abbrev pub told : Result (Unit {0}) RunStop → ℕ → Option Answer

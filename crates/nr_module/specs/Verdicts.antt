@@ -7,19 +7,18 @@ use Rattle.nr_wasmbin.specs.Modules.{decoded}
 use Rattle.nr_wasmbin.specs.declared.fault.DecodeFault.TheVariants as decode
 use Rattle.nr_wasmvalid.specs.Modules.{IsValid, IsFirstBreach}
 use Rattle.nr_wasmvalid.specs.declared.fault.ValidFault.TheVariants as valid
-use Rattle.nr_wasmexec.specs.Making.{machine_of}
+use Rattle.nr_wasmexec.specs.Making.{machine_of, method_of, program_of}
 use Rattle.nr_module.specs.Command.{Task, Check, Run}
 use Rattle.nr_module.specs.Plans.{Question}
-use Rattle.nr_module.specs.Running.{IsRun}
+use Rattle.nr_module.specs.Running.{IsCheck, IsRun}
 use Rattle.nr_module.specs.declared.verdict.Answer.{Answer}
-use Rattle.nr_module.specs.declared.verdict.Answer.TheVariants.{Good}
 use Rattle.nr_module.specs.declared.verdict.Verdict.{Verdict}
 use Rattle.nr_module.specs.declared.verdict.Verdict.TheVariants.{Undecoded, Invalid, Done}
 
 -- the answer of what is done with a module that is valid
 abbrev pub IsAnswer : Config → Module → Task → Answer → Type 0
-IsAnswer c m Check a = a ≡ Good
-IsAnswer c m (Run method gas) a = IsRun (machine_of c m) method gas a
+IsAnswer c m Check a = IsCheck (machine_of c m) a
+IsAnswer c m (Run method gas) a = IsRun (method_of (program_of m) method) (machine_of c m) gas a
 
 -- what the bytes are: no module by their first fault, no valid one by its first breach, or a valid one with its answer
 abbrev pub IsVerdict : Question → Verdict → Type 0

@@ -1,20 +1,19 @@
 //! How a program ends with an answer.
 
 ghost use Rattle.std.specs.Prelude.{◌≡◌, Some};
-ghost use Rattle.nr_shell.specs.Exit.{told_line};
-ghost use Rattle.nr_module.specs.Exit.{told};
+ghost use Rattle.nr_module.specs.Exit.{note, told};
 
 use crate::status::Status;
 use std::fmt;
 
 impl Status {
-    /// The exit status of a program that ends with this answer: 0 `Sound`, 20 `Faulty`, 1 `Usage`,
+    /// The exit status of a program that ends with this answer: 0 `Sound` and `Unfit`, 20 `Faulty`, 1 `Usage`,
     /// 2 `Config`, 5 `ReadFault`, 6 `WriteFault` and 7 `NoMemory`.
     pub fn exit_status(&self) -> u8
         ensures { result ≡ (told self.now).0 }
     {
         match self {
-            Status::Sound => 0,
+            Status::Sound | Status::Unfit => 0,
             Status::Faulty => 20,
             Status::Usage => 1,
             Status::Config { .. } => 2,
@@ -25,15 +24,16 @@ impl Status {
     }
 }
 
-/// The line that tells the answer: the exit status, and the kind and the entry of a configuration's
-/// fault, in decimal, parted by single spaces.
+/// The line that tells the answer: `make 21` for `Unfit`, the answer of each run of a method of such a module; else
+/// the exit status, and the kind and the entry of a configuration's fault, in decimal, parted by single spaces.
 impl fmt::Display for Status {
-    ghost output = { λ status. Some (told_line (told status)) };
+    ghost output = { λ status. Some (note status) };
 
     fn fmt<W: fmt::Write>(&self, f: &mut fmt::Formatter<W>) -> fmt::Result {
         let number = self.exit_status();
         match self {
             Status::Config { kind, entry } => write!(f, "{number} {kind} {entry}"),
+            Status::Unfit => write!(f, "make 21"),
             Status::Sound => write!(f, "{number}"),
             Status::Faulty => write!(f, "{number}"),
             Status::Usage => write!(f, "{number}"),

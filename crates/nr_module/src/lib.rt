@@ -9,6 +9,7 @@ mod help;
 mod judging;
 mod laws;
 mod listing;
+mod lookup;
 mod offer;
 mod printed;
 mod question;

@@ -87,7 +87,7 @@ fn is_function(kind: ImportKind) -> bool
 
 /// How many functions a module imports.
 #[tactic(auto, using(crate::proofs::Counts::one_more, crate::proofs::Counts::no_more))]
-fn imported_count(module: &Module) -> usize
+pub(crate) fn imported_count(module: &Module) -> usize
     ensures { result ≡ imported_count module.now }
 {
     let mut count = 0;
@@ -120,7 +120,8 @@ fn own_type(module: &Module, number: usize) -> Option<&FuncType>
     }
 }
 
-fn is_method(module: &Module, imported: usize, number: usize) -> bool
+/// The function with this number, of a module that imports so many, is the module's own and takes and leaves nothing.
+pub(crate) fn is_method(module: &Module, imported: usize, number: usize) -> bool
     requires { imported ≡ imported_count module.now }
     ensures { result ≡ is_method module.now number }
 {

@@ -73,7 +73,7 @@ fn answer_text(alloc: Global, answer: Answer) -> Result<String, AllocError>
     ensures { IfOk result (λ text. string_bytes text ≡ answer_text answer) }
 {
     match answer {
-        Answer::Good => String::from_str(alloc, "ok\n"),
+        Answer::Good | Answer::Unfit => String::from_str(alloc, "ok\n"),
         Answer::Ended { burnt } => burnt_line(alloc, "end", burnt),
         Answer::Trapped { kind, burnt } => stop_line(alloc, "trap", kind, burnt),
         Answer::Failed { kind, burnt } => stop_line(alloc, "fault", kind, burnt),

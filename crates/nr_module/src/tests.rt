@@ -28,6 +28,30 @@ const BRINGS_MUCH: [u8; 269] = [
     0, 10, 12, 3, 2, 0, 11, 2, 0, 11, 4, 0, 65, 0, 11,
 ];
 
+/// A function `go` that does nothing, a memory of one page, and a byte of data behind its end, at 65536.
+const DATA_BEHIND: [u8; 48] = [
+    0, 97, 115, 109, 1, 0, 0, 0, 1, 4, 1, 96, 0, 0, 3, 2, 1, 0, 5, 3, 1, 0, 1, 7, 6, 1, 2, 103,
+    111, 0, 0, 10, 4, 1, 2, 0, 11, 11, 9, 1, 0, 65, 128, 128, 4, 11, 1, 42,
+];
+
+/// The same with the byte at 65535.
+const DATA_LAST: [u8; 48] = [
+    0, 97, 115, 109, 1, 0, 0, 0, 1, 4, 1, 96, 0, 0, 3, 2, 1, 0, 5, 3, 1, 0, 1, 7, 6, 1, 2, 103,
+    111, 0, 0, 10, 4, 1, 2, 0, 11, 11, 9, 1, 0, 65, 255, 255, 3, 11, 1, 42,
+];
+
+/// A function `go` that does nothing, a table of one entry, and an element behind its end, at 1.
+const ELEMENT_BEHIND: [u8; 47] = [
+    0, 97, 115, 109, 1, 0, 0, 0, 1, 4, 1, 96, 0, 0, 3, 2, 1, 0, 4, 4, 1, 112, 0, 1, 7, 6, 1, 2,
+    103, 111, 0, 0, 9, 7, 1, 0, 65, 1, 11, 1, 0, 10, 4, 1, 2, 0, 11,
+];
+
+/// The same with the element at 0.
+const ELEMENT_LAST: [u8; 47] = [
+    0, 97, 115, 109, 1, 0, 0, 0, 1, 4, 1, 96, 0, 0, 3, 2, 1, 0, 4, 4, 1, 112, 0, 1, 7, 6, 1, 2,
+    103, 111, 0, 0, 9, 7, 1, 0, 65, 0, 11, 1, 0, 10, 4, 1, 2, 0, 11,
+];
+
 /// Whether these words, over a file `M`, are answered so.
 fn answers(
     alloc: Global,
@@ -60,6 +84,32 @@ fn host_has_no_functions(rt: HostRuntime) -> Result<(), Fail> {
     assert!(rt; answers(alloc, &absent, &CALLS_HOST, Status::Faulty, "method\n")?);
     let check = ["check", "free", "M"];
     assert!(rt; answers(alloc, &check, &CALLS_HOST, Status::Sound, "ok\n")?);
+    Ok(())
+}
+
+#[test]
+fn a_method_is_looked_up_before_anything_is_put_in(rt: HostRuntime) -> Result<(), Fail> {
+    let alloc = rt.alloc();
+    let run = ["run", "free", "M", "go", "100"];
+    assert!(rt; answers(alloc, &run, &DATA_BEHIND, Status::Faulty, "make 21\n")?);
+    assert!(rt; answers(alloc, &run, &DATA_LAST, Status::Sound, "end 0\n")?);
+    assert!(rt; answers(alloc, &run, &ELEMENT_BEHIND, Status::Faulty, "make 21\n")?);
+    assert!(rt; answers(alloc, &run, &ELEMENT_LAST, Status::Sound, "end 0\n")?);
+    let absent = ["run", "free", "M", "gone", "100"];
+    assert!(rt; answers(alloc, &absent, &DATA_BEHIND, Status::Faulty, "method\n")?);
+    assert!(rt; answers(alloc, &absent, &DATA_LAST, Status::Faulty, "method\n")?);
+    assert!(rt; answers(alloc, &absent, &ELEMENT_BEHIND, Status::Faulty, "method\n")?);
+    Ok(())
+}
+
+#[test]
+fn a_check_tells_whether_all_fits(rt: HostRuntime) -> Result<(), Fail> {
+    let alloc = rt.alloc();
+    let check = ["check", "free", "M"];
+    assert!(rt; answers(alloc, &check, &DATA_BEHIND, Status::Unfit, "ok\n")?);
+    assert!(rt; answers(alloc, &check, &DATA_LAST, Status::Sound, "ok\n")?);
+    assert!(rt; answers(alloc, &check, &ELEMENT_BEHIND, Status::Unfit, "ok\n")?);
+    assert!(rt; answers(alloc, &check, &ELEMENT_LAST, Status::Sound, "ok\n")?);
     Ok(())
 }
 

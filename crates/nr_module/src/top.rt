@@ -6,7 +6,7 @@ ghost use Rattle.nr_words.specs.Words.{texts};
 ghost use Rattle.nr_module.specs.Answers.{Serves, stop_status};
 ghost use Rattle.nr_module.specs.Command.{command, command_in, names_in};
 ghost use Rattle.nr_module.specs.Plans.{listing_plan, module_plan, plan};
-ghost use Rattle.nr_module.specs.declared.status.Status.TheVariants.{Faulty, ReadFault, Sound, WriteFault};
+ghost use Rattle.nr_module.specs.declared.status.Status.TheVariants.{Faulty, ReadFault, Sound, Unfit, WriteFault};
 
 use crate::command::{FileNames, Words, command_of};
 use crate::question::{listed_of, question_of};
@@ -36,7 +36,7 @@ fn serve_names<S: Shelf, K: Sink>(
 ) -> Status
     ensures serves { Serves result (module_plan (names_in names.now)) (S.held shelf.old)
         (S.asked shelf.old) (S.asked shelf.new) (K.taken sink.old) (K.taken sink.new) }
-    ensures untouched { result ≢ Sound → result ≢ Faulty → result ≢ WriteFault → sink.new ≡ sink.old }
+    ensures untouched { result ≢ Sound → result ≢ Unfit → result ≢ Faulty → result ≢ WriteFault → sink.new ≡ sink.old }
     ensures read_fault { result ≡ ReadFault → Rose (S.faults shelf.old) (S.faults shelf.new) }
     ensures write_fault { result ≡ WriteFault → Rose (K.faults sink.old) (K.faults sink.new) }
 {
@@ -56,7 +56,7 @@ fn serve_listing<S: Shelf, K: Sink>(
 ) -> Status
     ensures serves { Serves result (listing_plan file.now) (S.held shelf.old)
         (S.asked shelf.old) (S.asked shelf.new) (K.taken sink.old) (K.taken sink.new) }
-    ensures untouched { result ≢ Sound → result ≢ Faulty → result ≢ WriteFault → sink.new ≡ sink.old }
+    ensures untouched { result ≢ Sound → result ≢ Unfit → result ≢ Faulty → result ≢ WriteFault → sink.new ≡ sink.old }
     ensures read_fault { result ≡ ReadFault → Rose (S.faults shelf.old) (S.faults shelf.new) }
     ensures write_fault { result ≡ WriteFault → Rose (K.faults sink.old) (K.faults sink.new) }
 {
@@ -76,7 +76,7 @@ fn serve_command<S: Shelf, K: Sink>(
 ) -> Status
     ensures serves { Serves result (plan (Some (command_in command.now))) (S.held shelf.old)
         (S.asked shelf.old) (S.asked shelf.new) (K.taken sink.old) (K.taken sink.new) }
-    ensures untouched { result ≢ Sound → result ≢ Faulty → result ≢ WriteFault → sink.new ≡ sink.old }
+    ensures untouched { result ≢ Sound → result ≢ Unfit → result ≢ Faulty → result ≢ WriteFault → sink.new ≡ sink.old }
     ensures read_fault { result ≡ ReadFault → Rose (S.faults shelf.old) (S.faults shelf.new) }
     ensures write_fault { result ≡ WriteFault → Rose (K.faults sink.old) (K.faults sink.new) }
 {
@@ -100,9 +100,9 @@ fn serve_command<S: Shelf, K: Sink>(
 /// and where it is; or `long` for a file longer than 64 MiB. For the run of a method it is
 /// `end BURNT` with the gas that was burnt; `trap KIND BURNT` with the number of
 /// `nr_wasmexec::RunStop::Trap`; `fault 20 BURNT`, for a call of a function of the host, which has
-/// none; `gas BURNT` where no gas was left; `make 21` where an element or a segment doesn't fit; or
-/// `method` where no method has the name: a function of the module's own that is exported by it and
-/// takes and leaves nothing.
+/// none; `gas BURNT` where no gas was left; `method` where no method has the name: a function of the
+/// module's own that is exported by it and takes and leaves nothing; or `make 21` where there is such a
+/// method, but an element or a segment doesn't fit.
 ///
 /// `list` writes a line for each import, with why the host doesn't have it or `ok`, for each export, table and
 /// memory, and for the size of the file; or the line `decode KIND AT` or `long`. It judges by the built-in
@@ -111,7 +111,8 @@ fn serve_command<S: Shelf, K: Sink>(
 /// # Answers
 ///
 /// - `Sound`: the line `ok` or `end BURNT` was written, the lines of a module, or what `help` or `version`
-///   writes. `Faulty`: another line was written.
+///   writes. `Unfit`: the line `ok` was written, and no machine can be made of the module, since an element or a
+///   segment doesn't fit. `Faulty`: another line was written.
 /// - `Usage`: the words are none of these commands, or one is empty or begins with `-`. Nothing was
 ///   loaded or written.
 /// - `Config`: the configuration's file is longer than 1 MiB (kind 0), or its first fault, by the kind
@@ -133,7 +134,7 @@ pub fn check_module<S: Shelf, K: Sink>(
     ensures serves { Serves result (plan (command (texts words.now))) (S.held shelf.old)
         (S.asked shelf.old) (S.asked shelf.new) (K.taken sink.old) (K.taken sink.new) }
     // Before the writing the sink stays as it is, whatever it tells.
-    ensures untouched { result ≢ Sound → result ≢ Faulty → result ≢ WriteFault → sink.new ≡ sink.old }
+    ensures untouched { result ≢ Sound → result ≢ Unfit → result ≢ Faulty → result ≢ WriteFault → sink.new ≡ sink.old }
     // A fault comes only where a count rose.
     ensures read_fault { result ≡ ReadFault → Rose (S.faults shelf.old) (S.faults shelf.new) }
     ensures write_fault { result ≡ WriteFault → Rose (K.faults sink.old) (K.faults sink.new) }

@@ -4,8 +4,10 @@ use nr_wasmvalid::ValidFault;
 /// What is answered for a valid module.
 #[derive(Clone, Copy, Debug)]
 pub(crate) enum Answer {
-    /// It was checked.
+    /// It was checked, and a machine of it can be made.
     Good,
+    /// It was checked, and no machine of it can be made: an element or a segment doesn't fit.
+    Unfit,
     /// The run of a method came to its end, and burnt so much gas.
     Ended { burnt: u128 },
     /// The run stopped at a trap.
@@ -14,7 +16,7 @@ pub(crate) enum Answer {
     Failed { kind: u32, burnt: u128 },
     /// The run stopped because no gas was left for the next instruction.
     OutOfGas { burnt: u128 },
-    /// No machine could be made: an element or a segment doesn't fit.
+    /// There is such a method, but no machine could be made: an element or a segment doesn't fit.
     Unmade,
     /// The module has no such method.
     NoMethod,
@@ -29,4 +31,15 @@ pub(crate) enum Verdict {
     Undecoded(DecodeFault),
     /// A module that isn't valid, by its first breach.
     Invalid(ValidFault),
+}
+
+/// How well it is what a line tells.
+#[derive(Clone, Copy, Debug)]
+pub(crate) enum Rating {
+    /// A valid module of which a machine can be made, a run that came to its end, or a text.
+    Sound,
+    /// A valid module of which no machine can be made.
+    Unfit,
+    /// Anything else.
+    Faulty,
 }

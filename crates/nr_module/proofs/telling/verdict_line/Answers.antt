@@ -1,4 +1,4 @@
 use Rattle.nr_module.proofs.telling.verdict_line.Goals as goal
 
 pub returns : goal.returns
-returns c = (c.in_ok-verdict.verdict, c.in_ok-verdict.ensures, c.in_ok-text.ensures, c.is_sound.ensures)
+returns c = (c.in_ok-verdict.verdict, c.in_ok-verdict.ensures, c.in_ok-text.ensures, c.rated.ensures)

@@ -12,5 +12,5 @@ returns-in-Ok-clause-serves g c =
     told_end (listing_plan c.args.file.now) (g.S.Shelf.held c.args.shelf.now) (g.S.Shelf.asked c.args.shelf.now) (g.S.Shelf.asked c.listed_of.new.shelf)
     (g.K.Sink.taken c.args.sink.now) (g.K.Sink.taken c.tell.new.sink) (Answer (listed_in c.in-Ok.bytes)) c.listing_line.result c.tell.result
     c.in-Ok.ensures.answers
-    (subst (λ (b : List ℕ). IfOk c.listing_line.result (λ (l : Line). TellsListing b (string_bytes l.text) l.is_sound)) c.deref.ensures.value c.listing_line.ensures)
+    (subst (λ (b : List ℕ). IfOk c.listing_line.result (λ (l : Line). TellsListing b (string_bytes l.text) l.rating)) c.deref.ensures.value c.listing_line.ensures)
     c.tell.ensures.told
