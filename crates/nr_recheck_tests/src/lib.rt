@@ -2,4 +2,8 @@
 #![tactic(auto)]
 
 #[cfg(test)]
+mod late_data;
+#[cfg(test)]
 mod one_transfer;
+#[cfg(test)]
+mod setting;

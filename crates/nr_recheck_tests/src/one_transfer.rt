@@ -1,12 +1,10 @@
 //! One chunk with a transfer, run again from its file.
 
-use nr_bytes::Blob;
+use crate::setting::text_of;
 use nr_config::Config;
-use nr_contract::ContractCaller;
 use nr_gathered::{Gathered, read_gathered};
 use nr_ids::{Height, ShardId};
-use nr_recheck::{RecheckFault, recheck};
-use nr_report::write_chunk;
+use nr_recheck::RecheckFault;
 use std::alloc::{AllocError, Global};
 use std::test::Fail;
 
@@ -44,27 +42,17 @@ fn file(alloc: Global) -> Result<Gathered, AllocError> {
     read_gathered(alloc, &FILE).map_err(|_| AllocError)
 }
 
-/// The text of a chunk that is run again.
-fn text_of(alloc: Global, gathered: Gathered) -> Result<Blob, RecheckFault> {
-    let config = Config::free();
-    let caller = ContractCaller::new(&config);
-    let report = recheck(alloc, config, caller, gathered)?;
-    let mut text = Blob::of(Vec::new(alloc));
-    write_chunk(alloc, &report, &mut text)?;
-    Ok(text)
-}
-
 #[test]
 fn one_transfer_is_run_again(rt: HostRuntime) -> Result<(), Fail> {
     let alloc = rt.alloc();
-    let text = text_of(alloc, file(alloc)?)?;
+    let text = text_of(alloc, Config::free(), file(alloc)?)?;
     assert_eq!(rt; text.inner(), TEXT.as_bytes());
     Ok(())
 }
 
 /// The fault of a file, where it isn't run again.
 fn fault_of(alloc: Global, gathered: Gathered) -> Option<RecheckFault> {
-    text_of(alloc, gathered).err()
+    text_of(alloc, Config::free(), gathered).err()
 }
 
 #[test]
