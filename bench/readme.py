@@ -7,8 +7,8 @@ It works in a copy of the repository's files, in which it runs each line of the 
 there: a dozen builds of a minute or two each. With --quick the words of these lines are run together, by one build or
 two of each program; with --built the lines of proved programs are run in their place, from crates/NAME/out, where
 `rt ci` has left them. What a page says without a line of its own (that a JSON text makes these bytes, what another
-amount of gas leads to) is tried with the same programs. PAGE is readme, one_transfer, four_shards, config, contract or
-library. It ends with status 0 where all agreed, and else tells what didn't.
+amount of gas leads to) is tried with the same programs. PAGE is readme, one_transfer, four_shards, reshard, config,
+contract or library. It ends with status 0 where all agreed, and else tells what didn't.
 """
 import argparse
 import json
@@ -26,6 +26,7 @@ PROGRAMS = ("near_files", "near_serial", "near_replay", "near_module")
 TRANSFER = "examples/one_transfer"
 CONTRACT = "examples/contract"
 SHARDS = "examples/four_shards"
+RESHARD = "examples/reshard"
 CONFIG = "examples/config"
 
 
@@ -246,7 +247,7 @@ def readme(copy, judge):
         judge.says("README: near_replay replay prints what near_serial run does", threads == shards != b"")
         begin = "The genesis is refused: entry 0"
         told = [span for span in spans(copy.page("docs/FORMATS.md")) if span.startswith(begin)]
-        judge.says("README: near_files explain prints the sentence of FORMATS", sentence.decode() in told)
+        judge.says("README: near_files explain prints the sentence of FORMATS", sentence.decode().removesuffix("\n") in told)
         return
     report, threads = yield [copy.step(tried.strip()), copy.step(command(text, "(cd crates/near_replay"))]
     judge.says("README: the first line prints the table's lines", are_lines(table, report))
@@ -291,6 +292,23 @@ def four_shards(copy, judge):
     serial = Call("near_serial", ["run", "free", f"{SHARDS}/genesis", f"{SHARDS}/blocks"])
     threads, report = yield [line_of(copy, SHARDS, "near_replay"), serial]
     judge.says(f"{SHARDS}: the line prints what the serial run does", threads == report != b"")
+
+
+def reshard(copy, judge):
+    yield from files_of(copy, judge, RESHARD, "free")
+    text = copy.page(f"{RESHARD}/README.md")
+    files = ["free", f"{RESHARD}/genesis", f"{RESHARD}/blocks"]
+    threads = Call("near_replay", ["replay", *files])
+    told = [span for span in spans(text) if span.startswith(("check free", "near_serial gather"))]
+    calls = [Call("near_serial", told[0].split()), Call("near_serial", told[1].split()[1:], copy.at("chunk"))]
+    report, beside, driven, _ = yield [line_of(copy, RESHARD, "near_serial"), threads, *calls]
+    judge.says(f"{RESHARD}: near_replay replay prints what the line does", beside == report != b"")
+    answers = [line for line in driven.decode().splitlines() if line.startswith(("ok", "no "))]
+    judge.says(f"{RESHARD}: each step has an answer", len(answers) == len(copy.page(f"{RESHARD}/steps").splitlines()))
+    refused = [span for span in spans(text) if span.startswith("no ")]
+    judge.says(f"{RESHARD}: {' and '.join(refused)}", refused == [answer for answer in answers if answer != "ok"])
+    again, = yield [Call("near_serial", ["recheck", "free", copy.at("chunk")])]
+    judge.says(f"{RESHARD}: recheck prints the chunk's lines of the run", again != b"" and again in report)
 
 
 def config(copy, judge):
@@ -348,8 +366,8 @@ def library(copy, judge):
     judge.says("examples/library: its lines print its totals", printed == copy.data("examples/library/stdout"))
 
 
-PAGES = {"readme": [readme], "one_transfer": [one_transfer], "four_shards": [four_shards], "config": [config],
-         "contract": [contract, other_blocks], "library": [library]}
+PAGES = {"readme": [readme], "one_transfer": [one_transfer], "four_shards": [four_shards], "reshard": [reshard],
+         "config": [config], "contract": [contract, other_blocks], "library": [library]}
 
 
 def main():
