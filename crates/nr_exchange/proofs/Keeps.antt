@@ -23,7 +23,7 @@ low : (k : ℕ) (b : Bool) → k < 2 ^ 32 → (k + mark b) % 2 ^ 32 ≡ k
 low k true h = omega arith
 low k false h = omega arith
 
-tested : (k n : ℕ) → k ≤ n → nat_le k n ≡ true
+pub tested : (k n : ℕ) → k ≤ n → nat_le k n ≡ true
 tested k n h = grind (arith, nat_tests)
 
 refused : (k n : ℕ) → n < k → nat_le k n ≡ false

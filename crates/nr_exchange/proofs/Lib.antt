@@ -4,6 +4,7 @@ pub mod Counts
 pub mod PlaceLemmas
 pub mod Keeps
 pub mod Loads
+pub mod Looked
 pub mod Asking
 pub mod Giving
 pub mod Adds

@@ -20,6 +20,9 @@ use Rattle.nr_exchange.proofs.Counts.{chunks_up, chunk_at, chunks_next}
 use Rattle.nr_exchange.proofs.PlaceLemmas.{one_place, same_place, word_above}
 use Rattle.nr_exchange.proofs.Keeps.{St, Homes, word_number, word_mark, moved, rings_stay}
 
+marked_high : (n k : ℕ) → n ≡ k + 2 ^ 32 → 2 ^ 32 ≤ n
+marked_high n k is = omega (arith, is)
+
 module _ {P L : Type 0} (run : P) (p : Plan L) where
   -- a word that is loaded stays as it is, and so do the rows that it stands for
   pub stays : (s : St run p) → ExchangeRule run p s → (i id : ℕ) (v w : Note P) → get_elem? s.views id ≡ some v → w.number ≡ v.number → w.abandoned ≡ v.abandoned
@@ -70,6 +73,7 @@ module _ {P L : Type 0} (run : P) (p : Plan L) where
   pub tells : (s : St run p) → ExchangeRule run p s → (i id : ℕ) (v : Note P) → i < p.shards → get_elem? s.views id ≡ some v → Tells v i (slice_index s.words i)
   tells s r i id v lt at = record {
     later = (let a = word_number run p s r i lt in let b = (own_links s r id v at i).seen_shown in omega arith);
+    kept = λ e. marked_high (slice_index s.words i) (number s.views i) (r.shown i lt ∙ ap (λ b. number s.views i + mark b) ((own_links s r id v at i).mark_shown e));
     own = λ e. word_number run p s r i lt ∙ (ap (number s.views) (e ∙ (r.notes id v at).of_shard) ∙ noted_at (λ u. u.number) 0 s.views id v at);
   }
 

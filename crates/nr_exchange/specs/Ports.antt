@@ -1,5 +1,6 @@
 -- What clauses say of an exchange and its ports. This project's own.
-use Rattle.std.specs.Prelude.{◌≡◌, ℕ, ◌+◌, ◌%◌, ◌^◌, ◌<◌, ◌≤◌, Bool, List, Option, Some, None, Result, Ok, Err, length, nat_le, slice_get}
+use Rattle.std.specs.Prelude.{◌≡◌, ℕ, ◌+◌, ◌%◌, ◌^◌, ◌<◌, ◌≤◌, Bool, true, List, Option, Some, None, Result, Ok, Err, length, nat_le, slice_get}
+use Rattle.nr_exchange.specs.declared.note.Link.{Link}
 use Rattle.nr_exchange.specs.declared.note.Room.{Room}
 use Rattle.nr_exchange.specs.declared.note.Note.{Note}
 use Rattle.nr_exchange.specs.declared.port.Parcel.{Parcel}
@@ -7,7 +8,7 @@ use Rattle.nr_exchange.specs.declared.port.Parcel.TheVariants.{Whole, Abandoned}
 use Rattle.nr_exchange.specs.declared.port.NotYet.{NotYet}
 use Rattle.nr_exchange.specs.declared.port.Full.{Full}
 use Rattle.nr_exchange.specs.Plan.{Plan, list_of}
-use Rattle.nr_exchange.specs.Notes.{fresh, room, looked, claims, gave_back, with_rooms, asked, raised}
+use Rattle.nr_exchange.specs.Notes.{fresh, link, room, looked, claims, gave_back, with_rooms, asked, raised}
 use Rattle.nr_exchange.specs.Steps.{Tells, sent}
 use Rattle.nr_exchange.specs.Views.{ExchangeView, PortView}
 
@@ -43,6 +44,12 @@ module _ {P : Type 0} where
   abbrev pub Marks : ℕ → Note P → Bool → Note P → Type 0
   Marks s v answer w = (n : ℕ) × Tells v s n × (answer ≡ nat_le (2 ^ 32) n) × (w ≡ looked v s n)
 
+-- a published word was loaded once more: the number is no less than before, and a mark that was seen is there again
+pub record IsLooked (before after : Link) : Type 0 where
+  pub once : after.loads ≡ before.loads + 1
+  pub later : before.seen ≤ after.seen
+  pub kept : before.marked ≡ true → after.marked ≡ true
+
 -- a taken word was loaded once more, and was no less than before
 pub record IsAsked (before after : Room) : Type 0 where
   pub once : after.loads ≡ before.loads + 1
@@ -74,3 +81,12 @@ module _ {P : Type 0} where
   abbrev pub Publishes : {L : Type 0} → Plan L → List L → Note P → Result (Unit {0}) (Full L) → Note P → Type 0
   Publishes p lists v (Ok _) w = (u : Note P) × HaveRoom p v u p.shards × (w ≡ raised u)
   Publishes p lists v (Err full) w = (full.lists ≡ lists) × HasNoRoom p v w full.dest.0 full.taken
+
+-- ---- what these answers come to
+-- a try to take a list, whatever it answers, loads the word of its source once
+abbrev pub TriesLook : Type 0 → Type 0 → Type 0
+TriesLook P L = (p : Plan L) (s h : ℕ) (v w : Note P) (answer : Result (Parcel L) NotYet) → s < length v.links → Takes p s h v answer w → IsLooked (link v s) (link w s)
+
+-- and so does a look for a mark
+abbrev pub MarksLook : Type 0 → Type 0
+MarksLook P = (s : ℕ) (v w : Note P) (answer : Bool) → s < length v.links → Marks s v answer w → IsLooked (link v s) (link w s)

@@ -1,14 +1,15 @@
 -- What each kind of step tells its port. This project's own.
-use Rattle.std.specs.Prelude.{◌≡◌, ℕ, ◌+◌, ◌-◌, ◌%◌, ◌^◌, ◌<◌, ◌≤◌, [], ◌∷◌, Option}
+use Rattle.std.specs.Prelude.{◌≡◌, ℕ, ◌+◌, ◌-◌, ◌%◌, ◌^◌, ◌<◌, ◌≤◌, true, [], ◌∷◌, Option}
 use Rattle.atomic_table.specs.Table.{Me, Step, rest}
 use Rattle.nr_exchange.specs.declared.note.Note.{Note}
 use Rattle.nr_exchange.specs.Plan.{Plan, list_of, chunks_to, IsNextChunk}
 use Rattle.nr_exchange.specs.Places.{place, taken_word}
 use Rattle.nr_exchange.specs.Notes.{link, room, looked, claims, gave_back, asked, held, passed, raised, gives_up}
 
--- the number loaded is no less than what was seen, and the own word is known
+-- the number loaded is no less than what was seen, a mark that was seen is there again, and the own word is known
 pub record Tells {P : Type 0} (v : Note P) (s n : ℕ) : Type 0 where
   pub later : (link v s).seen ≤ n % 2 ^ 32
+  pub kept : (link v s).marked ≡ true → 2 ^ 32 ≤ n
   pub own : s ≡ v.shard → n % 2 ^ 32 ≡ v.number
 
 -- how many lists a port has published to each shard

@@ -5,6 +5,7 @@
 
 mod exchange;
 mod law;
+pub mod laws;
 mod note;
 mod places;
 mod planned;
