@@ -1,13 +1,14 @@
 //! Writes the genesis or the blocks of a chain from a JSON text, a JSON text of these files, of a
-//! report, of a part of a state, of a proof or of a gathered chunk, and what a line says that a program
-//! wrote.
+//! report, of a part of a state, of a proof or of a gathered chunk, the bytes of a file in hexadecimal, and
+//! what a line says that a program wrote.
 //!
-//! The words are `genesis CONFIG JSON`, `blocks JSON`, `show genesis CONFIG FILE`, `show blocks FILE`,
+//! The words are `genesis CONFIG JSON`, `blocks JSON`, `hex FILE`, `show genesis CONFIG FILE`, `show blocks FILE`,
 //! `show report FILE`, `show part FILE`, `show proof FILE`, `show gathered FILE`, `explain WORDS..`, `help`
 //! or `version`, where CONFIG is `free` or the name of a file. The exit status is 0 where it was written; 1
 //! where the words are no command, 2 where CONFIG is no configuration, 5 where a file could not be read, 6
-//! where the output could not be written, 7 where memory ran out and 20 where a file is refused. A line on
-//! standard error then has the status with its numbers, or for 20 the words that say what is wrong.
+//! where the output could not be written, 7 where memory ran out, 20 where a file is refused and 21 where no
+//! program prints the words to be explained. A line on standard error then has the status with its numbers, or for
+//! 20 and 21 the words that say what is wrong.
 #![tactic(auto)]
 
 use nr_bytes::{FileShelf, StdoutSink};

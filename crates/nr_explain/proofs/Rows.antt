@@ -1,12 +1,11 @@
 -- What stands for a line, by the form that its words fit.
 use Rattle.std.proofs.Common.{◌≡◌, ℕ, ◌-◌, ◌≤◌, true, false, List, [], ◌∷◌, ◌++◌, length, map, take, drop, get_or, Option, Some, None, Result, Ok, Err, refl, sym, ap, subst, ◌∙◌, arith, append_assoc}
 use Rattle.std.specs.Prelude.{OnOk, option_map}
-use Rattle.std.specs.Option.{option_or}
 use Rattle.std.proofs.lemmas.List.{take_rest}
 use Rattle.nr_explain.specs.Words.{pieces}
 use Rattle.nr_explain.specs.Forms.{Field, Form, form_of}
 use Rattle.nr_explain.specs.Lines.{lines, member, members, object, object_by, object_of, AddsWhere}
-use Rattle.nr_explain.specs.Sentences.{form_among, phrase, sentence, sentence_by, sentence_of}
+use Rattle.nr_explain.specs.Sentences.{phrase, sentence}
 use Rattle.nr_explain.proofs.Pieces.{some_piece}
 
 -- ---- a word more
@@ -69,18 +68,3 @@ pub some_object : {X : Type 0} (v : X → Form) (forms : List X) (found : Option
 some_object v forms found line old new x table is some adds =
     let P : Option Form → Type 0 = λ o. AddsWhere true (object_by o (pieces 32 line)) old new in
     subst P (sym (ap (option_map v) some) ∙ form_is v forms found line table is) adds
-
--- ---- the sentence of a line
-pub form_or : {X : Type 0} (v : X → Form) (forms : List X) (table : List Form) (first second found : Option X) (other : Option Form) (words : List (List ℕ)) → map v forms ≡ table
-    → option_map v first ≡ form_of (map v forms) words → option_map v second ≡ other → option_map v found ≡ option_or (option_map v first) (option_map v second)
-    → option_map v found ≡ option_or (form_of table words) other
-form_or v forms table first second found other words is_table is_first is_second is =
-    is ∙ ap (λ t. option_or t (option_map v second)) (is_first ∙ ap (λ t. form_of t words) is_table) ∙ ap (λ t. option_or (form_of table words) t) is_second
-
-pub no_sentence : {X : Type 0} (v : X → Form) (found : Option X) (line : List ℕ) → option_map v found ≡ form_among (pieces 32 line) → found ≡ None → None ≡ sentence_of line
-no_sentence v found line is none = ap (λ o. sentence_by o (pieces 32 line)) (sym (ap (option_map v) none) ∙ is)
-
-pub some_sentence : {X : Type 0} (v : X → Form) (found : Option X) (line out : List ℕ) (x : X) → option_map v found ≡ form_among (pieces 32 line) → found ≡ Some x
-    → out ≡ sentence (v x) (pieces 32 line) → Some out ≡ sentence_of line
-some_sentence v found line out x is some told =
-    ap (λ (t : List ℕ). Some t) told ∙ ap (λ o. sentence_by o (pieces 32 line)) (sym (ap (option_map v) some) ∙ is)

@@ -3,7 +3,7 @@ use Rattle.std.proofs.Common.{◌≡◌, ℕ, ◌-◌, ◌≤◌, List, [], ◌�
 use Rattle.std.specs.List.{flat_map}
 use Rattle.std.proofs.lemmas.List.{take_all, take_rest}
 use Rattle.std.proofs.lemmas.List.Folds.{flat_map-map}
-use Rattle.nr_explain.specs.Sentences.{spaced}
+use Rattle.nr_explain.specs.Programs.{spaced}
 
 spaced_on : {X : Type 0} (v : X → List ℕ) (words : List X) (d : X) → 1 ≤ length words → v (get_or words 0 d) ++ flat_map (λ w. 32 ∷ v w) (drop 1 words) ≡ spaced (map v words)
 spaced_on v [] d l = absurd (omega (arith, l))

@@ -3,6 +3,8 @@ pub mod Entries
 pub mod Forms
 pub mod Lines
 pub mod LineSentences
+pub mod Written
+pub mod Programs
 pub mod Sentences
 pub mod Report
 pub mod Coded

@@ -2,7 +2,7 @@
 use Rattle.std.specs.Prelude.{List, [], ◌∷◌, codes}
 use Rattle.nr_explain.specs.Forms.{Form, word, figure, number, amount, hash}
 
--- steps that were not made
+-- steps that were made or not
 unfoldable pub steps : List Form
 steps =
     (word (codes "ok") (codes "The step was made.") ∷ [])
@@ -11,8 +11,15 @@ steps =
     ∷ (word (codes "no") (codes "The step was not made: ") ∷ figure (codes "1") (codes "it doesn't fit the shard's stage, which is ") ∷ figure (codes "2") (codes "behind a seal.") ∷ figure (codes "0") [] ∷ [])
     ∷ (word (codes "no") (codes "The step was not made: ") ∷ figure (codes "2") (codes "no list is left to take.") ∷ figure (codes "0") [] ∷ figure (codes "0") [] ∷ [])
     ∷ (word (codes "no") (codes "The step was not made: ") ∷ figure (codes "2") (codes "the next list that is due is that of height ") ∷ number (codes " and shard ") ∷ number (codes ".") ∷ [])
-    ∷ (word (codes "no") (codes "The step was not made: ") ∷ figure (codes "3") (codes "the list isn't published, and its source has published so many heights: ") ∷ number (codes ".") ∷ figure (codes "0") [] ∷ [])
-    ∷ (word (codes "no") (codes "The step was not made: ") ∷ figure (codes "4") (codes "the shard has published all its heights, so many: ") ∷ number (codes ".") ∷ figure (codes "0") [] ∷ [])
+    ∷ (word (codes "no") (codes "The step was not made: ") ∷ figure (codes "3") (codes "the list isn't published, and ") ∷ figure (codes "0") (codes "its source has published no height.") ∷ figure (codes "0") [] ∷ [])
+    ∷ (word (codes "no") (codes "The step was not made: ") ∷ figure (codes "3") (codes "the list isn't published, and the last height that its source has published is ") ∷ number (codes ".") ∷ figure (codes "0") [] ∷ [])
+    ∷ (word (codes "no") (codes "The step was not made: ") ∷ figure (codes "4") (codes "the shard has no height to publish, since ") ∷ figure (codes "0") (codes "there are no blocks.") ∷ figure (codes "0") [] ∷ [])
+    ∷ (word (codes "no") (codes "The step was not made: ") ∷ figure (codes "4") (codes "the shard has published all its heights. The last height is ") ∷ number (codes ".") ∷ figure (codes "0") [] ∷ [])
+    ∷ (word (codes "no") (codes "The step was not made: ") ∷ figure (codes "5") (codes "the boundaries can't change yet, since shard ") ∷ number (codes " has published ") ∷ figure (codes "0") (codes "no height.") ∷ [])
+    ∷ (word (codes "no") (codes "The step was not made: ") ∷ figure (codes "5") (codes "the boundaries can't change yet, since the last height that shard ") ∷ number (codes " has published is ") ∷ number (codes ".") ∷ [])
+    ∷ (word (codes "no") (codes "The step was not made: ") ∷ figure (codes "6") (codes "the boundaries don't change any more.") ∷ figure (codes "0") [] ∷ figure (codes "0") [] ∷ [])
+    ∷ (word (codes "no") (codes "The step was not made: ") ∷ figure (codes "7") (codes "it names a shard that is not there, since there is ") ∷ figure (codes "1") (codes "shard 0 alone.") ∷ figure (codes "0") [] ∷ [])
+    ∷ (word (codes "no") (codes "The step was not made: ") ∷ figure (codes "7") (codes "it names a shard that is not there, since there are ") ∷ number (codes " of them, counted from 0.") ∷ figure (codes "0") [] ∷ [])
     ∷ []
 
 -- transactions that are refused

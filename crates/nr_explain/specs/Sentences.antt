@@ -1,12 +1,7 @@
--- One English sentence for a line that a program writes: its status and what it tells of it, or a line that says why something was refused or failed. This project's own.
-use Rattle.std.specs.Prelude.{ℕ, List, [], ◌∷◌, ◌++◌, Option, Some, None, codes, cond, option_map}
-use Rattle.std.specs.List.{flat_map}
-use Rattle.std.specs.Option.{option_or}
-use Rattle.std.specs.Str.{bytes_eq}
-use Rattle.nr_explain.specs.Words.{pieces}
+-- One English sentence for a line by its form, and the forms of what programs tell on standard error: a status and its numbers. This project's own.
+use Rattle.std.specs.Prelude.{ℕ, List, [], ◌∷◌, ◌++◌, Option, Some, None, codes}
 use Rattle.nr_explain.specs.Entries.{entry_of, entry_told}
-use Rattle.nr_explain.specs.Forms.{Kind, Word, Figure, Number, Amount, Hash, Bytes, Entry, Field, Form, form_of, figure, number, entry}
-use Rattle.nr_explain.specs.LineSentences.{steps, refusals, failures, bad_codes, traps, faults, modules, invalid_modules, module_traps}
+use Rattle.nr_explain.specs.Forms.{Kind, Word, Figure, Number, Amount, Hash, Bytes, Entry, Field, Form, figure, number, entry}
 
 -- ---- the forms, with what is said behind each number
 -- a number of which nothing is said
@@ -47,7 +42,11 @@ programs =
     ∷ (figure (codes "5") (codes "A file could not be read.") ∷ [])
     ∷ (figure (codes "6") (codes "The output could not be written whole.") ∷ [])
     ∷ (figure (codes "7") (codes "Memory ran out.") ∷ [])
-    ∷ (figure (codes "11") (codes "There is no such chunk, or it has no item of the kind.") ∷ zero_told ∷ [])
+    ∷ []
+
+unfoldable pub items : List Form
+items =
+    (figure (codes "11") (codes "There is no such chunk, or it has no item of the kind.") ∷ zero_told ∷ [])
     ∷ (figure (codes "11") (codes "There is no item at that place: the chunk has only ") ∷ number (codes " of the kind.") ∷ [])
     ∷ []
 
@@ -122,30 +121,6 @@ state_parts =
     ∷ parts (codes "9") (codes "part ") (number (codes " (from 0) needs more than 2^28 nodes."))
     ∷ []
 
--- the first form that the words fit, among those of `near_module`, of a report's lines and of a schedule's steps, and of all
-abbrev pub module_form : List (List ℕ) → Option Form
-module_form words = option_or (form_of modules words) (option_or (form_of invalid_modules words) (form_of module_traps words))
-
-abbrev pub line_form : List (List ℕ) → Option Form
-line_form words =
-    option_or (form_of steps words)
-    (option_or (form_of refusals words)
-    (option_or (form_of failures words)
-    (option_or (form_of bad_codes words)
-    (option_or (form_of traps words)
-    (option_or (form_of faults words) (module_form words))))))
-
-abbrev pub form_among : List (List ℕ) → Option Form
-form_among words =
-    option_or (form_of programs words)
-    (option_or (form_of configurations words)
-    (option_or (form_of geneses words)
-    (option_or (form_of chains words)
-    (option_or (form_of schedules words)
-    (option_or (form_of proofs words)
-    (option_or (form_of gathered_chunks words)
-    (option_or (form_of state_parts words) (line_form words))))))))
-
 -- ---- sentences
 -- numbers that the form fixes are not repeated
 abbrev pub said : Kind → List ℕ → List ℕ
@@ -169,25 +144,3 @@ sentence (f ∷ fs) (w ∷ v ∷ ws) = phrase f w ++ sentence fs (v ∷ ws)
 abbrev pub sentence_by : Option Form → List (List ℕ) → Option (List ℕ)
 sentence_by None words = None
 sentence_by (Some form) words = Some (sentence form words)
-
--- the sentence of a line, where the line has one of the forms
-abbrev pub sentence_of : List ℕ → Option (List ℕ)
-sentence_of line = sentence_by (form_among (pieces 32 line)) (pieces 32 line)
-
--- the same of a line of `near_module`
-abbrev pub module_sentence_of : List ℕ → Option (List ℕ)
-module_sentence_of line = sentence_by (module_form (pieces 32 line)) (pieces 32 line)
-
--- the words with a space between each two
-abbrev pub spaced : List (List ℕ) → List ℕ
-spaced [] = []
-spaced (w ∷ ws) = w ++ flat_map (λ v. 32 ∷ v) ws
-
--- the line's words may stand behind the name of `near_module`
-abbrev pub told_of : List (List ℕ) → Option (List ℕ)
-told_of [] = sentence_of []
-told_of (w ∷ ws) = cond (bytes_eq w (codes "near_module")) (module_sentence_of (spaced ws)) (sentence_of (spaced (w ∷ ws)))
-
--- the sentence of a line's words, with a line feed
-abbrev pub explained : List (List ℕ) → Option (List ℕ)
-explained words = option_map (λ s. s ++ 10 ∷ []) (told_of words)

@@ -1,9 +1,10 @@
 //! A sentence for a line that a program writes.
 
 ghost use Rattle.std.specs.Prelude.{◌≡◌, ◌++◌, ◌∷◌, [], map, IfOk, OnOk, string_bytes};
-ghost use Rattle.nr_explain.specs.Sentences.{spaced, module_sentence_of, sentence_of, told_of, explained};
+ghost use Rattle.nr_explain.specs.Programs.{behind, explained, line_told, line_words, name_of, spaced, told_by, told_of};
 
-use crate::sentences::{module_sentence_of, sentence_of};
+use crate::program::{Program, form_by, program_of};
+use crate::sentences::sentence_by;
 use nr_bytes::Blob;
 use std::alloc::{AllocError, Global};
 
@@ -34,42 +35,67 @@ fn with_feed(text: Blob) -> Result<Blob, AllocError>
     Ok(Blob::of(line))
 }
 
-/// The sentence of a line's words.
-fn sentence(alloc: Global, words: &[String]) -> Result<Option<Blob>, AllocError>
-    ensures { IfOk result (λ told. told ≡ sentence_of (spaced (map (λ w. string_bytes w) words.now))) }
-{
-    let line = spaced(alloc, words)?;
-    sentence_of(alloc, &line)
-}
-
-/// The sentence of the words of a line of `near_module`.
-fn module_sentence(alloc: Global, words: &[String]) -> Result<Option<Blob>, AllocError>
-    ensures { IfOk result (λ told. told ≡ module_sentence_of (spaced (map (λ w. string_bytes w) words.now))) }
-{
-    let line = spaced(alloc, words)?;
-    module_sentence_of(alloc, &line)
-}
-
-/// The sentence of a line's words, which may stand behind the name of `near_module`.
-fn told_of(alloc: Global, words: &[String]) -> Result<Option<Blob>, AllocError>
-    ensures { IfOk result (λ told. told ≡ told_of (map (λ w. string_bytes w) words.now)) }
+/// The first word, or an empty one where there is none.
+fn name_of(words: &[String]) -> &str
+    ensures { result.now ≡ name_of (map (λ w. string_bytes w) words.now) }
 {
     match words {
-        [] => sentence_of(alloc, b""),
-        [program, rest @ ..] => {
-            if program.as_str() == "near_module" {
-                module_sentence(alloc, rest)
-            } else {
-                sentence(alloc, words)
-            }
-        }
+        [name, ..] => name.as_str(),
+        [] => "",
     }
 }
 
-/// One sentence for a line that a program writes, with a line feed: its status and what it tells of it, a
-/// transaction that is refused, a receipt that failed, a step that was not made, or what `near_module` says.
-/// The words are those of the line, behind the name of `near_module` or alone. `None` where no program
-/// writes them, and for other lines.
+/// The words behind the first one.
+fn behind(words: &[String]) -> &[String]
+    ensures { map (λ w. string_bytes w) result.now ≡ behind (map (λ w. string_bytes w) words.now) }
+{
+    match words {
+        [_, rest @ ..] => rest,
+        [] => words,
+    }
+}
+
+/// The words of the line itself.
+fn line_words(program: Program, words: &[String]) -> &[String]
+    ensures { map (λ w. string_bytes w) result.now ≡ line_words program (map (λ w. string_bytes w) words.now) }
+{
+    match program {
+        Program::Any => words,
+        Program::Serial => behind(words),
+        Program::Replay => behind(words),
+        Program::Audit => behind(words),
+        Program::Module => behind(words),
+        Program::Files => behind(words),
+    }
+}
+
+/// The sentence of a line of a program.
+fn line_told(alloc: Global, program: Program, line: &[u8]) -> Result<Option<Blob>, AllocError>
+    ensures { IfOk result (λ told. told ≡ line_told program line.now) }
+{
+    sentence_by(alloc, form_by(program, line), line)
+}
+
+/// The sentence of the words of a line of a program.
+fn told_by(alloc: Global, program: Program, words: &[String]) -> Result<Option<Blob>, AllocError>
+    ensures { IfOk result (λ told. told ≡ told_by program (map (λ w. string_bytes w) words.now)) }
+{
+    let line = spaced(alloc, line_words(program, words))?;
+    line_told(alloc, program, &line)
+}
+
+/// The sentence of a line's words, before which the name of a program may stand.
+fn told_of(alloc: Global, words: &[String]) -> Result<Option<Blob>, AllocError>
+    ensures { IfOk result (λ told. told ≡ told_of (map (λ w. string_bytes w) words.now)) }
+{
+    told_by(alloc, program_of(name_of(words)), words)
+}
+
+/// One sentence for a whole line that a program writes, with a line feed: a status and what it tells of it,
+/// a line of a report, of a schedule or of what another command of a chain writes, or what `near_module
+/// check` and `run` say. The words are those of the line, behind the name of the program (`near_serial`,
+/// `near_replay`, `near_audit`, `near_module` or `near_files`) or alone; alone, `ok` is a step of a schedule.
+/// `None` where no such line has these words.
 ///
 /// # Errors
 ///

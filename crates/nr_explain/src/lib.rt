@@ -1,4 +1,4 @@
-//! What programs print, for people: a sentence for a line that says why something was refused or failed, and a report as JSON.
+//! What programs print, for people: a sentence for each line, and a report as JSON.
 #![tactic(auto)]
 
 mod cut;
@@ -8,8 +8,10 @@ mod form;
 mod line_sentences;
 mod lines;
 mod numbers;
+mod program;
 mod report;
 mod sentences;
+mod written;
 
 pub use explaining::explain;
 pub use report::{ReportFault, show_report};

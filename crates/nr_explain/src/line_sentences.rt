@@ -6,7 +6,7 @@ ghost use Rattle.nr_explain.specs.LineSentences.{steps, refusals, failures, bad_
 
 use crate::form::{Field, Kind, fields};
 
-static STEPS: [&[Field]; 8] = [
+static STEPS: [&[Field]; 15] = [
     fields![Word("ok"): "The step was made."],
     fields![
         Word("no"): "The step was not made: ",
@@ -33,14 +33,47 @@ static STEPS: [&[Field]; 8] = [
         Number: "."
     ],
     fields![
+        Word("no"): "The step was not made: ", Figure("3"): "the list isn't published, and ",
+        Figure("0"): "its source has published no height.", Figure("0"): ""
+    ],
+    fields![
         Word("no"): "The step was not made: ",
-        Figure("3"): "the list isn't published, and its source has published so many heights: ",
+        Figure("3"): "the list isn't published, and the last height that its source has published is ",
         Number: ".", Figure("0"): ""
     ],
     fields![
         Word("no"): "The step was not made: ",
-        Figure("4"): "the shard has published all its heights, so many: ", Number: ".",
+        Figure("4"): "the shard has no height to publish, since ",
+        Figure("0"): "there are no blocks.", Figure("0"): ""
+    ],
+    fields![
+        Word("no"): "The step was not made: ",
+        Figure("4"): "the shard has published all its heights. The last height is ", Number: ".",
         Figure("0"): ""
+    ],
+    fields![
+        Word("no"): "The step was not made: ",
+        Figure("5"): "the boundaries can't change yet, since shard ", Number: " has published ",
+        Figure("0"): "no height."
+    ],
+    fields![
+        Word("no"): "The step was not made: ",
+        Figure("5"): "the boundaries can't change yet, since the last height that shard ",
+        Number: " has published is ", Number: "."
+    ],
+    fields![
+        Word("no"): "The step was not made: ", Figure("6"): "the boundaries don't change any more.",
+        Figure("0"): "", Figure("0"): ""
+    ],
+    fields![
+        Word("no"): "The step was not made: ",
+        Figure("7"): "it names a shard that is not there, since there is ",
+        Figure("1"): "shard 0 alone.", Figure("0"): ""
+    ],
+    fields![
+        Word("no"): "The step was not made: ",
+        Figure("7"): "it names a shard that is not there, since there are ",
+        Number: " of them, counted from 0.", Figure("0"): ""
     ],
 ];
 
@@ -549,9 +582,9 @@ static MODULE_TRAPS: [&[Field]; 8] = [
     ],
 ];
 
-/// Steps that were not made.
+/// Steps that were made or not.
 #[tactic(auto, unfolding(crate::specs::LineSentences::steps))]
-pub(crate) fn steps() -> &'static [&'static [Field]; 8]
+pub(crate) fn steps() -> &'static [&'static [Field]; 15]
     ensures { map (λ f. form_in f.now) result.now ≡ steps }
 {
     &STEPS

@@ -1,26 +1,25 @@
 //! One sentence for the numbers that a program prints on standard error.
 
 ghost use Rattle.std.specs.Prelude.{◌≡◌, ◌++◌, map, option_map, IfOk, OnOk};
-ghost use Rattle.std.specs.Option.{option_or};
 ghost use Rattle.nr_explain.specs.Words.{pieces};
-ghost use Rattle.nr_explain.specs.Sentences.{programs, configurations, geneses, chains, schedules, proofs, gathered_chunks, state_parts, form_among, line_form, module_form, module_sentence_of, said, phrase, sentence, sentence_by, sentence_of};
+ghost use Rattle.nr_explain.specs.Sentences.{programs, items, configurations, geneses, chains, schedules, proofs, gathered_chunks, state_parts, said, phrase, sentence, sentence_by};
 ghost use Rattle.nr_explain.specs.Coded.{kind_of, field_of, form_in};
 
 use crate::cut::cut;
 use crate::entries::put_entry;
-use crate::form::{Field, Kind, fields, form_of};
-use crate::line_sentences::{
-    bad_codes, failures, faults, invalid_modules, module_traps, modules, refusals, steps, traps,
-};
+use crate::form::{Field, Kind, fields};
 use nr_bytes::Blob;
 use std::alloc::{AllocError, Global};
 
 // What is said behind each number that a program prints, by its status.
-static PROGRAMS: [&[Field]; 6] = [
+static PROGRAMS: [&[Field]; 4] = [
     fields![Figure("1"): "The words are no command."],
     fields![Figure("5"): "A file could not be read."],
     fields![Figure("6"): "The output could not be written whole."],
     fields![Figure("7"): "Memory ran out."],
+];
+
+static ITEMS: [&[Field]; 2] = [
     fields![
         Figure("11"): "There is no such chunk, or it has no item of the kind.", Figure("0"): ""
     ],
@@ -227,110 +226,76 @@ static STATE_PARTS: [&[Field]; 10] = [
     ],
 ];
 
+/// Statuses of all programs.
 #[tactic(auto, unfolding(crate::specs::Sentences::programs))]
-fn programs() -> &'static [&'static [Field]; 6]
+pub(crate) fn programs() -> &'static [&'static [Field]; 4]
     ensures { map (λ f. form_in f.now) result.now ≡ programs }
 {
     &PROGRAMS
 }
 
+/// Chunks and items that are not there.
+#[tactic(auto, unfolding(crate::specs::Sentences::items))]
+pub(crate) fn items() -> &'static [&'static [Field]; 2]
+    ensures { map (λ f. form_in f.now) result.now ≡ items }
+{
+    &ITEMS
+}
+
+/// Configurations that are refused.
 #[tactic(auto, unfolding(crate::specs::Sentences::configurations))]
-fn configurations() -> &'static [&'static [Field]; 6]
+pub(crate) fn configurations() -> &'static [&'static [Field]; 6]
     ensures { map (λ f. form_in f.now) result.now ≡ configurations }
 {
     &CONFIGURATIONS
 }
 
+/// Geneses that are refused.
 #[tactic(auto, unfolding(crate::specs::Sentences::geneses))]
-fn geneses() -> &'static [&'static [Field]; 7]
+pub(crate) fn geneses() -> &'static [&'static [Field]; 7]
     ensures { map (λ f. form_in f.now) result.now ≡ geneses }
 {
     &GENESES
 }
 
+/// Blocks that are refused.
 #[tactic(auto, unfolding(crate::specs::Sentences::chains))]
-fn chains() -> &'static [&'static [Field]; 7]
+pub(crate) fn chains() -> &'static [&'static [Field]; 7]
     ensures { map (λ f. form_in f.now) result.now ≡ chains }
 {
     &CHAINS
 }
 
+/// Schedules that are refused.
 #[tactic(auto, unfolding(crate::specs::Sentences::schedules))]
-fn schedules() -> &'static [&'static [Field]; 2]
+pub(crate) fn schedules() -> &'static [&'static [Field]; 2]
     ensures { map (λ f. form_in f.now) result.now ≡ schedules }
 {
     &SCHEDULES
 }
 
+/// Proofs that are refused.
 #[tactic(auto, unfolding(crate::specs::Sentences::proofs))]
-fn proofs() -> &'static [&'static [Field]; 2]
+pub(crate) fn proofs() -> &'static [&'static [Field]; 2]
     ensures { map (λ f. form_in f.now) result.now ≡ proofs }
 {
     &PROOFS
 }
 
+/// Gathered chunks that are refused.
 #[tactic(auto, unfolding(crate::specs::Sentences::gathered_chunks))]
-fn gathered_chunks() -> &'static [&'static [Field]; 9]
+pub(crate) fn gathered_chunks() -> &'static [&'static [Field]; 9]
     ensures { map (λ f. form_in f.now) result.now ≡ gathered_chunks }
 {
     &GATHERED_CHUNKS
 }
 
+/// Parts of a state that are refused.
 #[tactic(auto, unfolding(crate::specs::Sentences::state_parts))]
-fn state_parts() -> &'static [&'static [Field]; 10]
+pub(crate) fn state_parts() -> &'static [&'static [Field]; 10]
     ensures { map (λ f. form_in f.now) result.now ≡ state_parts }
 {
     &STATE_PARTS
-}
-
-/// The one of two forms that is there, or the first.
-fn either(
-    first: Option<&'static [Field]>,
-    second: Option<&'static [Field]>,
-) -> Option<&'static [Field]>
-    ensures { option_map (λ f. form_in f.now) result ≡ option_or (option_map (λ f. form_in f.now) first.entry) (option_map (λ f. form_in f.now) second.entry) }
-{
-    match first {
-        Some(form) => Some(form),
-        None => second,
-    }
-}
-
-/// The form of a line of `near_module`.
-fn module_form(line: &[u8]) -> Option<&'static [Field]>
-    ensures { option_map (λ f. form_in f.now) result ≡ module_form (pieces 32 line.now) }
-{
-    let form = form_of(module_traps(), line);
-    let form = either(form_of(invalid_modules(), line), form);
-    either(form_of(modules(), line), form)
-}
-
-/// The form of a line of a report, of a schedule's steps or of `near_module`.
-fn line_form(line: &[u8]) -> Option<&'static [Field]>
-    ensures { option_map (λ f. form_in f.now) result ≡ line_form (pieces 32 line.now) }
-{
-    let form = module_form(line);
-    let form = either(form_of(faults(), line), form);
-    let form = either(form_of(traps(), line), form);
-    let form = either(form_of(bad_codes(), line), form);
-    let form = either(form_of(failures(), line), form);
-    let form = either(form_of(refusals(), line), form);
-    either(form_of(steps(), line), form)
-}
-
-/// The form of a line.
-fn form_among(line: &[u8]) -> Option<&'static [Field]>
-    ensures { option_map (λ f. form_in f.now) result ≡ form_among (pieces 32 line.now) }
-{
-    let form = line_form(line);
-    let form = either(form_of(state_parts(), line), form);
-    let form = either(form_of(gathered_chunks(), line), form);
-    let form = either(form_of(proofs(), line), form);
-    let form = either(form_of(schedules(), line), form);
-    let form = either(form_of(chains(), line), form);
-    let form = either(form_of(geneses(), line), form);
-    let form = either(form_of(configurations(), line), form);
-    either(form_of(programs(), line), form)
 }
 
 /// Numbers that the form fixes are not repeated.
@@ -384,7 +349,7 @@ fn put_sentence(
 }
 
 /// The sentence of a line by its form, where it has one.
-fn sentence_by(
+pub(crate) fn sentence_by(
     alloc: Global,
     form: Option<&'static [Field]>,
     line: &[u8],
@@ -399,18 +364,4 @@ fn sentence_by(
             Ok(Some(Blob::of(out)))
         }
     }
-}
-
-/// The sentence of a line, where the line is one of a program's.
-pub(crate) fn sentence_of(alloc: Global, line: &[u8]) -> Result<Option<Blob>, AllocError>
-    ensures { IfOk result (λ told. told ≡ sentence_of line.now) }
-{
-    sentence_by(alloc, form_among(line), line)
-}
-
-/// The sentence of a line, where the line is one of `near_module`.
-pub(crate) fn module_sentence_of(alloc: Global, line: &[u8]) -> Result<Option<Blob>, AllocError>
-    ensures { IfOk result (λ told. told ≡ module_sentence_of line.now) }
-{
-    sentence_by(alloc, module_form(line), line)
 }

@@ -5,7 +5,7 @@ use Rattle.nr_configfile.specs.Plans.{config_files, config_plan}
 use Rattle.nr_configfile.proofs.Asking.{config_asks}
 use Rattle.nr_shell.specs.Plans.{Asks, file_plan}
 use Rattle.nr_shell.proofs.Ends.{file_asks, reading_asks, then_asks}
-use Rattle.nr_files.specs.Command.{Asked, Nothing, File, Written, Request}
+use Rattle.nr_files.specs.Command.{Asked, Nothing, Unknown, File, Written, Request}
 use Rattle.nr_files.specs.Due.{of_bytes}
 use Rattle.nr_files.specs.Plans.{by_bytes, by_config, files_of, plan}
 use Rattle.nr_files.specs.declared.status.Status.TheVariants.{Config, TooLong, Faulty}
@@ -16,5 +16,6 @@ by_config_asks r c =
 
 pub plan_asks : (asked : Asked) → Asks (files_of asked) (plan asked)
 plan_asks Nothing = tt
+plan_asks Unknown = tt
 plan_asks (Written text) = tt
 plan_asks (File r) = then_asks (config_files r.config) (r.file ∷ []) (config_plan Config r.config) (by_config r) (config_asks Config r.config) (by_config_asks r)

@@ -15,7 +15,7 @@ use Rattle.nr_files.specs.declared.fault.Fault.TheVariants as fault
 use Rattle.nr_files.specs.declared.output.Output.{Output as CodeOutput}
 use Rattle.nr_files.specs.declared.output.Output.TheVariants as code
 use Rattle.nr_files.specs.declared.status.Status.{Status}
-use Rattle.nr_files.specs.declared.status.Status.TheVariants.{Done, Usage, Config, TooLong, Faulty, ReadFault, WriteFault, NoMemory}
+use Rattle.nr_files.specs.declared.status.Status.TheVariants.{Done, Usage, NoSentence, Config, TooLong, Faulty, ReadFault, WriteFault, NoMemory}
 
 -- ---- answers to bytes that are there
 abbrev pub output_in : CodeOutput → Output
@@ -46,6 +46,7 @@ AnswersAs view (Err f) answer = Refuses f answer
 abbrev pub refuses : Status → Bool
 refuses Done = false
 refuses Usage = true
+refuses NoSentence = true
 refuses (Config kind entry) = true
 refuses TooLong = true
 refuses (Faulty line) = true
@@ -66,6 +67,7 @@ Serves WriteFault plan held asked asks took takes = (o : Output) × (bytes : Lis
 Serves ReadFault plan held asked asks took takes = Breaks held asked asks plan × (takes ≡ took)
 Serves NoMemory plan held asked asks took takes = Stops held asked asks plan × (takes ≡ took)
 Serves Usage plan held asked asks took takes = Comes held asked asks plan (Refuse Usage) × (takes ≡ took)
+Serves NoSentence plan held asked asks took takes = Comes held asked asks plan (Refuse NoSentence) × (takes ≡ took)
 Serves (Config kind entry) plan held asked asks took takes = Comes held asked asks plan (Refuse (Config kind entry)) × (takes ≡ took)
 Serves TooLong plan held asked asks took takes = Comes held asked asks plan (Refuse TooLong) × (takes ≡ took)
 Serves (Faulty line) plan held asked asks took takes = Comes held asked asks plan (Refuse (Faulty line)) × (takes ≡ took)

@@ -1,14 +1,14 @@
--- The words of the command line: `genesis CONFIG JSON`, `blocks JSON`, `show` with `genesis CONFIG FILE`, `blocks FILE`, `report FILE`, `part FILE`, `proof FILE` or `gathered FILE`, `explain WORDS..`, `help` or `version`. The commands are this project's own.
+-- The words of the command line: `genesis CONFIG JSON`, `blocks JSON`, `hex FILE`, `show` with `genesis CONFIG FILE`, `blocks FILE`, `report FILE`, `part FILE`, `proof FILE` or `gathered FILE`, `explain WORDS..`, `help` or `version`. The commands are this project's own.
 use Rattle.std.specs.Prelude.{ℕ, List, [], ◌∷◌, cond, Option, Some, None, codes, option_and_then}
 use Rattle.std.specs.Str.{bytes_eq}
 use Rattle.nr_words.specs.Forms.{Value, Text, read}
-use Rattle.nr_explain.specs.Sentences.{explained}
+use Rattle.nr_explain.specs.Programs.{explained}
 use Rattle.nr_files.specs.Help.{help_text, made_forms, shown_forms, version_text}
 use Rattle.nr_files.specs.declared.command.Asked.{Asked as LentAsked}
 use Rattle.nr_files.specs.declared.command.Asked.TheVariants as lent
 use Rattle.nr_files.specs.declared.command.Request.{Request as LentRequest}
 use Rattle.nr_files.specs.declared.command.Work.{Work}
-use Rattle.nr_files.specs.declared.command.Work.TheVariants.{MakeBlocks, MakeGenesis, ShowBlocks, ShowGenesis, ShowReport, ShowPart, ShowProof, ShowGathered}
+use Rattle.nr_files.specs.declared.command.Work.TheVariants.{MakeBlocks, MakeGenesis, MakeHex, ShowBlocks, ShowGenesis, ShowReport, ShowPart, ShowProof, ShowGathered}
 
 -- what is done, under which configuration, and with which file
 pub record Request : Type 0 where
@@ -16,9 +16,10 @@ pub record Request : Type 0 where
   pub config : List ℕ
   pub file : List ℕ
 
--- what the words ask for: nothing that there is, a file's, or a text that is written
+-- what the words ask for: nothing that there is, a sentence of words that no program prints, a file's, or a text that is written
 pub data Asked : Type 0 where
   Nothing : Asked
+  Unknown : Asked
   File : Request → Asked
   Written : List ℕ → Asked
 
@@ -38,7 +39,8 @@ without_config work values = Nothing
 abbrev pub made_of : List ℕ × List Value → Asked
 made_of found =
     cond (bytes_eq found.0 (codes "genesis")) (with_config MakeGenesis found.1)
-    (cond (bytes_eq found.0 (codes "blocks")) (without_config MakeBlocks found.1) Nothing)
+    (cond (bytes_eq found.0 (codes "blocks")) (without_config MakeBlocks found.1)
+    (cond (bytes_eq found.0 (codes "hex")) (without_config MakeHex found.1) Nothing))
 
 abbrev pub shown_of : List ℕ × List Value → Asked
 shown_of found =
@@ -55,8 +57,13 @@ by_form meaning (Some found) = meaning found
 
 -- ---- what is written without a file
 abbrev pub of_sentence : Option (List ℕ) → Asked
-of_sentence None = Nothing
+of_sentence None = Unknown
 of_sentence (Some text) = Written text
+
+-- the sentence of words, of which there is at least one
+abbrev pub of_words : List (List ℕ) → Asked
+of_words [] = Nothing
+of_words (word ∷ words) = of_sentence (explained (word ∷ words))
 
 -- a text, where no word stands behind its own
 abbrev pub alone : List ℕ → List (List ℕ) → Asked
@@ -74,7 +81,7 @@ behind (verb ∷ words) = words
 
 unfoldable pub meant : List (List ℕ) → Asked
 meant words =
-    cond (bytes_eq (verb_of words) (codes "explain")) (of_sentence (explained (behind words)))
+    cond (bytes_eq (verb_of words) (codes "explain")) (of_words (behind words))
     (cond (bytes_eq (verb_of words) (codes "help")) (alone help_text (behind words))
     (cond (bytes_eq (verb_of words) (codes "version")) (alone version_text (behind words))
     (cond (bytes_eq (verb_of words) (codes "show")) (by_form shown_of (read shown_forms (behind words)))
@@ -86,5 +93,6 @@ request_in r = record { work = r.work; config = r.config.now; file = r.file.now 
 
 abbrev pub asked_in : LentAsked → Asked
 asked_in lent.Nothing = Nothing
+asked_in lent.Unknown = Unknown
 asked_in (lent.File request) = File (request_in request)
 asked_in (lent.Written text) = Written text

@@ -13,12 +13,13 @@ use Rattle.nr_blocks.specs.Judging.{with_fault, genesis_read}
 use Rattle.nr_blocks.specs.Spellings.{file_of}
 use Rattle.nr_json.specs.ChainFiles.{stated_json, stated_of}
 use Rattle.nr_json.specs.Genesis.{genesis_json, genesis_of}
+use Rattle.nr_json.specs.Plain.{bytes_json}
 use Rattle.nr_explain.specs.Report.{report_json}
 use Rattle.nr_gathered.specs.Files.{gathered_in}
 use Rattle.nr_outproof.specs.Texts.{proof_read}
 use Rattle.nr_parts.specs.Files.{part_in}
 use Rattle.nr_files.specs.declared.command.Work.{Work}
-use Rattle.nr_files.specs.declared.command.Work.TheVariants.{MakeBlocks, MakeGenesis, ShowBlocks, ShowGenesis, ShowReport, ShowPart, ShowProof, ShowGathered}
+use Rattle.nr_files.specs.declared.command.Work.TheVariants.{MakeBlocks, MakeGenesis, MakeHex, ShowBlocks, ShowGenesis, ShowReport, ShowPart, ShowProof, ShowGathered}
 use Rattle.nr_files.specs.Filling.{filled, stated}
 use Rattle.nr_files.specs.Lines.{fault_line, gathered_line, genesis_line, no_json, part_line, proof_line, report_line, unread_line}
 use Rattle.nr_files.specs.Versions.{blocks_read, stated_bytes}
@@ -84,6 +85,10 @@ shown_genesis c bytes = do
   g ← with_fault (genesis_line false) (genesis_read c bytes)
   Ok (Json (genesis_json (stated (file_of g))))
 
+-- ---- bytes, as a JSON text of hexadecimal digits
+abbrev pub made_hex : List ℕ → Due
+made_hex bytes = Ok (Json (bytes_json bytes))
+
 -- ---- a report
 unfoldable pub shown_report : List ℕ → Due
 shown_report bytes = do
@@ -110,6 +115,7 @@ shown_gathered bytes = do
 abbrev pub of_bytes : Work → Config → List ℕ → Due
 of_bytes MakeBlocks c bytes = made_blocks bytes
 of_bytes MakeGenesis c bytes = made_genesis c bytes
+of_bytes MakeHex c bytes = made_hex bytes
 of_bytes ShowBlocks c bytes = shown_blocks bytes
 of_bytes ShowGenesis c bytes = shown_genesis c bytes
 of_bytes ShowReport c bytes = shown_report bytes

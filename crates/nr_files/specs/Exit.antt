@@ -1,12 +1,13 @@
 -- How a program ends with an answer: its exit status, and the line that tells it. This project's own.
-use Rattle.std.specs.Prelude.{ℕ, List, ◌∷◌, ◌++◌, decimal}
+use Rattle.std.specs.Prelude.{ℕ, List, ◌∷◌, ◌++◌, codes, decimal}
 use Rattle.nr_files.specs.Lines.{too_long}
 use Rattle.nr_files.specs.declared.status.Status.{Status}
-use Rattle.nr_files.specs.declared.status.Status.TheVariants.{Done, Usage, Config, TooLong, Faulty, ReadFault, WriteFault, NoMemory}
+use Rattle.nr_files.specs.declared.status.Status.TheVariants.{Done, Usage, NoSentence, Config, TooLong, Faulty, ReadFault, WriteFault, NoMemory}
 
 abbrev pub exit_status : Status → ℕ
 exit_status Done = 0
 exit_status Usage = 1
+exit_status NoSentence = 21
 exit_status (Config kind entry) = 2
 exit_status TooLong = 20
 exit_status (Faulty line) = 20
@@ -14,10 +15,11 @@ exit_status ReadFault = 5
 exit_status WriteFault = 6
 exit_status NoMemory = 7
 
--- why a file is refused, in words; otherwise the exit status and the numbers, parted by single spaces
+-- why a file or a line is refused, in words; otherwise the exit status and the numbers, parted by single spaces
 abbrev pub status_line : Status → List ℕ
 status_line Done = decimal 0
 status_line Usage = decimal 1
+status_line NoSentence = codes "No program prints these numbers."
 status_line (Config kind entry) = decimal 2 ++ 32 ∷ decimal kind ++ 32 ∷ decimal entry
 status_line TooLong = too_long
 status_line (Faulty line) = line

@@ -4,11 +4,11 @@ use Rattle.std.specs.List.{flat_map}
 use Rattle.nr_words.specs.Command.{form}
 use Rattle.nr_words.specs.Forms.{Form, Place, file, name_of}
 
-abbrev pub made_forms : List Form
-made_forms = form (codes "genesis") (file (codes "CONFIG") ∷ file (codes "JSON") ∷ []) ∷ form (codes "blocks") (file (codes "JSON") ∷ []) ∷ []
-
 abbrev pub one_file : List Place
 one_file = file (codes "FILE") ∷ []
+
+abbrev pub made_forms : List Form
+made_forms = form (codes "genesis") (file (codes "CONFIG") ∷ file (codes "JSON") ∷ []) ∷ form (codes "blocks") (file (codes "JSON") ∷ []) ∷ form (codes "hex") one_file ∷ []
 
 abbrev pub shown_forms : List Form
 shown_forms =

@@ -8,7 +8,7 @@ ghost use Rattle.nr_gathered.specs.Files.{gathered_in};
 ghost use Rattle.nr_parts.specs.Files.{part_in};
 ghost use Rattle.nr_shell.specs.Answers.{Judges};
 ghost use Rattle.nr_files.specs.Answers.{AnswersAs, output_in, refuses};
-ghost use Rattle.nr_files.specs.Due.{value_in, made_blocks, shown_blocks, judged, made_genesis, shown_genesis, shown_part, shown_proof, shown_gathered, shown_report, of_bytes};
+ghost use Rattle.nr_files.specs.Due.{value_in, made_blocks, shown_blocks, judged, made_genesis, made_hex, shown_genesis, shown_part, shown_proof, shown_gathered, shown_report, of_bytes};
 ghost use Rattle.nr_files.specs.Lines.{fault_line, gathered_line, genesis_line, part_line, proof_line, unread_line};
 ghost use Rattle.nr_files.specs.Plans.{by_bytes};
 ghost use Rattle.nr_files.specs.Versions.{blocks_read, stated_bytes};
@@ -154,6 +154,17 @@ fn shown_genesis(alloc: Global, config: &Config, bytes: &[u8]) -> Result<Output,
     Ok(Output::Json(json))
 }
 
+/// A JSON text of bytes.
+fn made_hex(alloc: Global, bytes: &[u8]) -> Result<Output, Fault>
+    ensures { AnswersAs output_in result (made_hex bytes.now) }
+{
+    let Ok(copy) = Vec::from_slice(alloc, bytes) else {
+        return Err(Fault::Memory);
+    };
+    let json = json_of(alloc, &Blob::of(copy))?;
+    Ok(Output::Json(json))
+}
+
 #[tactic(auto, unfolding(crate::specs::Due::shown_report))]
 fn shown_report(alloc: Global, bytes: &[u8]) -> Result<Output, Fault>
     ensures { AnswersAs output_in result (shown_report bytes.now) }
@@ -234,6 +245,7 @@ fn of_bytes(alloc: Global, work: Work, config: &Config, bytes: &[u8]) -> Result<
     match work {
         Work::MakeBlocks => made_blocks(alloc, bytes),
         Work::MakeGenesis => made_genesis(alloc, config, bytes),
+        Work::MakeHex => made_hex(alloc, bytes),
         Work::ShowBlocks => shown_blocks(alloc, bytes),
         Work::ShowGenesis => shown_genesis(alloc, config, bytes),
         Work::ShowReport => shown_report(alloc, bytes),

@@ -2,8 +2,7 @@
 
 ghost use Rattle.std.specs.Prelude.{◌≡◌, IfOk, map, option_map};
 ghost use Rattle.nr_words.specs.Words.{found_in, table_in, texts, value_in};
-ghost use Rattle.nr_explain.specs.Sentences.{explained};
-ghost use Rattle.nr_files.specs.Command.{alone, asked_in, behind, by_form, made_of, meant, of_sentence, shown_of, verb_of, with_config, without_config};
+ghost use Rattle.nr_files.specs.Command.{alone, asked_in, behind, by_form, made_of, meant, of_sentence, of_words, shown_of, verb_of, with_config, without_config};
 ghost use Rattle.nr_files.specs.Help.{made_forms, shown_forms};
 ghost use Rattle.nr_words.specs.Forms.{read};
 
@@ -20,6 +19,8 @@ pub(crate) enum Work {
     MakeBlocks,
     /// The genesis that a JSON text describes is written as a file.
     MakeGenesis,
+    /// The bytes of a file are written as a JSON text of hexadecimal digits.
+    MakeHex,
     /// The blocks of a file are written as JSON.
     ShowBlocks,
     /// The genesis of a file is written as JSON.
@@ -47,13 +48,15 @@ pub(crate) struct Request<'a> {
 pub(crate) enum Asked<'a> {
     /// Nothing that there is.
     Nothing,
+    /// A sentence for words that no program prints.
+    Unknown,
     /// A file is made or shown.
     File(Request<'a>),
     /// A text is written.
     Written(Blob),
 }
 
-/// The commands that make a file: `genesis CONFIG JSON` and `blocks JSON`.
+/// The commands that make a file or a part of one: `genesis CONFIG JSON`, `blocks JSON` and `hex FILE`.
 const MADE: &[Form] = &[
     Form {
         verb: "genesis",
@@ -62,6 +65,10 @@ const MADE: &[Form] = &[
     Form {
         verb: "blocks",
         places: &[Place::File("JSON")],
+    },
+    Form {
+        verb: "hex",
+        places: &[Place::File("FILE")],
     },
 ];
 
@@ -134,6 +141,7 @@ fn made_of<'a>(found: &Found<'a>) -> Asked<'a>
     match found.verb {
         "genesis" => with_config(Work::MakeGenesis, values),
         "blocks" => without_config(Work::MakeBlocks, values),
+        "hex" => without_config(Work::MakeHex, values),
         _ => Asked::Nothing,
     }
 }
@@ -191,16 +199,21 @@ fn of_sentence<'a>(sentence: Option<Blob>) -> Asked<'a>
 {
     match sentence {
         Some(text) => Asked::Written(text),
-        None => Asked::Nothing,
+        None => Asked::Unknown,
     }
 }
 
 /// What the words behind `explain` ask for.
-fn explained<'a>(alloc: Global, words: &[String]) -> Result<Asked<'a>, AllocError>
-    ensures { IfOk result (λ asked. asked_in asked ≡ of_sentence (explained (texts words.now))) }
+fn of_words<'a>(alloc: Global, words: &[String]) -> Result<Asked<'a>, AllocError>
+    ensures { IfOk result (λ asked. asked_in asked ≡ of_words (texts words.now)) }
 {
-    let sentence = explain(alloc, words)?;
-    Ok(of_sentence(sentence))
+    match words {
+        [] => Ok(Asked::Nothing),
+        [_, ..] => {
+            let sentence = explain(alloc, words)?;
+            Ok(of_sentence(sentence))
+        }
+    }
 }
 
 /// The first word, or an empty one where there is none.
@@ -233,7 +246,7 @@ pub(crate) fn asked_of(alloc: Global, words: &[String]) -> Result<Asked<'_>, All
     ensures { IfOk result (λ asked. asked_in asked ≡ meant (texts words.now)) }
 {
     match verb_of(words) {
-        "explain" => explained(alloc, behind(words)),
+        "explain" => of_words(alloc, behind(words)),
         "help" => alone(alloc, help_text(), behind(words)),
         "version" => alone(alloc, version_text(), behind(words)),
         "show" => shown(alloc, behind(words)),

@@ -9,6 +9,7 @@ pub(crate) fn help_text() -> &'static str
 {
     "near_files genesis CONFIG JSON\n\
     near_files blocks JSON\n\
+    near_files hex FILE\n\
     near_files show genesis CONFIG FILE\n\
     near_files show blocks FILE\n\
     near_files show report FILE\n\

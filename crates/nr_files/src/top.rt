@@ -70,6 +70,7 @@ fn of_asked<S: Shelf>(
 {
     match asked {
         Asked::Nothing => Err(Stop::Refused(Status::Usage)),
+        Asked::Unknown => Err(Stop::Refused(Status::NoSentence)),
         Asked::File(request) => of_request(alloc, &request, shelf),
         Asked::Written(text) => Ok(Output::Bytes(text)),
     }
@@ -126,15 +127,16 @@ fn tell<K: Sink>(alloc: Global, output: Output, sink: &mut K) -> Status
 /// report; `show part FILE`, `show proof FILE` and `show gathered FILE` write a JSON text of a part of a
 /// state, of a proof or of a gathered chunk, which are read and not checked. CONFIG is `free`, the built-in
 /// configuration, or the name of a file; the storage of a genesis is counted by it. An account of a JSON
-/// text may leave out `storage_usage` and `code_hash`: they are then what is counted. `explain WORDS..`
-/// writes what the line of these words says, which a program wrote. `help` writes the words of the
-/// commands, and `version` the program's name and version.
+/// text may leave out `storage_usage` and `code_hash`: they are then what is counted. `hex FILE` writes a
+/// JSON text of the bytes of a file. `explain WORDS..` writes what the line of these words says, which a
+/// program wrote. `help` writes the words of the commands, and `version` the program's name and version.
 ///
 /// # Answers
 ///
 /// - `Done`: it was written.
-/// - `Usage`: the words are no command, a file's word is empty or begins with `-`, or there is no sentence for
-///   the words that are to be explained. Nothing was loaded or written.
+/// - `Usage`: the words are no command, or a file's word is empty or begins with `-`. Nothing was loaded or
+///   written.
+/// - `NoSentence`: no program prints the words that are to be explained. Nothing was loaded or written.
 /// - `Config`: the configuration's file is longer than 1 MiB (kind 0), or its first fault, by the kind
 ///   and the entry that `nr_config::Config::read` gives. Nothing was written.
 /// - `TooLong`: the file is longer than 256 MiB. Nothing was written.

@@ -335,8 +335,29 @@ fn a_report_and_a_line_are_told(rt: HostRuntime) -> Result<(), Fail> {
     let (told, line) = ended(alloc, &["explain", "5"], b"")?;
     assert_eq!(rt; told.exit_status(), 0);
     assert_eq!(rt; line.as_slice(), b"A file could not be read.\n".as_slice());
-    let (unknown, _) = ended(alloc, &["explain", "99"], b"")?;
-    assert_eq!(rt; unknown.exit_status(), 1);
+    let (unknown, nothing) = ended(alloc, &["explain", "99"], b"")?;
+    assert_eq!(rt; unknown.exit_status(), 21);
+    assert_eq!(rt;
+        format!(in alloc; "{unknown}")?.as_str(),
+        "No program prints these numbers."
+    );
+    assert!(rt; nothing.is_empty());
+    let (wordless, _) = ended(alloc, &["explain"], b"")?;
+    assert_eq!(rt; wordless.exit_status(), 1);
+    Ok(())
+}
+
+#[test]
+fn bytes_are_told_in_hexadecimal(rt: HostRuntime) -> Result<(), Fail> {
+    let alloc = rt.alloc();
+    let rows: [(&[u8], &[u8]); 2] = [(b"\0asm\xff", b"\"0061736dff\""), (b"", b"\"\"")];
+    for (bytes, json) in rows {
+        let (told, text) = ended(alloc, &["hex", "F"], bytes)?;
+        assert_eq!(rt; told.exit_status(), 0);
+        assert_eq!(rt; text.as_slice(), json);
+    }
+    let (no_file, _) = ended(alloc, &["hex"], b"")?;
+    assert_eq!(rt; no_file.exit_status(), 1);
     Ok(())
 }
 

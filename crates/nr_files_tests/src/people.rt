@@ -68,47 +68,258 @@ fn statuses_have_sentences(rt: HostRuntime) -> Result<(), Fail> {
     Ok(())
 }
 
+/// What stands for `ID` and `OTHER` in the rows.
+const ID: &str = "0b0b0b0b0b0b0b0b0b0b0b0b0b0b0b0b0b0b0b0b0b0b0b0b0b0b0b0b0b0b0b0b";
+
+const OTHER: &str = "0c0c0c0c0c0c0c0c0c0c0c0c0c0c0c0c0c0c0c0c0c0c0c0c0c0c0c0c0c0c0c0c";
+
+// A row with its hashes written out.
+fn written_out(alloc: Global, row: &str) -> Result<String, Fail> {
+    let row = row.replace(alloc, "OTHER", OTHER)?;
+    Ok(row.replace(alloc, "ID", ID)?)
+}
+
+// Whether a line has this sentence, both with their hashes written out.
+fn is_told(alloc: Global, line: &str, sentence: &str) -> Result<bool, Fail> {
+    let line = written_out(alloc, line)?;
+    let mut want = written_out(alloc, sentence)?;
+    want.push('\n')?;
+    Ok(told(alloc, line.as_str())?.as_slice() == want.as_bytes())
+}
+
 #[test]
-fn lines_have_sentences(rt: HostRuntime) -> Result<(), Fail> {
+fn refusals_and_failures_have_sentences(rt: HostRuntime) -> Result<(), Fail> {
     for (line, sentence) in [
         (
-            "tx 0b0b0b0b0b0b0b0b0b0b0b0b0b0b0b0b0b0b0b0b0b0b0b0b0b0b0b0b0b0b0b0b refused 9 100 4005",
-            "Transaction 0b0b0b0b0b0b0b0b0b0b0b0b0b0b0b0b0b0b0b0b0b0b0b0b0b0b0b0b0b0b0b0b is refused: \
-            the signer has 100, but it costs 4005.",
+            "tx ID refused 9 100 4005",
+            "Transaction ID is refused: the signer has 100, but it costs 4005.",
         ),
         (
-            "run 0b0b0b0b0b0b0b0b0b0b0b0b0b0b0b0b0b0b0b0b0b0b0b0b0b0b0b0b0b0b0b0b failure 0 16 14 5 25",
-            "Receipt 0b0b0b0b0b0b0b0b0b0b0b0b0b0b0b0b0b0b0b0b0b0b0b0b0b0b0b0b0b0b0b0b failed at action 0 (from 0): \
-            the call asked for what it can't have: the contract gave up. 5 gas and 25 tokens were burnt.",
+            "run ID failure 0 16 14 5 25",
+            "Receipt ID failed at action 0 (from 0): the call asked for what it can't have: the \
+            contract gave up. 5 gas and 25 tokens were burnt.",
+        ),
+        (
+            "no 1 2 0",
+            "The step was not made: it doesn't fit the shard's stage, which is behind a seal.",
         ),
         (
             "no 2 4 1",
             "The step was not made: the next list that is due is that of height 4 and shard 1.",
         ),
+        (
+            "no 3 0 0",
+            "The step was not made: the list isn't published, and its source has published no \
+            height.",
+        ),
+        (
+            "no 3 5 0",
+            "The step was not made: the list isn't published, and the last height that its source \
+            has published is 5.",
+        ),
+        (
+            "no 4 0 0",
+            "The step was not made: the shard has no height to publish, since there are no \
+            blocks.",
+        ),
+        (
+            "no 4 7 0",
+            "The step was not made: the shard has published all its heights. The last height is \
+            7.",
+        ),
+        (
+            "no 5 0 0",
+            "The step was not made: the boundaries can't change yet, since shard 0 has published \
+            no height.",
+        ),
+        (
+            "no 5 1 3",
+            "The step was not made: the boundaries can't change yet, since the last height that \
+            shard 1 has published is 3.",
+        ),
+        (
+            "no 6 0 0",
+            "The step was not made: the boundaries don't change any more.",
+        ),
+        (
+            "no 7 1 0",
+            "The step was not made: it names a shard that is not there, since there is shard 0 \
+            alone.",
+        ),
+        (
+            "no 7 4 0",
+            "The step was not made: it names a shard that is not there, since there are 4 of \
+            them, counted from 0.",
+        ),
         ("ok", "The step was made."),
+    ] {
+        assert!(rt; is_told(rt.alloc(), line, sentence)?, "{line}");
+    }
+    Ok(())
+}
+
+#[test]
+fn lines_of_modules_have_sentences(rt: HostRuntime) -> Result<(), Fail> {
+    for (line, sentence) in [
         ("near_module ok", "The module decodes and is valid."),
         (
             "near_module decode 3 8",
-            "The module can't be read: \
-            a section or a body is out of order, of another size or another count, at byte 8 (from 0).",
+            "The module can't be read: a section or a body is out of order, of another size or \
+            another count, at byte 8 (from 0).",
         ),
         (
             "valid 11 4294967295 2",
-            "The module isn't valid: an operand, a result or a constant has another type, \
-            outside of functions, at entry 2 (from 0).",
+            "The module isn't valid: an operand, a result or a constant has another type, outside \
+            of functions, at entry 2 (from 0).",
         ),
         (
             "trap 3 12",
             "The run stopped at a trap: a division by zero. It burnt 12 gas.",
         ),
     ] {
-        let mut want = String::from_str(rt.alloc(), sentence)?;
-        want.push('\n')?;
-        assert_eq!(rt;
-            told(rt.alloc(), line)?.as_slice(),
-            want.as_bytes(),
-            "{line}"
-        );
+        assert!(rt; is_told(rt.alloc(), line, sentence)?, "{line}");
+    }
+    Ok(())
+}
+
+#[test]
+fn lines_of_a_report_have_sentences(rt: HostRuntime) -> Result<(), Fail> {
+    for (line, sentence) in [
+        (
+            "chunk 3 1 ID 12 34",
+            "The chunk of height 3 and shard 1 is sealed. The root of its state is ID. For it 12 \
+            gas and 34 tokens were burnt.",
+        ),
+        ("tx ID ok OTHER", "Transaction ID became receipt OTHER."),
+        (
+            "run ID value - 5 25",
+            "Receipt ID ran to its end. It gave no bytes. 5 gas and 25 tokens were burnt.",
+        ),
+        (
+            "run ID value 00ff 5 25",
+            "Receipt ID ran to its end. It gave the bytes 00ff. 5 gas and 25 tokens were burnt.",
+        ),
+        (
+            "run ID promise OTHER 5 25",
+            "Receipt ID ran to its end. Its value will be that of receipt OTHER. 5 gas and 25 \
+            tokens were burnt.",
+        ),
+        (
+            "run ID clash 0 25",
+            "Receipt ID didn't run, since its inputs clash with what stands. No gas and 25 tokens \
+            were burnt.",
+        ),
+        ("log -", "The receipt logged no bytes."),
+        ("log 00ff", "The receipt logged the bytes 00ff."),
+        (
+            "post ID",
+            "Receipt ID is postponed, since it waits for data.",
+        ),
+        (
+            "data ID",
+            "Receipt ID brought data, which are stored or used.",
+        ),
+        (
+            "lost ID",
+            "Receipt ID brought data that clash with those that stand, and they are lost.",
+        ),
+        (
+            "late ID",
+            "Receipt ID is delayed: it stands behind all that are.",
+        ),
+        (
+            "out 2 ID OTHER",
+            "A receipt goes out to shard 2: ID, and the SHA-256 of its bytes is OTHER.",
+        ),
+        ("total supply 7", "The genesis has 7 tokens."),
+        ("total accounts 7", "The accounts have 7 tokens."),
+        (
+            "total receipts 7",
+            "The receipts that are under way have 7 tokens.",
+        ),
+        ("total burnt 7", "7 tokens were burnt."),
+        (
+            "total places 1 2 3 4 5",
+            "Of the receipts 1 were routed and 2 executed, 3 wait for data, 4 are delayed, and 5 \
+            are in flight.",
+        ),
+        (
+            "gen 7 2 4",
+            "The chain is generated from the number 7 for 2 shards and 4 blocks.",
+        ),
+        ("chunks 8", "So many chunks were sealed: 8."),
+        ("digest ID", "The SHA-256 of the report is ID."),
+    ] {
+        assert!(rt; is_told(rt.alloc(), line, sentence)?, "{line}");
+    }
+    Ok(())
+}
+
+#[test]
+fn lines_of_other_commands_have_sentences(rt: HostRuntime) -> Result<(), Fail> {
+    for (line, sentence) in [
+        (
+            "roots 1 0 ID OTHER",
+            "Of the chunk of height 1 and shard 0 the root of its outcomes is ID, and that of the \
+            receipts that left it OTHER.",
+        ),
+        (
+            "proof outcome 1 0 2 3",
+            "The proof is of an outcome of the chunk of height 1 and shard 0, the one at place 2 \
+            (from 0) of 3.",
+        ),
+        (
+            "proof receipt 1 0 2 3",
+            "The proof is of a receipt that left the chunk of height 1 and shard 0, the one at \
+            place 2 (from 0) of 3.",
+        ),
+        ("item -", "The item has no bytes."),
+        ("item 00ff", "The bytes of the item are 00ff."),
+        (
+            "path ID",
+            "The next hash beside the way from the item upward is ID.",
+        ),
+        ("valid", "The proof leads to the root."),
+        ("invalid", "The proof doesn't lead to the root."),
+        (
+            "part 1 2 entries 3",
+            "Part 1 (from 0) of 2 belongs to the root. It has 3 of the entries.",
+        ),
+        (
+            "root ID entries 3",
+            "The parts are together the state of the root ID. It has so many entries: 3.",
+        ),
+    ] {
+        assert!(rt; is_told(rt.alloc(), line, sentence)?, "{line}");
+    }
+    Ok(())
+}
+
+#[test]
+fn a_line_may_stand_behind_its_program(rt: HostRuntime) -> Result<(), Fail> {
+    for (line, sentence) in [
+        (
+            "near_serial 8 1 3",
+            "The schedule is refused: line 3 (from 1) is no step, or names a shard that is not \
+            there.",
+        ),
+        ("near_serial ok", "The step was made."),
+        (
+            "near_replay 4 1 159",
+            "The blocks are refused: the field at byte 159 (from 0) can't be read.",
+        ),
+        ("near_replay total burnt 7", "7 tokens were burnt."),
+        (
+            "near_audit 3 5 0 0 0",
+            "The genesis is refused: its amounts and locked amounts are together above 2^127.",
+        ),
+        (
+            "near_module 2 1 0",
+            "The configuration is refused: its text is no JSON object.",
+        ),
+        ("near_files 7", "Memory ran out."),
+    ] {
+        assert!(rt; is_told(rt.alloc(), line, sentence)?, "{line}");
     }
     Ok(())
 }
@@ -133,9 +344,18 @@ fn other_numbers_have_none(rt: HostRuntime) -> Result<(), Fail> {
         "11",
         "13 8 1",
         "13 10 0",
-        "near_module 5",
-        "no 5 0 0",
+        "near_module",
+        "near_module 3 5 0 0 0",
+        "near_module no 6 0 0",
+        "near_serial decode 3 8",
+        "near_replay 8 1 3",
+        "near_replay valid",
+        "near_audit total burnt 7",
+        "near_files 4 4 0",
+        "near_modules ok",
         "no 1 3 0",
+        "no 3 5 1",
+        "no 8 0 0",
         "trap 9 12",
         "tx 0b refused 1 0 0",
     ] {
