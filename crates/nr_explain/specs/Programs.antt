@@ -44,7 +44,7 @@ serial_form words =
     (option_or (form_of steps words) (option_or (form_of answers words) (report_form words))))
 
 -- ---- programs
-abbrev pub program_of : List ℕ → Program
+unfoldable pub program_of : List ℕ → Program
 program_of word =
     cond (bytes_eq word (codes "near_serial")) Serial
     (cond (bytes_eq word (codes "near_replay")) Replay
@@ -52,7 +52,7 @@ program_of word =
     (cond (bytes_eq word (codes "near_module")) Module
     (cond (bytes_eq word (codes "near_files")) Files Any))))
 
-abbrev pub form_by : Program → List (List ℕ) → Option Form
+unfoldable pub form_by : Program → List (List ℕ) → Option Form
 form_by Any words = option_or (serial_form words) (module_form words)
 form_by Serial words = serial_form words
 form_by Replay words = option_or (chain_form words) (report_form words)
@@ -70,7 +70,7 @@ behind [] = []
 behind (w ∷ ws) = ws
 
 -- the words of the line itself
-abbrev pub line_words : Program → List (List ℕ) → List (List ℕ)
+unfoldable pub line_words : Program → List (List ℕ) → List (List ℕ)
 line_words Any words = words
 line_words Serial words = behind words
 line_words Replay words = behind words

@@ -56,6 +56,7 @@ fn behind(words: &[String]) -> &[String]
 }
 
 /// The words of the line itself.
+#[tactic(auto, unfolding(crate::specs::Programs::line_words))]
 fn line_words(program: Program, words: &[String]) -> &[String]
     ensures { map (λ w. string_bytes w) result.now ≡ line_words program (map (λ w. string_bytes w) words.now) }
 {

@@ -34,6 +34,7 @@ pub(crate) enum Program {
 }
 
 /// The program of a name.
+#[tactic(auto, unfolding(crate::specs::Programs::program_of))]
 pub(crate) fn program_of(name: &str) -> Program
     ensures { result ≡ program_of name.now }
 {
@@ -121,6 +122,7 @@ fn serial_form(line: &[u8]) -> Option<&'static [Field]>
 }
 
 /// The form of a line of a program.
+#[tactic(auto, unfolding(crate::specs::Programs::form_by))]
 pub(crate) fn form_by(program: Program, line: &[u8]) -> Option<&'static [Field]>
     ensures { option_map (λ f. form_in f.now) result ≡ form_by program (pieces 32 line.now) }
 {

@@ -6,3 +6,4 @@ pub mod Depths
 pub mod RoundTrip
 pub mod Asking
 pub mod Third
+pub mod Stops

@@ -33,7 +33,8 @@ use Rattle.nr_reshard.specs.Files.{IsThird, third_at, third_bytes, third_magic}
 use Rattle.nr_reshard.specs.declared.chain_file.ChainFile.{ChainFile}
 use Rattle.nr_files.specs.Due.{Output, Bytes, Json, IsTextOf, IsWritten, value_in, made_blocks, shown_blocks, made_genesis, shown_genesis, of_bytes}
 use Rattle.nr_files.specs.Filling.{filled, filled_entry, plain, stated, stated_entry}
-use Rattle.nr_files.specs.Lines.{genesis_line, unread_line}
+use Rattle.nr_files.specs.Damage.{blocks_line}
+use Rattle.nr_files.specs.Lines.{genesis_line}
 use Rattle.nr_files.specs.Versions.{blocks_read, plain_read, stated_bytes, third_read}
 use Rattle.nr_files.specs.declared.command.Work.TheVariants.{MakeBlocks, MakeGenesis, ShowBlocks, ShowGenesis}
 use Rattle.nr_files.proofs.Depths.{genesis_depth, stated_depth}
@@ -73,7 +74,7 @@ pub blocks_trip : (c : Config) (bytes text : List ℕ) (o : Output) → IsBytes 
 unfolding shown_blocks
 blocks_trip c bytes text o fits e written = go (blocks_read bytes) refl e
   where
-    go : (r : Result StatedBlocks RecordFault) → blocks_read bytes ≡ r → (with_fault unread_line r >>= λ file. Ok (Json (stated_json file))) ≡ Ok o → made_blocks text ≡ Ok (Bytes bytes)
+    go : (r : Result StatedBlocks RecordFault) → blocks_read bytes ≡ r → (with_fault (blocks_line bytes) r >>= λ file. Ok (Json (stated_json file))) ≡ Ok o → made_blocks text ≡ Ok (Bytes bytes)
     go (Err f) is e = absurd cc
     go (Ok file) is e =
         let same : Json (stated_json file) ≡ o = cc in
@@ -133,7 +134,7 @@ pub genesis_trip : (c : Config) (bytes text : List ℕ) (o : Output) → IsBytes
 unfolding shown_genesis
 genesis_trip c bytes text o fits e written = go (genesis_read c bytes) refl e
   where
-    go : (r : Result Genesis GenesisFault) → genesis_read c bytes ≡ r → (with_fault (genesis_line false) r >>= λ g. Ok (Json (genesis_json (stated (file_of g))))) ≡ Ok o → made_genesis c text ≡ Ok (Bytes bytes)
+    go : (r : Result Genesis GenesisFault) → genesis_read c bytes ≡ r → (with_fault (genesis_line false bytes) r >>= λ g. Ok (Json (genesis_json (stated (file_of g))))) ≡ Ok o → made_genesis c text ≡ Ok (Bytes bytes)
     go (Err f) is e = absurd cc
     go (Ok g) is e =
         let same : Json (genesis_json (stated (file_of g))) ≡ o = cc in

@@ -27,7 +27,8 @@ use Rattle.nr_parts.specs.declared.part.Part.{Part}
 use Rattle.nr_files.specs.Answers.{Tells, TellsText, Refuses, AnswersAs}
 use Rattle.nr_files.specs.Due.{Due, Output, Bytes, Json, value_in, made_blocks, shown_blocks, judged, made_genesis, shown_genesis, shown_part, shown_proof, shown_gathered, shown_report}
 use Rattle.nr_files.specs.Filling.{filled, stated}
-use Rattle.nr_files.specs.Lines.{fault_line, gathered_line, genesis_line, no_json, part_line, proof_line, report_line, unread_line}
+use Rattle.nr_files.specs.Damage.{blocks_line}
+use Rattle.nr_files.specs.Lines.{fault_line, gathered_line, genesis_line, no_json, part_line, proof_line, report_line}
 use Rattle.nr_files.specs.Versions.{blocks_read, stated_bytes}
 use Rattle.nr_shown.specs.Gathered.{gathered_json}
 use Rattle.nr_shown.specs.Part.{part_json}
@@ -59,9 +60,9 @@ refused why.Memory line answer tells is = tt
 pub value_found : (text : List ℕ) (d : Data) → IsUtf8 text → read text ≡ Some d → value_in text ≡ Ok d
 value_found text d u e = rw (is_utf8-from_IsUtf8 text u, e) refl
 
-pub no_value : (text : List ℕ) → (IsUtf8 text → read text ≡ None) → value_in text ≡ Err no_json
+pub no_value : (text : List ℕ) → (IsUtf8 text → read text ≡ None) → value_in text ≡ Err (no_json text)
 no_value text h =
-    elim (is_utf8 text) as (λ b. is_utf8 text ≡ b → value_in text ≡ Err no_json) [
+    elim (is_utf8 text) as (λ b. is_utf8 text ≡ b → value_in text ≡ Err (no_json text)) [
       | true ↦ λ e. rw (e, h (IsUtf8-from_is_utf8 text e)) refl
       | false ↦ λ e. rw e refl
     ] refl
@@ -77,7 +78,7 @@ pub made : (text : List ℕ) (d : Data) (file : StatedBlocks) (bytes : List ℕ)
 unfolding made_blocks
 made text d file bytes one two is = rw (one, two) (ap written (sym is))
 
-pub shown : (bytes : List ℕ) (file : StatedBlocks) (json : Data) → with_fault unread_line (blocks_read bytes) ≡ Ok file → json ≡ stated_json file → shown_blocks bytes ≡ Ok (Json json)
+pub shown : (bytes : List ℕ) (file : StatedBlocks) (json : Data) → with_fault (blocks_line bytes) (blocks_read bytes) ≡ Ok file → json ≡ stated_json file → shown_blocks bytes ≡ Ok (Json json)
 unfolding shown_blocks
 shown bytes file json one is = rw one (ap shown_as (sym is))
 
@@ -87,16 +88,16 @@ pub made_up_to : (c : Config) (text : List ℕ) (d : Data) (g : StatedGenesis) (
 unfolding made_genesis
 made_up_to c text d g bytes one two is = rw (one, two) (ap (judged c) is)
 
-pub judged_ok : (c : Config) (bytes held : List ℕ) (g : Genesis) → held ≡ bytes → with_fault (genesis_line true) (genesis_read c held) ≡ Ok g → judged c bytes ≡ Ok (Bytes bytes)
+pub judged_ok : (c : Config) (bytes held : List ℕ) (g : Genesis) → held ≡ bytes → with_fault (genesis_line true held) (genesis_read c held) ≡ Ok g → judged c bytes ≡ Ok (Bytes bytes)
 judged_ok c bytes held g same is =
-    let sound : with_fault (genesis_line true) (genesis_read c bytes) ≡ Ok g = subst (λ (b : List ℕ). with_fault (genesis_line true) (genesis_read c b) ≡ Ok g) same is in
+    let sound : with_fault (genesis_line true bytes) (genesis_read c bytes) ≡ Ok g = subst (λ (b : List ℕ). with_fault (genesis_line true b) (genesis_read c b) ≡ Ok g) same is in
     rw sound refl
 
-pub judged_err : (c : Config) (bytes held : List ℕ) (f : Fault) → held ≡ bytes → Refuses f (with_fault (genesis_line true) (genesis_read c held)) → Refuses f (judged c bytes)
+pub judged_err : (c : Config) (bytes held : List ℕ) (f : Fault) → held ≡ bytes → Refuses f (with_fault (genesis_line true held) (genesis_read c held)) → Refuses f (judged c bytes)
 judged_err c bytes held f same h =
-    refuses_on f (with_fault (genesis_line true) (genesis_read c bytes)) (λ sound. written bytes) (subst (λ (b : List ℕ). Refuses f (with_fault (genesis_line true) (genesis_read c b))) same h)
+    refuses_on f (with_fault (genesis_line true bytes) (genesis_read c bytes)) (λ sound. written bytes) (subst (λ (b : List ℕ). Refuses f (with_fault (genesis_line true b) (genesis_read c b))) same h)
 
-pub genesis_shown : (c : Config) (bytes : List ℕ) (g : Genesis) (s : StatedGenesis) (json : Data) → with_fault (genesis_line false) (genesis_read c bytes) ≡ Ok g → s ≡ stated (file_of g)
+pub genesis_shown : (c : Config) (bytes : List ℕ) (g : Genesis) (s : StatedGenesis) (json : Data) → with_fault (genesis_line false bytes) (genesis_read c bytes) ≡ Ok g → s ≡ stated (file_of g)
     → json ≡ genesis_json s → shown_genesis c bytes ≡ Ok (Json json)
 unfolding shown_genesis
 genesis_shown c bytes g s json one same is = rw one (ap shown_as (ap genesis_json (sym same) ∙ sym is))
@@ -106,20 +107,20 @@ pub report_shown : (bytes text : List ℕ) → report_json bytes ≡ Ok text →
 unfolding shown_report
 report_shown bytes text is = rw is refl
 
-pub report_refused : (bytes : List ℕ) (f : Fault) (fault : ReportFault) → Tells f (report_line fault) → (fault ≡ report.Memory → f ≡ why.Memory) → (fault ≢ report.Memory → report_json bytes ≡ Err fault) → Refuses f (shown_report bytes)
+pub report_refused : (bytes : List ℕ) (f : Fault) (fault : ReportFault) → Tells f (report_line bytes fault) → (fault ≡ report.Memory → f ≡ why.Memory) → (fault ≢ report.Memory → report_json bytes ≡ Err fault) → Refuses f (shown_report bytes)
 unfolding shown_report
 report_refused bytes f fault tells no_memory is =
-    refuses_on f (with_fault report_line (report_json bytes)) (λ text. written text) (told_fault f report_line fault report.Memory (report_json bytes) tells no_memory is)
+    refuses_on f (with_fault (report_line bytes) (report_json bytes)) (λ text. written text) (told_fault f (report_line bytes) fault report.Memory (report_json bytes) tells no_memory is)
 
 -- ---- a part, a proof, and a gathered chunk
-pub part_shown : (bytes : List ℕ) (p : Part) (json : Data) → with_fault part_line (part_in bytes) ≡ Ok p → json ≡ part_json p → shown_part bytes ≡ Ok (Json json)
+pub part_shown : (bytes : List ℕ) (p : Part) (json : Data) → with_fault (part_line bytes) (part_in bytes) ≡ Ok p → json ≡ part_json p → shown_part bytes ≡ Ok (Json json)
 unfolding shown_part
 part_shown bytes p json one is = rw one (ap shown_as (sym is))
 
-pub proof_shown : (bytes : List ℕ) (p : Proof) (json : Data) → with_fault proof_line (proof_read bytes) ≡ Ok p → json ≡ proof_json p → shown_proof bytes ≡ Ok (Json json)
+pub proof_shown : (bytes : List ℕ) (p : Proof) (json : Data) → with_fault (proof_line bytes) (proof_read bytes) ≡ Ok p → json ≡ proof_json p → shown_proof bytes ≡ Ok (Json json)
 unfolding shown_proof
 proof_shown bytes p json one is = rw one (ap shown_as (sym is))
 
-pub gathered_shown : (bytes : List ℕ) (g : Gathered) (json : Data) → with_fault gathered_line (gathered_in bytes) ≡ Ok g → json ≡ gathered_json g → shown_gathered bytes ≡ Ok (Json json)
+pub gathered_shown : (bytes : List ℕ) (g : Gathered) (json : Data) → with_fault (gathered_line bytes) (gathered_in bytes) ≡ Ok g → json ≡ gathered_json g → shown_gathered bytes ≡ Ok (Json json)
 unfolding shown_gathered
 gathered_shown bytes g json one is = rw one (ap shown_as (sym is))

@@ -21,7 +21,8 @@ use Rattle.nr_parts.specs.Files.{part_in}
 use Rattle.nr_files.specs.declared.command.Work.{Work}
 use Rattle.nr_files.specs.declared.command.Work.TheVariants.{MakeBlocks, MakeGenesis, MakeHex, ShowBlocks, ShowGenesis, ShowReport, ShowPart, ShowProof, ShowGathered}
 use Rattle.nr_files.specs.Filling.{filled, stated}
-use Rattle.nr_files.specs.Lines.{fault_line, gathered_line, genesis_line, no_json, part_line, proof_line, report_line, unread_line}
+use Rattle.nr_files.specs.Damage.{blocks_line}
+use Rattle.nr_files.specs.Lines.{fault_line, gathered_line, genesis_line, no_json, part_line, proof_line, report_line}
 use Rattle.nr_files.specs.Versions.{blocks_read, stated_bytes}
 use Rattle.nr_shown.specs.Gathered.{gathered_json}
 use Rattle.nr_shown.specs.Part.{part_json}
@@ -48,12 +49,12 @@ abbrev pub Due : Type 0
 Due = Result Output (List ℕ)
 
 -- ---- the value of a text
-abbrev pub value_of : Option Data → Result Data (List ℕ)
-value_of None = Err no_json
-value_of (Some d) = Ok d
+abbrev pub value_of : List ℕ → Option Data → Result Data (List ℕ)
+value_of text None = Err (no_json text)
+value_of text (Some d) = Ok d
 
 abbrev pub value_in : List ℕ → Result Data (List ℕ)
-value_in text = cond (is_utf8 text) (value_of (read text)) (Err no_json)
+value_in text = cond (is_utf8 text) (value_of text (read text)) (Err (no_json text))
 
 -- ---- blocks
 unfoldable pub made_blocks : List ℕ → Due
@@ -64,14 +65,14 @@ made_blocks text = do
 
 unfoldable pub shown_blocks : List ℕ → Due
 shown_blocks bytes = do
-  file ← with_fault unread_line (blocks_read bytes)
+  file ← with_fault (blocks_line bytes) (blocks_read bytes)
   Ok (Json (stated_json file))
 
 -- ---- the first state
 -- bytes that were made, where they are a genesis
 abbrev pub judged : Config → List ℕ → Due
 judged c bytes = do
-  sound ← with_fault (genesis_line true) (genesis_read c bytes)
+  sound ← with_fault (genesis_line true bytes) (genesis_read c bytes)
   Ok (Bytes bytes)
 
 unfoldable pub made_genesis : Config → List ℕ → Due
@@ -82,7 +83,7 @@ made_genesis c text = do
 
 unfoldable pub shown_genesis : Config → List ℕ → Due
 shown_genesis c bytes = do
-  g ← with_fault (genesis_line false) (genesis_read c bytes)
+  g ← with_fault (genesis_line false bytes) (genesis_read c bytes)
   Ok (Json (genesis_json (stated (file_of g))))
 
 -- ---- bytes, as a JSON text of hexadecimal digits
@@ -92,23 +93,23 @@ made_hex bytes = Ok (Json (bytes_json bytes))
 -- ---- a report
 unfoldable pub shown_report : List ℕ → Due
 shown_report bytes = do
-  text ← with_fault report_line (report_json bytes)
+  text ← with_fault (report_line bytes) (report_json bytes)
   Ok (Bytes text)
 
 -- ---- a part of a state, a proof, and a gathered chunk
 unfoldable pub shown_part : List ℕ → Due
 shown_part bytes = do
-  p ← with_fault part_line (part_in bytes)
+  p ← with_fault (part_line bytes) (part_in bytes)
   Ok (Json (part_json p))
 
 unfoldable pub shown_proof : List ℕ → Due
 shown_proof bytes = do
-  p ← with_fault proof_line (proof_read bytes)
+  p ← with_fault (proof_line bytes) (proof_read bytes)
   Ok (Json (proof_json p))
 
 unfoldable pub shown_gathered : List ℕ → Due
 shown_gathered bytes = do
-  g ← with_fault gathered_line (gathered_in bytes)
+  g ← with_fault (gathered_line bytes) (gathered_in bytes)
   Ok (Json (gathered_json g))
 
 -- ---- all commands

@@ -1,8 +1,9 @@
 pub mod Help
 pub mod Command
+pub mod Versions
+pub mod Damage
 pub mod Lines
 pub mod Filling
-pub mod Versions
 pub mod Due
 pub mod Plans
 pub mod Answers

@@ -1,4 +1,4 @@
--- Why a file is refused, in words: the path of the member as `jq` writes it, or the place of a byte, and what is wrong. This project's own.
+-- Why a file is refused, in words: the path of the member as `jq` writes it and what is wrong, the number of a line, or what is wrong with the bytes. This project's own.
 use Rattle.std.specs.Prelude.{ℕ, List, [], ◌∷◌, ◌++◌, Bool, cond, codes, decimal}
 use Rattle.nr_explain.specs.declared.report.ReportFault.{ReportFault}
 use Rattle.nr_explain.specs.declared.report.ReportFault.TheVariants as report
@@ -7,17 +7,16 @@ use Rattle.nr_gathered.specs.declared.fault.GatheredFault.TheVariants as gathere
 use Rattle.nr_json.specs.Words.{words}
 use Rattle.nr_json.specs.declared.fault.JsonFault.{JsonFault}
 use Rattle.nr_json.specs.declared.fault.JsonFault.TheVariants as json
-use Rattle.nr_records.specs.declared.fault.RecordFault.{RecordFault}
-use Rattle.nr_records.specs.declared.fault.RecordFault.TheVariants as record_faults
 use Rattle.nr_outproof.specs.declared.fault.ProofFault.{ProofFault}
 use Rattle.nr_outproof.specs.declared.fault.ProofFault.TheVariants as proof
 use Rattle.nr_parts.specs.declared.fault.PartFault.{PartFault}
 use Rattle.nr_parts.specs.declared.fault.PartFault.TheVariants as part
 use Rattle.nr_blocks.specs.declared.fault.GenesisFault.{GenesisFault}
 use Rattle.nr_blocks.specs.declared.fault.GenesisFault.TheVariants as genesis
+use Rattle.nr_files.specs.Damage.{gathered_damage, genesis_damage, or_begun, part_damage, placed, stake_line}
 
-abbrev pub no_json : List ℕ
-no_json = codes "the text is no JSON"
+abbrev pub no_json : List ℕ → List ℕ
+no_json text = or_begun text (codes "the text is no JSON")
 
 abbrev pub too_long : List ℕ
 too_long = codes "the file is longer than 268435456 bytes"
@@ -31,52 +30,37 @@ abbrev pub fault_line : JsonFault → List ℕ
 fault_line (json.At path wrong) = subject path ++ 32 ∷ words wrong
 fault_line json.Memory = []
 
--- ---- a file that can't be read
-abbrev pub at_line : ℕ → List ℕ
-at_line at = codes "the field at byte " ++ decimal at ++ codes " can't be read"
-
-abbrev pub unread_line : RecordFault → List ℕ
-unread_line (record_faults.Short at) = at_line at
-unread_line (record_faults.BadByte at byte) = at_line at
-unread_line (record_faults.BadUtf8 at) = at_line at
-unread_line (record_faults.BadOrdinal at) = at_line at
-unread_line (record_faults.BadAccountId at) = at_line at
-unread_line (record_faults.Stake at) = at_line at
-unread_line (record_faults.TooManyBoundaries at) = at_line at
-unread_line (record_faults.BoundaryOrder at) = at_line at
-unread_line record_faults.Memory = []
-
 -- ---- a report
-abbrev pub report_line : ReportFault → List ℕ
-report_line (report.NoLine line) = codes "line " ++ decimal line ++ codes " is no line of a report"
-report_line report.Memory = []
+abbrev pub report_line : List ℕ → ReportFault → List ℕ
+report_line text (report.NoLine line) = or_begun text (placed (codes "line ") line (codes " is no line of a report"))
+report_line text report.Memory = []
 
 -- ---- a proof
-abbrev pub proof_line : ProofFault → List ℕ
-proof_line (proof.Form line) = codes "line " ++ decimal line ++ codes " is not what a proof has there"
-proof_line proof.Memory = []
+abbrev pub proof_line : List ℕ → ProofFault → List ℕ
+proof_line text (proof.Form line) = or_begun text (placed (codes "line ") line (codes " is not what a proof has there"))
+proof_line text proof.Memory = []
 
 -- ---- a part of a state, which is read without being checked
 abbrev pub no_part : List ℕ
 no_part = codes "the file is no part of a state"
 
-abbrev pub part_line : PartFault → List ℕ
-part_line (part.Spelling at) = at_line at
-part_line (part.Numbers count number) = no_part
-part_line (part.Root found) = no_part
-part_line (part.Missing hash) = no_part
-part_line (part.BadText hash) = no_part
-part_line (part.Entries index) = no_part
-part_line (part.Order number) = no_part
-part_line (part.Whole found) = no_part
-part_line part.TooMany = no_part
-part_line part.Memory = []
+abbrev pub part_line : List ℕ → PartFault → List ℕ
+part_line bytes (part.Spelling at) = part_damage bytes at
+part_line bytes (part.Numbers count number) = no_part
+part_line bytes (part.Root found) = no_part
+part_line bytes (part.Missing hash) = no_part
+part_line bytes (part.BadText hash) = no_part
+part_line bytes (part.Entries index) = no_part
+part_line bytes (part.Order number) = no_part
+part_line bytes (part.Whole found) = no_part
+part_line bytes part.TooMany = no_part
+part_line bytes part.Memory = []
 
 -- ---- a gathered chunk
-abbrev pub gathered_line : GatheredFault → List ℕ
-gathered_line (gathered.Spelling at) = at_line at
-gathered_line (gathered.Stake at) = at_line at
-gathered_line gathered.Memory = []
+abbrev pub gathered_line : List ℕ → GatheredFault → List ℕ
+gathered_line bytes (gathered.Spelling at) = gathered_damage bytes at
+gathered_line bytes (gathered.Stake at) = stake_line at
+gathered_line bytes gathered.Memory = []
 
 -- ---- entries that don't hold together
 abbrev pub entry_line : ℕ → List ℕ → List ℕ
@@ -89,12 +73,12 @@ usage_words stated counted = codes ".storage_usage is " ++ (decimal stated ++ (c
 abbrev pub boundaries_line : List ℕ
 boundaries_line = codes ".boundaries are more than 15, or one isn't above the one before it"
 
-abbrev pub genesis_line : Bool → GenesisFault → List ℕ
-genesis_line made (genesis.Spelling at) = cond made boundaries_line (at_line at)
-genesis_line made (genesis.Duplicate index) = entry_line index (codes " stands twice")
-genesis_line made (genesis.NoOwner index) = entry_line index (codes ".account_id has no account, or is `system`")
-genesis_line made (genesis.Usage index stated counted) =
+abbrev pub genesis_line : Bool → List ℕ → GenesisFault → List ℕ
+genesis_line made bytes (genesis.Spelling at) = cond made boundaries_line (genesis_damage bytes at)
+genesis_line made bytes (genesis.Duplicate index) = entry_line index (codes " stands twice")
+genesis_line made bytes (genesis.NoOwner index) = entry_line index (codes ".account_id has no account, or is `system`")
+genesis_line made bytes (genesis.Usage index stated counted) =
     entry_line index (usage_words stated counted)
-genesis_line made genesis.Supply = codes ".entries have more than 2^127 tokens"
-genesis_line made (genesis.CodeHash index) = entry_line index (codes ".code_hash isn't the SHA-256 of the code")
-genesis_line made genesis.Memory = []
+genesis_line made bytes genesis.Supply = codes ".entries have more than 2^127 tokens"
+genesis_line made bytes (genesis.CodeHash index) = entry_line index (codes ".code_hash isn't the SHA-256 of the code")
+genesis_line made bytes genesis.Memory = []

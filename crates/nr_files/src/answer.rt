@@ -9,19 +9,21 @@ ghost use Rattle.nr_parts.specs.Files.{part_in};
 ghost use Rattle.nr_shell.specs.Answers.{Judges};
 ghost use Rattle.nr_files.specs.Answers.{AnswersAs, output_in, refuses};
 ghost use Rattle.nr_files.specs.Due.{value_in, made_blocks, shown_blocks, judged, made_genesis, made_hex, shown_genesis, shown_part, shown_proof, shown_gathered, shown_report, of_bytes};
-ghost use Rattle.nr_files.specs.Lines.{fault_line, gathered_line, genesis_line, part_line, proof_line, unread_line};
+ghost use Rattle.nr_files.specs.Damage.{blocks_line};
+ghost use Rattle.nr_files.specs.Lines.{fault_line, gathered_line, genesis_line, part_line, proof_line};
 ghost use Rattle.nr_files.specs.Plans.{by_bytes};
 ghost use Rattle.nr_files.specs.Versions.{blocks_read, stated_bytes};
 ghost use Rattle.nr_files.specs.declared.fault.Fault.TheVariants.{Memory};
 
 use crate::command::Work;
+use crate::damage::or_begun;
 use crate::fault::Fault;
 use crate::filling::{genesis_bytes, stated};
 use crate::output::Output;
 use crate::status::Status;
 use crate::telling::{
-    faulty, gathered_words, genesis_words, json_words, part_words, proof_words, report_words,
-    unread_words,
+    blocks_words, faulty, gathered_words, genesis_words, json_words, part_words, proof_words,
+    report_words,
 };
 use crate::versions::{blocks_read, stated_bytes};
 use nr_blocks::{Genesis, read_genesis};
@@ -44,7 +46,7 @@ fn value_in(alloc: Global, text: &[u8]) -> Result<Value, Fault>
     match Value::from_slice(alloc, text) {
         Ok(value) => Ok(value),
         Err(fault) if fault.is_memory() => Err(Fault::Memory),
-        Err(_) => Err(faulty(alloc, "the text is no JSON")),
+        Err(_) => Err(faulty(alloc, or_begun(text, "the text is no JSON"))),
     }
 }
 
@@ -60,11 +62,11 @@ fn record_in<T: Form>(alloc: Global, value: &Value) -> Result<T, Fault>
 
 /// The blocks that bytes spell.
 fn blocks_of(alloc: Global, bytes: &[u8]) -> Result<StatedBlocks, Fault>
-    ensures { AnswersAs (λ x. x) result (with_fault unread_line (blocks_read bytes.now)) }
+    ensures { AnswersAs (λ x. x) result (with_fault (blocks_line bytes.now) (blocks_read bytes.now)) }
 {
     match blocks_read(alloc, bytes) {
         Ok(found) => Ok(found),
-        Err(fault) => Err(unread_words(alloc, fault)),
+        Err(fault) => Err(blocks_words(alloc, bytes, fault)),
     }
 }
 
@@ -111,11 +113,11 @@ fn shown_blocks(alloc: Global, bytes: &[u8]) -> Result<Output, Fault>
 
 /// The genesis that bytes spell, under a configuration.
 fn genesis_in(alloc: Global, config: &Config, made: bool, bytes: &[u8]) -> Result<Genesis, Fault>
-    ensures { AnswersAs (λ x. x) result (with_fault (genesis_line made) (genesis_read config.now bytes.now)) }
+    ensures { AnswersAs (λ x. x) result (with_fault (genesis_line made bytes.now) (genesis_read config.now bytes.now)) }
 {
     match read_genesis(alloc, bytes, config) {
         Ok(genesis) => Ok(genesis),
-        Err(fault) => Err(genesis_words(alloc, made, fault)),
+        Err(fault) => Err(genesis_words(alloc, made, bytes, fault)),
     }
 }
 
@@ -171,17 +173,17 @@ fn shown_report(alloc: Global, bytes: &[u8]) -> Result<Output, Fault>
 {
     match show_report(alloc, bytes) {
         Ok(text) => Ok(Output::Bytes(text)),
-        Err(fault) => Err(report_words(alloc, fault)),
+        Err(fault) => Err(report_words(alloc, bytes, fault)),
     }
 }
 
 /// The part of a file.
 fn part_of(alloc: Global, bytes: &[u8]) -> Result<Part, Fault>
-    ensures { AnswersAs (λ x. x) result (with_fault part_line (part_in bytes.now)) }
+    ensures { AnswersAs (λ x. x) result (with_fault (part_line bytes.now) (part_in bytes.now)) }
 {
     match read_part(alloc, bytes) {
         Ok(part) => Ok(part),
-        Err(fault) => Err(part_words(alloc, fault)),
+        Err(fault) => Err(part_words(alloc, bytes, fault)),
     }
 }
 
@@ -198,11 +200,11 @@ fn shown_part(alloc: Global, bytes: &[u8]) -> Result<Output, Fault>
 
 /// The proof of a file.
 fn proof_of(alloc: Global, bytes: &[u8]) -> Result<Proof, Fault>
-    ensures { AnswersAs (λ x. x) result (with_fault proof_line (proof_read bytes.now)) }
+    ensures { AnswersAs (λ x. x) result (with_fault (proof_line bytes.now) (proof_read bytes.now)) }
 {
     match read_proof(alloc, bytes) {
         Ok(proof) => Ok(proof),
-        Err(fault) => Err(proof_words(alloc, fault)),
+        Err(fault) => Err(proof_words(alloc, bytes, fault)),
     }
 }
 
@@ -219,11 +221,11 @@ fn shown_proof(alloc: Global, bytes: &[u8]) -> Result<Output, Fault>
 
 /// The gathered chunk of a file.
 fn gathered_of(alloc: Global, bytes: &[u8]) -> Result<Gathered, Fault>
-    ensures { AnswersAs (λ x. x) result (with_fault gathered_line (gathered_in bytes.now)) }
+    ensures { AnswersAs (λ x. x) result (with_fault (gathered_line bytes.now) (gathered_in bytes.now)) }
 {
     match read_gathered(alloc, bytes) {
         Ok(gathered) => Ok(gathered),
-        Err(fault) => Err(gathered_words(alloc, fault)),
+        Err(fault) => Err(gathered_words(alloc, bytes, fault)),
     }
 }
 

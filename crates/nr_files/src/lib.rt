@@ -5,6 +5,7 @@
 mod answer;
 mod command;
 mod counting;
+mod damage;
 mod exit;
 mod fault;
 mod filling;

@@ -2,7 +2,8 @@
 
 ghost use Rattle.std.specs.Prelude.{◌≡◌, IfOk, string_bytes};
 ghost use Rattle.nr_files.specs.Answers.{Tells, TellsText};
-ghost use Rattle.nr_files.specs.Lines.{subject, fault_line, at_line, gathered_line, unread_line, entry_line, genesis_line, part_line, proof_line, report_line, usage_words};
+ghost use Rattle.nr_files.specs.Damage.{blocks_line};
+ghost use Rattle.nr_files.specs.Lines.{subject, fault_line, gathered_line, entry_line, genesis_line, part_line, proof_line, report_line, usage_words};
 ghost use Rattle.nr_files.specs.declared.fault.Fault.TheVariants.{Memory};
 ghost use Rattle.nr_json.specs.declared.fault.JsonFault.TheVariants as json;
 ghost use Rattle.nr_records.specs.declared.fault.RecordFault.TheVariants as record_faults;
@@ -12,6 +13,9 @@ ghost use Rattle.nr_outproof.specs.declared.fault.ProofFault.TheVariants as proo
 ghost use Rattle.nr_parts.specs.declared.fault.PartFault.TheVariants as part;
 ghost use Rattle.nr_gathered.specs.declared.fault.GatheredFault.TheVariants as gathered;
 
+use crate::damage::{
+    begun_text, blocks_text, gathered_damage, genesis_damage, part_damage, placed_text,
+};
 use crate::fault::Fault;
 use nr_blocks::GenesisFault;
 use nr_bytes::Text;
@@ -69,81 +73,69 @@ pub(crate) fn json_words(alloc: Global, fault: JsonFault) -> Fault
     }
 }
 
-fn at_text(alloc: Global, at: u64) -> Result<String, AllocError>
-    ensures { IfOk result (λ text. string_bytes text ≡ at_line at) }
-{
-    let mut text = String::new(alloc);
-    write!(text, "the field at byte {at} can't be read")?;
-    Ok(text)
-}
-
-/// The line of a file that can't be read.
+/// The line of blocks that can't be read.
 #[tactic(auto, using(crate::proofs::Steps::tells_text))]
-pub(crate) fn unread_words(alloc: Global, fault: RecordFault) -> Fault
-    ensures tells { Tells result (unread_line fault) }
+pub(crate) fn blocks_words(alloc: Global, bytes: &[u8], fault: RecordFault) -> Fault
+    ensures tells { Tells result (blocks_line bytes.now fault) }
     ensures memory { fault ≡ record_faults.Memory → result ≡ Memory }
 {
     match fault {
-        RecordFault::Short { at } => told(at_text(alloc, at as u64)),
-        RecordFault::BadByte { at, byte: _ } => told(at_text(alloc, at as u64)),
-        RecordFault::BadUtf8 { at } => told(at_text(alloc, at as u64)),
-        RecordFault::BadOrdinal { at } => told(at_text(alloc, at as u64)),
-        RecordFault::BadAccountId { at } => told(at_text(alloc, at as u64)),
-        RecordFault::Stake { at } => told(at_text(alloc, at as u64)),
-        RecordFault::TooManyBoundaries { at } => told(at_text(alloc, at as u64)),
-        RecordFault::BoundaryOrder { at } => told(at_text(alloc, at as u64)),
         RecordFault::Memory => Fault::Memory,
+        _ => told(blocks_text(alloc, bytes, fault)),
     }
 }
 
-fn report_text(alloc: Global, line: u64) -> Result<String, AllocError>
-    ensures { IfOk result (λ text. string_bytes text ≡ report_line (report.NoLine line)) }
+fn report_text(alloc: Global, bytes: &[u8], line: u64) -> Result<String, AllocError>
+    ensures { IfOk result (λ text. string_bytes text ≡ report_line bytes.now (report.NoLine line)) }
 {
-    let mut text = String::new(alloc);
-    write!(text, "line {line} is no line of a report")?;
-    Ok(text)
+    let words = placed_text(alloc, "line ", line as usize, " is no line of a report")?;
+    begun_text(alloc, bytes, words.as_str())
 }
 
 /// The line of a text that is no report.
 #[tactic(auto, using(crate::proofs::Steps::tells_text))]
-pub(crate) fn report_words(alloc: Global, fault: ReportFault) -> Fault
-    ensures tells { Tells result (report_line fault) }
+pub(crate) fn report_words(alloc: Global, bytes: &[u8], fault: ReportFault) -> Fault
+    ensures tells { Tells result (report_line bytes.now fault) }
     ensures memory { fault ≡ report.Memory → result ≡ Memory }
 {
     match fault {
-        ReportFault::NoLine { line } => told(report_text(alloc, line)),
+        ReportFault::NoLine { line } => told(report_text(alloc, bytes, line)),
         ReportFault::Memory => Fault::Memory,
     }
 }
 
-fn proof_text(alloc: Global, line: u64) -> Result<String, AllocError>
-    ensures { IfOk result (λ text. string_bytes text ≡ proof_line (proof.Form line)) }
+fn proof_text(alloc: Global, bytes: &[u8], line: u64) -> Result<String, AllocError>
+    ensures { IfOk result (λ text. string_bytes text ≡ proof_line bytes.now (proof.Form line)) }
 {
-    let mut text = String::new(alloc);
-    write!(text, "line {line} is not what a proof has there")?;
-    Ok(text)
+    let words = placed_text(
+        alloc,
+        "line ",
+        line as usize,
+        " is not what a proof has there",
+    )?;
+    begun_text(alloc, bytes, words.as_str())
 }
 
 /// The line of a text that is no proof.
 #[tactic(auto, using(crate::proofs::Steps::tells_text))]
-pub(crate) fn proof_words(alloc: Global, fault: ProofFault) -> Fault
-    ensures tells { Tells result (proof_line fault) }
+pub(crate) fn proof_words(alloc: Global, bytes: &[u8], fault: ProofFault) -> Fault
+    ensures tells { Tells result (proof_line bytes.now fault) }
     ensures memory { fault ≡ proof.Memory → result ≡ Memory }
 {
     match fault {
-        ProofFault::Form { line } => told(proof_text(alloc, line)),
+        ProofFault::Form { line } => told(proof_text(alloc, bytes, line)),
         ProofFault::Memory => Fault::Memory,
     }
 }
 
 /// The line of a file that is no part of a state. The faults of a part that was read don't come up.
 #[tactic(auto, using(crate::proofs::Steps::tells_text))]
-pub(crate) fn part_words(alloc: Global, fault: PartFault) -> Fault
-    ensures tells { Tells result (part_line fault) }
+pub(crate) fn part_words(alloc: Global, bytes: &[u8], fault: PartFault) -> Fault
+    ensures tells { Tells result (part_line bytes.now fault) }
     ensures memory { fault ≡ part.Memory → result ≡ Memory }
 {
     match fault {
-        PartFault::Spelling { at } => told(at_text(alloc, at)),
+        PartFault::Spelling { at } => told(part_damage(alloc, bytes, at as usize)),
         PartFault::Numbers { .. }
         | PartFault::Root { .. }
         | PartFault::Missing { .. }
@@ -158,13 +150,18 @@ pub(crate) fn part_words(alloc: Global, fault: PartFault) -> Fault
 
 /// The line of a file that is no gathered chunk.
 #[tactic(auto, using(crate::proofs::Steps::tells_text))]
-pub(crate) fn gathered_words(alloc: Global, fault: GatheredFault) -> Fault
-    ensures tells { Tells result (gathered_line fault) }
+pub(crate) fn gathered_words(alloc: Global, bytes: &[u8], fault: GatheredFault) -> Fault
+    ensures tells { Tells result (gathered_line bytes.now fault) }
     ensures memory { fault ≡ gathered.Memory → result ≡ Memory }
 {
     match fault {
-        GatheredFault::Spelling { at } => told(at_text(alloc, at)),
-        GatheredFault::Stake { at } => told(at_text(alloc, at)),
+        GatheredFault::Spelling { at } => told(gathered_damage(alloc, bytes, at as usize)),
+        GatheredFault::Stake { at } => told(placed_text(
+            alloc,
+            "the action at byte ",
+            at as usize,
+            " is one of staking",
+        )),
         GatheredFault::Memory => Fault::Memory,
     }
 }
@@ -190,8 +187,8 @@ fn usage_text(alloc: Global, index: u64, stated: u64, counted: u64) -> Result<St
 
 /// The line of a genesis that is refused: one that was made of a JSON value, or one that was read.
 #[tactic(auto, using(crate::proofs::Steps::tells_text))]
-pub(crate) fn genesis_words(alloc: Global, made: bool, fault: GenesisFault) -> Fault
-    ensures tells { Tells result (genesis_line made fault) }
+pub(crate) fn genesis_words(alloc: Global, made: bool, bytes: &[u8], fault: GenesisFault) -> Fault
+    ensures tells { Tells result (genesis_line made bytes.now fault) }
     ensures memory { fault ≡ genesis.Memory → result ≡ Memory }
 {
     match fault {
@@ -201,7 +198,7 @@ pub(crate) fn genesis_words(alloc: Global, made: bool, fault: GenesisFault) -> F
                 ".boundaries are more than 15, or one isn't above the one before it",
             )
         } else {
-            told(at_text(alloc, at))
+            told(genesis_damage(alloc, bytes, at as usize))
         },
         GenesisFault::Duplicate { index } => told(entry_text(alloc, index, " stands twice")),
         GenesisFault::NoOwner { index } => told(entry_text(

@@ -142,8 +142,8 @@ fn tell<K: Sink>(alloc: Global, output: Output, sink: &mut K) -> Status
 /// - `TooLong`: the file is longer than 256 MiB. Nothing was written.
 /// - `Faulty`: a JSON text is none, or a member of it is faulty, and the line has the path of the first
 ///   one, as `jq` writes it; the entries of a genesis don't hold together, as `nr_blocks::GenesisFault`
-///   says; or a file to be shown can't be read, and the line has the place of the first field, or the number
-///   of the first line, that can't. Nothing was written.
+///   says; or a file to be shown can't be read, and the line says which file it is instead, where it ends too
+///   early or goes on, or which field, or which line, is wrong and how. Nothing was written.
 /// - `ReadFault`: a file could not be read. Nothing was written.
 /// - `WriteFault`: the sink failed. A front was written.
 /// - `NoMemory`: memory ran out. Nothing was written.

@@ -15,7 +15,7 @@ const BLOCKS: &str = "{\"blocks\": [\
     {\"height\": 2, \"timestamp\": 7, \"chunks\": [null]}]}";
 
 /// The bytes of these blocks.
-const BLOCKS_HEX: &str =
+pub(crate) const BLOCKS_HEX: &str =
     "4e524231020000000100000000000000000000000000000001000000010100000005000000616c696365000101\
     010101010101010101010101010101010101010101010101010101010101010000000000000003000000626f62\
     000000000000000000000000000000000000000000000000000000000000000002000000030500000000000000\
@@ -58,7 +58,7 @@ const GENESIS: &str = "{\"boundaries\": [], \"entries\": [\
     \"access_key\": {\"nonce\": 0, \"permission\": \"FullAccess\"}}]}";
 
 /// The bytes of this genesis, with the usage 182 of alice and 100 of bob.
-const GENESIS_HEX: &str =
+pub(crate) const GENESIS_HEX: &str =
     "4e52473100000000030000000005000000616c6963656400000000000000000000000000000000000000000000\
     0000000000000000000000000000000000000000000000000000000000000000000000000000000000b6000000\
     000000000003000000626f62140000000000000000000000000000000000000000000000000000000000000000\
@@ -67,7 +67,7 @@ const GENESIS_HEX: &str =
     01";
 
 /// A part of two, with one entry and one text.
-const PART: &[u8] = b"NRP111111111111111111111111111111111\x02\0\0\0\x01\0\0\0\
+pub(crate) const PART: &[u8] = b"NRP111111111111111111111111111111111\x02\0\0\0\x01\0\0\0\
     \x01\0\0\0\x01\0\0\0k\x02\0\0\0v\0\x01\0\0\0\x01\0\0\0\xff";
 
 /// This part as it is shown.
@@ -119,11 +119,21 @@ pub(crate) fn ended(alloc: Global, words: &[&str], file: &[u8]) -> Result<(Statu
     Ok((status, Vec::from_slice(alloc, sink.bytes())?))
 }
 
-/// Whether a text is refused with this line, and nothing is written.
-pub(crate) fn refuses(alloc: Global, words: &[&str], text: &str, line: &str) -> Result<bool, Fail> {
-    let (status, written) = ended(alloc, words, text.as_bytes())?;
+/// Whether a file is refused with this line, and nothing is written.
+pub(crate) fn refuses_bytes(
+    alloc: Global,
+    words: &[&str],
+    bytes: &[u8],
+    line: &str,
+) -> Result<bool, Fail> {
+    let (status, written) = ended(alloc, words, bytes)?;
     let told = format!(in alloc; "{status}")?;
     Ok(status.exit_status() == 20 && told.as_str() == line && written.is_empty())
+}
+
+/// The same of a text.
+pub(crate) fn refuses(alloc: Global, words: &[&str], text: &str, line: &str) -> Result<bool, Fail> {
+    refuses_bytes(alloc, words, text.as_bytes(), line)
 }
 
 #[test]
@@ -142,12 +152,9 @@ fn a_part_and_a_proof_are_shown(rt: HostRuntime) -> Result<(), Fail> {
 }
 
 #[test]
-fn other_parts_and_proofs_are_refused(rt: HostRuntime) -> Result<(), Fail> {
+fn other_proofs_are_refused(rt: HostRuntime) -> Result<(), Fail> {
     let alloc = rt.alloc();
-    let rows: [(&str, &str, &str); 5] = [
-        ("part", "", "the field at byte 0 can't be read"),
-        ("part", "NRP2", "the field at byte 0 can't be read"),
-        ("part", "NRP1root", "the field at byte 4 can't be read"),
+    let rows: [(&str, &str, &str); 2] = [
         ("proof", "", "line 1 is not what a proof has there"),
         (
             "proof",
@@ -262,7 +269,7 @@ fn other_boundaries_stand_by_the_version(rt: HostRuntime) -> Result<(), Fail> {
     let (cut, _) = ended(alloc, &["show", "blocks", "F"], b"NRB3\x02")?;
     assert_eq!(rt;
         format!(in alloc; "{cut}")?.as_str(),
-        "the field at byte 4 can't be read"
+        "the field at byte 4 is neither 0 nor 1: 2"
     );
     Ok(())
 }
@@ -451,6 +458,79 @@ fn words_and_files_are_refused_in_order(rt: HostRuntime) -> Result<(), Fail> {
         let (status, written) = ended(alloc, words, b"")?;
         assert_eq!(rt; format!(in alloc; "{status}")?.as_str(), line);
         assert!(rt; written.is_empty());
+    }
+    Ok(())
+}
+
+/// A block with a call of go by alice, with these members for its block's hash and its arguments.
+fn call_text(alloc: Global, hash: &str, args: &str) -> Result<String, Fail> {
+    Ok(format!(in alloc;
+        "{{\"blocks\": [{{\"height\": 1, \"timestamp\": 0, \"chunks\": [[{{\"signer_id\": \"alice\",\
+        \"public_key\": \"ed25519:0101010101010101010101010101010101010101010101010101010101010101\",\
+        \"nonce\": 1, \"receiver_id\": \"bob\", {hash}\"actions\": [{{\"FunctionCall\":\
+        {{\"method_name\": \"go\", \"args\": {args}, \"gas\": 7, \"deposit\": \"0\"}}}}]}}]]}}]}}"
+    )?)
+}
+
+/// A hash of zeros, written out.
+const NO_HASH: &str =
+    "\"block_hash\": \"0000000000000000000000000000000000000000000000000000000000000000\", ";
+
+#[test]
+fn arguments_may_be_a_text_and_a_hash_left_out(rt: HostRuntime) -> Result<(), Fail> {
+    let alloc = rt.alloc();
+    let full = call_text(alloc, NO_HASH, "\"7b22c3a9227d\"")?;
+    let (made, bytes) = ended(alloc, &["blocks", "F"], full.as_str().as_bytes())?;
+    assert_eq!(rt; made.exit_status(), 0);
+    for (hash, args) in [
+        (NO_HASH, "{\"text\": \"{\\\"\u{e9}\\\"}\"}"),
+        ("", "\"7b22c3a9227d\""),
+        ("", "{\"text\": \"{\\\"\\u00e9\\\"}\", \"json\": 5}"),
+    ] {
+        let short = call_text(alloc, hash, args)?;
+        let (again, same) = ended(alloc, &["blocks", "F"], short.as_str().as_bytes())?;
+        assert_eq!(rt; again.exit_status(), 0);
+        assert!(rt; same == bytes, "{args}");
+    }
+    Ok(())
+}
+
+#[test]
+fn wrong_arguments_and_hashes_are_told(rt: HostRuntime) -> Result<(), Fail> {
+    let alloc = rt.alloc();
+    let rows: [(&str, &str, &str); 5] = [
+        (
+            "",
+            "{\"json\": 5}",
+            ".blocks[0].chunks[0][0].actions[0].FunctionCall.args.text is missing",
+        ),
+        (
+            "",
+            "{\"text\": 5}",
+            ".blocks[0].chunks[0][0].actions[0].FunctionCall.args.text is no text",
+        ),
+        (
+            "",
+            "5",
+            ".blocks[0].chunks[0][0].actions[0].FunctionCall.args is no text of pairs of hexadecimal digits",
+        ),
+        (
+            "\"block_hash\": \"00\", ",
+            "\"\"",
+            ".blocks[0].chunks[0][0].block_hash is no text of 64 hexadecimal digits",
+        ),
+        (
+            "\"block_hash\": null, ",
+            "\"\"",
+            ".blocks[0].chunks[0][0].block_hash is no text of 64 hexadecimal digits",
+        ),
+    ];
+    for (hash, args, line) in rows {
+        let text = call_text(alloc, hash, args)?;
+        assert!(rt;
+            refuses(alloc, &["blocks", "F"], text.as_str(), line)?,
+            "{line}"
+        );
     }
     Ok(())
 }

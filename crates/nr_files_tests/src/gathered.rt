@@ -1,10 +1,10 @@
 //! A gathered chunk in memory, with ample memory. The bytes and the text are written by hand from the formats.
 
-use crate::files::{ended, refuses};
+use crate::files::ended;
 use std::test::Fail;
 
 /// A chunk with a transfer, a receipt of each kind and one text, at the greatest price.
-const GATHERED: &[u8] = b"\
+pub(crate) const GATHERED: &[u8] = b"\
     NRS133333333333333333333333333333333\
     \x01\0\0\0\x02\0\0\0mm\
     \x02\0\0\0\0\0\0\0\x07\0\0\0\0\0\0\0\x01\xff\xff\xff\xff\xff\xff\xff\xff\x01\0\0\0\
@@ -107,22 +107,5 @@ fn a_gathered_chunk_is_shown(rt: HostRuntime) -> Result<(), Fail> {
     let (shown, text) = ended(alloc, &["show", "gathered", "F"], GATHERED)?;
     assert_eq!(rt; shown.exit_status(), 0);
     assert_eq!(rt; text.as_slice(), GATHERED_JSON.as_bytes());
-    Ok(())
-}
-
-#[test]
-fn other_gathered_chunks_are_refused(rt: HostRuntime) -> Result<(), Fail> {
-    let alloc = rt.alloc();
-    let rows: [(&str, &str); 3] = [
-        ("", "the field at byte 0 can't be read"),
-        ("NRP1", "the field at byte 0 can't be read"),
-        ("NRS1root", "the field at byte 4 can't be read"),
-    ];
-    for (text, line) in rows {
-        assert!(rt;
-            refuses(alloc, &["show", "gathered", "F"], text, line)?,
-            "{text}"
-        );
-    }
     Ok(())
 }

@@ -26,8 +26,8 @@ use Rattle.nr_json.specs.Keys.{id_of}
 use Rattle.nr_json.specs.Lists.{list_json, list_of}
 use Rattle.nr_json.specs.declared.chain_file.StatedBlocks.TheVariants.{Plain, Third}
 use Rattle.nr_json.specs.declared.fault.Wrong.TheVariants.{NoBoundaries}
-use Rattle.nr_json.proofs.FileLaws.{block_law, blocks_case, file_with, optional_is, prices_pass}
-use Rattle.nr_json.proofs.PlainLaws.{Law, id_law, list_law, member_is}
+use Rattle.nr_json.proofs.FileLaws.{block_law, blocks_case, file_with, prices_pass}
+use Rattle.nr_json.proofs.PlainLaws.{Law, id_law, list_law, member_is, optional_is}
 
 -- ---- boundaries
 pub is_layout : (ids layout : List (List ℕ)) (bytes : List ℕ) → bytes ≡ layout_bytes ids → all_of layout_at bytes ≡ Ok layout → layout_in ids ≡ Ok layout

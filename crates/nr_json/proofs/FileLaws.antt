@@ -26,7 +26,7 @@ use Rattle.nr_json.specs.Blocks.{chunk_json, chunk_of, block_members, block_json
 use Rattle.nr_json.specs.Genesis.{account_of, account_entry_of, code_entry_of, key_entry_of, datum_entry_of, entry_members, entry_json, entry_of, genesis_members, genesis_json, genesis_of}
 use Rattle.nr_json.specs.declared.genesis.StatedAccount.{StatedAccount}
 use Rattle.nr_json.specs.declared.genesis.StatedEntry.TheVariants.{Account, Code, Key, Datum}
-use Rattle.nr_json.proofs.PlainLaws.{Law, amount_law, bytes_law, hash_law, key_law, id_law, list_law, option_law, member_is}
+use Rattle.nr_json.proofs.PlainLaws.{Law, amount_law, bytes_law, hash_law, key_law, id_law, list_law, option_law, member_is, optional_is}
 use Rattle.nr_json.proofs.RecordLaws.{access_key_law, transaction_law}
 
 -- ---- blocks
@@ -81,9 +81,6 @@ blocks_case Two bs fits =
     rw (member_is (codes "blocks") (list_of block_of) (blocks_members (file_with Two bs)) (list_json block_json bs) bs refl (list_law block_json block_of (FitsBlock Two) (block_law Two) bs fits)) (file_is Two bs fits)
 
 -- ---- the first state
-pub optional_is : {X : Type 0} (name : List ℕ) (reading : Data → Read X) (ms : Members) (d : Data) (x : X) → get_member name ms ≡ Some d → reading d ≡ Ok x → optional_of name reading (object ms) ≡ Ok (Some x)
-optional_is name reading ms d x e h = rw (e, h) refl
-
 optional_not : {X : Type 0} (name : List ℕ) (reading : Data → Read X) (ms : Members) → get_member name ms ≡ None → optional_of name reading (object ms) ≡ Ok None
 optional_not name reading ms e = rw e refl
 

@@ -21,7 +21,7 @@ use Rattle.nr_json.specs.Faults.{Read}
 use Rattle.nr_json.specs.Fits.{AreBytes, FitsHash, FitsKey}
 use Rattle.nr_json.specs.Keys.{id_of, hash_json, hash_of, key_json, key_of}
 use Rattle.nr_json.specs.Lists.{list_json, list_of, each_of, option_json, option_of}
-use Rattle.nr_json.specs.Members.{member_of}
+use Rattle.nr_json.specs.Members.{member_of, optional_of}
 use Rattle.nr_json.specs.Plain.{is_digit, is_numeral, amount_json, amount_of, bytes_json, bytes_of}
 
 -- what stands for it is read as it
@@ -82,3 +82,6 @@ option_law json reading fits there law (Some x) fit = rw (there x, law x fit) re
 -- ---- members
 pub member_is : {X : Type 0} (name : List ℕ) (reading : Data → Read X) (ms : Members) (d : Data) (x : X) → get_member name ms ≡ Some d → reading d ≡ Ok x → member_of name reading (object ms) ≡ Ok x
 member_is name reading ms d x e h = rw (e, h) refl
+
+pub optional_is : {X : Type 0} (name : List ℕ) (reading : Data → Read X) (ms : Members) (d : Data) (x : X) → get_member name ms ≡ Some d → reading d ≡ Ok x → optional_of name reading (object ms) ≡ Ok (Some x)
+optional_is name reading ms d x e h = rw (e, h) refl

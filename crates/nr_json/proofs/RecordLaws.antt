@@ -13,9 +13,9 @@ use Rattle.nr_json.specs.Keys.{id_of, hash_json, hash_of, key_json, key_of}
 use Rattle.nr_json.specs.Lists.{list_json, list_of, option_json, option_of}
 use Rattle.nr_json.specs.AccessKeys.{call_permission_members, call_permission_json, call_permission_of, call_of, permission_json, permission_of, access_key_members, access_key_json, access_key_of}
 use Rattle.nr_json.specs.Actions as actions
-use Rattle.nr_json.specs.Actions.{call_members, add_key_members, action_json, action_of}
+use Rattle.nr_json.specs.Actions.{args_of, call_members, add_key_members, action_json, action_of}
 use Rattle.nr_json.specs.Transactions.{transaction_members, transaction_json, transaction_of}
-use Rattle.nr_json.proofs.PlainLaws.{Law, amount_law, bytes_law, hash_law, key_law, id_law, list_law, option_law, member_is}
+use Rattle.nr_json.proofs.PlainLaws.{Law, amount_law, bytes_law, hash_law, key_law, id_law, list_law, option_law, member_is, optional_is}
 
 all_texts : (xs : List (List ℕ)) → AllByRecursion (λ x. Unit {0}) xs
 all_texts [] = tt
@@ -49,7 +49,7 @@ unfolding actions.action_under actions.deploy_of actions.call_of actions.transfe
 action_law CreateAccount fits = refl
 action_law (DeployContract code) fits = rw (member_is (codes "code") bytes_of (put (codes "code") (bytes_json code) no_members) (bytes_json code) code refl (bytes_law code fits)) refl
 action_law (FunctionCall method args gas deposit) fits =
-    let bytes = member_is (codes "args") bytes_of (call_members method args gas deposit) (bytes_json args) args refl (bytes_law args fits.0) in
+    let bytes = member_is (codes "args") args_of (call_members method args gas deposit) (bytes_json args) args refl (bytes_law args fits.0) in
     let amount = member_is (codes "deposit") amount_of (call_members method args gas deposit) (amount_json deposit) deposit refl (amount_law deposit fits.1) in
     rw (bytes, amount) refl
 action_law (Transfer deposit) fits = rw (member_is (codes "deposit") amount_of (put (codes "deposit") (amount_json deposit) no_members) (amount_json deposit) deposit refl (amount_law deposit fits)) refl
@@ -67,6 +67,6 @@ transaction_law t fits =
     let signer = member_is (codes "signer_id") id_of (transaction_members t) (string t.signer) t.signer refl (id_law t.signer fits.signer) in
     let key = member_is (codes "public_key") key_of (transaction_members t) (key_json t.public_key) t.public_key refl (key_law t.public_key fits.public_key) in
     let receiver = member_is (codes "receiver_id") id_of (transaction_members t) (string t.receiver) t.receiver refl (id_law t.receiver fits.receiver) in
-    let hash = member_is (codes "block_hash") hash_of (transaction_members t) (hash_json t.block_hash) t.block_hash refl (hash_law t.block_hash fits.block_hash) in
+    let hash = optional_is (codes "block_hash") hash_of (transaction_members t) (hash_json t.block_hash) t.block_hash refl (hash_law t.block_hash fits.block_hash) in
     let actions = member_is (codes "actions") (list_of action_of) (transaction_members t) (list_json action_json t.actions) t.actions refl (list_law action_json action_of FitsAction action_law t.actions fits.actions) in
     rw (signer, key, receiver, hash, actions) refl

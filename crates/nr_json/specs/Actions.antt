@@ -1,5 +1,5 @@
--- Actions as JSON values, with the names of NEAR's JSON (Nomicon, RuntimeSpec, Actions). Bytes in hexadecimal are this project's own.
-use Rattle.std.specs.Prelude.{ℕ, List, Option, Some, None, Ok, Err, cond, codes}
+-- Actions as JSON values, with the names of NEAR's JSON (Nomicon, RuntimeSpec, Actions). Bytes in hexadecimal, and arguments as a text, are this project's own.
+use Rattle.std.specs.Prelude.{ℕ, List, Option, Some, None, is_some, Ok, Err, cond, codes, if◌then◌else◌}
 use Rattle.std.specs.Str.{bytes_eq}
 use Rattle.nr_bytes.specs.Reading.{◌>>=◌}
 use Rattle.nr_ids.specs.declared.key.PublicKey.{PublicKey}
@@ -7,6 +7,7 @@ use Rattle.nr_records.specs.declared.access_key.AccessKey.{AccessKey}
 use Rattle.nr_records.specs.declared.action.Action.{Action}
 use Rattle.nr_records.specs.declared.action.Action.TheVariants.{CreateAccount, DeployContract, FunctionCall, Transfer, AddKey, DeleteKey, DeleteAccount}
 use Rattle.serde_json.specs.Data.{Data, string, object, Members, no_members, put}
+use Rattle.serde_json.specs.Find.{as_object}
 use Rattle.nr_json.specs.Faults.{Read, fault}
 use Rattle.nr_json.specs.Members.{member_of}
 use Rattle.nr_json.specs.Plain.{number_json, number_of, amount_json, amount_of, text_of, bytes_json, bytes_of}
@@ -37,10 +38,14 @@ deploy_of d = do
   code ← member_of (codes "code") bytes_of d
   Ok (DeployContract code)
 
+-- arguments: bytes in hexadecimal, or an object whose member `text` is the text of these bytes
+abbrev pub args_of : Data → Read (List ℕ)
+args_of d = if is_some (as_object d) then member_of (codes "text") text_of d else bytes_of d
+
 unfoldable pub call_of : Data → Read Action
 call_of d = do
   method ← member_of (codes "method_name") text_of d
-  args ← member_of (codes "args") bytes_of d
+  args ← member_of (codes "args") args_of d
   gas ← member_of (codes "gas") number_of d
   deposit ← member_of (codes "deposit") amount_of d
   Ok (FunctionCall method args gas deposit)

@@ -1,10 +1,11 @@
 //! Actions.
 
-ghost use Rattle.std.specs.Prelude.{◌≡◌, IfOk};
+ghost use Rattle.std.specs.Prelude.{◌≡◌, IfOk, codes};
 ghost use Rattle.nr_bytes.specs.Answers.{Gives};
 ghost use Rattle.nr_records.specs.declared.action.Action.TheVariants.{FunctionCall, AddKey};
 ghost use Rattle.serde_json.specs.View.{view};
-ghost use Rattle.nr_json.specs.Actions.{action_json, deploy_of, call_of, transfer_of, add_key_of, delete_key_of, delete_account_of, action_under, action_of};
+ghost use Rattle.nr_json.specs.Actions.{action_json, args_of, deploy_of, call_of, transfer_of, add_key_of, delete_key_of, delete_account_of, action_under, action_of};
+ghost use Rattle.nr_json.specs.Members.{member_of};
 ghost use Rattle.nr_json.specs.Variants.{tagged_json};
 ghost use Rattle.nr_json.specs.declared.fault.JsonFault.TheVariants.{Memory};
 
@@ -25,12 +26,46 @@ fn deploy_of(alloc: Global, value: &Value) -> Result<Action, JsonFault>
     Ok(Action::DeployContract { code })
 }
 
+/// The bytes of a text.
+fn text_bytes(text: Text) -> Blob
+    ensures { result ≡ text }
+{
+    Blob::of(text.into_inner().into_bytes())
+}
+
+/// The arguments of a call: bytes in hexadecimal, or those of a text.
+fn args_of(alloc: Global, value: &Value) -> Result<Blob, JsonFault>
+    ensures { Gives Memory result (args_of (view value.now)) }
+{
+    if value.is_object() {
+        let text = member::<Text>(alloc, value, "text")?;
+        return Ok(text_bytes(text));
+    }
+    Blob::from_json(alloc, value)
+}
+
+/// The member with the arguments of a call.
+fn args_in(alloc: Global, object: &Value) -> Result<Blob, JsonFault>
+    ensures { Gives Memory result (member_of (codes "args") args_of (view object.now)) }
+{
+    if !object.is_object() {
+        return Err(JsonFault::whole(alloc, Wrong::NoObject));
+    }
+    let Some(value) = object.get("args") else {
+        return Err(JsonFault::whole(alloc, Wrong::Missing).in_member(alloc, "args"));
+    };
+    match args_of(alloc, value) {
+        Ok(args) => Ok(args),
+        Err(fault) => Err(fault.in_member(alloc, "args")),
+    }
+}
+
 #[tactic(auto, unfolding(crate::specs::Actions::call_of))]
 fn call_of(alloc: Global, value: &Value) -> Result<Action, JsonFault>
     ensures { Gives Memory result (call_of (view value.now)) }
 {
     let method = member(alloc, value, "method_name")?;
-    let args = member(alloc, value, "args")?;
+    let args = args_in(alloc, value)?;
     let gas = member(alloc, value, "gas")?;
     let deposit = member(alloc, value, "deposit")?;
     Ok(Action::FunctionCall {

@@ -4,7 +4,8 @@ ghost use Rattle.std.specs.Prelude.{◌≡◌};
 ghost use Rattle.nr_json.specs.Transactions.{transaction_json, transaction_of};
 
 use crate::fault::JsonFault;
-use crate::form::{Form, member, put};
+use crate::form::{Form, member, optional, put};
+use nr_ids::Hash32;
 use nr_records::Transaction;
 use serde_json::{Map, Value};
 use std::alloc::{AllocError, Global};
@@ -20,14 +21,14 @@ impl Form for Transaction {
         let public_key = member(alloc, value, "public_key")?;
         let nonce = member(alloc, value, "nonce")?;
         let receiver = member(alloc, value, "receiver_id")?;
-        let block_hash = member(alloc, value, "block_hash")?;
+        let block_hash = optional::<Hash32>(alloc, value, "block_hash")?;
         let actions = member(alloc, value, "actions")?;
         Ok(Transaction {
             signer,
             public_key,
             nonce,
             receiver,
-            block_hash,
+            block_hash: block_hash.unwrap_or(Hash32([0; 32])),
             actions,
         })
     }

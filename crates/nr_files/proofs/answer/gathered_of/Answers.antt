@@ -5,4 +5,4 @@ use Rattle.nr_files.proofs.Steps.{told_fault}
 use Rattle.nr_files.proofs.answer.gathered_of.Goals as goal
 
 pub returns-in-Err : goal.returns-in-Err
-returns-in-Err c = told_fault c.gathered_words.result gathered_line c.in-Err.fault Memory (gathered_in c.args.bytes.now) c.gathered_words.ensures.tells c.gathered_words.ensures.memory c.in-Err.ensures.gives
+returns-in-Err c = told_fault c.gathered_words.result (gathered_line c.args.bytes.now) c.in-Err.fault Memory (gathered_in c.args.bytes.now) c.gathered_words.ensures.tells c.gathered_words.ensures.memory c.in-Err.ensures.gives

@@ -6,4 +6,4 @@ use Rattle.nr_files.proofs.answer.genesis_in.Goals as goal
 
 pub returns-in-Err : goal.returns-in-Err
 returns-in-Err c =
-    told_fault c.genesis_words.result (genesis_line c.args.made) c.in-Err.fault Memory (genesis_read c.args.config.now c.args.bytes.now) c.genesis_words.ensures.tells c.genesis_words.ensures.memory c.in-Err.ensures.gives
+    told_fault c.genesis_words.result (genesis_line c.args.made c.args.bytes.now) c.in-Err.fault Memory (genesis_read c.args.config.now c.args.bytes.now) c.genesis_words.ensures.tells c.genesis_words.ensures.memory c.in-Err.ensures.gives

@@ -5,4 +5,4 @@ use Rattle.nr_files.proofs.Steps.{told_fault}
 use Rattle.nr_files.proofs.answer.proof_of.Goals as goal
 
 pub returns-in-Err : goal.returns-in-Err
-returns-in-Err c = told_fault c.proof_words.result proof_line c.in-Err.fault Memory (proof_read c.args.bytes.now) c.proof_words.ensures.tells c.proof_words.ensures.memory c.in-Err.ensures
+returns-in-Err c = told_fault c.proof_words.result (proof_line c.args.bytes.now) c.in-Err.fault Memory (proof_read c.args.bytes.now) c.proof_words.ensures.tells c.proof_words.ensures.memory c.in-Err.ensures
