@@ -163,7 +163,9 @@ fn made_hex(alloc: Global, bytes: &[u8]) -> Result<Output, Fault>
     let Ok(copy) = Vec::from_slice(alloc, bytes) else {
         return Err(Fault::Memory);
     };
-    let json = json_of(alloc, &Blob::of(copy))?;
+    let Ok(json) = json_of(alloc, &Blob::of(copy)) else {
+        return Err(Fault::Memory);
+    };
     Ok(Output::Json(json))
 }
 

@@ -371,7 +371,7 @@ fn bytes_are_told_in_hexadecimal(rt: HostRuntime) -> Result<(), Fail> {
 #[test]
 fn faults_have_the_path_of_the_member(rt: HostRuntime) -> Result<(), Fail> {
     let alloc = rt.alloc();
-    let rows: [(&str, &str); 7] = [
+    let rows: [(&str, &str); 8] = [
         ("{\"blocks\": [", "the text is no JSON"),
         ("[]", "the text is no object"),
         ("{}", ".blocks is missing"),
@@ -383,7 +383,15 @@ fn faults_have_the_path_of_the_member(rt: HostRuntime) -> Result<(), Fail> {
         ),
         (
             "{\"blocks\": [{\"height\": 1, \"timestamp\": 0, \"chunks\": [null, [{\"signer_id\": \"A\"}]]}]}",
-            ".blocks[0].chunks[1][0].signer_id is no account id",
+            ".blocks[0].chunks[1][0].signer_id is no account id: 2 to 64 characters, of `a` to `z` and `0` to `9`, \
+            and single `-`, `_` or `.` between these",
+        ),
+        (
+            "{\"blocks\": [{\"height\": 1, \"timestamp\": 0, \"chunks\": [[{\"signer_id\": \"alice\",\
+            \"public_key\": \"ed25519:0101010101010101010101010101010101010101010101010101010101010101\",\
+            \"nonce\": 1, \"receiver_id\": \"bob\", \"actions\": [\"Stake\"]}]]}]}",
+            ".blocks[0].chunks[0][0].actions[0] is no action: `CreateAccount`, `DeployContract`, `FunctionCall`, \
+            `Transfer`, `AddKey`, `DeleteKey` or `DeleteAccount`",
         ),
     ];
     for (text, line) in rows {

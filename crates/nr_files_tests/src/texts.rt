@@ -43,12 +43,13 @@ fn a_genesis_is_read_and_written(rt: HostRuntime) -> Result<(), Fail> {
 #[test]
 fn faults_have_the_path_of_the_member(rt: HostRuntime) -> Result<(), Fail> {
     let alloc = rt.alloc();
-    let rows: [(&str, &str); 9] = [
+    let rows: [(&str, &str); 10] = [
         ("[]", " is no object"),
         ("{\"boundaries\": []}", ".entries is missing"),
         (
             "{\"boundaries\": [\"a..b\"]}",
-            ".boundaries[0] is no account id",
+            ".boundaries[0] is no account id: 2 to 64 characters, of `a` to `z` and `0` to `9`, and single `-`, `_` or `.` \
+            between these",
         ),
         (
             "{\"boundaries\": [], \"entries\": {}}",
@@ -65,6 +66,12 @@ fn faults_have_the_path_of_the_member(rt: HostRuntime) -> Result<(), Fail> {
         (
             "{\"boundaries\": [], \"entries\": [{\"kind\": \"account\", \"account_id\": \"ab\"}]}",
             ".entries[0].amount is missing",
+        ),
+        (
+            "{\"boundaries\": [], \"entries\": [{\"kind\": \"key\", \"account_id\": \"ab\", \
+            \"public_key\": \"ed25519:0101010101010101010101010101010101010101010101010101010101010101\", \
+            \"access_key\": {\"nonce\": 0, \"permission\": \"All\"}}]}",
+            ".entries[0].access_key.permission is no permission: `FullAccess` or `FunctionCall`",
         ),
         (
             "{\"boundaries\": [], \"entries\": [{\"kind\": \"coin\"}]}",

@@ -67,9 +67,14 @@ impl Wrong {
             Wrong::NoKey => {
                 "is no key: `ed25519:` and 64 hexadecimal digits, or `secp256k1:` and 128"
             }
-            Wrong::NoAccountId => "is no account id",
-            Wrong::NoAction => "is no action",
-            Wrong::NoPermission => "is no permission",
+            Wrong::NoAccountId => {
+                "is no account id: 2 to 64 characters, of `a` to `z` and `0` to `9`, and single `-`, `_` or `.` between these"
+            }
+            Wrong::NoAction => {
+                "is no action: `CreateAccount`, `DeployContract`, `FunctionCall`, `Transfer`, `AddKey`, \
+                `DeleteKey` or `DeleteAccount`"
+            }
+            Wrong::NoPermission => "is no permission: `FullAccess` or `FunctionCall`",
             Wrong::NoKind => "is no kind of entry: `account`, `code`, `key` or `datum`",
             Wrong::NoVersion => "is no version: 1, 2 or 3",
             Wrong::NoPrice => "is in no block of version 1",
