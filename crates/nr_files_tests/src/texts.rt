@@ -48,8 +48,8 @@ fn faults_have_the_path_of_the_member(rt: HostRuntime) -> Result<(), Fail> {
         ("{\"boundaries\": []}", ".entries is missing"),
         (
             "{\"boundaries\": [\"a..b\"]}",
-            ".boundaries[0] is no account id: 2 to 64 characters, of `a` to `z` and `0` to `9`, and single `-`, `_` or `.` \
-            between these",
+            ".boundaries[0] is no account id: 2 to 64 characters, of `a` to `z` and `0` to `9`, and single `-`, \
+            `_` or `.` between these",
         ),
         (
             "{\"boundaries\": [], \"entries\": {}}",

@@ -68,7 +68,8 @@ impl Wrong {
                 "is no key: `ed25519:` and 64 hexadecimal digits, or `secp256k1:` and 128"
             }
             Wrong::NoAccountId => {
-                "is no account id: 2 to 64 characters, of `a` to `z` and `0` to `9`, and single `-`, `_` or `.` between these"
+                "is no account id: 2 to 64 characters, of `a` to `z` and `0` to `9`, and single `-`, \
+                `_` or `.` between these"
             }
             Wrong::NoAction => {
                 "is no action: `CreateAccount`, `DeployContract`, `FunctionCall`, `Transfer`, `AddKey`, \
