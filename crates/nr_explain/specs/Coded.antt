@@ -1,7 +1,7 @@
 -- What the code's forms are. This project's own.
 use Rattle.std.specs.Prelude.{List, map}
 use Rattle.nr_explain.specs.Entries.{Bounds}
-use Rattle.nr_explain.specs.Forms.{Kind, Word, Figure, Number, Amount, Hash, Bytes, Entry, Field, Form}
+use Rattle.nr_explain.specs.Forms.{Kind, Word, Figure, Number, Amount, Hash, Bytes, Entry, Name, Field, Form}
 use Rattle.nr_explain.specs.declared.form.Kind as code
 use Rattle.nr_explain.specs.declared.form.Kind.TheVariants as kinds
 use Rattle.nr_explain.specs.declared.form.Field as code_field
@@ -15,6 +15,7 @@ kind_of kinds.Amount = Amount
 kind_of kinds.Hash = Hash
 kind_of kinds.Bytes = Bytes
 kind_of kinds.Entry = Entry
+kind_of kinds.Name = Name
 
 abbrev pub field_of : code_field.Field → Field
 field_of f = record { kind = kind_of f.kind; text = f.text.now }

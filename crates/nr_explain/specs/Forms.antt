@@ -1,10 +1,10 @@
 -- Forms of lines: for each word what it may be, and a text that goes with it. This project's own.
 use Rattle.std.specs.Prelude.{ℕ, ◌^◌, ◌&&◌, List, [], ◌∷◌, Bool, true, false, cond, is_some, Option, Some, None}
 use Rattle.std.specs.Str.{bytes_eq}
-use Rattle.nr_explain.specs.Words.{number_below, is_hash, are_bytes}
+use Rattle.nr_explain.specs.Words.{number_below, is_hash, is_name, are_bytes}
 use Rattle.nr_explain.specs.Entries.{entry_of}
 
--- this word, or this number; a number of 64 or of 128 bits; a hash, bytes; an entry of a configuration
+-- this word, or this number; a number of 64 or of 128 bits; a hash, bytes; an entry of a configuration; a name
 pub data Kind : Type 0 where
   Word : List ℕ → Kind
   Figure : List ℕ → Kind
@@ -13,6 +13,7 @@ pub data Kind : Type 0 where
   Hash : Kind
   Bytes : Kind
   Entry : Kind
+  Name : Kind
 
 pub record Field : Type 0 where
   pub kind : Kind
@@ -42,6 +43,9 @@ bytes text = record { kind = Bytes; text = text }
 abbrev pub entry : List ℕ → Field
 entry text = record { kind = Entry; text = text }
 
+abbrev pub name : List ℕ → Field
+name text = record { kind = Name; text = text }
+
 abbrev pub is_of : Kind → List ℕ → Bool
 is_of (Word text) word = bytes_eq word text
 is_of (Figure text) word = bytes_eq word text
@@ -50,6 +54,7 @@ is_of Amount word = is_some (number_below (2 ^ 128) word)
 is_of Hash word = is_hash word
 is_of Bytes word = are_bytes word
 is_of Entry word = is_some (entry_of word)
+is_of Name word = is_name word
 
 -- a word for each field, and no other
 abbrev pub fits : Form → List (List ℕ) → Bool

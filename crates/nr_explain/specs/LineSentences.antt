@@ -1,6 +1,6 @@
 -- One English sentence for a line of a report, of a schedule's steps or of `near_module` that tells why something was refused or failed. This project's own.
 use Rattle.std.specs.Prelude.{List, [], ◌∷◌, codes}
-use Rattle.nr_explain.specs.Forms.{Form, word, figure, number, amount, hash}
+use Rattle.nr_explain.specs.Forms.{Form, word, figure, number, amount, hash, name}
 
 -- steps that were made or not
 unfoldable pub steps : List Form
@@ -159,4 +159,24 @@ module_traps =
     ∷ (word (codes "trap") (codes "The run stopped at a trap: ") ∷ figure (codes "6") (codes "a call of a place that holds no function. It burnt ") ∷ amount (codes " gas.") ∷ [])
     ∷ (word (codes "trap") (codes "The run stopped at a trap: ") ∷ figure (codes "7") (codes "a call of a function of another type. It burnt ") ∷ amount (codes " gas.") ∷ [])
     ∷ (word (codes "trap") (codes "The run stopped at a trap: ") ∷ figure (codes "8") (codes "too many frames, or operands and locals. It burnt ") ∷ amount (codes " gas.") ∷ [])
+    ∷ []
+
+-- what a module brings
+unfoldable pub listings : List Form
+listings =
+    (word (codes "import") (codes "The module imports ") ∷ name (codes " ") ∷ name (codes ": ") ∷ word (codes "ok") (codes "the host has it.") ∷ [])
+    ∷ (word (codes "import") (codes "The module imports ") ∷ name (codes " ") ∷ name (codes ": ") ∷ word (codes "kind") (codes "it is no function.") ∷ [])
+    ∷ (word (codes "import") (codes "The module imports ") ∷ name (codes " ") ∷ name (codes ": ") ∷ word (codes "module") (codes "the host has nothing but `env`.") ∷ [])
+    ∷ (word (codes "import") (codes "The module imports ") ∷ name (codes " ") ∷ name (codes ": ") ∷ word (codes "name") (codes "the host has no function of this name.") ∷ [])
+    ∷ (word (codes "import") (codes "The module imports ") ∷ name (codes " ") ∷ name (codes ": ") ∷ word (codes "type") (codes "the host's function of this name has another type.") ∷ [])
+    ∷ (word (codes "export") (codes "The module exports ") ∷ word (codes "method") (codes "a method: ") ∷ name (codes ".") ∷ [])
+    ∷ (word (codes "export") (codes "The module exports ") ∷ word (codes "function") (codes "a function that is no method: ") ∷ name (codes ".") ∷ [])
+    ∷ (word (codes "export") (codes "The module exports ") ∷ word (codes "table") (codes "a table: ") ∷ name (codes ".") ∷ [])
+    ∷ (word (codes "export") (codes "The module exports ") ∷ word (codes "memory") (codes "a memory: ") ∷ name (codes ".") ∷ [])
+    ∷ (word (codes "export") (codes "The module exports ") ∷ word (codes "global") (codes "a global: ") ∷ name (codes ".") ∷ [])
+    ∷ (word (codes "table") (codes "The table has at least ") ∷ number (codes " entries, ") ∷ word (codes "none") (codes "and no bound.") ∷ [])
+    ∷ (word (codes "table") (codes "The table has at least ") ∷ number (codes " entries, and at most ") ∷ number (codes ".") ∷ [])
+    ∷ (word (codes "memory") (codes "The memory has at least ") ∷ number (codes " pages of 64 KiB, ") ∷ word (codes "none") (codes "and no bound.") ∷ [])
+    ∷ (word (codes "memory") (codes "The memory has at least ") ∷ number (codes " pages of 64 KiB, and at most ") ∷ number (codes ".") ∷ [])
+    ∷ (word (codes "size") (codes "So many bytes has the file: ") ∷ number (codes ".") ∷ [])
     ∷ []

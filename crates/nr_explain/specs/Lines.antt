@@ -1,7 +1,7 @@
 -- The lines that programs write, and the JSON object that stands for each (RFC 8259). This project's own.
 use Rattle.std.specs.Prelude.{◌≡◌, ℕ, Bool, true, false, List, [], ◌∷◌, ◌++◌, cond, Option, Some, None, codes}
 use Rattle.nr_explain.specs.Words.{pieces, is_dash}
-use Rattle.nr_explain.specs.Forms.{Kind, Word, Figure, Number, Amount, Hash, Bytes, Entry, Field, Form, form_of, word, figure, number, amount, hash, bytes}
+use Rattle.nr_explain.specs.Forms.{Kind, Word, Figure, Number, Amount, Hash, Bytes, Entry, Name, Field, Form, form_of, word, figure, number, amount, hash, bytes}
 
 -- ---- the forms, with a member's name for each word
 abbrev pub line : List ℕ → Field
@@ -103,6 +103,7 @@ value Amount w = quoted w
 value Hash w = quoted w
 value Bytes w = quoted (cond (is_dash w) [] w)
 value Entry w = w
+value Name w = quoted w
 
 abbrev pub member : Field → List ℕ → List ℕ
 member f w = quoted f.text ++ 58 ∷ value f.kind w

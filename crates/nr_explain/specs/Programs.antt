@@ -5,7 +5,7 @@ use Rattle.std.specs.Option.{option_or}
 use Rattle.std.specs.Str.{bytes_eq}
 use Rattle.nr_explain.specs.Words.{pieces}
 use Rattle.nr_explain.specs.Forms.{Form, form_of}
-use Rattle.nr_explain.specs.LineSentences.{steps, refusals, failures, bad_codes, traps, faults, modules, invalid_modules, module_traps}
+use Rattle.nr_explain.specs.LineSentences.{steps, refusals, failures, bad_codes, traps, faults, modules, invalid_modules, module_traps, listings}
 use Rattle.nr_explain.specs.Sentences.{programs, items, configurations, geneses, chains, schedules, proofs, gathered_chunks, state_parts, sentence_by}
 use Rattle.nr_explain.specs.Written.{reported, answers}
 use Rattle.nr_explain.specs.declared.program.Program.{Program}
@@ -35,7 +35,9 @@ report_form words =
 
 -- lines of modules
 abbrev pub module_form : List (List ℕ) → Option Form
-module_form words = option_or (form_of modules words) (option_or (form_of invalid_modules words) (form_of module_traps words))
+module_form words =
+    option_or (form_of modules words)
+    (option_or (form_of invalid_modules words) (option_or (form_of module_traps words) (form_of listings words)))
 
 abbrev pub serial_form : List (List ℕ) → Option Form
 serial_form words =

@@ -1,7 +1,7 @@
 -- One English sentence for a line by its form, and the forms of what programs tell on standard error: a status and its numbers. This project's own.
 use Rattle.std.specs.Prelude.{ℕ, List, [], ◌∷◌, ◌++◌, Option, Some, None, codes}
 use Rattle.nr_explain.specs.Entries.{entry_of, entry_told}
-use Rattle.nr_explain.specs.Forms.{Kind, Word, Figure, Number, Amount, Hash, Bytes, Entry, Field, Form, figure, number, entry}
+use Rattle.nr_explain.specs.Forms.{Kind, Word, Figure, Number, Amount, Hash, Bytes, Entry, Name, Field, Form, figure, number, entry}
 
 -- ---- the forms, with what is said behind each number
 -- a number of which nothing is said
@@ -131,6 +131,7 @@ said Amount w = w
 said Hash w = w
 said Bytes w = w
 said Entry w = w ++ entry_told (entry_of w)
+said Name w = w
 
 abbrev pub phrase : Field → List ℕ → List ℕ
 phrase f w = said f.kind w ++ f.text

@@ -33,6 +33,13 @@ number_below limit word = cond (is_numeral word && nat_lt (digits_value 10 word)
 abbrev pub is_hash : List ℕ → Bool
 is_hash word = (length word == 64) && list_all is_hex_digit word
 
+-- a name in visible characters of ASCII, without quotes; it may be empty
+abbrev pub is_name_byte : ℕ → Bool
+is_name_byte b = nat_le 33 b && (nat_le b 126 && not (b == 34))
+
+abbrev pub is_name : List ℕ → Bool
+is_name word = list_all is_name_byte word
+
 -- bytes in hexadecimal, and a dash for none
 abbrev pub is_dash : List ℕ → Bool
 is_dash word = bytes_eq word (codes "-")

@@ -94,7 +94,7 @@ fn told_of(alloc: Global, words: &[String]) -> Result<Option<Blob>, AllocError>
 
 /// One sentence for a whole line that a program writes, with a line feed: a status and what it tells of it,
 /// a line of a report, of a schedule or of what another command of a chain writes, or what `near_module
-/// check` and `run` say. The words are those of the line, behind the name of the program (`near_serial`,
+/// check`, `run` and `list` say. The words are those of the line, behind the name of the program (`near_serial`,
 /// `near_replay`, `near_audit`, `near_module` or `near_files`) or alone; alone, `ok` is a step of a schedule.
 /// `None` where no such line has these words.
 ///

@@ -7,7 +7,7 @@ ghost use Rattle.nr_explain.specs.Coded.{kind_of, form_in};
 
 use crate::cut::cut;
 use crate::entries::is_entry;
-use crate::numbers::{amount_of, are_bytes, is_hash, number_of};
+use crate::numbers::{amount_of, are_bytes, is_hash, is_name, number_of};
 
 /// What a word of a line may be.
 #[derive(Clone, Copy, Debug)]
@@ -26,6 +26,8 @@ pub(crate) enum Kind {
     Bytes,
     /// The number of an entry of a configuration.
     Entry,
+    /// A name in visible characters, without quotes.
+    Name,
 }
 
 /// What a word may be, and a text that goes with it.
@@ -55,6 +57,7 @@ fn is_of(kind: &Kind, word: &[u8]) -> bool
         Kind::Hash => is_hash(word),
         Kind::Bytes => are_bytes(word),
         Kind::Entry => is_entry(word),
+        Kind::Name => is_name(word),
     }
 }
 

@@ -2,7 +2,7 @@
 
 ghost use Rattle.std.specs.Prelude.{◌≡◌, map};
 ghost use Rattle.nr_explain.specs.Coded.{form_in};
-ghost use Rattle.nr_explain.specs.LineSentences.{steps, refusals, failures, bad_codes, traps, faults, modules, invalid_modules, module_traps};
+ghost use Rattle.nr_explain.specs.LineSentences.{steps, refusals, failures, bad_codes, traps, faults, modules, invalid_modules, module_traps, listings};
 
 use crate::form::{Field, Kind, fields};
 
@@ -582,6 +582,52 @@ static MODULE_TRAPS: [&[Field]; 8] = [
     ],
 ];
 
+static LISTINGS: [&[Field]; 15] = [
+    fields![
+        Word("import"): "The module imports ", Name: " ", Name: ": ", Word("ok"): "the host has it."
+    ],
+    fields![
+        Word("import"): "The module imports ", Name: " ", Name: ": ",
+        Word("kind"): "it is no function."
+    ],
+    fields![
+        Word("import"): "The module imports ", Name: " ", Name: ": ",
+        Word("module"): "the host has nothing but `env`."
+    ],
+    fields![
+        Word("import"): "The module imports ", Name: " ", Name: ": ",
+        Word("name"): "the host has no function of this name."
+    ],
+    fields![
+        Word("import"): "The module imports ", Name: " ", Name: ": ",
+        Word("type"): "the host's function of this name has another type."
+    ],
+    fields![Word("export"): "The module exports ", Word("method"): "a method: ", Name: "."],
+    fields![
+        Word("export"): "The module exports ", Word("function"): "a function that is no method: ",
+        Name: "."
+    ],
+    fields![Word("export"): "The module exports ", Word("table"): "a table: ", Name: "."],
+    fields![Word("export"): "The module exports ", Word("memory"): "a memory: ", Name: "."],
+    fields![Word("export"): "The module exports ", Word("global"): "a global: ", Name: "."],
+    fields![
+        Word("table"): "The table has at least ", Number: " entries, ",
+        Word("none"): "and no bound."
+    ],
+    fields![
+        Word("table"): "The table has at least ", Number: " entries, and at most ", Number: "."
+    ],
+    fields![
+        Word("memory"): "The memory has at least ", Number: " pages of 64 KiB, ",
+        Word("none"): "and no bound."
+    ],
+    fields![
+        Word("memory"): "The memory has at least ", Number: " pages of 64 KiB, and at most ",
+        Number: "."
+    ],
+    fields![Word("size"): "So many bytes has the file: ", Number: "."],
+];
+
 /// Steps that were made or not.
 #[tactic(auto, unfolding(crate::specs::LineSentences::steps))]
 pub(crate) fn steps() -> &'static [&'static [Field]; 15]
@@ -652,4 +698,12 @@ pub(crate) fn module_traps() -> &'static [&'static [Field]; 8]
     ensures { map (λ f. form_in f.now) result.now ≡ module_traps }
 {
     &MODULE_TRAPS
+}
+
+/// What a module brings.
+#[tactic(auto, unfolding(crate::specs::LineSentences::listings))]
+pub(crate) fn listings() -> &'static [&'static [Field]; 15]
+    ensures { map (λ f. form_in f.now) result.now ≡ listings }
+{
+    &LISTINGS
 }

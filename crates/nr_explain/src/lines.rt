@@ -112,6 +112,7 @@ fn put_value(kind: &Kind, word: &[u8], out: &mut Vec<u8>) -> Result<(), AllocErr
         Kind::Hash => put_quoted(word, out),
         Kind::Bytes => put_quoted(if is_dash(word) { b"" } else { word }, out),
         Kind::Entry => out.extend_from_slice(word),
+        Kind::Name => put_quoted(word, out),
     }
 }
 

@@ -1,8 +1,8 @@
-//! Words of digits.
+//! Words of digits, and names.
 
 ghost use Rattle.std.specs.Prelude.{◌≡◌, ◌^◌};
 ghost use Rattle.std.specs.List.{list_all};
-ghost use Rattle.nr_explain.specs.Words.{is_digit, is_hex_digit, has_no_leading_zero, is_numeral, number_below, is_hash, is_dash, are_bytes};
+ghost use Rattle.nr_explain.specs.Words.{is_digit, is_hex_digit, has_no_leading_zero, is_numeral, number_below, is_hash, is_name_byte, is_name, is_dash, are_bytes};
 
 use std::str;
 
@@ -97,6 +97,19 @@ pub(crate) fn is_hash(word: &[u8]) -> bool
     ensures { result ≡ is_hash word.now }
 {
     word.len() == 64 && all_hex_digits(word)
+}
+
+fn is_name_byte(byte: u8) -> bool
+    ensures { result ≡ is_name_byte byte }
+{
+    33 <= byte && (byte <= 126 && byte != 34)
+}
+
+/// A name in visible characters, without quotes. It may be empty.
+pub(crate) fn is_name(word: &[u8]) -> bool
+    ensures { result ≡ is_name word.now }
+{
+    word.iter().all(|byte| is_name_byte(*byte))
 }
 
 pub(crate) fn is_dash(word: &[u8]) -> bool

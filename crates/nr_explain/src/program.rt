@@ -8,7 +8,8 @@ ghost use Rattle.nr_explain.specs.Programs.{common_form, chain_form, file_form, 
 
 use crate::form::{Field, form_of};
 use crate::line_sentences::{
-    bad_codes, failures, faults, invalid_modules, module_traps, modules, refusals, steps, traps,
+    bad_codes, failures, faults, invalid_modules, listings, module_traps, modules, refusals, steps,
+    traps,
 };
 use crate::sentences::{
     chains, configurations, gathered_chunks, geneses, items, programs, proofs, schedules,
@@ -105,7 +106,8 @@ fn report_form(line: &[u8]) -> Option<&'static [Field]>
 fn module_form(line: &[u8]) -> Option<&'static [Field]>
     ensures { option_map (λ f. form_in f.now) result ≡ module_form (pieces 32 line.now) }
 {
-    let form = form_of(module_traps(), line);
+    let form = form_of(listings(), line);
+    let form = either(form_of(module_traps(), line), form);
     let form = either(form_of(invalid_modules(), line), form);
     either(form_of(modules(), line), form)
 }

@@ -313,6 +313,7 @@ fn put_said(alloc: Global, kind: &Kind, word: &[u8], out: &mut Vec<u8>) -> Resul
             out.extend_from_slice(word)?;
             put_entry(alloc, word, out)
         }
+        Kind::Name => out.extend_from_slice(word),
     }
 }
 

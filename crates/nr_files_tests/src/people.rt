@@ -183,6 +183,63 @@ fn lines_of_modules_have_sentences(rt: HostRuntime) -> Result<(), Fail> {
 }
 
 #[test]
+fn lines_of_a_listing_have_sentences(rt: HostRuntime) -> Result<(), Fail> {
+    for (line, sentence) in [
+        (
+            "import env storage_write ok",
+            "The module imports env storage_write: the host has it.",
+        ),
+        (
+            "near_module import env memory kind",
+            "The module imports env memory: it is no function.",
+        ),
+        (
+            "import  a\\20b module",
+            "The module imports  a\\20b: the host has nothing but `env`.",
+        ),
+        (
+            "import env sleep name",
+            "The module imports env sleep: the host has no function of this name.",
+        ),
+        (
+            "import env log_utf8 type",
+            "The module imports env log_utf8: the host's function of this name has another type.",
+        ),
+        ("export method go", "The module exports a method: go."),
+        (
+            "export function add",
+            "The module exports a function that is no method: add.",
+        ),
+        ("export table t", "The module exports a table: t."),
+        (
+            "export memory memory",
+            "The module exports a memory: memory.",
+        ),
+        ("export global ", "The module exports a global: ."),
+        (
+            "table 1 none",
+            "The table has at least 1 entries, and no bound.",
+        ),
+        (
+            "table 1 2",
+            "The table has at least 1 entries, and at most 2.",
+        ),
+        (
+            "memory 1 none",
+            "The memory has at least 1 pages of 64 KiB, and no bound.",
+        ),
+        (
+            "near_module memory 1 2",
+            "The memory has at least 1 pages of 64 KiB, and at most 2.",
+        ),
+        ("size 40", "So many bytes has the file: 40."),
+    ] {
+        assert!(rt; is_told(rt.alloc(), line, sentence)?, "{line}");
+    }
+    Ok(())
+}
+
+#[test]
 fn lines_of_a_report_have_sentences(rt: HostRuntime) -> Result<(), Fail> {
     for (line, sentence) in [
         (
@@ -355,6 +412,10 @@ fn other_numbers_have_none(rt: HostRuntime) -> Result<(), Fail> {
         "near_modules ok",
         "no 1 3 0",
         "no 3 5 1",
+        "import env a\"b ok",
+        "import env go maybe",
+        "table none 1",
+        "near_serial size 40",
         "no 8 0 0",
         "trap 9 12",
         "tx 0b refused 1 0 0",
