@@ -99,14 +99,15 @@ blocks_line bytes fault =
 abbrev pub is_genesis : List ℕ → Bool
 is_genesis bytes = is_ok (all_of genesis_at bytes)
 
--- where the reading of so many entries stops
-abbrev pub entry_by : Read GenesisEntry → ℕ → (Input → ℕ) → ℕ
-entry_by (Ok read) at next = next read.1
-entry_by (Err fault) at next = at
+-- what is left behind an entry that is read
+unfoldable pub entry_rest : Read GenesisEntry → Input → Input
+entry_rest (Ok read) s = read.1
+entry_rest (Err fault) s = s
 
+-- where the reading of so many entries stops
 unfoldable pub stop_of : ℕ → Input → ℕ
 stop_of zero s = s.at
-stop_of (suc n) s = entry_by (entry_at s) s.at (λ t. stop_of n t)
+stop_of (suc n) s = cond (is_ok (entry_at s)) (stop_of n (entry_rest (entry_at s) s)) s.at
 
 -- the count of the entries, and what stands behind it
 unfoldable pub entries_in : Input → Read ℕ

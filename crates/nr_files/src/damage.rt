@@ -1,8 +1,9 @@
 //! What is wrong with the bytes of a file, in words.
 
-ghost use Rattle.std.specs.Prelude.{◌≡◌, ◌-◌, ◌++◌, [], IfOk, Some, codes, decimal, length, option_map, slice_get, string_bytes, take};
+ghost use Rattle.std.specs.Prelude.{◌≡◌, ◌-◌, ◌<◌, ◌++◌, [], IfOk, Some, codes, cond, decimal, is_ok, length, option_map, slice_get, string_bytes, take};
+ghost use Rattle.nr_blocks.specs.GenesisFiles.{entry_at};
 ghost use Rattle.nr_bytes.specs.Answers.{GivesRead};
-ghost use Rattle.nr_files.specs.Damage.{begun, blocks_line, byte_line, entries_in, entry_place, field_line, flag_line, gathered_damage, genesis_damage, genesis_field, genesis_kinds, is_blocks, is_gathered, is_genesis, is_part, kind_line, or_begun, ordinal_line, part_damage, place_line, place_of, placed, rest_line, stop_of, word_line};
+ghost use Rattle.nr_files.specs.Damage.{begun, blocks_line, byte_line, entries_in, entry_place, entry_rest, field_line, flag_line, gathered_damage, genesis_damage, genesis_field, genesis_kinds, is_blocks, is_gathered, is_genesis, is_part, kind_line, or_begun, ordinal_line, part_damage, place_line, place_of, placed, rest_line, stop_of, word_line};
 ghost use Rattle.nr_records.specs.declared.fault.RecordFault.TheVariants.{Memory};
 
 use crate::versions::blocks_read;
@@ -105,13 +106,19 @@ pub(crate) fn placed_text(
     Ok(text)
 }
 
+fn counted_text(alloc: Global, count: usize, words: &str) -> Result<String, AllocError>
+    ensures { IfOk result (λ text. string_bytes text ≡ decimal count ++ words.now) }
+{
+    let mut text = String::new(alloc);
+    write!(text, "{count}{words}")?;
+    Ok(text)
+}
+
 fn more_text(alloc: Global, at: usize, count: usize) -> Result<String, AllocError>
     ensures { IfOk result (λ text. string_bytes text ≡ decimal count ++ placed (codes " bytes stand after the last field, at byte ") at []) }
 {
     let place = placed_text(alloc, " bytes stand after the last field, at byte ", at, "")?;
-    let mut text = String::new(alloc);
-    write!(text, "{count}{place}")?;
-    Ok(text)
+    counted_text(alloc, count, place.as_str())
 }
 
 fn rest_text(alloc: Global, at: usize, count: usize) -> Result<String, AllocError>
@@ -308,17 +315,38 @@ fn entries_in(alloc: Global, reader: &mut Reader<'_>) -> Result<u32, RecordFault
     Ok(reader.u32()?)
 }
 
+/// Reads an entry, and says whether there was one.
+#[tactic(auto, unfolding(crate::specs::Damage::entry_rest))]
+fn pass_entry(alloc: Global, reader: &mut Reader<'_>) -> Result<bool, AllocError>
+    ensures more { IfOk result (λ more. more ≡ is_ok (entry_at reader.old)) }
+    ensures rest { IfOk result (λ more. reader.new ≡ entry_rest (entry_at reader.old) reader.old) }
+{
+    match GenesisEntry::read(alloc, reader) {
+        Ok(_) => Ok(true),
+        Err(RecordFault::Memory) => Err(AllocError),
+        Err(_) => Ok(false),
+    }
+}
+
+/// How many entries are left to be read: none where one couldn't be.
+fn entries_left(more: bool, left: u32) -> u32
+    ensures value { result ≡ cond more (left - 1) 0 }
+    ensures fewer { 0 < left → result < left }
+{
+    if !more {
+        return 0;
+    }
+    if left > 0 { left - 1 } else { 0 }
+}
+
 /// Where the reading of so many entries stops.
 fn stop_of(alloc: Global, count: u32, reader: &mut Reader<'_>) -> Result<usize, AllocError>
     ensures { IfOk result (λ at. at ≡ stop_of count reader.old) }
 {
     let mut left = count;
     while left > 0 {
-        match GenesisEntry::read(alloc, reader) {
-            Ok(_) => left -= 1,
-            Err(RecordFault::Memory) => return Err(AllocError),
-            Err(_) => return Ok(reader.at()),
-        }
+        let more = pass_entry(alloc, reader)?;
+        left = entries_left(more, left);
     }
     Ok(reader.at())
 }
