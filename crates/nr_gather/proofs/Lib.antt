@@ -1,6 +1,7 @@
 mod Orders
 mod Levels
 mod Sweeps
+mod Turning
 mod Held
 mod Looked
 mod Results

@@ -11,7 +11,7 @@ ghost use Rattle.nr_gather.specs.Sweeping.{has_value, count_of, value_text, path
 use crate::waiting::Waiting;
 use nr_bytes::{Blob, List};
 use nr_triedef::{Node, nibbles, node_text};
-use nr_walk::{Entry, Searched, Spot, finds, looks, spots_of};
+use nr_walk::{Entry, Searched, Sought, Spot, spots_of};
 use std::alloc::{AllocError, Global};
 
 fn has_value(node: &Node) -> bool
@@ -56,18 +56,18 @@ fn behind<'a>(node: &Node, entries: &'a [Entry]) -> &'a [Entry]
 fn add_value(
     alloc: Global,
     texts: &mut Vec<Blob>,
-    searched: &[Searched],
+    sought: &Sought<'_>,
     entries: &[Entry],
     node: &Node,
 ) -> Result<(), AllocError>
-    ensures { OnOk result (texts.new.items ≡ texts.old.items ++ value_text searched.now node.now (paths (pairs_of entries.now))) }
+    ensures { OnOk result (texts.new.items ≡ texts.old.items ++ value_text sought.now node.now (paths (pairs_of entries.now))) }
 {
     if !has_value(node) {
         return Ok(());
     }
     if let Some(entry) = entries.first() {
         let key = nibbles(alloc, entry.key.inner())?;
-        if finds(searched, key.inner()) {
+        if sought.finds(key.inner()) {
             texts.push(Blob::of(Vec::from_slice(alloc, entry.value.inner())?))?;
         }
     }
@@ -79,21 +79,22 @@ fn look(
     alloc: Global,
     texts: &mut Vec<Blob>,
     waiting: &mut Waiting,
-    searched: &[Searched],
+    sought: &mut Sought<'_>,
     entries: &[Entry],
     spot: &Spot,
     node: &Node,
 ) -> Result<u128, AllocError>
     requires { IsNode node.now }
     ensures few { IfOk result (λ passed. passed ≤ 16) }
-    ensures value { IfOk result (λ passed. (more : Items Nodes) → texts.new.items ++ swept searched.now passed waiting.new more (paths_behind node.now (paths (pairs_of entries.now))) ≡ texts.old.items ++ swept searched.now 0 (spot.now ∷ waiting.old) (node.now ∷ more) (paths (pairs_of entries.now))) }
+    ensures same { sought.new ≡ sought.old }
+    ensures value { IfOk result (λ passed. (more : Items Nodes) → texts.new.items ++ swept sought.old passed waiting.new more (paths_behind node.now (paths (pairs_of entries.now))) ≡ texts.old.items ++ swept sought.old 0 (spot.now ∷ waiting.old) (node.now ∷ more) (paths (pairs_of entries.now))) }
 {
     texts.push(node_text(alloc, node)?)?;
     let place = spot.place.inner();
-    if !looks(searched, place) {
+    if !sought.looks(place)? {
         return Ok(count_of(node));
     }
-    add_value(alloc, texts, searched, entries, node)?;
+    add_value(alloc, texts, sought, entries, node)?;
     waiting.put(List::of(spots_of(alloc, place, node)?))?;
     Ok(0)
 }
@@ -112,6 +113,7 @@ pub(crate) fn looked_texts(
 {
     let mut texts = Vec::new(alloc);
     let mut waiting = Waiting::of(alloc, top)?;
+    let mut sought = Sought::of(alloc, searched)?;
     let mut rest = entries;
     let mut passed: u128 = 0;
     for node in nodes {
@@ -121,7 +123,15 @@ pub(crate) fn looked_texts(
             match waiting.pop() {
                 None => return Ok(List::of(texts)),
                 Some(spot) => {
-                    passed = look(alloc, &mut texts, &mut waiting, searched, rest, &spot, node)?;
+                    passed = look(
+                        alloc,
+                        &mut texts,
+                        &mut waiting,
+                        &mut sought,
+                        rest,
+                        &spot,
+                        node,
+                    )?;
                 }
             }
         }

@@ -220,6 +220,15 @@ pub(crate) const OWNED: &str = "\
     change aa\n\
     is e1b0bf152013d3d0fe8c58ba942bb93ad9ebc8b788292ba0babc48c624c99a03\n";
 
+/// What a walk for one of two accounts finds.
+pub(crate) const FOUND: &str = "\
+    found 006162 61\n\
+    found 016162 636f6465\n\
+    found 02616202006b31 6b6579\n\
+    found 07 6e756d62657273\n\
+    found 070000000000000000 6669727374\n\
+    found 0961622c6162 66\n";
+
 /// Twelve entries of two accounts and of the queue; values that stand twice are held once.
 pub(crate) const TWELVE: &str = "\
     root ac155fb80af7767263d6b0cd5c103611060d20ebb33e069166e04df16389b2da\n\

@@ -2,6 +2,7 @@ pub mod Completing
 pub mod Couples
 pub mod Entering
 pub mod Fitting
+pub mod Narrowing
 pub mod Pairs
 pub mod Passing
 pub mod Placing

@@ -42,7 +42,7 @@ on_way (x ∷ place) k (y ∷ path) below h o =
     ap (λ b. (b && starts_with ◌==◌ path place) || (below && ((y == x) && starts_with ◌==◌ place path))) back
     ∙ ap (λ b. starts_with ◌==◌ path place || (below && (b && starts_with ◌==◌ place path))) head ∙ more
 
-met_on_way : (place k : List ℕ) (one : Searched) → is_found (place ++ k) one ≡ true → is_met place one ≡ true
+pub met_on_way : (place k : List ℕ) (one : Searched) → is_found (place ++ k) one ≡ true → is_met place one ≡ true
 met_on_way place k one h =
     let begins = left_true (starts_with ◌==◌ (place ++ k) one.path) (one.below || (length (place ++ k) == length one.path)) h in
     let ends = either one.below (length (place ++ k) == length one.path) (right_true (starts_with ◌==◌ (place ++ k) one.path) (one.below || (length (place ++ k) == length one.path)) h) in
@@ -67,7 +67,7 @@ begins_shorter (x ∷ place) k [] h = absurd cc
 begins_shorter (x ∷ place) k (y ∷ path) h =
     ap (λ b. b && starts_with ◌==◌ path place) (left_true (x == y) (starts_with ◌==◌ path (place ++ k)) h) ∙ begins_shorter place k path (right_true (x == y) (starts_with ◌==◌ path (place ++ k)) h)
 
-met_shorter : (place k : List ℕ) (one : Searched) → is_met (place ++ k) one ≡ true → is_met place one ≡ true
+pub met_shorter : (place k : List ℕ) (one : Searched) → is_met (place ++ k) one ≡ true → is_met place one ≡ true
 met_shorter place k one h =
     elim (either (starts_with ◌==◌ one.path (place ++ k)) (one.below && starts_with ◌==◌ (place ++ k) one.path) h) [
       | inl e ↦ ap (λ b. b || (one.below && starts_with ◌==◌ place one.path)) (begins_shorter place k one.path e)

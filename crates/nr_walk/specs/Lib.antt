@@ -2,6 +2,7 @@ pub mod Looked
 pub mod Looking
 pub mod Searched
 pub mod Shown
+pub mod Sought
 pub mod Texts
 pub mod Told
 pub mod Tries

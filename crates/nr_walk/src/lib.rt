@@ -6,6 +6,7 @@ mod fault;
 mod laws;
 mod looking;
 mod searched;
+mod sought;
 mod texts;
 mod told;
 mod walking;
@@ -16,6 +17,7 @@ pub use laws::{completing_law, passing_law};
 pub use looking::{look_at, value_text};
 pub use nr_columns::Entry;
 pub use searched::{Searched, finds, looks};
+pub use sought::Sought;
 pub use texts::Texts;
 pub use told::{
     Ending, Spot, children_of, ending_of, further, is_branch, is_extension, own_usage,

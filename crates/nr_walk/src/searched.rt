@@ -14,14 +14,14 @@ pub struct Searched {
     pub below: bool,
 }
 
-fn is_met(one: &Searched, place: &[u8]) -> bool
+pub(crate) fn is_met(one: &Searched, place: &[u8]) -> bool
     ensures { result ≡ is_met place.now one.now }
 {
     let path = one.path.inner();
     path.starts_with(place) || one.below && place.starts_with(path)
 }
 
-fn is_found(one: &Searched, key: &[u8]) -> bool
+pub(crate) fn is_found(one: &Searched, key: &[u8]) -> bool
     ensures { result ≡ is_found key.now one.now }
 {
     let path = one.path.inner();

@@ -8,7 +8,8 @@ ghost use Rattle.nr_walk.specs.Walking.{stub_of, ended, entered, visited, walk_f
 
 use crate::fault::WalkFault;
 use crate::looking::{look_at, value_text};
-use crate::searched::{Searched, finds, looks};
+use crate::searched::Searched;
+use crate::sought::Sought;
 use crate::texts::Texts;
 use crate::told::{Ending, Spot, ending_of, further, part_nibbles, spots_of};
 use nr_bytes::{Blob, List};
@@ -124,17 +125,17 @@ ghost use Rattle.std.specs.Prelude.{◌-◌, ◌+◌, ◌*◌};
 fn ended(
     alloc: Global,
     texts: &Texts,
-    searched: &[Searched],
+    sought: &Sought<'_>,
     place: &[u8],
     ending: &Option<Ending>,
 ) -> Result<Option<Gain>, WalkFault>
-    ensures { Gives memory_fault result (ended texts.now searched.now place.now ending.now) }
+    ensures { Gives memory_fault result (ended texts.now sought.now place.now ending.now) }
 {
     match ending {
         None => Ok(None),
         Some(ending) => {
             let path = further(alloc, place, ending.step.inner())?;
-            if finds(searched, path.inner()) {
+            if sought.finds(path.inner()) {
                 let text = value_text(texts, ending.length, &ending.hash)?;
                 let key = packed(alloc, path.inner())?;
                 let value = Blob::of(Vec::from_slice(alloc, text)?);
@@ -154,14 +155,15 @@ fn ended(
 fn visited(
     alloc: Global,
     texts: &Texts,
-    searched: &[Searched],
+    sought: &mut Sought<'_>,
     spot: &Spot,
 ) -> Result<Visit, WalkFault>
-    ensures { Gives memory_fault result (visited texts.now searched.now spot.now) }
+    ensures same { sought.new ≡ sought.old }
+    ensures gives { Gives memory_fault result (visited texts.now sought.old spot.now) }
 {
     let node = look_at(alloc, texts, spot)?;
     let place = spot.place.inner();
-    if !looks(searched, place) {
+    if !sought.looks(place)? {
         let kept = stub_of(alloc, spot, &node)?;
         return Ok(Visit {
             gain: Some(Gain::Beside(kept)),
@@ -169,7 +171,7 @@ fn visited(
         });
     }
     let ending = ending_of(alloc, &node)?;
-    let gain = ended(alloc, texts, searched, place, &ending)?;
+    let gain = ended(alloc, texts, sought, place, &ending)?;
     let below = List::of(spots_of(alloc, place, &node)?);
     Ok(Visit { gain, below })
 }
@@ -213,13 +215,14 @@ pub(crate) fn walk_from(
 {
     let mut gains = Vec::new(alloc);
     let mut waiting = list_of(alloc, top)?;
+    let mut sought = Sought::of(alloc, searched)?;
     let mut left = MOST_NODES;
     while let Some(spot) = waiting.pop() {
         if left == 0 {
             return Err(WalkFault::TooMany);
         }
         left -= 1;
-        let step = visited(alloc, texts, searched, &spot)?;
+        let step = visited(alloc, texts, &mut sought, &spot)?;
         push_gain(&mut gains, step.gain)?;
         push_spots(&mut waiting, step.below)?;
     }

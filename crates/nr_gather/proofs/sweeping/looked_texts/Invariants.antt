@@ -8,6 +8,7 @@ use Rattle.nr_gather.proofs.sweeping.looked_texts.Given as goal
 
 abbrev pub invariant-loop-node : goal.invariant-loop-node
 invariant-loop-node l = record {
+  same : l.sought ≡ l.searched;
   so_far : l.texts.items ++ swept l.searched l.passed l.waiting (drop l.node-index l.nodes) (paths (pairs_of l.rest)) ≡ swept l.searched 0 (l.fn.top ∷ []) l.nodes (paths (pairs_of l.entries));
   few : l.passed ≤ 16 * l.node-index + 16;
   form : AllByRecursion IsNode (drop l.node-index l.nodes);
