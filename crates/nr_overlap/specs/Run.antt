@@ -45,11 +45,11 @@ module _ {W K L R : Type 0} (r : Rules W K L R) where
   run_of ps [] = ps
   run_of ps (e ∷ es) = run_of (tried ps e) es
 
-  -- what a step answers and leaves
+  -- what a step answers and leaves; a core that is whole meets want of memory at a step that is enabled
   abbrev pub Steps : {P : Type 0} → CoreView P → Event → Result (Unit {0}) StepFault → CoreView P → Type 0
   Steps old e (Ok _) new = (old.lost ≡ false) × (refusal r old.positions e ≡ None) × (new ≡ whole_at old (moved old.positions e))
   Steps old e (Err (NotEnabled why)) new = (old.lost ≡ false) × (refusal r old.positions e ≡ Some why) × (new ≡ old)
-  Steps old e (Err Memory) new = new ≡ lost_at old old.positions
+  Steps old e (Err Memory) new = (old.lost ≡ false → refusal r old.positions e ≡ None) × (new ≡ lost_at old old.positions)
 
   -- what an event that is tried leaves, whether it was enabled or not
   abbrev pub Tries : {P : Type 0} → CoreView P → Event → Result (Unit {0}) AllocError → CoreView P → Type 0

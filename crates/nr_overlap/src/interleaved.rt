@@ -208,8 +208,8 @@ impl<P: Phases> Core<P> {
     ///
     /// # Errors
     ///
-    /// `NotEnabled` with the first of the reasons of `Why`. Nothing is changed. `Memory` where there was none for the
-    /// step: positions and reports stay, and each later step answers `Memory` too.
+    /// `NotEnabled` with the first of the reasons of `Why`. Nothing is changed. `Memory` where the step is enabled and
+    /// there was none for it: positions and reports stay, and each later step answers `Memory` too.
     pub fn step(&mut self, event: Event) -> Result<(), StepFault>
         requires inside { IsInside (P.rules self.old.phases).shards event }
         ensures { Steps (P.rules self.old.phases) self.old event result self.new }
