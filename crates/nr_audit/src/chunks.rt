@@ -18,8 +18,8 @@ use nr_chunk::{ChainRun, ChunkStore};
 use nr_extract::chunk_behind;
 use nr_gathered::write_gathered;
 use nr_ids::{Height, ShardId};
+use nr_outcome::add_lines;
 use nr_overlap::{Core, Phases};
-use nr_report::write_chunk;
 use nr_state::Caller;
 use std::alloc::{AllocError, Global};
 
@@ -83,23 +83,6 @@ pub(crate) fn gather_height<C: Caller<ChunkStore>>(
     Ok(files)
 }
 
-/// Appends the lines of a chunk, where it is sealed.
-fn add_lines<C: Caller<ChunkStore>>(
-    alloc: Global,
-    core: &Core<ChainRun<C>>,
-    shard: ShardId,
-    height: Height,
-    text: &mut Blob,
-) -> Result<(), AllocError>
-    ensures { let r = rules_of (chain_in core.now.phases) in
-        OnOk result (text.new ≡ text.old ++ report_text (report_at r core.now.positions shard.0 height.0)) }
-{
-    match core.report(shard, height) {
-        Some(report) => write_chunk(alloc, report, text),
-        None => Ok(()),
-    }
-}
-
 /// The lines of a chunk; none where it isn't sealed.
 fn lines_of<C: Caller<ChunkStore>>(
     alloc: Global,
@@ -111,7 +94,7 @@ fn lines_of<C: Caller<ChunkStore>>(
         IfOk result (λ text. text ≡ report_text (report_at r core.now.positions shard.0 height.0)) }
 {
     let mut text = Blob::of(Vec::new(alloc));
-    add_lines(alloc, core, shard, height, &mut text)?;
+    add_lines(alloc, core.report(shard, height), &mut text)?;
     Ok(text)
 }
 

@@ -25,4 +25,4 @@ pub use chunk_work::ChunkWork;
 pub use chunk_world::ChunkWorld;
 pub use start::Resumed;
 pub use state::ChunkStore;
-pub use tally::Tally;
+pub use tally::{Tally, tally_report};

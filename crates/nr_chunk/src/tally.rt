@@ -1,6 +1,6 @@
 //! What the parts of a run hold.
 
-ghost use Rattle.std.specs.Prelude.{◌≡◌, ◌+◌, ◌≤◌, ◌<◌, ◌^◌, true, IfOk, count_by, sum_by, length};
+ghost use Rattle.std.specs.Prelude.{◌≡◌, ◌+◌, ◌≤◌, ◌<◌, ◌^◌, true, IfOk, SomeIff, count_by, sum_by};
 ghost use Rattle.nr_chunk.specs.Chain.{AreBounded, IsCountable, working_tokens};
 ghost use Rattle.nr_chunk.specs.Tallies.{is_sent, executions, tally_list, tally_report, tally_state};
 ghost use Rattle.nr_chunk.specs.Tallies.{tally_working, tally_world};
@@ -90,6 +90,20 @@ fn sent(lines: &[ChunkLine]) -> u64
         .count() as u64
 }
 
+/// What a sealed chunk burnt, routed and executed: `None` exactly where it routed more receipts than its number holds.
+pub fn tally_report(report: &ChunkResult) -> Option<Tally>
+    ensures { SomeIff result (report.now.local + count_by is_sent report.now.lines < 2 ^ 64) (tally_report report.now) }
+{
+    let lines = report.lines.inner();
+    let routed = report.local.checked_add(sent(lines))?;
+    Some(Tally {
+        accounts: 0,
+        receipts: 0,
+        burnt: report.burnt,
+        places: [routed, executions(lines), 0, 0, 0],
+    })
+}
+
 /// What a state holds.
 fn tally_state(alloc: Global, config: &Config, state: &State) -> Result<Tally, AllocError>
     requires whole { state.now.whole ≡ true }
@@ -157,20 +171,6 @@ impl<C: Caller<ChunkStore>> ChainRun<C> {
             places: [work.local, executions(&work.lines), postponed, delayed, 0],
             ..held
         })
-    }
-
-    /// What a sealed chunk burnt, routed and executed.
-    pub fn tally_report(&self, report: &ChunkResult) -> Tally
-        requires fits { report.now.local + length report.now.lines < 2 ^ 64 }
-        ensures { result ≡ tally_report report.now }
-    {
-        let lines = report.lines.inner();
-        Tally {
-            accounts: 0,
-            receipts: 0,
-            burnt: report.burnt,
-            places: [report.local + sent(lines), executions(lines), 0, 0, 0],
-        }
     }
 
     /// What a list in flight holds.

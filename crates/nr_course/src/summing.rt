@@ -9,7 +9,7 @@ ghost use Rattle.nr_overlap.specs.Run.{ending};
 ghost use Rattle.nr_places.specs.Totals.{plus, tally_at};
 
 use nr_chunk::{ChunkStore, Tally};
-use nr_outcome::{Outcome, add_tallies};
+use nr_outcome::{Outcome, added};
 use nr_report::Totals;
 use nr_state::Caller;
 use std::alloc::{AllocError, Global};
@@ -43,7 +43,7 @@ pub fn totals_over<C: Caller<ChunkStore>>(
         ≡ totals_of supply (plus past (tally_at x (ending (rules_of x))))) }
 {
     let last = outcome.tally(alloc)?;
-    let all = add_tallies(past, last).ok_or(AllocError)?;
+    let all = added(past, last)?;
     let places = all.places;
     Ok(Totals {
         supply,

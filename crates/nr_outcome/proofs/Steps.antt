@@ -1,9 +1,13 @@
--- One part more of a text or a sum.
-use Rattle.std.proofs.Common.{◌≡◌, ℕ, zero, suc, ◌+◌, ◌-◌, ◌≤◌, max, List, [], ◌++◌, append_assoc, sym, ap, subst, ◌∙◌, arith, add-one}
+-- One part more of a text or a sum, and a sum that doesn't fit.
+use Rattle.std.proofs.Common.{◌≡◌, ℕ, zero, suc, ◌+◌, ◌-◌, ◌≤◌, ◌<◌, ◌^◌, max, List, [], ◌++◌, append_assoc, sym, ap, subst, ◌∙◌, arith, add-one}
 use Rattle.std.proofs.lemmas.List.{append-nil}
+use Rattle.std.specs.Prelude.{count_by, slice_index}
+use Rattle.nr_chunk.specs.Tallies.{is_sent, tally_report}
 use Rattle.nr_chunk.specs.declared.tally.Tally.{Tally}
 use Rattle.nr_overlap.specs.Balance.{sum_below}
 use Rattle.nr_places.specs.Totals.{plus, tally_below}
+use Rattle.nr_records.specs.declared.chunk_result.ChunkResult.{ChunkResult}
+use Rattle.nr_outcome.specs.Fitting.{Fits}
 use Rattle.nr_outcome.specs.Texts.{text_below, text_between}
 
 pub text_next : (n : ℕ) (f : ℕ → List ℕ) (old mid new : List ℕ) → mid ≡ old ++ text_below n f → new ≡ mid ++ f n → new ≡ old ++ text_below (n + 1) f
@@ -76,6 +80,12 @@ joined_between from mid to f a b =
 pub tally_next : (n : ℕ) (f : ℕ → Tally) (mid more new : Tally) → mid ≡ tally_below n f → more ≡ f n → new ≡ plus mid more → new ≡ tally_below (n + 1) f
 unfolding tally_below
 tally_next n f mid more new e h g = g ∙ (λ i. plus (e i) (h i)) ∙ ap (λ k. tally_below k f) (sym (add-one n))
+
+-- where a chunk routed more receipts than a number holds, no sum with it fits
+pub no_room : (sum : Tally) (y : ChunkResult) → ¬ (y.local + count_by is_sent y.lines < 2 ^ 64) → ¬ Fits (plus sum (tally_report y))
+no_room sum y none fits =
+    let small : slice_index sum.places 0 + (y.local + count_by is_sent y.lines) < 2 ^ 64 = fits.places.routed in
+    none (omega (arith, small))
 
 pub sum_next : (n : ℕ) (f : ℕ → ℕ) (old more new : ℕ) → old ≡ sum_below n f → more ≡ f n → new ≡ old + more → new ≡ sum_below (n + 1) f
 sum_next n f old more new e g h = h ∙ (λ i. e i + g i) ∙ sym (ap (λ k. sum_below k f) (add-one n))

@@ -12,5 +12,5 @@ mod text;
 
 pub use outcome::{Left, Outcome, Parts};
 pub use reports::Reports;
-pub use tallies::{add_tallies, no_tally};
-pub use text::joined;
+pub use tallies::{add_report, add_tallies, added, no_tally};
+pub use text::{add_lines, joined};

@@ -163,7 +163,7 @@ impl<C: Caller<ChunkStore>> Outcome<C> {
     {
         let _ = self.chain.shards();
         let held = sum_worlds(alloc, &self.chain, self.worlds.inner())?;
-        let told = sum_reports(&self.chain, &self.reports)?;
+        let told = sum_reports(&self.reports)?;
         let flying = sum_lists(&self.chain, self.left.inner())?;
         let both = added(held, told)?;
         let tally = added(both, flying)?;

@@ -1,10 +1,12 @@
 //! Sums of tallies: what parts of a run hold together.
 
-ghost use Rattle.std.specs.Prelude.{◌≡◌, IfOk, SomeIff};
-ghost use Rattle.nr_places.specs.Totals.{nothing, plus, plus_counts};
+ghost use Rattle.std.specs.Prelude.{◌≡◌, OkIff, SomeIff};
+ghost use Rattle.std.specs.Option.{option_copied};
+ghost use Rattle.nr_places.specs.Totals.{nothing, plus, plus_counts, report_tally};
 ghost use Rattle.nr_outcome.specs.Fitting.{CountsFit, Fits};
 
-use nr_chunk::Tally;
+use nr_chunk::{Tally, tally_report};
+use nr_records::ChunkResult;
 use std::alloc::AllocError;
 
 /// The tally of nothing.
@@ -50,9 +52,31 @@ pub fn add_tallies(a: Tally, b: Tally) -> Option<Tally>
     })
 }
 
-/// The sum of two tallies. One that doesn't fit counts as want of memory.
-pub(crate) fn added(a: Tally, b: Tally) -> Result<Tally, AllocError>
-    ensures { IfOk result (λ sum. sum ≡ plus a b) }
+/// The sum of two tallies, where one that doesn't fit counts as want of memory.
+///
+/// # Errors
+///
+/// Exactly where one of its numbers doesn't fit.
+pub fn added(a: Tally, b: Tally) -> Result<Tally, AllocError>
+    ensures { OkIff result (Fits (plus a b)) (plus a b) }
 {
     add_tallies(a, b).ok_or(AllocError)
+}
+
+#[tactic(auto, using(crate::proofs::Steps::no_room))]
+/// A tally with what a chunk burnt, routed and executed, if the chunk is there.
+///
+/// # Errors
+///
+/// Exactly where one of the numbers doesn't fit. It counts as want of memory.
+pub fn add_report(sum: Tally, report: Option<&ChunkResult>) -> Result<Tally, AllocError>
+    ensures { let all = plus sum (report_tally (option_copied report.entry)) in OkIff result (Fits all) all }
+{
+    match report {
+        Some(report) => match tally_report(report) {
+            Some(more) => added(sum, more),
+            None => Err(AllocError),
+        },
+        None => added(sum, no_tally()),
+    }
 }

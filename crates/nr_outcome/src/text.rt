@@ -1,26 +1,30 @@
 //! The text of the chunks of a run that is over.
 
 ghost use Rattle.std.specs.Prelude.{◌≡◌, ◌+◌, ◌-◌, ◌++◌, IfOk, OnOk};
+ghost use Rattle.std.specs.Option.{option_copied};
 ghost use Rattle.nr_outcome.specs.Reports.{report_in};
 ghost use Rattle.nr_outcome.specs.Texts.{height_text, heights_text, report_text};
 
 use crate::reports::Reports;
 use nr_bytes::Blob;
 use nr_ids::{Height, ShardId};
+use nr_records::ChunkResult;
 use nr_report::write_chunk;
 use std::alloc::{AllocError, Global};
 
-/// Adds the text of a chunk, where it is there.
-fn add_report(
+/// Adds the text of a chunk, if it is there.
+///
+/// # Errors
+///
+/// Where memory runs out.
+pub fn add_lines(
     alloc: Global,
-    reports: &Reports,
-    shard: ShardId,
-    height: Height,
+    report: Option<&ChunkResult>,
     text: &mut Blob,
 ) -> Result<(), AllocError>
-    ensures { OnOk result (text.new ≡ text.old ++ report_text (report_in reports.now shard.0 height.0)) }
+    ensures { OnOk result (text.new ≡ text.old ++ report_text (option_copied report.entry)) }
 {
-    match reports.report(shard, height) {
+    match report {
         Some(report) => write_chunk(alloc, report, text),
         None => Ok(()),
     }
@@ -37,7 +41,7 @@ fn add_height(
     ensures { OnOk result (text.new ≡ text.old ++ height_text reports.now.shards (report_in reports.now) height.0) }
 {
     for shard in 0..reports.shards {
-        add_report(alloc, reports, ShardId(shard), height, text)?;
+        add_lines(alloc, reports.report(ShardId(shard), height), text)?;
     }
     Ok(())
 }

@@ -1,8 +1,24 @@
--- One part more of a sum.
-use Rattle.std.proofs.Common.{◌≡◌, ℕ, ◌+◌, sym, ap, ◌∙◌, add-one}
+-- Sums of tallies: one part more, and in the other order.
+use Rattle.std.proofs.Common.{◌≡◌, ℕ, ◌+◌, sym, ap, ◌∙◌, add-one, arith}
+use Rattle.std.specs.Prelude.{slice_index}
+use Rattle.nr_chunk.specs.Tallies.{five}
 use Rattle.nr_chunk.specs.declared.tally.Tally.{Tally}
 use Rattle.nr_places.specs.Totals.{plus, tally_below}
 
 pub tally_next : (n : ℕ) (f : ℕ → Tally) (mid more new : Tally) → mid ≡ tally_below n f → more ≡ f n → new ≡ plus mid more → new ≡ tally_below (n + 1) f
 unfolding tally_below
 tally_next n f mid more new e h g = g ∙ (λ i. plus (e i) (h i)) ∙ ap (λ k. tally_below k f) (sym (add-one n))
+
+turned_sum : (m n : ℕ) → m + n ≡ n + m
+turned_sum m n = omega arith
+
+pub turned : (a b : Tally) → plus a b ≡ plus b a
+turned a b =
+    let count : (i : ℕ) → slice_index a.places i + slice_index b.places i ≡ slice_index b.places i + slice_index a.places i =
+    λ i. turned_sum (slice_index a.places i) (slice_index b.places i) in
+    (λ i. record {
+      accounts = turned_sum a.accounts b.accounts i;
+      receipts = turned_sum a.receipts b.receipts i;
+      burnt = turned_sum a.burnt b.burnt i;
+      places = five (count 0 i) (count 1 i) (count 2 i) (count 3 i) (count 4 i);
+    })

@@ -13,8 +13,8 @@ ghost use Rattle.nr_schedule.specs.Driving.{HasNext, IsWithin, shown_text};
 use nr_bytes::Blob;
 use nr_chunk::{ChainRun, ChunkStore};
 use nr_ids::{Height, ShardId};
+use nr_outcome::add_lines;
 use nr_overlap::{Core, Event, Phases, Why};
-use nr_report::write_chunk;
 use nr_state::Caller;
 use std::alloc::{AllocError, Global};
 
@@ -92,23 +92,6 @@ pub(crate) fn add_why<C: Caller<ChunkStore>>(
     }
 }
 
-/// Adds the text of a chunk, where it is sealed.
-fn add_report<C: Caller<ChunkStore>>(
-    alloc: Global,
-    core: &Core<ChainRun<C>>,
-    shard: ShardId,
-    height: Height,
-    text: &mut Blob,
-) -> Result<(), AllocError>
-    ensures { let r = rules_of (chain_in core.now.phases) in
-        OnOk result (text.new ≡ text.old ++ report_text (report_at r core.now.positions shard.0 height.0)) }
-{
-    match core.report(shard, height) {
-        Some(report) => write_chunk(alloc, report, text),
-        None => Ok(()),
-    }
-}
-
 /// Adds the chunk of a shard that just sealed it.
 fn add_sealed<C: Caller<ChunkStore>>(
     alloc: Global,
@@ -123,7 +106,7 @@ fn add_sealed<C: Caller<ChunkStore>>(
 {
     let _heights = core.phases().heights();
     let number = core.position(shard).number;
-    add_report(alloc, core, shard, Height(number + 1), text)
+    add_lines(alloc, core.report(shard, Height(number + 1)), text)
 }
 
 /// Adds the lines of an event that was made.

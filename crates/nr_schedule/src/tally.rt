@@ -1,27 +1,19 @@
 //! What a run holds at a moment.
 
-ghost use Rattle.std.specs.Prelude.{◌≡◌, ◌+◌, ◌^◌, ◌<◌, ◌≤◌, true, length, IfOk};
+ghost use Rattle.std.specs.Prelude.{◌≡◌, ◌+◌, ◌<◌, IfOk};
 ghost use Rattle.nr_chunk.specs.Chain.{rules_of};
-ghost use Rattle.nr_overlap.specs.Moment.{report_at, flight_at};
+ghost use Rattle.nr_overlap.specs.Moment.{flight_at};
 ghost use Rattle.nr_schedule.specs.Moments.{IsMoment};
 ghost use Rattle.nr_chunk.specs.Runs.{chain_in};
-ghost use Rattle.nr_places.specs.Totals.{list_tally, report_tally, flying_from, held_by, plus, sealed_by};
+ghost use Rattle.nr_places.specs.Totals.{list_tally, flying_from, held_by, plus, sealed_by};
 ghost use Rattle.nr_places.specs.Totals.{tally_of, tally_at, tally_below};
 
 use nr_chunk::{ChainRun, ChunkStore, Tally};
 use nr_ids::{Height, ShardId};
-use nr_outcome::{add_tallies, no_tally};
+use nr_outcome::{add_report, added, no_tally};
 use nr_overlap::{Core, Phases};
-use nr_records::ChunkResult;
 use nr_state::Caller;
 use std::alloc::{AllocError, Global};
-
-/// The sum of two tallies. One that doesn't fit counts as want of memory.
-fn added(a: Tally, b: Tally) -> Result<Tally, AllocError>
-    ensures { IfOk result (λ sum. sum ≡ plus a b) }
-{
-    add_tallies(a, b).ok_or(AllocError)
-}
 
 /// What a shard holds in its world, or in its chunk at work.
 fn held_by<C: Caller<ChunkStore>>(
@@ -39,35 +31,6 @@ fn held_by<C: Caller<ChunkStore>>(
     match core.working(shard) {
         Some(working) => core.phases().tally_working(alloc, working),
         None => unreachable!(),
-    }
-}
-
-/// Whether the counts of a report fit their numbers.
-fn fits(report: &ChunkResult) -> bool
-    ensures { result ≡ true → report.now.local + length report.now.lines < 2 ^ 64 }
-{
-    let lines = report.lines.inner().len() as u64;
-    report.local.checked_add(lines).is_some()
-}
-
-/// What a sealed chunk burnt, routed and executed.
-fn reported_by<C: Caller<ChunkStore>>(
-    core: &Core<ChainRun<C>>,
-    shard: ShardId,
-    height: Height,
-) -> Result<Tally, AllocError>
-    ensures { let r = rules_of (chain_in core.now.phases) in
-        IfOk result (λ tally. tally ≡ report_tally (report_at r core.now.positions shard.0 height.0)) }
-{
-    match core.report(shard, height) {
-        Some(report) => {
-            if fits(report) {
-                Ok(core.phases().tally_report(report))
-            } else {
-                Err(AllocError)
-            }
-        }
-        None => Ok(no_tally()),
     }
 }
 
@@ -119,9 +82,9 @@ fn sealed_by<C: Caller<ChunkStore>>(
     requires inside { shard.0 < (rules_of (chain_in core.now.phases)).shards }
     ensures { IfOk result (λ tally. tally ≡ sealed_by (chain_in core.now.phases) core.now.positions shard.0 height.0) }
 {
-    let report = reported_by(core, shard, height)?;
     let lists = flying_from(core, shard, height)?;
-    added(report, lists)
+    let sealed = add_report(lists, core.report(shard, height))?;
+    Ok(sealed)
 }
 
 /// What all sealed chunks of a shard hold.

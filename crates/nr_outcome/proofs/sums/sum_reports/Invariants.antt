@@ -4,4 +4,4 @@ use Rattle.nr_outcome.specs.Sums.{table_tally}
 use Rattle.nr_outcome.proofs.sums.sum_reports.Given as goal
 
 abbrev pub invariant-loop-shard : goal.invariant-loop-shard
-invariant-loop-shard g l = l.sum ≡ table_tally l.shard l.reports.heights (report_in l.reports)
+invariant-loop-shard l = l.sum ≡ table_tally l.shard l.reports.heights (report_in l.reports)

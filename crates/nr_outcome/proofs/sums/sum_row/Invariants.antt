@@ -4,4 +4,4 @@ use Rattle.nr_outcome.specs.Sums.{row_tally}
 use Rattle.nr_outcome.proofs.sums.sum_row.Given as goal
 
 abbrev pub invariant-loop-below : goal.invariant-loop-below
-invariant-loop-below g l = l.sum ≡ row_tally l.below (report_in l.reports l.shard.0)
+invariant-loop-below l = l.sum ≡ row_tally l.below (report_in l.reports l.shard.0)

@@ -33,4 +33,4 @@ returns g c =
     (c.in_ok-held.ensures ∙ ap (sum_of (λ w. tally_world v.chain.config w)) (c.inner.ensures ∙ v.last))
     (shown_by (rules_of x) v.reports v.told (λ shards report heights. c.in_ok-told.told ≡ table_tally shards heights report) c.in_ok-told.ensures)
     (c.in_ok-flying.ensures ∙ ap (sum_of (λ l. tally_list v.chain.config l.3)) (c.inner-2.ensures ∙ v.rest))
-    (c.in_ok-tally.ensures ∙ ap (λ t. plus t c.in_ok-flying.flying) c.in_ok-both.ensures)
+    (c.in_ok-tally.ensures.1 ∙ ap (λ t. plus t c.in_ok-flying.flying) c.in_ok-both.ensures.1)
