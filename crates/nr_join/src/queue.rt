@@ -1,6 +1,6 @@
 //! The delayed queue: receipts for which a chunk had no gas left.
 
-ghost use Rattle.std.specs.Prelude.{◌≡◌, true, IfOk, OnOk, slice_get};
+ghost use Rattle.std.specs.Prelude.{◌≡◌, ◌+◌, ◌^◌, ◌<◌, true, IfOk, OnOk, length, slice_get};
 ghost use Rattle.nr_state.specs.Changes.{with_delayed, served_front};
 ghost use Rattle.nr_state.specs.View.{with_world};
 
@@ -10,11 +10,11 @@ use nr_state::queues::{add_delayed, take_delayed};
 use nr_triedef::Store;
 use std::alloc::{AllocError, Global};
 
-/// Puts a receipt at the end of the delayed queue.
+/// Puts a receipt at the end of the delayed queue. With it at most 2^63 receipts were ever delayed.
 ///
 /// # Errors
 ///
-/// Where memory runs out, or where 2^64 receipts or more would have been delayed since the first
+/// Where memory runs out, or where more than 2^63 receipts would have been delayed since the first
 /// block. Of the state nothing is said then.
 pub fn delay<S: Store>(
     alloc: Global,
@@ -22,7 +22,8 @@ pub fn delay<S: Store>(
     receipt: Receipt,
 ) -> Result<(), AllocError>
     requires whole { state.old.whole ≡ true }
-    ensures { OnOk result (state.new ≡ with_world state.old (with_delayed state.old.world receipt)) }
+    ensures ok { OnOk result (state.new ≡ with_world state.old (with_delayed state.old.world receipt)) }
+    ensures room { OnOk result (state.old.world.served + length state.old.world.delayed < 2 ^ 63) }
 {
     add_delayed(alloc, state, &receipt)
 }

@@ -1,5 +1,5 @@
 -- The entries that are put together are those of the worlds of the cut.
-use Rattle.std.proofs.Common.{◌≡◌, ℕ, ◌+◌, ◌^◌, ◌<◌, Bool, true, false, cond, List, [], ◌∷◌, ◌++◌, length, map}
+use Rattle.std.proofs.Common.{◌≡◌, ℕ, ◌+◌, ◌^◌, ◌<◌, ◌≤◌, Bool, true, false, cond, List, [], ◌∷◌, ◌++◌, length, map}
 use Rattle.std.proofs.Common.{Option, None, Ok, Err, refl, sym, ap, subst, ◌∙◌, arith}
 use Rattle.std.specs.Prelude.{◌==◌, ◌&&◌, not, IfOk, OnOk, Result}
 use Rattle.std.specs.declared.alloc.AllocError.{AllocError}
@@ -171,18 +171,21 @@ module _ (c : Config) (old new : List (List ℕ)) (worlds : List (List Entry))
 abbrev Split : Type 0
 Split = Result (List (List Entry)) AllocError
 
+below : (n : ℕ) → n ≤ 2 ^ 63 → n < 2 ^ 64
+below n few = omega (arith, few)
+
 module _ (new : List (List ℕ)) (worlds : List (List Entry)) (all : AllByRecursion AreWholeEntries worlds) where
   pub answer_whole : (r : Split) → IfOk r (λ found. found ≡ entries_split new worlds)
-      → OnOk r (length (delayed_of worlds) < 2 ^ 64) → (c : Config) (old : List (List ℕ))
+      → OnOk r (length (delayed_of worlds) ≤ 2 ^ 63) → (c : Config) (old : List (List ℕ))
       → CanCut c old (map world_from worlds) → IfOk r (AllByRecursion AreWholeEntries)
   answer_whole (Ok split) is few c old can =
-      subst (AllByRecursion AreWholeEntries) (sym is) (split_whole c old new worlds all can few)
+      subst (AllByRecursion AreWholeEntries) (sym is) (split_whole c old new worlds all can (below (length (delayed_of worlds)) few))
   answer_whole (Err e) is few c old can = tt
 
   pub answer_worlds : (r : Split) → IfOk r (λ found. found ≡ entries_split new worlds)
-      → OnOk r (length (delayed_of worlds) < 2 ^ 64) → (c : Config) (old : List (List ℕ))
+      → OnOk r (length (delayed_of worlds) ≤ 2 ^ 63) → (c : Config) (old : List (List ℕ))
       → CanCut c old (map world_from worlds)
       → IfOk r (λ found. map world_from found ≡ cut_worlds new (map world_from worlds))
   answer_worlds (Ok split) is few c old can =
-      ap (map world_from) is ∙ split_are c old new worlds all can few
+      ap (map world_from) is ∙ split_are c old new worlds all can (below (length (delayed_of worlds)) few)
   answer_worlds (Err e) is few c old can = tt

@@ -2,7 +2,7 @@
 
 ghost use Rattle.std.specs.FinMap as map;
 ghost use Rattle.std.specs.List.{AllByRecursion};
-ghost use Rattle.std.specs.Prelude.{◌≡◌, ◌+◌, ◌<◌, ◌^◌, ℕ, List as Items, None, map as mapped, length, IfOk, OnOk};
+ghost use Rattle.std.specs.Prelude.{◌≡◌, ◌+◌, ◌<◌, ◌≤◌, ◌^◌, ℕ, List as Items, None, map as mapped, length, IfOk, OnOk};
 ghost use Rattle.nr_columns.specs.Entries.{contents_of};
 ghost use Rattle.nr_columns.specs.View.{columns_in};
 ghost use Rattle.nr_config.specs.Config.{Config};
@@ -21,6 +21,9 @@ use nr_layout::Layout;
 use nr_records::Receipt;
 use nr_store::PlainStore;
 use std::alloc::{AllocError, Global};
+
+/// How many receipts may ever be delayed at a shard.
+const MOST_DELAYED: u64 = 1 << 63;
 
 /// Writes a delayed receipt.
 fn put_receipt(
@@ -114,6 +117,17 @@ fn all_cut(
     Ok(List::of(found))
 }
 
+/// Refuses more delayed receipts than a world may have.
+fn check_few(count: usize) -> Result<(), AllocError>
+    ensures { OnOk result (count ≤ 2 ^ 63) }
+{
+    if count as u64 <= MOST_DELAYED {
+        Ok(())
+    } else {
+        Err(AllocError)
+    }
+}
+
 /// The entries of the worlds of all shards.
 fn split(
     alloc: Global,
@@ -122,21 +136,21 @@ fn split(
 ) -> Result<List<List<Entry>>, AllocError>
     requires { AllByRecursion AreWholeEntries worlds.now }
     ensures entries { IfOk result (λ found. found ≡ entries_split layout.now worlds.now) }
-    ensures few { OnOk result (length (delayed_of worlds.now) < 2 ^ 64) }
+    ensures few { OnOk result (length (delayed_of worlds.now) ≤ 2 ^ 63) }
 {
     let delayed = all_delayed(alloc, worlds.inner())?;
-    let _count = delayed.inner().len();
+    check_few(delayed.inner().len())?;
     let lists = layout.route(alloc, delayed)?;
     all_cut(alloc, worlds.inner(), layout, lists.inner())
 }
 
 /// The worlds of the shards under a layout, in order of number, as trie entries: of all worlds what
-/// lives in each shard, and the delayed receipts for it, world after world. Contracts speak of valid
-/// worlds that some layout keeps apart.
+/// lives in each shard, and the delayed receipts for it, world after world. These are at most 2^63, those
+/// of all shards together. Contracts speak of valid worlds that some layout keeps apart.
 ///
 /// # Errors
 ///
-/// Where there is no memory for it.
+/// Where there is no memory for it, or more delayed receipts than that.
 pub fn split_worlds(
     alloc: Global,
     worlds: &List<List<Entry>>,
@@ -147,6 +161,7 @@ pub fn split_worlds(
         → IfOk result (AllByRecursion AreWholeEntries) }
     ensures worlds { (c : Config) (old : Items (Items ℕ)) → CanCut c old (mapped world_from worlds.now)
         → IfOk result (λ found. mapped world_from found ≡ cut_worlds layout.now (mapped world_from worlds.now)) }
+    ensures few { OnOk result (length (delayed_of worlds.now) ≤ 2 ^ 63) }
 {
     split(alloc, worlds, layout)
 }

@@ -1,10 +1,10 @@
 //! What waits in a state: data that came, receipts that lack data, and receipts that were delayed.
 //!
-//! Each call fails only where memory ran out, or where a number that is kept or counted would pass its
-//! bits. Nothing is said of a state in which a change failed. What a state keeps grows on the
+//! Each call fails only where memory ran out, where a number that is kept or counted would pass its
+//! bits, or where more than 2^63 receipts would ever have been delayed. Nothing is said of a state in which a change failed. What a state keeps grows on the
 //! allocator that it was made with.
 
-ghost use Rattle.std.specs.Prelude.{◌≡◌, ◌+◌, ◌-◌, ◌^◌, ◌<◌, ℕ, true, false, IfOk, OnOk, None, is_some, count_by, slice_get};
+ghost use Rattle.std.specs.Prelude.{◌≡◌, ◌+◌, ◌-◌, ◌^◌, ◌<◌, ◌≤◌, ℕ, true, false, IfOk, OkIff, OnOk, None, is_some, length, count_by, slice_get};
 ghost use Rattle.std.specs.FinMap as map;
 ghost use Rattle.std.specs.Option.{option_map};
 ghost use Rattle.nr_records.specs.Ids.{IsId};
@@ -25,6 +25,9 @@ use nr_ids::{AccountId, Hash32};
 use nr_records::{Body, Receipt};
 use nr_triedef::Store;
 use std::alloc::{AllocError, Global};
+
+/// How many receipts may ever be delayed.
+const MOST_DELAYED: u64 = 1 << 63;
 
 /// A datum that a receiver has received, `Some(None)` for one that has no bytes, as its sender
 /// failed; `None` where none came.
@@ -142,7 +145,7 @@ pub fn take_postponed<S: Store>(
     Ok(receipt)
 }
 
-/// Puts a receipt at the end of the delayed queue.
+/// Puts a receipt at the end of the delayed queue. With it at most 2^63 receipts were ever delayed.
 pub fn add_delayed<S: Store>(
     _alloc: Global,
     state: &mut ShardState<S>,
@@ -150,6 +153,7 @@ pub fn add_delayed<S: Store>(
 ) -> Result<(), AllocError>
     requires whole { state.old.whole ≡ true }
     ensures ok { OnOk result (state.new ≡ with_world state.old (with_delayed state.old.world receipt.now)) }
+    ensures room { OnOk result (state.old.world.served + length state.old.world.delayed < 2 ^ 63) }
 {
     state.whole = false;
     put_delayed(&mut state.columns, receipt)?;
@@ -329,14 +333,25 @@ fn remove_all_awaited<S: Store>(
     Ok(())
 }
 
+// The number behind that of the last receipt that was delayed.
+fn number_after(next: u64) -> Result<u64, AllocError>
+    ensures { OkIff result (next < 2 ^ 63) (next + 1) }
+{
+    if next < MOST_DELAYED {
+        Ok(next + 1)
+    } else {
+        Err(AllocError)
+    }
+}
+
 fn put_delayed<S: Store>(columns: &mut Columns<S>, receipt: &Receipt) -> Result<(), AllocError>
     ensures ok { OnOk result (columns.new ≡ with_columns columns.old (more_delayed columns.old.columns columns.old.columns.queue receipt.now)) }
     ensures fits { OnOk result (IsReceipt receipt.now) }
-    ensures room { OnOk result (next_in columns.old.columns.queue + 1 < 2 ^ 64) }
+    ensures room { OnOk result (next_in columns.old.columns.queue + 1 ≤ 2 ^ 63) }
     ensures marks { columns.new.marks ≡ columns.old.marks }
 {
     let (served, next) = columns.queue()?.unwrap_or((0, 0));
-    let after = next.checked_add(1).ok_or(AllocError)?;
+    let after = number_after(next)?;
     columns.set_delayed(next, receipt)?;
     columns.set_queue(served, after)?;
     Ok(())
