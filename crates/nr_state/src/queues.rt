@@ -1,10 +1,11 @@
 //! What waits in a state: data that came, receipts that lack data, and receipts that were delayed.
 //!
 //! Each call fails only where memory ran out, where a number that is kept or counted would pass its
-//! bits, or where more than 2^63 receipts would ever have been delayed. Nothing is said of a state in which a change failed. What a state keeps grows on the
-//! allocator that it was made with.
+//! bits, or where more than 2^63 receipts would ever have been delayed. Nothing is said of a state
+//! in which a change failed. What a state keeps grows on the allocator that it was made with.
 
-ghost use Rattle.std.specs.Prelude.{◌≡◌, ◌+◌, ◌-◌, ◌^◌, ◌<◌, ◌≤◌, ℕ, true, false, IfOk, OkIff, OnOk, None, is_some, length, count_by, slice_get};
+ghost use Rattle.std.specs.Prelude.{◌≡◌, ◌+◌, ◌-◌, ◌^◌, ◌<◌, ◌≤◌, ℕ, true, false, IfOk, OkIff, OnOk, None, is_some};
+ghost use Rattle.std.specs.Prelude.{length, count_by, slice_get};
 ghost use Rattle.std.specs.FinMap as map;
 ghost use Rattle.std.specs.Option.{option_map};
 ghost use Rattle.nr_records.specs.Ids.{IsId};
