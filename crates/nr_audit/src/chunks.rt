@@ -21,6 +21,7 @@ use nr_ids::{Height, ShardId};
 use nr_outcome::add_lines;
 use nr_overlap::{Core, Phases};
 use nr_state::Caller;
+use nr_trielist::Hashes;
 use std::alloc::{AllocError, Global};
 
 /// What the chunk of a shard behind a height is run again from.
@@ -29,6 +30,7 @@ fn gathered<C: Caller<ChunkStore>>(
     core: &Core<ChainRun<C>>,
     shard: ShardId,
     below: u64,
+    hashes: &mut Hashes,
 ) -> Result<Blob, AllocError>
     requires whole { core.now.lost ≡ false }
     requires inside { shard.0 < (rules_of (chain_in core.now.phases)).shards }
@@ -36,7 +38,7 @@ fn gathered<C: Caller<ChunkStore>>(
     requires within { below < (rules_of (chain_in core.now.phases)).heights }
     ensures { IfOk result (λ file. file ≡ gathered_bytes (gathered_chunk (chain_in core.now.phases) shard.0 below)) }
 {
-    let chunk = chunk_behind(alloc, core, shard, below)?;
+    let chunk = chunk_behind(alloc, core, shard, below, hashes)?;
     let mut file = Blob::of(Vec::new(alloc));
     write_gathered(alloc, &chunk, &mut file)?;
     Ok(file)
@@ -48,6 +50,7 @@ fn gathered_if_there<C: Caller<ChunkStore>>(
     core: &Core<ChainRun<C>>,
     shard: ShardId,
     below: u64,
+    hashes: &mut Hashes,
 ) -> Result<Option<Blob>, AllocError>
     requires whole { core.now.lost ≡ false }
     requires inside { shard.0 < (rules_of (chain_in core.now.phases)).shards }
@@ -56,7 +59,7 @@ fn gathered_if_there<C: Caller<ChunkStore>>(
     ensures { IfOk result (λ file. file ≡ chunk_bytes (chain_in core.now.phases) shard.0 below) }
 {
     if core.phases().present(shard, Height(below + 1)) {
-        let file = gathered(alloc, core, shard, below)?;
+        let file = gathered(alloc, core, shard, below, hashes)?;
         Ok(Some(file))
     } else {
         Ok(None)
@@ -68,6 +71,7 @@ pub(crate) fn gather_height<C: Caller<ChunkStore>>(
     alloc: Global,
     core: &Core<ChainRun<C>>,
     below: u64,
+    hashes: &mut Hashes,
 ) -> Result<Vec<Option<Blob>>, AllocError>
     requires whole { core.now.lost ≡ false }
     requires places { core.now.positions ≡ replicate (rules_of (chain_in core.now.phases)).shards (end_at below) }
@@ -77,7 +81,7 @@ pub(crate) fn gather_height<C: Caller<ChunkStore>>(
 {
     let mut files = Vec::new(alloc);
     for shard in 0..core.phases().shards() {
-        let file = gathered_if_there(alloc, core, ShardId(shard), below)?;
+        let file = gathered_if_there(alloc, core, ShardId(shard), below, hashes)?;
         files.push(file)?;
     }
     Ok(files)

@@ -23,6 +23,7 @@ use nr_outcome::Outcome;
 use nr_overlap::{Core, Phases};
 use nr_state::Caller;
 use nr_tar::archive_end;
+use nr_trielist::Hashes;
 use std::alloc::{AllocError, Global};
 
 /// Runs the chunks behind a height, right behind which all shards stand, and appends their files.
@@ -30,6 +31,7 @@ fn add_next<C: Caller<ChunkStore>>(
     alloc: Global,
     core: &mut Core<ChainRun<C>>,
     below: u64,
+    hashes: &mut Hashes,
     archive: &mut Blob,
 ) -> Result<(), AllocError>
     requires whole { core.old.lost ≡ false }
@@ -42,7 +44,7 @@ fn add_next<C: Caller<ChunkStore>>(
     ensures archive { OnOk result (archive.new ≡ archive.old
         ++ flat_map file_bytes (height_files (chain_in core.old.phases) below)) }
 {
-    let files = gather_height(alloc, core, below)?;
+    let files = gather_height(alloc, core, below, hashes)?;
     run_up_to(core, Height(below + 1))?;
     add_height(alloc, core, below, &files, archive)?;
     Ok(())
@@ -61,8 +63,9 @@ fn add_heights<C: Caller<ChunkStore>>(
     ensures archive { OnOk result (archive.new ≡ archive.old
         ++ flat_map file_bytes (leg_files (chain_in core.old.phases))) }
 {
+    let mut hashes = Hashes::new(alloc);
     for below in 0..core.phases().heights() {
-        add_next(alloc, core, below, archive)?;
+        add_next(alloc, core, below, &mut hashes, archive)?;
     }
     Ok(())
 }

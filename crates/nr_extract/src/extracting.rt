@@ -30,6 +30,7 @@ use nr_records::{Receipt, Spelled, Transaction};
 use nr_state::Caller;
 use nr_state::laws::entry_laws;
 use nr_stateless::searched_of;
+use nr_trielist::Hashes;
 use std::alloc::{AllocError, Global};
 
 /// Copies of the transactions that a block has for a shard.
@@ -80,6 +81,7 @@ fn texts_of(
     world: &ChunkWorld,
     transactions: &[Transaction],
     taken: &[Receipt],
+    hashes: &mut Hashes,
 ) -> Result<List<Blob>, AllocError>
     ensures texts { IfOk result (λ texts. texts ≡ gathered (searched_of (touched world.now.world transactions.now taken.now)) (paths (map.entries (flat world.now.world)))) }
     ensures root { IfOk result (λ texts. root_in texts ≡ (root_of (flat world.now.world)).hash) }
@@ -91,7 +93,7 @@ fn texts_of(
     let accounts = touched_by(alloc, transactions, delayed.inner(), taken)?;
     let searched = searched_of(alloc, accounts.inner())?;
     let entries = world.entries()?;
-    gather(alloc, &entries, searched.inner())
+    gather(alloc, &entries, searched.inner(), hashes)
 }
 
 /// The chunk of a shard behind a height, where the shard has this world and all shards stand right behind that height.
@@ -101,6 +103,7 @@ fn chunk_of<C: Caller<ChunkStore>>(
     world: &ChunkWorld,
     shard: ShardId,
     below: u64,
+    hashes: &mut Hashes,
 ) -> Result<Gathered, AllocError>
     requires whole { core.now.lost ≡ false }
     requires inside { shard.0 < (rules_of (chain_in core.now.phases)).shards }
@@ -115,7 +118,13 @@ fn chunk_of<C: Caller<ChunkStore>>(
     let block = chain.block(Height(below + 1));
     let transactions = transactions_in(alloc, block, shard)?;
     let taken = taken_by(alloc, core, world, shard, below)?;
-    let texts = texts_of(alloc, world, transactions.inner(), taken.inner())?;
+    let texts = texts_of(
+        alloc,
+        world,
+        transactions.inner(),
+        taken.inner(),
+        hashes,
+    )?;
     Ok(Gathered {
         prior_root: root_of_gathered(texts.inner()),
         layout: chain.layout().duplicate(alloc)?,
@@ -132,7 +141,7 @@ fn chunk_of<C: Caller<ChunkStore>>(
 /// The chunk of a shard at the height after `below`, where all shards stand right behind `below`: all that it takes,
 /// and the texts of the trie before it that it is run again from. Heights count from 1 here, whatever lies below the
 /// chain's first block; the chunk has its true height. Where the shard has no chunk there, it is one without
-/// transactions.
+/// transactions. Who gathers many chunks hands the same hashes on, so that a long value that many have is hashed once.
 ///
 /// # Errors
 ///
@@ -142,6 +151,7 @@ pub fn chunk_behind<C: Caller<ChunkStore>>(
     core: &Core<ChainRun<C>>,
     shard: ShardId,
     below: u64,
+    hashes: &mut Hashes,
 ) -> Result<Gathered, AllocError>
     requires whole { core.now.lost ≡ false }
     requires inside { shard.0 < (rules_of (chain_in core.now.phases)).shards }
@@ -152,7 +162,7 @@ pub fn chunk_behind<C: Caller<ChunkStore>>(
     ensures shown { IfOk result (λ _. IsShown (before (chain_in core.now.phases) shard.0 below).world) }
 {
     match core.world(shard) {
-        Some(world) => chunk_of(alloc, core, world, shard, below),
+        Some(world) => chunk_of(alloc, core, world, shard, below, hashes),
         None => unreachable!(),
     }
 }
@@ -179,6 +189,7 @@ pub fn extract<C: Caller<ChunkStore> + Drop>(
 {
     let mut core = core;
     run_up_to(&mut core, Height(below))?;
-    let chunk = chunk_behind(alloc, &core, shard, below)?;
+    let mut hashes = Hashes::new(alloc);
+    let chunk = chunk_behind(alloc, &core, shard, below, &mut hashes)?;
     Ok(chunk)
 }

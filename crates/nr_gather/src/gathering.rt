@@ -17,15 +17,20 @@ use nr_bytes::{Blob, List};
 use nr_ids::Hash32;
 use nr_store::{PlainStore, Span};
 use nr_triedef::{Node, Store, value_hash};
-use nr_trielist::{Top, list_nodes};
+use nr_trielist::{Hashes, Top, list_nodes};
 use nr_walk::{Entry, Searched, Spot};
 use std::alloc::{AllocError, Global};
 
 // Lists a text, unless one with its hash is held, and holds it.
-fn add_text(held: &mut PlainStore, list: &mut Vec<Blob>, text: Blob) -> Result<(), AllocError>
+fn add_text(
+    held: &mut PlainStore,
+    list: &mut Vec<Blob>,
+    text: Blob,
+    hashes: &mut Hashes,
+) -> Result<(), AllocError>
     ensures { OnOk result ((more : Items (Items ℕ)) → list.new.items ++ once held.new.contents more ≡ list.old.items ++ once held.old.contents (text ∷ more)) }
 {
-    let hash = value_hash(text.inner());
+    let hash = hashes.hash(text.inner())?;
     if held.get(&hash.0).is_some() {
         return Ok(());
     }
@@ -35,7 +40,11 @@ fn add_text(held: &mut PlainStore, list: &mut Vec<Blob>, text: Blob) -> Result<(
 }
 
 // Each text once, where it stands first.
-fn each_once(alloc: Global, texts: List<Blob>) -> Result<List<Blob>, AllocError>
+fn each_once(
+    alloc: Global,
+    texts: List<Blob>,
+    hashes: &mut Hashes,
+) -> Result<List<Blob>, AllocError>
     ensures { IfOk result (λ list. list ≡ once map.empty texts) }
 {
     let mut held = PlainStore::new(alloc);
@@ -43,7 +52,7 @@ fn each_once(alloc: Global, texts: List<Blob>) -> Result<List<Blob>, AllocError>
     let mut left = texts.into_inner();
     left.reverse();
     while let Some(text) = left.pop() {
-        add_text(&mut held, &mut list, text)?;
+        add_text(&mut held, &mut list, text, hashes)?;
     }
     Ok(List::of(list))
 }
@@ -62,14 +71,18 @@ fn no_texts(alloc: Global) -> List<Blob>
 }
 
 // What the trie of the entries tells, where there is one, and all its nodes, depth first.
-fn nodes_in(alloc: Global, entries: &[Entry]) -> Result<(Option<Top>, List<Node>), AllocError>
+fn nodes_in(
+    alloc: Global,
+    entries: &[Entry],
+    hashes: &mut Hashes,
+) -> Result<(Option<Top>, List<Node>), AllocError>
     requires { InOrder entries.now }
     ensures order { IfOk result (λ _. CanWalk (paths (pairs_of entries.now))) }
     ensures top { IfOk result (λ r. r.0 ≡ whole (paths (pairs_of entries.now))) }
     ensures nodes { IfOk result (λ r. r.1 ≡ all_nodes (paths (pairs_of entries.now))) }
 {
     let keys = keys_of(alloc, entries)?;
-    list_nodes(alloc, Span::of(&keys))
+    list_nodes(alloc, Span::of(&keys), hashes)
 }
 
 // The texts that are looked at of a trie with these nodes.
@@ -79,6 +92,7 @@ fn texts_in(
     searched: &[Searched],
     top: Top,
     nodes: &[Node],
+    hashes: &mut Hashes,
 ) -> Result<List<Blob>, AllocError>
     requires order { CanWalk (paths (pairs_of entries.now)) }
     requires top { Some top ≡ whole (paths (pairs_of entries.now)) }
@@ -87,7 +101,7 @@ fn texts_in(
 {
     let spot = top_spot(alloc, top.hash());
     let looked = looked_texts(alloc, searched, entries, nodes, spot)?;
-    let texts = each_once(alloc, looked)?;
+    let texts = each_once(alloc, looked, hashes)?;
     Ok(texts)
 }
 
@@ -95,20 +109,21 @@ fn texts_of_all(
     alloc: Global,
     entries: &[Entry],
     searched: &[Searched],
+    hashes: &mut Hashes,
 ) -> Result<List<Blob>, AllocError>
     requires { InOrder entries.now }
     ensures texts { IfOk result (λ texts. texts ≡ gathered searched.now (paths (pairs_of entries.now))) }
     ensures order { IfOk result (λ _. CanWalk (paths (pairs_of entries.now))) }
 {
-    let (top, nodes) = nodes_in(alloc, entries)?;
+    let (top, nodes) = nodes_in(alloc, entries, hashes)?;
     match top {
         None => Ok(no_texts(alloc)),
-        Some(top) => texts_in(alloc, entries, searched, top, nodes.inner()),
+        Some(top) => texts_in(alloc, entries, searched, top, nodes.inner(), hashes),
     }
 }
 
 /// The texts of the trie of these entries that a walk looks at: those of nodes, and the values that
-/// are found, depth first, each once.
+/// are found, depth first, each once. Long values whose hashes are kept aren't hashed again.
 ///
 /// # Errors
 ///
@@ -118,6 +133,7 @@ pub fn gather(
     alloc: Global,
     entries: &List<Entry>,
     searched: &[Searched],
+    hashes: &mut Hashes,
 ) -> Result<List<Blob>, AllocError>
     requires { InOrder entries.now }
     // Which texts they are.
@@ -128,7 +144,7 @@ pub fn gather(
     ensures walks { IfOk result (λ texts. (m : Contents) → map.entries m ≡ pairs_of entries.now → IsOf (texts_of texts) (root_of m).hash m
         → (gains : Items Gain) × (walk_of (texts_of texts) searched.now (root_of m).hash ≡ Ok gains)) }
 {
-    let texts = texts_of_all(alloc, entries.inner(), searched)?;
+    let texts = texts_of_all(alloc, entries.inner(), searched, hashes)?;
     Ok(texts)
 }
 

@@ -11,6 +11,7 @@ use crate::gather;
 use nr_bytes::{Blob, List};
 use nr_ids::Hash32;
 use nr_triedef::value_hash;
+use nr_trielist::Hashes;
 use nr_walk::{Entry, Searched};
 use std::alloc::{AllocError, Global};
 use std::test::Fail;
@@ -62,7 +63,8 @@ fn gathered(
 {
     let entries = entries_of(alloc, rows)?;
     let searched = searched_of(alloc, searched)?;
-    let texts = gather(alloc, &entries, &searched)?;
+    let mut hashes = Hashes::new(alloc);
+    let texts = gather(alloc, &entries, &searched, &mut hashes)?;
     let mut all = Vec::new(alloc);
     for text in texts.inner() {
         all.extend_from_slice(text.inner())?;

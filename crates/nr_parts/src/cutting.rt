@@ -21,7 +21,7 @@ use nr_columns::Entry;
 use nr_ids::Hash32;
 use nr_store::{Entry as Keyed, PlainStore, Span};
 use nr_triedef::{Node, Store, node_text, value_hash};
-use nr_trielist::{Top, list_nodes};
+use nr_trielist::{Hashes, Top, list_nodes};
 use nr_walk::{own_usage, usage_of};
 use std::alloc::{AllocError, Global};
 
@@ -54,7 +54,8 @@ fn nodes_of(alloc: Global, entries: &[Entry]) -> Result<(Option<Top>, List<Node>
     ensures nodes { IfOk result (λ r. r.1 ≡ all_nodes (paths (pairs_of entries.now))) }
 {
     let keys = keyed_of(alloc, entries)?;
-    list_nodes(alloc, Span::of(&keys))
+    let mut hashes = Hashes::new(alloc);
+    list_nodes(alloc, Span::of(&keys), &mut hashes)
 }
 
 fn has_value(node: &Node) -> bool

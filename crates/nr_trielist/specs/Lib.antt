@@ -1,3 +1,4 @@
 pub mod Forest
 pub mod Forks
 pub mod Growing
+pub mod Hashed

@@ -7,6 +7,7 @@ ghost use Rattle.std.specs.List.{flat_map};
 ghost use Rattle.nr_store.specs.Tries.{CanWalk, cut, whole};
 ghost use Rattle.nr_trielist.specs.Growing.{heads, head_nodes, all_nodes};
 
+use crate::hashes::Hashes;
 use crate::making::{Top, branch, extension, top_of};
 use nr_store::Span;
 use nr_triedef::Node;
@@ -76,13 +77,18 @@ impl<'a> Fork<'a> {
     }
 
     /// The whole branch, with its front, whose nodes are listed behind the others.
-    pub(crate) fn close(&self, alloc: Global, nodes: &mut Vec<Node>) -> Result<Top, AllocError>
+    pub(crate) fn close(
+        &self,
+        alloc: Global,
+        nodes: &mut Vec<Node>,
+        hashes: &mut Hashes,
+    ) -> Result<Top, AllocError>
         requires { length self.now.made ≡ 16 }
         ensures top { IfOk result (λ s. Some s ≡ whole self.now.keys) }
         ensures nodes { OnOk result (nodes.new.items ≡ nodes.old.items ++ reverse (heads self.now.keys)) }
         ensures list { all_nodes self.now.keys ≡ heads self.now.keys ++ flat_map (λ n. all_nodes (under n (cut self.now.keys))) sixteen }
     {
-        let node = branch(&self.rest, &self.made)?;
+        let node = branch(&self.rest, &self.made, hashes)?;
         let shared = self.keys.front(alloc)?;
         fronted(alloc, shared.inner(), node, nodes)
     }

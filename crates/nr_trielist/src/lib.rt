@@ -3,7 +3,9 @@
 
 mod fork;
 mod growing;
+mod hashes;
 mod making;
 
 pub use growing::list_nodes;
+pub use hashes::Hashes;
 pub use making::Top;

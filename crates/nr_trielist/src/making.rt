@@ -5,6 +5,7 @@ ghost use Rattle.nr_triedef.specs.Node.{IsNibbles, IsNode, key_part, links, summ
 ghost use Rattle.nr_triedef.specs.Root.{value_here, part_usage, value_usage, usage_below, leaf, extension, value_field, hash_below, branch};
 ghost use Rattle.nr_store.specs.Tries.{first_path};
 
+use crate::hashes::Hashes;
 use nr_ids::Hash32;
 use nr_store::Span;
 use nr_triedef::{Node, key_part, node_text, value_hash};
@@ -90,7 +91,11 @@ fn part_usage(part: &[u8]) -> Result<u64, AllocError>
 }
 
 /// The leaf of a key that stands alone.
-pub(crate) fn leaf(alloc: Global, keys: &Span<'_>) -> Result<Node, AllocError>
+pub(crate) fn leaf(
+    alloc: Global,
+    keys: &Span<'_>,
+    hashes: &mut Hashes,
+) -> Result<Node, AllocError>
     requires { 0 < length keys.now }
     ensures value { IfOk result (λ node. node ≡ leaf (first_path keys.now)) }
     ensures form { IfOk result IsNode }
@@ -103,7 +108,7 @@ pub(crate) fn leaf(alloc: Global, keys: &Span<'_>) -> Result<Node, AllocError>
     Ok(Node::Leaf {
         part,
         length,
-        hash: value_hash(value),
+        hash: hashes.hash(value)?,
         usage,
     })
 }
@@ -125,14 +130,18 @@ pub(crate) fn extension(alloc: Global, shared: &[u8], below: Top) -> Result<Node
 }
 
 // The value whose key ends here, as a branch has it, and its memory usage.
-fn value_at(keys: &Span<'_>) -> Result<(Option<(u32, Hash32)>, u64), AllocError>
+fn value_at(
+    keys: &Span<'_>,
+    hashes: &mut Hashes,
+) -> Result<(Option<(u32, Hash32)>, u64), AllocError>
     ensures { IfOk result (λ v. v ≡ (value_field (value_here keys.now), value_usage (value_here keys.now))) }
 {
     match keys.value_here() {
         None => Ok((None, 0)),
         Some(value) => {
             let length = length_of(value)?;
-            Ok((Some((length, value_hash(value))), 50 + u64::from(length)))
+            let hash = hashes.hash(value)?;
+            Ok((Some((length, hash)), 50 + u64::from(length)))
         }
     }
 }
@@ -165,7 +174,7 @@ fn hash_in(below: &Option<Top>) -> Option<Hash32>
     }
 }
 
-fn hashes(below: &[Option<Top>]) -> [Option<Hash32>; 16]
+fn child_hashes(below: &[Option<Top>]) -> [Option<Hash32>; 16]
     requires { length below.now ≡ 16 }
     ensures { result ≡ map hash_below below.now }
 {
@@ -177,16 +186,20 @@ fn hashes(below: &[Option<Top>]) -> [Option<Hash32>; 16]
 }
 
 /// The branch of what is left of some keys, over its sixteen children.
-pub(crate) fn branch(keys: &Span<'_>, below: &[Option<Top>]) -> Result<Node, AllocError>
+pub(crate) fn branch(
+    keys: &Span<'_>,
+    below: &[Option<Top>],
+    hashes: &mut Hashes,
+) -> Result<Node, AllocError>
     requires { length below.now ≡ 16 }
     ensures { IfOk result (λ node. node ≡ branch (value_here keys.now) below.now) }
 {
-    let (value, own) = value_at(keys)?;
+    let (value, own) = value_at(keys, hashes)?;
     let own = sum_of(50, own)?;
     let usage = sum_of(own, usage_below(below)?)?;
     Ok(Node::Branch {
         value,
-        children: hashes(below),
+        children: child_hashes(below),
         usage,
     })
 }
