@@ -258,3 +258,18 @@ fn keys_and_prefixes(rt: HostRuntime) -> Result<(), Fail> {
     assert!(rt; digest == Hash32(want));
     Ok(())
 }
+
+#[test]
+fn long_values_alike(rt: HostRuntime) -> Result<(), Fail> {
+    let long = [120; 2000];
+    let rows: [(&[u8], &[u8]); 2] = [(b"a", &long), (b"b", &long)];
+    let searched: [(&[u8], bool); 1] = [(b"", true)];
+    let want = *b"\
+        \x23\xc0\x88\xd1\x7c\x7c\x03\xb5\x58\x5a\xc7\x6f\x23\xbc\x4a\x33\
+        \x7f\x72\xf5\xa9\x03\xec\x54\xc1\xc7\x1d\xdf\xdb\x6e\xfa\x79\xca\
+    ";
+    let (count, digest) = gathered(rt.alloc(), &rows, &searched)?;
+    assert_eq!(rt; count, 4);
+    assert!(rt; digest == Hash32(want));
+    Ok(())
+}
