@@ -1,6 +1,6 @@
 //! Hashes of long values, each worked out once.
 
-ghost use Rattle.std.specs.Prelude.{◌≡◌, ◌==◌, IfOk, IfSome};
+ghost use Rattle.std.specs.Prelude.{◌≡◌, true, IfOk, IfSome};
 ghost use Rattle.nr_triedef.specs.Node.{digest};
 
 use nr_bytes::Blob;
@@ -52,7 +52,7 @@ impl Hashed {
     }
 
     fn is(&self, value: &[u8]) -> bool
-        ensures { result ≡ (self.now == value.now) }
+        ensures { result ≡ true → self.now ≡ value.now }
     {
         self.value.inner() == value
     }

@@ -104,11 +104,12 @@ pub(crate) fn leaf(
     let part = key_part(alloc, key.inner(), true)?;
     let value = keys.first_value();
     let length = length_of(value)?;
+    let hash = hashes.hash(value)?;
     let usage = sum_of(part_usage(part.inner())?, 50 + u64::from(length))?;
     Ok(Node::Leaf {
         part,
         length,
-        hash: hashes.hash(value)?,
+        hash,
         usage,
     })
 }
