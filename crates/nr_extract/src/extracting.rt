@@ -118,13 +118,7 @@ fn chunk_of<C: Caller<ChunkStore>>(
     let block = chain.block(Height(below + 1));
     let transactions = transactions_in(alloc, block, shard)?;
     let taken = taken_by(alloc, core, world, shard, below)?;
-    let texts = texts_of(
-        alloc,
-        world,
-        transactions.inner(),
-        taken.inner(),
-        hashes,
-    )?;
+    let texts = texts_of(alloc, world, transactions.inner(), taken.inner(), hashes)?;
     Ok(Gathered {
         prior_root: root_of_gathered(texts.inner()),
         layout: chain.layout().duplicate(alloc)?,

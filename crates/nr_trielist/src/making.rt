@@ -91,11 +91,7 @@ fn part_usage(part: &[u8]) -> Result<u64, AllocError>
 }
 
 /// The leaf of a key that stands alone.
-pub(crate) fn leaf(
-    alloc: Global,
-    keys: &Span<'_>,
-    hashes: &mut Hashes,
-) -> Result<Node, AllocError>
+pub(crate) fn leaf(alloc: Global, keys: &Span<'_>, hashes: &mut Hashes) -> Result<Node, AllocError>
     requires { 0 < length keys.now }
     ensures value { IfOk result (λ node. node ≡ leaf (first_path keys.now)) }
     ensures form { IfOk result IsNode }
