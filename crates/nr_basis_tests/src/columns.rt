@@ -24,14 +24,3 @@ fn access_keys_have_their_bytes(rt: HostRuntime) -> Result<(), Fail> {
     assert!(rt; &key.inner()[..6] == b"\x02ab\x02\0\x07".as_slice());
     Ok(())
 }
-
-#[test]
-fn receipts_have_their_bytes(rt: HostRuntime) -> Result<(), Fail> {
-    let alloc = rt.alloc();
-    let id = AccountId::parse(alloc, b"ab")?;
-    let postponed = keys::pair_key(alloc, keys::POSTPONED, &id, b"xyz")?;
-    assert!(rt; postponed.inner() == b"\x06ab,xyz".as_slice());
-    let delayed = keys::delayed_key(alloc, 258)?;
-    assert!(rt; delayed.inner() == b"\x07\x02\x01\0\0\0\0\0\0".as_slice());
-    Ok(())
-}
