@@ -13,8 +13,6 @@ mod lists;
 mod numbers;
 mod receipts;
 mod stored;
-#[cfg(test)]
-mod tests;
 mod threads;
 
 pub use columns::Columns;

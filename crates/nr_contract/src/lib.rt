@@ -7,8 +7,6 @@ mod methods;
 mod parts;
 mod preparing;
 mod refused;
-#[cfg(test)]
-mod tests;
 mod threads;
 
 pub use caller::ContractCaller;

@@ -3,7 +3,5 @@
 
 mod carrying;
 pub mod laws;
-#[cfg(test)]
-mod tests;
 
 pub use carrying::carry;

@@ -1,14 +1,10 @@
 //! What actions cost, what receipts hold, and the count of the gas that a receipt burns.
 #![tactic(auto)]
 
-#[cfg(test)]
-mod config_tests;
 mod gas;
 mod pricing;
 mod sums;
 mod table;
-#[cfg(test)]
-mod tests;
 mod tokens;
 
 pub use gas::GasCounter;

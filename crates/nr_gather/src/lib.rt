@@ -4,8 +4,6 @@
 mod gathering;
 mod keys;
 mod sweeping;
-#[cfg(test)]
-mod tests;
 mod waiting;
 
 pub use gathering::{gather, root_of_gathered};

@@ -5,8 +5,6 @@ mod fault;
 mod files;
 mod gathered;
 mod laws;
-#[cfg(test)]
-mod tests;
 
 pub use fault::GatheredFault;
 pub use files::{read_gathered, write_gathered};

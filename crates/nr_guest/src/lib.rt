@@ -4,8 +4,6 @@
 mod arguments;
 mod fault;
 mod registers;
-#[cfg(test)]
-mod tests;
 
 pub use arguments::{argument, argument_size};
 pub use fault::GuestFault;

@@ -16,5 +16,3 @@ pub use fault::IdFault;
 pub use key::{Hash32, PublicKey};
 pub use number::{Height, ShardId};
 
-#[cfg(test)]
-mod tests;

@@ -4,8 +4,6 @@
 mod layout;
 mod reading;
 mod routing;
-#[cfg(test)]
-mod tests;
 mod threads;
 
 pub use layout::Layout;

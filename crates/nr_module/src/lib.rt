@@ -16,8 +16,6 @@ mod question;
 mod running;
 mod status;
 mod telling;
-#[cfg(test)]
-mod tests;
 mod top;
 mod verdict;
 

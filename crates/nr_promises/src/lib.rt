@@ -8,8 +8,6 @@ mod joining;
 pub mod laws;
 mod making;
 mod promise_book;
-#[cfg(test)]
-mod tests;
 mod threads;
 
 pub use fault::PromiseFault;

@@ -6,8 +6,6 @@
 
 mod printed;
 mod report;
-#[cfg(test)]
-mod tests;
 mod totals;
 
 pub use report::{write_chunk, write_totals};

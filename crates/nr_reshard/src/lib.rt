@@ -13,8 +13,6 @@ mod checks;
 mod fault;
 mod reading;
 mod reshard;
-#[cfg(test)]
-mod tests;
 mod third;
 mod threads;
 

@@ -8,8 +8,6 @@ mod node;
 mod part;
 mod read;
 mod store;
-#[cfg(test)]
-mod tests;
 mod threads;
 
 pub use fault::NodeFault;

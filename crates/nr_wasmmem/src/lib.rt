@@ -6,8 +6,6 @@ mod fault;
 mod guest;
 mod host;
 mod memory;
-#[cfg(test)]
-mod tests;
 mod width;
 
 pub use fault::{HostStop, OutOfBounds};

@@ -10,8 +10,6 @@ mod counting;
 mod fault;
 mod operand;
 mod operation;
-#[cfg(test)]
-mod tests;
 
 pub use arithmetic::arith;
 pub use comparison::{compare, is_zero};

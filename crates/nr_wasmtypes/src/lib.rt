@@ -8,8 +8,6 @@ mod labels;
 mod module;
 mod opcode;
 mod operations;
-#[cfg(test)]
-mod tests;
 
 pub use exceeded::Exceeded;
 pub use host::HostFn;

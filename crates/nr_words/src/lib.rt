@@ -16,5 +16,3 @@ pub use words::{
     ChunkItem, ChunkPlace, FileNames, StatePart, Words, is_free, replay_command, serial_command,
 };
 
-#[cfg(test)]
-mod tests;

@@ -1,0 +1,17 @@
+//! Tests of what runs a contract: numbers, memory, instructions, arguments, promises, calls, and near_module.
+#![tactic(auto)]
+
+#[cfg(test)]
+mod contract;
+#[cfg(test)]
+mod guest;
+#[cfg(test)]
+mod module;
+#[cfg(test)]
+mod promises;
+#[cfg(test)]
+mod wasmmem;
+#[cfg(test)]
+mod wasmnum;
+#[cfg(test)]
+mod wasmtypes;

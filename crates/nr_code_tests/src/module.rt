@@ -1,0 +1,178 @@
+//! Small modules in memory, with ample memory. The bytes are written by the standard, by hand.
+
+use nr_bytes::{MemoryShelf, MemorySink};
+use nr_module::{Status, check_module};
+use std::alloc::Global;
+use std::test::Fail;
+
+/// A function `go` that burns an instruction and calls `input`, a function of the host, with it.
+const CALLS_HOST: [u8; 62] = [
+    0, 97, 115, 109, 1, 0, 0, 0, 1, 8, 2, 96, 0, 0, 96, 1, 126, 0, 2, 13, 1, 3, 101, 110, 118, 5,
+    105, 110, 112, 117, 116, 0, 1, 3, 2, 1, 0, 7, 13, 2, 2, 103, 111, 0, 1, 4, 104, 111, 115, 116,
+    0, 0, 10, 8, 1, 6, 0, 66, 0, 16, 0, 11,
+];
+
+/// Nine imports, of which the host has two, eight exports, a table, a memory and a global.
+const BRINGS_MUCH: [u8; 269] = [
+    0, 97, 115, 109, 1, 0, 0, 0, 1, 18, 4, 96, 0, 0, 96, 1, 126, 0, 96, 2, 126, 126, 1, 126, 96, 0,
+    1, 127, 2, 137, 1, 9, 3, 101, 110, 118, 5, 105, 110, 112, 117, 116, 0, 1, 3, 101, 110, 118, 15,
+    115, 116, 111, 114, 97, 103, 101, 95, 104, 97, 115, 95, 107, 101, 121, 0, 2, 3, 101, 110, 118,
+    12, 115, 116, 111, 114, 97, 103, 101, 95, 114, 101, 97, 100, 0, 2, 3, 101, 110, 118, 8, 98,
+    117, 114, 110, 95, 103, 97, 115, 0, 1, 4, 119, 97, 115, 105, 5, 105, 110, 112, 117, 116, 0, 1,
+    3, 101, 110, 118, 5, 105, 110, 112, 117, 116, 0, 9, 3, 101, 110, 118, 6, 109, 101, 109, 111,
+    114, 121, 2, 0, 1, 3, 101, 110, 118, 6, 116, 97, 98, 32, 108, 101, 1, 112, 1, 1, 2, 3, 101,
+    110, 118, 5, 103, 34, 92, 195, 169, 3, 127, 0, 3, 4, 3, 0, 1, 3, 4, 4, 1, 112, 0, 3, 5, 4, 1,
+    1, 1, 16, 6, 6, 1, 127, 1, 65, 5, 11, 7, 59, 8, 5, 104, 101, 108, 108, 111, 0, 6, 3, 111, 110,
+    101, 0, 7, 5, 103, 105, 118, 101, 115, 0, 8, 4, 104, 111, 115, 116, 0, 0, 6, 98, 101, 121, 111,
+    110, 100, 0, 99, 5, 116, 97, 98, 108, 101, 1, 0, 6, 109, 101, 109, 111, 114, 121, 2, 0, 0, 3,
+    0, 10, 12, 3, 2, 0, 11, 2, 0, 11, 4, 0, 65, 0, 11,
+];
+
+/// A function `go` that does nothing, a memory of one page, and a byte of data behind its end, at 65536.
+const DATA_BEHIND: [u8; 48] = [
+    0, 97, 115, 109, 1, 0, 0, 0, 1, 4, 1, 96, 0, 0, 3, 2, 1, 0, 5, 3, 1, 0, 1, 7, 6, 1, 2, 103,
+    111, 0, 0, 10, 4, 1, 2, 0, 11, 11, 9, 1, 0, 65, 128, 128, 4, 11, 1, 42,
+];
+
+/// The same with the byte at 65535.
+const DATA_LAST: [u8; 48] = [
+    0, 97, 115, 109, 1, 0, 0, 0, 1, 4, 1, 96, 0, 0, 3, 2, 1, 0, 5, 3, 1, 0, 1, 7, 6, 1, 2, 103,
+    111, 0, 0, 10, 4, 1, 2, 0, 11, 11, 9, 1, 0, 65, 255, 255, 3, 11, 1, 42,
+];
+
+/// A function `go` that does nothing, a table of one entry, and an element behind its end, at 1.
+const ELEMENT_BEHIND: [u8; 47] = [
+    0, 97, 115, 109, 1, 0, 0, 0, 1, 4, 1, 96, 0, 0, 3, 2, 1, 0, 4, 4, 1, 112, 0, 1, 7, 6, 1, 2,
+    103, 111, 0, 0, 9, 7, 1, 0, 65, 1, 11, 1, 0, 10, 4, 1, 2, 0, 11,
+];
+
+/// The same with the element at 0.
+const ELEMENT_LAST: [u8; 47] = [
+    0, 97, 115, 109, 1, 0, 0, 0, 1, 4, 1, 96, 0, 0, 3, 2, 1, 0, 4, 4, 1, 112, 0, 1, 7, 6, 1, 2,
+    103, 111, 0, 0, 9, 7, 1, 0, 65, 0, 11, 1, 0, 10, 4, 1, 2, 0, 11,
+];
+
+/// Whether these words, over a file `M`, are answered so.
+fn answers(
+    alloc: Global,
+    words: &[&str],
+    module: &[u8],
+    status: Status,
+    line: &str,
+) -> Result<bool, Fail> {
+    let mut texts = Vec::new(alloc);
+    for word in words {
+        texts.push(String::from_str(alloc, word)?)?;
+    }
+    let mut files = Vec::new(alloc);
+    files.push((
+        String::from_str(alloc, "M")?,
+        Vec::from_slice(alloc, module)?,
+    ))?;
+    let mut shelf = MemoryShelf::new(files, Vec::new(alloc));
+    let mut sink = MemorySink::new(alloc, 8, Vec::new(alloc), 1024)?;
+    let ended = check_module(alloc, &texts, &mut shelf, &mut sink);
+    Ok(ended == status && sink.bytes() == line.as_bytes())
+}
+
+#[test]
+fn host_has_no_functions(rt: HostRuntime) -> Result<(), Fail> {
+    let alloc = rt.alloc();
+    let run = ["run", "free", "M", "go", "100"];
+    assert!(rt; answers(alloc, &run, &CALLS_HOST, Status::Faulty, "fault 20 2\n")?);
+    let absent = ["run", "free", "M", "host", "100"];
+    assert!(rt; answers(alloc, &absent, &CALLS_HOST, Status::Faulty, "method\n")?);
+    let check = ["check", "free", "M"];
+    assert!(rt; answers(alloc, &check, &CALLS_HOST, Status::Sound, "ok\n")?);
+    Ok(())
+}
+
+#[test]
+fn a_method_is_looked_up_before_anything_is_put_in(rt: HostRuntime) -> Result<(), Fail> {
+    let alloc = rt.alloc();
+    let run = ["run", "free", "M", "go", "100"];
+    assert!(rt; answers(alloc, &run, &DATA_BEHIND, Status::Faulty, "make 21\n")?);
+    assert!(rt; answers(alloc, &run, &DATA_LAST, Status::Sound, "end 0\n")?);
+    assert!(rt; answers(alloc, &run, &ELEMENT_BEHIND, Status::Faulty, "make 21\n")?);
+    assert!(rt; answers(alloc, &run, &ELEMENT_LAST, Status::Sound, "end 0\n")?);
+    let absent = ["run", "free", "M", "gone", "100"];
+    assert!(rt; answers(alloc, &absent, &DATA_BEHIND, Status::Faulty, "method\n")?);
+    assert!(rt; answers(alloc, &absent, &DATA_LAST, Status::Faulty, "method\n")?);
+    assert!(rt; answers(alloc, &absent, &ELEMENT_BEHIND, Status::Faulty, "method\n")?);
+    Ok(())
+}
+
+#[test]
+fn a_check_tells_whether_all_fits(rt: HostRuntime) -> Result<(), Fail> {
+    let alloc = rt.alloc();
+    let check = ["check", "free", "M"];
+    assert!(rt; answers(alloc, &check, &DATA_BEHIND, Status::Unfit, "ok\n")?);
+    assert!(rt; answers(alloc, &check, &DATA_LAST, Status::Sound, "ok\n")?);
+    assert!(rt; answers(alloc, &check, &ELEMENT_BEHIND, Status::Unfit, "ok\n")?);
+    assert!(rt; answers(alloc, &check, &ELEMENT_LAST, Status::Sound, "ok\n")?);
+    Ok(())
+}
+
+#[test]
+fn gas_has_no_leading_zeros(rt: HostRuntime) -> Result<(), Fail> {
+    let alloc = rt.alloc();
+    let run = ["run", "free", "M", "go", "0100"];
+    assert!(rt; answers(alloc, &run, &CALLS_HOST, Status::Usage, "")?);
+    Ok(())
+}
+
+#[test]
+fn help_and_version_load_nothing(rt: HostRuntime) -> Result<(), Fail> {
+    let alloc = rt.alloc();
+    let help = "near_module check CONFIG FILE\n\
+    near_module run CONFIG FILE METHOD GAS\n\
+    near_module list FILE\n\
+    near_module help\n\
+    near_module version\n\
+    CONFIG is free or the name of a file, and GAS a number from 0 to 18446744073709551615.\n";
+    assert!(rt; answers(alloc, &["help"], &[], Status::Sound, help)?);
+    let version = "near_module 0.1.0\n";
+    assert!(rt; answers(alloc, &["version"], &[], Status::Sound, version)?);
+    assert!(rt; answers(alloc, &["help", "run"], &[], Status::Usage, "")?);
+    Ok(())
+}
+
+#[test]
+fn a_listing_says_what_the_host_lacks(rt: HostRuntime) -> Result<(), Fail> {
+    let alloc = rt.alloc();
+    let list = ["list", "M"];
+    let calls = "import env input ok\nexport method go\nexport function host\nsize 62\n";
+    assert!(rt; answers(alloc, &list, &CALLS_HOST, Status::Sound, calls)?);
+    let much = "import env input ok\n\
+    import env storage_has_key ok\n\
+    import env storage_read type\n\
+    import env burn_gas name\n\
+    import wasi input module\n\
+    import env input type\n\
+    import env memory kind\n\
+    import env tab\\20le kind\n\
+    import env g\\22\\5c\\c3\\a9 kind\n\
+    export method hello\n\
+    export function one\n\
+    export function gives\n\
+    export function host\n\
+    export function beyond\n\
+    export table table\n\
+    export memory memory\n\
+    export global \n\
+    table 3 none\n\
+    memory 1 16\n\
+    size 269\n";
+    assert!(rt; answers(alloc, &list, &BRINGS_MUCH, Status::Sound, much)?);
+    Ok(())
+}
+
+#[test]
+fn a_faulty_file_isnt_listed(rt: HostRuntime) -> Result<(), Fail> {
+    let alloc = rt.alloc();
+    let list = ["list", "M"];
+    assert!(rt; answers(alloc, &list, b"\0asm", Status::Faulty, "decode 1 4\n")?);
+    assert!(rt; answers(alloc, &["list", "N"], b"", Status::ReadFault, "")?);
+    assert!(rt; answers(alloc, &["list"], b"", Status::Usage, "")?);
+    Ok(())
+}
