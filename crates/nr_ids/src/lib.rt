@@ -15,4 +15,3 @@ pub use derivation::derive;
 pub use fault::IdFault;
 pub use key::{Hash32, PublicKey};
 pub use number::{Height, ShardId};
-

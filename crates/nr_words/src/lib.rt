@@ -15,4 +15,3 @@ pub use reading::read_words;
 pub use words::{
     ChunkItem, ChunkPlace, FileNames, StatePart, Words, is_free, replay_command, serial_command,
 };
-
