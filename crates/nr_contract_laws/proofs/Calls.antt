@@ -14,8 +14,8 @@ use Rattle.nr_contract.specs.Verdicts.{module_verdict}
 use Rattle.nr_contract_laws.proofs.Along.{OnGives, answers_next, led_first, led_to}
 use Rattle.nr_contract_laws.proofs.Answering.{answers, begins, burnt_fits, counts_behind, fits_behind, on_gives}
 use Rattle.nr_contract_laws.proofs.Ending.{by_export}
-use Rattle.nr_contract_laws.proofs.Turning.{Counts}
-use Rattle.nr_contract_laws.specs.Moments.{Leads, Runs, StaysCounted, begun, rules, start}
+use Rattle.nr_contract_laws.proofs.Turning.{Counts, not_less}
+use Rattle.nr_contract_laws.specs.Moments.{IsRun, Leads, StaysCounted, begun, rules, start}
 use Rattle.nr_contract_laws.specs.Numbers.{FitsState, most_added, usage_of}
 use Rattle.nr_hostctx.specs.Host.{gas_left, meaning}
 use Rattle.nr_hostctx.specs.Laws.{meaning_is_host}
@@ -53,8 +53,8 @@ record Loads (c : Config) (code : List ℕ) (m : MachineView) (f : ℕ) : Type 0
   made : machine_of c source ≡ Ok m
   method : IsTrue (is_method (func_at m.program f))
 
-ok_is : {A E : Type 0} (a b : A) → Ok {A = A} {E = E} a ≡ Ok b → a ≡ b
-ok_is a b e = cc
+ok_is : (a b : MachineView × ℕ) (r : Result (MachineView × ℕ) (ℕ × ℕ)) → r ≡ Ok a → r ≡ Ok b → a ≡ b
+ok_is a b r is e = cc
 
 module _ (c : Config) (code name : List ℕ) (m : MachineView) (f : ℕ) where
   abbrev Gets : Result (Module × ℕ) (ℕ × ℕ) → Type 0
@@ -64,7 +64,7 @@ module _ (c : Config) (code name : List ℕ) (m : MachineView) (f : ℕ) where
     by_machine : IsValid (max_pages c) source → (g : ℕ) → method_of (program_of source) name ≡ Some g
         → (r : Result MachineView MakeFault) → machine_of c source ≡ r → made g r ≡ Ok (m, f) → Loads c code m f
     by_machine valid g named_so (Ok v) is e =
-        let same : (v, g) ≡ (m, f) = ok_is (v, g) (m, f) e in
+        let same : (v, g) ≡ (m, f) = ok_is (v, g) (m, f) (Ok (v, g)) refl e in
         let program : v.program ≡ program_of source = (made_is c source v is).0 in
         let method : IsTrue (is_method (func_at (program_of source) g)) =
         by_export (program_of source) (find (λ (y : Export). bytes_eq y.name name) source.exports) g named_so in
@@ -102,7 +102,7 @@ module _ (c : Config) (code name : List ℕ) (m : MachineView) (f : ℕ) where
   loads e = by_reading (decoded (max_code c) code) refl e
 
 -- ---- a call
-module _ (c : Config) (w : World) (x : CallContext) (m : MachineView) (f : ℕ) (h : Runs c w x m f) where
+module _ (c : Config) (w : World) (x : CallContext) (m : MachineView) (f : ℕ) (h : IsRun c w x m f) where
   loaded : Loads c (code_in w x.current) m f
   loaded = loads c (code_in w x.current) x.method m f h.found
 
@@ -169,8 +169,9 @@ module _ (c : Config) (w : World) (x : CallContext) (m : MachineView) (f : ℕ) 
     takes : (s : HostState) → nat_lt (gas_left s.gas) m.limits.cost ≡ false
         → suc (gas_left (burnt meaning s m.limits.cost).gas) ≤ gas_left s.gas
     takes s e =
-        let enough : m.limits.cost ≤ gas_left s.gas = grind (arith, e) in
-        let left = meaning_is_host.gas_is s (gas_left s.gas - m.limits.cost) (omega arith) in
+        let enough : m.limits.cost ≤ gas_left s.gas = not_less _ _ e in
+        let left : gas_left (burnt meaning s m.limits.cost).gas ≡ gas_left s.gas - m.limits.cost =
+        meaning_is_host.gas_is s (gas_left s.gas - m.limits.cost) (omega arith) in
         omega (arith, enough, cost, left)
 
     paid_within : (s : HostState) → IsWithin s → nat_lt (gas_left s.gas) m.limits.cost ≡ false

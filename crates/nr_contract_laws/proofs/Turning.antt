@@ -88,6 +88,9 @@ choose : {A : Type 0} (Q : HostState → Type 0) (V : A → Type 0) (b : Bool) (
 choose Q V true y z h k = h refl
 choose Q V false y z h k = k refl
 
+pub not_less : (a b : ℕ) → nat_lt a b ≡ false → b ≤ a
+not_less a b e = grind (arith, e)
+
 -- ---- what a state is in a call: its numbers fit, and the account is counted as at most so many bytes
 pub record Counts (c : Config) (u : ℕ) (s : HostState) : Type 0 where
   pub fits : FitsState s
@@ -322,7 +325,8 @@ module _ (c : Config) (u : ℕ) where
       record {
         at = λ s h.
             choose K Any (has_gas s.gas n) _ _
-            (λ is. (tt, with_gas s (burnt_more s.gas n) (omega (arith, leb-true _ _ is)) refl h))
+            (λ (is : nat_le (s.gas.burnt + s.gas.promised + n) s.gas.limit ≡ true).
+            (tt, with_gas s (burnt_more s.gas n) (omega (arith, leb-true _ _ is)) refl h))
             (λ is. tt);
       }
 
@@ -332,7 +336,8 @@ module _ (c : Config) (u : ℕ) where
       record {
         at = λ s h.
             choose K Any (has_gas s.gas n) _ _
-            (λ is. (tt, with_gas s (promised_more s.gas n) (omega (arith, leb-true _ _ is)) refl h))
+            (λ (is : nat_le (s.gas.burnt + s.gas.promised + n) s.gas.limit ≡ true).
+            (tt, with_gas s (promised_more s.gas n) (omega (arith, leb-true _ _ is)) refl h))
             (λ is. tt);
       }
 
@@ -416,7 +421,7 @@ module _ (c : Config) (u : ℕ) where
       by_test s h true e = tt
       by_test s h false e =
           let same : max_key_bytes s.config ≡ max_key_bytes c = ap max_key_bytes h.config in
-          (let most : length key ≤ max_key_bytes s.config = grind (arith, e) in omega (arith, most, same), h)
+          (omega (arith, not_less _ _ e, same), h)
 
   pub short_value : (value : List ℕ) → Gives (λ done. length value ≤ max_value_bytes c) (storage.short_value value)
   short_value value = record { at = λ s h. by_test s h (nat_lt (max_value_bytes s.config) (length value)) refl }
@@ -426,7 +431,7 @@ module _ (c : Config) (u : ℕ) where
       by_test s h true e = tt
       by_test s h false e =
           let same : max_value_bytes s.config ≡ max_value_bytes c = ap max_value_bytes h.config in
-          (let most : length value ≤ max_value_bytes s.config = grind (arith, e) in omega (arith, most, same), h)
+          (omega (arith, not_less _ _ e, same), h)
 
   pub founds : (reg : ℕ) (o : Option (List ℕ)) → Gives Small (storage.found_in reg o)
   founds reg None = gives Small 0 (omega arith)
@@ -462,11 +467,16 @@ module _ (c : Config) (u : ℕ) where
   unfolding promises.make_joint
   makes_joint indices = record { at = λ s h. with_book_is s h (join s.book indices) (joined s.book indices) }
 
+  sends_receipt : (receiver : List ℕ) → Stays (promises.send_receipt receiver)
+  sends_receipt receiver = record { at = λ s h. (burns _).at s h }
+
+  prepays_receipt : Stays promises.prepay_receipt
+  prepays_receipt = record { at = λ s h. (prepays _).at s h }
+
   receipts : (receiver : List ℕ) → Stays (promises.pay_receipt receiver)
   unfolding promises.pay_receipt
   receipts receiver =
-      after (promises.send_receipt receiver) _ (record { at = λ s h. (burns _).at s h }) (λ sent.
-      record { at = λ s h. (prepays _).at s h })
+      after (promises.send_receipt receiver) _ (sends_receipt receiver) (λ sent. prepays_receipt)
 
   pub creates : (receiver : List ℕ) → Gives Small (promises.create_promise receiver)
   unfolding promises.create_promise
@@ -532,14 +542,22 @@ module _ (c : Config) (u : ℕ) where
   with_action_is s h (Ok d) is = (tt, with_book s d is h)
   with_action_is s h (Err e) is = tt
 
+  sends_action : (local : Bool) (a : Action) → Stays (action.send_action local a)
+  sends_action local a = record { at = λ s h. (burns _).at s h }
+
+  prepays_action : (a : Action) → Stays (action.prepay_action a)
+  prepays_action a = record { at = λ s h. (prepays _).at s h }
+
+  adds_action : (index : ℕ) (a : Action) → Stays (action.add_action index a)
+  adds_action index a = record { at = λ s h. with_action_is s h (act s.book index a) (acted s.book index a) }
+
   pub appends : (index : ℕ) (a : Action) → Stays (action.append index a)
   unfolding action.append
   appends index a =
       after (action.local_at index) _ (seeing (λ s. receiver_of s.book index) action.local_if local_is) (λ local.
-      after (action.send_action local a) _ (record { at = λ s h. (burns _).at s h }) (λ sent.
-      after (action.prepay_action a) _ (record { at = λ s h. (prepays _).at s h }) (λ paid.
-      after (action.take (deposit_of a)) _ (takes (deposit_of a)) (λ taken.
-      record { at = λ s h. with_action_is s h (act s.book index a) (acted s.book index a) }))))
+      after (action.send_action local a) _ (sends_action local a) (λ sent.
+      after (action.prepay_action a) _ (prepays_action a) (λ paid.
+      after (action.take (deposit_of a)) _ (takes (deposit_of a)) (λ taken. adds_action index a))))
 
   pub amounts : (ptr : ℕ) → Stays (action.amount_at ptr)
   amounts ptr = after (guest_bytes 16 ptr) _ (ranges 16 ptr) (λ bytes. here (number bytes))
@@ -587,7 +605,7 @@ sets c u n key value most =
             (
               let more = added_usage s.config s.world s.context.current key value in
               let same : datum_usage s.config key value ≡ datum_usage c key value =
-              ap (λ d. datum_usage d key value) h.config in
+              ap (λ (d : Config). datum_usage d key value) h.config in
               omega (arith, h.usage, more, same, most)
             ) h,
       );

@@ -34,7 +34,7 @@ abbrev pub start : Config → World → CallContext → MachineView → Runtime 
 start c w x m = runtime (begun c w x) m.guest
 
 -- the call runs the function with the number f in this machine
-pub record Runs (c : Config) (w : World) (x : CallContext) (m : MachineView) (f : ℕ) : Type 0 where
+pub record IsRun (c : Config) (w : World) (x : CallContext) (m : MachineView) (f : ℕ) : Type 0 where
   pub config : IsValidConfig c
   pub context : FitsContext x
   pub code : IsBytes (code_in w x.current)

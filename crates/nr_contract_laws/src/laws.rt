@@ -7,7 +7,7 @@ ghost use Rattle.nr_contract.specs.Contract.{call, enough, first_state, load_gas
 ghost use Rattle.nr_contract.specs.Runs.{IsOver};
 ghost use Rattle.nr_contract.specs.Verdicts.{module_verdict};
 ghost use Rattle.nr_contract_laws.specs.Ending.{IsFailure, steps};
-ghost use Rattle.nr_contract_laws.specs.Moments.{Leads, Runs, StaysCounted, begun, rules, start};
+ghost use Rattle.nr_contract_laws.specs.Moments.{IsRun, Leads, StaysCounted, begun, rules, start};
 ghost use Rattle.nr_contract_laws.specs.Numbers.{FitsContext, FitsState, most_added, usage_of};
 ghost use Rattle.nr_hostctx.specs.Host.{meaning};
 ghost use Rattle.nr_hostctx.specs.declared.seen.HostState.{HostState};
@@ -100,14 +100,14 @@ pub fn account_law(account: &Account)
 /// At each moment of a contract's call operands, locals and globals are of their types.
 pub fn moment_laws()
     // The call is the run of its method in its machine, once the loading is paid.
-    ensures same { (c : Config) (w : World) (x : CallContext) (m : MachineView) (f : ℕ) → Runs c w x m f
+    ensures same { (c : Config) (w : World) (x : CallContext) (m : MachineView) (f : ℕ) → IsRun c w x m f
         → load_gas c (code_in w x.current) ≤ x.gas → call c w x ≡ run (begun c w x) m f }
     // Whatever number of steps leads from there, as long as the account is counted as less than 2^64 bytes of storage.
-    ensures typed { (c : Config) (w : World) (x : CallContext) (m : MachineView) (f : ℕ) → Runs c w x m f
+    ensures typed { (c : Config) (w : World) (x : CallContext) (m : MachineView) (f : ℕ) → IsRun c w x m f
         → StaysCounted c w x m f → (n : ℕ) (s : State HostState) → Leads (rules m) (start c w x m) f n s
         → IsTypedConfig m.program s }
     // It stays so where what it is counted as, with the most that a call can add for each unit of gas, is less.
-    ensures stays { (c : Config) (w : World) (x : CallContext) (m : MachineView) (f : ℕ) → Runs c w x m f
+    ensures stays { (c : Config) (w : World) (x : CallContext) (m : MachineView) (f : ℕ) → IsRun c w x m f
         → usage_of (begun c w x) + x.gas * most_added c < 2 ^ 64 → StaysCounted c w x m f }
     // With more steps the run is where these lead from there.
     ensures way { (c : Config) (w : World) (x : CallContext) (m : MachineView) (f n k : ℕ) (s : State HostState)
