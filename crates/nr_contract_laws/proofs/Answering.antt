@@ -1,5 +1,5 @@
 -- What a call of one of the host's functions answers, and the state behind it.
-use Rattle.std.proofs.Common.{◌≡◌, ℕ, ◌+◌, ◌-◌, ◌*◌, ◌^◌, ◌<◌, ◌≤◌, List, [], Option, refl, sym, ap, ◌∙◌, subst, arith}
+use Rattle.std.proofs.Common.{◌≡◌, ℕ, ◌+◌, ◌-◌, ◌^◌, ◌<◌, List, [], Option, arith}
 use Rattle.nr_config.specs.Config.{Config, IsValidConfig, greatest, max_all_register_bytes, max_promises}
 use Rattle.nr_config.specs.Table.{table}
 use Rattle.nr_contract.specs.Contract.{first_state}
@@ -8,13 +8,13 @@ use Rattle.nr_contract_laws.proofs.Given.{IsGiven, row_given}
 use Rattle.nr_contract_laws.proofs.Turning.{Counts, Good, apart, counts_here}
 use Rattle.nr_contract_laws.specs.Numbers.{FitsContext, FitsState, most_added, usage_of}
 use Rattle.nr_hostctx.specs.Acts.{Came, Goes, Stops}
-use Rattle.nr_hostctx.specs.Host.{called, gas_left, meaning, with_guest}
+use Rattle.nr_hostctx.specs.Host.{called, meaning, with_guest}
 use Rattle.nr_hostctx.specs.Rows.{row}
 use Rattle.nr_hostctx.specs.State.{HostState, fresh}
 use Rattle.nr_machine_laws.specs.Steps.{GivesOf}
 use Rattle.nr_state.specs.World.{World}
 use Rattle.nr_state.specs.declared.calls.CallContext.{CallContext}
-use Rattle.nr_wasmmem.specs.Meaning.{Answer, Called, Fails, Gives, OutOfGas, Store, burnt}
+use Rattle.nr_wasmmem.specs.Meaning.{Answer, Fails, Gives, OutOfGas, Store, burnt}
 use Rattle.nr_wasmmem.specs.declared.fault.HostStop.TheVariants as stop
 use Rattle.nr_wasmtypes.specs.Host.{host_type}
 use Rattle.nr_wasmtypes.specs.declared.host.HostFn.{HostFn}

@@ -1,11 +1,11 @@
 -- The moments of a call: what it runs is of a valid module, its numbers fit, and so it is of its types.
-use Rattle.std.proofs.Common.{◌≡◌, ℕ, zero, suc, ◌+◌, ◌*◌, ◌^◌, ◌<◌, ◌≤◌, ◌-◌, Bool, true, false, cond, nat_lt, List, Option}
-use Rattle.std.proofs.Common.{Some, None, Result, Ok, Err, refl, sym, ap, ◌∙◌, subst, mul-le-mul_right, suc-mul}
+use Rattle.std.proofs.Common.{◌≡◌, ℕ, zero, suc, ◌+◌, ◌*◌, ◌^◌, ◌<◌, ◌≤◌, ◌-◌, Bool, true, false, cond, nat_lt, List}
+use Rattle.std.proofs.Common.{Option, Some, None, Result, Ok, Err, refl, sym, ap, ◌∙◌, subst, mul-le-mul_right, suc-mul}
 use Rattle.std.proofs.Common.{arith}
-use Rattle.std.specs.Prelude.{IsTrue, find, unwrap_or}
+use Rattle.std.specs.Prelude.{IsTrue, find}
 use Rattle.std.specs.Str.{bytes_eq}
 use Rattle.nr_bytes.specs.Reading.{◌>>=◌}
-use Rattle.nr_config.specs.Config.{Config, IsValidConfig, max_code, max_pages, regular_op_cost}
+use Rattle.nr_config.specs.Config.{Config, max_code, max_pages}
 use Rattle.nr_contract.proofs.Judging.{is_valid}
 use Rattle.nr_contract.proofs.Making.{made_is}
 use Rattle.nr_contract.specs.Contract.{call, code_in, load_gas, run, started}
@@ -23,7 +23,7 @@ use Rattle.nr_hostctx.specs.State.{HostState}
 use Rattle.nr_machine_laws.proofs.Machines.{whole}
 use Rattle.nr_machine_laws.specs.Steps.{Reaches}
 use Rattle.nr_machine_laws.specs.Typed.{IsTypedConfig}
-use Rattle.nr_state.specs.Calls.{Called, Stopped}
+use Rattle.nr_state.specs.Calls.{Stopped}
 use Rattle.nr_state.specs.World.{World}
 use Rattle.nr_state.specs.declared.calls.CallContext.{CallContext}
 use Rattle.nr_wasmbin.proofs.ModuleLaws.{decoded_is}
@@ -33,7 +33,7 @@ use Rattle.nr_wasmbin.specs.declared.fault.DecodeFault.{DecodeFault}
 use Rattle.nr_wasmexec.proofs.Made.{cost_bound}
 use Rattle.nr_wasmexec.specs.Functions.{func_at}
 use Rattle.nr_wasmexec.specs.Making.{MachineView, is_method, limits_of, machine_of, method_of, program_of}
-use Rattle.nr_wasmexec.specs.Reduction.{Config as State, Runtime, call_of, paid}
+use Rattle.nr_wasmexec.specs.Reduction.{Config as State, paid}
 use Rattle.nr_wasmexec.specs.declared.making.MakeFault.{MakeFault}
 use Rattle.nr_wasmexec.specs.declared.making.MakeFault.TheVariants as make
 use Rattle.nr_wasmexec.specs.declared.program.Limits.{Limits}

@@ -1,20 +1,21 @@
 -- What each of the host's functions gives is a number of its type, or none, and the numbers of the state fit on.
-use Rattle.std.proofs.Common.{◌≡◌, ℕ, ◌+◌, ◌*◌, ◌^◌, ◌<◌, ◌≤◌, Bool, true, false, nat_lt, List, [], ◌∷◌, length, Option, Some, None, arith}
+use Rattle.std.proofs.Common.{ℕ, ◌+◌, ◌^◌, ◌<◌, ◌≤◌, Bool, true, false, nat_lt, List, [], length, Option, Some, None}
+use Rattle.std.proofs.Common.{arith}
 use Rattle.std.specs.Prelude.{if◌then◌else◌}
 use Rattle.std.specs.List.{slice_get}
 use Rattle.nr_bytes.specs.Numbers.{little}
-use Rattle.nr_config.specs.Config.{Config, extra_record_bytes, max_key_bytes, max_return_bytes, max_value_bytes}
-use Rattle.nr_contract_laws.proofs.Turning.{Any, Counts, Good, Small, Turn, adds_log, after, amounts, appends, apart}
-use Rattle.nr_contract_laws.proofs.Turning.{arguments, arguments_of_call, burns, chain, chains, counts, creates, faults}
-use Rattle.nr_contract_laws.proofs.Turning.{found, founds, gives, has_room, ids, inputs, is_text, keys, length_fits, looks}
-use Rattle.nr_contract_laws.proofs.Turning.{makes_joint, names, pays, place, ranges, receipt_is, removes, results, returns}
-use Rattle.nr_contract_laws.proofs.Turning.{seeing, seen, sets, sets_promise, short_key, short_value, sizes, stores, tested}
-use Rattle.nr_contract_laws.proofs.Turning.{texts, texts_in, writes}
-use Rattle.nr_contract_laws.specs.Numbers.{FitsState, most_added, usage_of}
+use Rattle.nr_config.specs.Config.{Config, max_key_bytes, max_return_bytes, max_value_bytes}
+use Rattle.nr_contract_laws.proofs.Turning.{Any, Counts, Small, Turn, adds_log, after, amounts, appends, arguments}
+use Rattle.nr_contract_laws.proofs.Turning.{arguments_of_call, burns, chain, chains, counts, creates, faults, found}
+use Rattle.nr_contract_laws.proofs.Turning.{founds, gives, has_room, ids, inputs, is_text, keys, length_fits, looks}
+use Rattle.nr_contract_laws.proofs.Turning.{makes_joint, names, pays, place, ranges, receipt_is, removes, results}
+use Rattle.nr_contract_laws.proofs.Turning.{returns, seeing, seen, sets, sets_promise, short_key, short_value, sizes}
+use Rattle.nr_contract_laws.proofs.Turning.{stores, tested, texts, texts_in, writes}
+use Rattle.nr_contract_laws.specs.Numbers.{most_added}
 use Rattle.nr_guest.specs.Guest.{register as register_of}
 use Rattle.nr_hostctx.specs.Accounts.{account_of}
-use Rattle.nr_hostctx.specs.Acts.{Act, Came, Goes, Stops, begin, burn, bytes_of, fault_if, guest_bytes, look, or_fault, pay}
-use Rattle.nr_hostctx.specs.Acts.{to_guest, to_register, ◌>>=◌}
+use Rattle.nr_hostctx.specs.Acts.{Act, begin, burn, bytes_of, fault_if, guest_bytes, look, or_fault, pay, to_guest}
+use Rattle.nr_hostctx.specs.Acts.{to_register}
 use Rattle.nr_hostctx.specs.Context as context
 use Rattle.nr_hostctx.specs.Faults.{bad_register, bad_result, return_too_long}
 use Rattle.nr_hostctx.specs.Hashes as hash

@@ -1,12 +1,12 @@
 -- What an act of a binding makes of a state whose numbers fit, and of which numbers its value is.
-use Rattle.std.proofs.Common.{◌≡◌, ℕ, ◌+◌, ◌-◌, ◌*◌, ◌^◌, ◌<◌, ◌≤◌, Bool, true, false, cond, ◌&&◌, nat_le, nat_lt, List, length}
-use Rattle.std.proofs.Common.{Option, Some, None, Result, Ok, Err, refl, sym, ap, ◌∙◌, subst, arith}
+use Rattle.std.proofs.Common.{◌≡◌, ℕ, ◌+◌, ◌-◌, ◌*◌, ◌^◌, ◌<◌, ◌≤◌, Bool, true, false, cond, ◌&&◌, nat_le, nat_lt, List}
+use Rattle.std.proofs.Common.{length, Option, Some, None, Result, Ok, Err, refl, sym, ap, ◌∙◌, subst, arith}
 use Rattle.std.specs.Prelude.{◌==◌, ◌||◌, ◌++◌, ◌∷◌, [], if◌then◌else◌, drop, is_none, unwrap_or}
 use Rattle.std.specs.FinMap.{get, insert, remove}
 use Rattle.std.specs.Map.{lookup, values_of}
 use Rattle.std.specs.Option.{option_map}
 use Rattle.std.specs.Str.{is_utf8}
-use Rattle.std.proofs.lemmas.Bool.{leb-true, ltb-true}
+use Rattle.std.proofs.lemmas.Bool.{leb-true}
 use Rattle.std.proofs.lemmas.List.Sums.{sum_by-cons}
 use Rattle.nr_bytes.specs.Numbers.{number}
 use Rattle.nr_config.specs.Config.{Config, max_actions, max_key_bytes, max_log_bytes, max_logs, max_promises}
@@ -18,12 +18,12 @@ use Rattle.nr_guest.specs.Guest.{RegisterView, all_bytes, argument, argument_siz
 use Rattle.nr_guest.specs.Guest.{no_length, register, register_length, set_register}
 use Rattle.nr_guest.specs.declared.fault.GuestFault.{GuestFault}
 use Rattle.nr_hostctx.specs.Accounts.{account_of}
-use Rattle.nr_hostctx.specs.Acts.{Act, Came, Goes, Stops, argument_at, argument_size_at, begin, burn, burnt_more, bytes_of}
-use Rattle.nr_hostctx.specs.Acts.{fault, fault_if, from_guest, give, guest_bytes, guest_or_fault, has_gas, look, onward}
-use Rattle.nr_hostctx.specs.Acts.{or_fault, pay, pay_bytes, promise, promised_more, put_guest, put_register, range_at}
-use Rattle.nr_hostctx.specs.Acts.{registers_or_fault, to_guest, to_register, ◌>>=◌}
-use Rattle.nr_hostctx.specs.Faults.{bad_utf8, key_too_long, out_of_bounds, too_many_actions, too_many_logs}
-use Rattle.nr_hostctx.specs.Faults.{too_many_promises, value_too_long}
+use Rattle.nr_hostctx.specs.Acts.{Act, Came, Goes, Stops, argument_size_at, burn, burnt_more, bytes_of, fault, fault_if}
+use Rattle.nr_hostctx.specs.Acts.{from_guest, give, guest_bytes, guest_or_fault, has_gas, look, onward, or_fault, pay}
+use Rattle.nr_hostctx.specs.Acts.{pay_bytes, promise, promised_more, put_guest, put_register, registers_or_fault}
+use Rattle.nr_hostctx.specs.Acts.{to_guest, to_register, ◌>>=◌}
+use Rattle.nr_hostctx.specs.Faults.{bad_utf8, key_too_long, out_of_bounds, too_many_actions, too_many_promises}
+use Rattle.nr_hostctx.specs.Faults.{value_too_long}
 use Rattle.nr_hostctx.specs.Logs as log
 use Rattle.nr_hostctx.specs.PromiseActions as action
 use Rattle.nr_hostctx.specs.Promises as promises
@@ -50,7 +50,6 @@ use Rattle.nr_state.specs.declared.calls.Returned.TheVariants as end
 use Rattle.nr_wasmexec.proofs.Branches.{some_is}
 use Rattle.nr_wasmmem.specs.Bytes.{put_over, range_in}
 use Rattle.nr_wasmmem.specs.declared.fault.HostStop.{HostStop}
-use Rattle.nr_wasmmem.specs.declared.fault.HostStop.TheVariants as stop
 
 -- ---- one act and then the next
 -- where an act goes on, its value is one of these and the state behind it is one of those

@@ -66,8 +66,8 @@ pub fn ending_laws()
 
 /// What the host's functions give fits in 64 bits.
 pub fn answer_laws()
-    // Where the numbers of the state fit, and the account is counted as less than 2^64 bytes of storage, each of the 41
-    // functions gives a number of its type, or none where it has no result.
+    // Where the numbers of the state fit, and the account is counted as less than 2^64 bytes of storage, each function
+    // gives a number of its type, or none where it has no result.
     ensures answers { (s : Store HostState) (f : HostFn) (args : List ℕ) → FitsState s.host
         → usage_of s.host < 2 ^ 64 → GivesOf (host_type f).result (meaning.call s f args).answer }
     // Behind a call that goes on they fit too, and the account is counted as at most so much more.
