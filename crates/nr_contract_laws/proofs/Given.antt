@@ -5,7 +5,7 @@ use Rattle.std.specs.Prelude.{if◌then◌else◌}
 use Rattle.std.specs.List.{slice_get}
 use Rattle.nr_bytes.specs.Numbers.{little}
 use Rattle.nr_config.specs.Config.{Config, max_key_bytes, max_return_bytes, max_value_bytes}
-use Rattle.nr_contract_laws.proofs.Turning.{Any, Counts, Small, Turn, adds_log, after, amounts, appends, arguments}
+use Rattle.nr_contract_laws.proofs.Turning.{AnyValue, Counts, Small, Turn, adds_log, after, amounts, appends, arguments}
 use Rattle.nr_contract_laws.proofs.Turning.{arguments_of_call, burns, chain, chains, counts, creates, faults, found}
 use Rattle.nr_contract_laws.proofs.Turning.{founds, gives, has_room, ids, inputs, is_text, keys, length_fits, looks}
 use Rattle.nr_contract_laws.proofs.Turning.{makes_joint, names, pays, place, ranges, receipt_is, removes, results}
@@ -52,7 +52,7 @@ module _ (c : Config) (u : ℕ) where
   Gives V a = Turn K K V a
 
   abbrev Stays : {A : Type 0} → Act A → Type 0
-  Stays a = Turn K K Any a
+  Stays a = Turn K K AnyValue a
 
   rises : (s : HostState) → K s → More s
   rises s h = record { fits = h.fits; config = h.config; usage = omega (arith, h.usage) }
@@ -165,7 +165,7 @@ module _ (c : Config) (u : ℕ) where
   unfolding log.panic_utf8
   panic_utf8 len ptr =
       after begin _ begins (λ b. after (log.text_of len ptr) _ (texts c u len ptr) (λ text.
-      after (log.utf8 text) _ (is_text c u text) (λ a. faults c u Any _)))
+      after (log.utf8 text) _ (is_text c u text) (λ a. faults c u AnyValue _)))
 
   log_utf8 : (len ptr : ℕ) → Stays (log.log_utf8 len ptr)
   unfolding log.log_utf8
@@ -175,7 +175,7 @@ module _ (c : Config) (u : ℕ) where
 
   abort : Stays log.abort
   unfolding log.abort
-  abort = after begin _ begins (λ b. faults c u Any _)
+  abort = after begin _ begins (λ b. faults c u AnyValue _)
 
   -- ---- storage
   few : (key value : List ℕ) → length key ≤ max_key_bytes c → length value ≤ max_value_bytes c

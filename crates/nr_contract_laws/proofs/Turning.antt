@@ -61,8 +61,8 @@ Good Q V (Stops s why) = Unit {0}
 pub record Turn {A : Type 0} (P Q : HostState → Type 0) (V : A → Type 0) (a : Act A) : Type 0 where
   pub at : (s : HostState) → P s → Good Q V (a s)
 
-abbrev pub Any : {A : Type 0} → A → Type 0
-Any a = Unit {0}
+abbrev pub AnyValue : {A : Type 0} → A → Type 0
+AnyValue a = Unit {0}
 
 abbrev pub Small : ℕ → Type 0
 Small n = n < 2 ^ 64
@@ -79,7 +79,7 @@ chain {A} {B} {P} {Q} {R} {V} {W} one next h k =
 
 -- where nothing is asked of the value
 pub after : {A B : Type 0} {P Q R : HostState → Type 0} {W : B → Type 0} (one : Act A) (next : A → Act B)
-    → Turn P Q Any one → ((a : A) → Turn Q R W (next a)) → Turn P R W (one >>= next)
+    → Turn P Q AnyValue one → ((a : A) → Turn Q R W (next a)) → Turn P R W (one >>= next)
 after one next h k = chain one next h (λ a v. k a)
 
 choose : {A : Type 0} (Q : HostState → Type 0) (V : A → Type 0) (b : Bool) (y z : Came A) → (b ≡ true → Good Q V y)
@@ -165,17 +165,16 @@ last_true false b d e = absurd cc
 abbrev IsSet : RegisterView → RegisterView → Type 0
 IsSet old new = (all_bytes new.held ≤ new.limits.all_bytes) × (new.limits ≡ old.limits)
 
+abbrev with_it : RegisterView → ℕ → List ℕ → RegisterView
+with_it r id bytes = record r { held = held_with r id bytes }
+
 set_is : (r new : RegisterView) (id : ℕ) (bytes : List ℕ) → set_register r id bytes ≡ Some new → IsSet r new
 unfolding set_register
 set_is r new id bytes e = by_test (can_set r id bytes) refl e
   where
-    with_it : RegisterView
-    with_it = record r { held = held_with r id bytes }
-
-    by_test : (b : Bool) → can_set r id bytes ≡ b → cond b (Some with_it) None ≡ Some new → IsSet r new
-    unfolding with_it
+    by_test : (b : Bool) → can_set r id bytes ≡ b → cond b (Some (with_it r id bytes)) None ≡ Some new → IsSet r new
     by_test true is e =
-        subst (IsSet r) (some_is with_it new e)
+        subst (IsSet r) (some_is (with_it r id bytes) new e)
         (
           leb-true (all_bytes (held_with r id bytes)) r.limits.all_bytes
               (last_true (nat_le (length bytes) r.limits.register_bytes) (has_place r id) _ is),
@@ -191,7 +190,7 @@ module _ (c : Config) (u : ℕ) where
   Gives V a = Turn K K V a
 
   abbrev pub Stays : {A : Type 0} → Act A → Type 0
-  Stays a = Turn K K Any a
+  Stays a = Turn K K AnyValue a
 
   -- ---- other parts of a state
   with_gas : (s : HostState) (g : Gas) → g.burnt + g.promised ≤ g.limit → g.limit ≡ s.gas.limit → K s
@@ -291,11 +290,11 @@ module _ (c : Config) (u : ℕ) where
   either false y z h k = k
 
   pub tested : (b : Bool) (kind : ℕ) → Stays (fault_if b kind)
-  tested true kind = faults Any kind
+  tested true kind = faults AnyValue kind
   tested false kind = here tt
 
   pub found : {A : Type 0} (o : Option A) (kind : ℕ) → Stays (or_fault o kind)
-  found None kind = faults Any kind
+  found None kind = faults AnyValue kind
   found (Some a) kind = here a
 
   answered : {A : Type 0} (r : Result A GuestFault) → Stays (from_guest r)
@@ -323,7 +322,7 @@ module _ (c : Config) (u : ℕ) where
   burns n =
       record {
         at = λ s h.
-            choose K Any (has_gas s.gas n) _ _
+            choose K AnyValue (has_gas s.gas n) _ _
             (λ (is : nat_le (s.gas.burnt + s.gas.promised + n) s.gas.limit ≡ true).
             (tt, with_gas s (burnt_more s.gas n) (omega (arith, leb-true _ _ is)) refl h))
             (λ is. tt);
@@ -334,7 +333,7 @@ module _ (c : Config) (u : ℕ) where
   prepays n =
       record {
         at = λ s h.
-            choose K Any (has_gas s.gas n) _ _
+            choose K AnyValue (has_gas s.gas n) _ _
             (λ (is : nat_le (s.gas.burnt + s.gas.promised + n) s.gas.limit ≡ true).
             (tt, with_gas s (promised_more s.gas n) (omega (arith, leb-true _ _ is)) refl h))
             (λ is. tt);
@@ -362,7 +361,7 @@ module _ (c : Config) (u : ℕ) where
   sets_register id bytes = record { at = λ s h. by_set s h (set_register s.registers id bytes) refl }
     where
       by_set : (s : HostState) → K s → (o : Option RegisterView) → set_register s.registers id bytes ≡ o
-          → Good K Any (registers_or_fault o s)
+          → Good K AnyValue (registers_or_fault o s)
       by_set s h None e = tt
       by_set s h (Some r) e = (tt, with_registers s r (set_is s.registers r id bytes e) h)
 
@@ -373,7 +372,7 @@ module _ (c : Config) (u : ℕ) where
   sets_guest : (ptr : ℕ) (bytes : List ℕ) → Stays (put_guest ptr bytes)
   sets_guest ptr bytes = record { at = λ s h. by_put s h (put_over s.guest ptr bytes) }
     where
-      by_put : (s : HostState) → K s → (o : Option (List ℕ)) → Good K Any (guest_or_fault o s)
+      by_put : (s : HostState) → K s → (o : Option (List ℕ)) → Good K AnyValue (guest_or_fault o s)
       by_put s h None = tt
       by_put s h (Some new) = (tt, apart s new s.logs s.returned h)
 
@@ -400,7 +399,7 @@ module _ (c : Config) (u : ℕ) where
   adds_log text =
       record {
         at = λ s h.
-            choose K Any
+            choose K AnyValue
             (nat_le (max_logs s.config) (length s.logs)
             || nat_lt (max_log_bytes s.config) (log.log_bytes s.logs + length text)) _ _
             (λ is. tt)
@@ -495,7 +494,7 @@ module _ (c : Config) (u : ℕ) where
   inputs index = seeing (λ s. inputs_of s.book index) promises.from_book from_book_is
 
   pub ids : (bytes : List ℕ) → Stays (promises.account_id bytes)
-  ids bytes = either (is_none (id_fault bytes)) (give bytes) _ (here bytes) (faults Any _)
+  ids bytes = either (is_none (id_fault bytes)) (give bytes) _ (here bytes) (faults AnyValue _)
 
   pub place : Stays promises.place_for_one
   place =
@@ -504,7 +503,7 @@ module _ (c : Config) (u : ℕ) where
 
   pub sizes : (count : ℕ) → Stays (promises.indices_size count)
   sizes count = either (nat_lt (8 * count) (2 ^ 64)) (give (8 * count)) (fault out_of_bounds) (here (8 * count))
-      (faults Any out_of_bounds)
+      (faults AnyValue out_of_bounds)
 
   pub results : (reg : ℕ) (o : Option (List ℕ)) → Gives Small (promises.result_in reg o)
   results reg None = gives Small 2 (omega arith)
@@ -527,7 +526,7 @@ module _ (c : Config) (u : ℕ) where
   takes deposit =
       record {
         at = λ s h.
-            choose K Any (nat_lt (account_of s).amount deposit) _ _
+            choose K AnyValue (nat_lt (account_of s).amount deposit) _ _
             (λ is. tt)
             (λ is. (
               tt,
@@ -537,7 +536,7 @@ module _ (c : Config) (u : ℕ) where
       }
 
   with_action_is : (s : HostState) → K s → (r : Result Book PromiseFault) → IsBounded s.book r
-      → Good K Any (action.with_action r s)
+      → Good K AnyValue (action.with_action r s)
   with_action_is s h (Ok d) is = (tt, with_book s d is h)
   with_action_is s h (Err e) is = tt
 
@@ -563,7 +562,7 @@ module _ (c : Config) (u : ℕ) where
 
   key_is : (r : Result PublicKey RecordFault) → Stays (action.key_of r)
   key_is (Ok key) = here key
-  key_is (Err e) = faults Any _
+  key_is (Err e) = faults AnyValue _
 
   pub keys : (bytes : List ℕ) → Stays (action.public_key bytes)
   keys bytes = key_is (all_of key_at bytes)
@@ -578,12 +577,12 @@ module _ (c : Config) (u : ℕ) where
       here (action.call_arguments_of method args amount))))
 
   pub texts_in : (bytes : List ℕ) → Stays (action.text_in bytes)
-  texts_in bytes = either (is_utf8 bytes) (give bytes) _ (here bytes) (faults Any _)
+  texts_in bytes = either (is_utf8 bytes) (give bytes) _ (here bytes) (faults AnyValue _)
 
   pub names : (bytes : List ℕ) → Stays (action.method_name bytes)
   names bytes =
       after (action.text_in bytes) _ (texts_in bytes) (λ name.
-      either (length name == 0) _ (give name) (faults Any _) (here name))
+      either (length name == 0) _ (give name) (faults AnyValue _) (here name))
 
   pub counts : (index : ℕ) → Stays (action.actions_at index)
   counts index = seeing (λ s. actions_of s.book index) promises.from_book from_book_is
@@ -594,7 +593,7 @@ module _ (c : Config) (u : ℕ) where
 
 -- a datum that is written
 pub sets : (c : Config) (u n : ℕ) (key value : List ℕ) → datum_usage c key value ≤ n
-    → Turn (Counts c u) (Counts c (u + n)) Any (storage.set_datum key value)
+    → Turn (Counts c u) (Counts c (u + n)) AnyValue (storage.set_datum key value)
 unfolding storage.set_datum
 sets c u n key value most =
     record {
