@@ -101,6 +101,22 @@ module _ (c : Config) (code name : List ℕ) (m : MachineView) (f : ℕ) where
   unfolding prepared
   loads e = by_reading (decoded (max_code c) code) refl e
 
+-- ---- so much for each of some gas, and more
+less_total : (u g h k most : ℕ) → g ≤ h → u + h * k ≤ most → u + g * k ≤ most
+less_total u g h k most le total = let times = mul-le-mul_right k le in omega (arith, times, total)
+
+paid_total : (u g h k most : ℕ) → suc g ≤ h → u + h * k ≤ most → u + k + g * k ≤ most
+paid_total u g h k most le total = let times = mul-le-mul_right k le in omega (arith, times, suc-mul g k, total)
+
+moved_total : (u v p most : ℕ) → v ≤ u → u + p ≤ most → v + p ≤ most
+moved_total u v p most le total = omega (arith, le, total)
+
+below : (u p q most : ℕ) → u + p + q ≤ most → most < 2 ^ 64 → u < 2 ^ 64
+below u p q most total small = omega (arith, total, small)
+
+one_less : (g h cost : ℕ) → 1 ≤ cost → cost ≤ h → g ≡ h - cost → suc g ≤ h
+one_less g h cost one enough is = omega (arith, one, enough, is)
+
 -- ---- a call
 module _ (c : Config) (w : World) (x : CallContext) (m : MachineView) (f : ℕ) (h : IsRun c w x m f) where
   loaded : Loads c (code_in w x.current) m f
@@ -110,8 +126,11 @@ module _ (c : Config) (w : World) (x : CallContext) (m : MachineView) (f : ℕ) 
   first_fits = begins c w x (load_gas c (code_in w x.current)) h.config h.context
 
   -- the state once a step is paid for, and the guest's memory
+  abbrev before_in : HostState → HostState
+  before_in s = burnt meaning s m.limits.cost
+
   abbrev before : State HostState → Store HostState
-  before b = record { host = burnt meaning b.store.host m.limits.cost; memory = b.store.guest.memory.bytes }
+  before b = record { host = before_in b.store.host; memory = b.store.guest.memory.bytes }
 
   module _ (counted : StaysCounted c w x m f) where
     fits_at : (n : ℕ) (s : State HostState) → Leads (rules m) (start c w x m) f n s → FitsState s.store.host
@@ -151,13 +170,17 @@ module _ (c : Config) (w : World) (x : CallContext) (m : MachineView) (f : ℕ) 
       config : s.config ≡ c
       usage : usage_of s + gas_left s.gas * most_added c ≤ most
 
+    first_less : gas_left (begun c w x).gas ≤ x.gas
+    first_less = omega arith
+
     first_within : IsWithin (begun c w x)
     first_within =
-        let less : gas_left (begun c w x).gas ≤ x.gas = omega arith in
         record {
           fits = first_fits;
           config = refl;
-          usage = let times = mul-le-mul_right (most_added c) less in omega (arith, times);
+          usage =
+              less_total (usage_of (begun c w x)) (gas_left (begun c w x).gas) x.gas (most_added c) most first_less
+              (omega arith);
         }
 
     cost : 1 ≤ m.limits.cost
@@ -167,19 +190,15 @@ module _ (c : Config) (w : World) (x : CallContext) (m : MachineView) (f : ℕ) 
 
     -- a step takes gas
     takes : (s : HostState) → nat_lt (gas_left s.gas) m.limits.cost ≡ false
-        → suc (gas_left (burnt meaning s m.limits.cost).gas) ≤ gas_left s.gas
+        → suc (gas_left (before_in s).gas) ≤ gas_left s.gas
     takes s e =
-        let enough : m.limits.cost ≤ gas_left s.gas = not_less _ _ e in
-        let left : gas_left (burnt meaning s m.limits.cost).gas ≡ gas_left s.gas - m.limits.cost =
-        meaning_is_host.gas_is s (gas_left s.gas - m.limits.cost) (omega arith) in
-        omega (arith, enough, cost, left)
+        one_less (gas_left (before_in s).gas) (gas_left s.gas) m.limits.cost cost (not_less _ _ e)
+        (meaning_is_host.gas_is s (gas_left s.gas - m.limits.cost) (omega arith))
 
     paid_within : (s : HostState) → IsWithin s → nat_lt (gas_left s.gas) m.limits.cost ≡ false
-        → usage_of s + gas_left (burnt meaning s m.limits.cost).gas * most_added c + most_added c ≤ most
+        → usage_of s + most_added c + gas_left (before_in s).gas * most_added c ≤ most
     paid_within s k e =
-        let times = mul-le-mul_right (most_added c) (takes s e) in
-        let usage = k.usage in
-        omega (arith, times, usage, suc-mul (gas_left (burnt meaning s m.limits.cost).gas) (most_added c))
+        paid_total (usage_of s) (gas_left (before_in s).gas) (gas_left s.gas) (most_added c) most (takes s e) k.usage
 
     step_within : (b : State HostState) → IsWithin b.store.host
         → nat_lt (gas_left b.store.host.gas) m.limits.cost ≡ false → IsWithin (before b).host
@@ -187,24 +206,39 @@ module _ (c : Config) (w : World) (x : CallContext) (m : MachineView) (f : ℕ) 
         record {
           fits = burnt_fits b.store.host m.limits.cost k.fits;
           config = k.config;
-          usage = let less = paid_within b.store.host k e in omega (arith, less);
+          usage =
+              moved_total (usage_of b.store.host + most_added c) (usage_of b.store.host)
+              (gas_left (before_in b.store.host).gas * most_added c) most (omega arith) (paid_within b.store.host k e);
         }
+
+    abbrev behind : State HostState → HostFn → List ℕ → HostState
+    behind b g args = (meaning.call (before b) g args).store.host
+
+    small_before : (b : State HostState) → IsWithin b.store.host
+        → nat_lt (gas_left b.store.host.gas) m.limits.cost ≡ false → usage_of b.store.host < 2 ^ 64
+    small_before b k e =
+        below (usage_of b.store.host) (most_added c) (gas_left (before_in b.store.host).gas * most_added c) most
+        (paid_within b.store.host k e) small
+
+    spent : (b : State HostState) → IsWithin b.store.host
+        → nat_lt (gas_left b.store.host.gas) m.limits.cost ≡ false → (g : HostFn) (args : List ℕ)
+        → Counts c (usage_of b.store.host + most_added c) (behind b g args)
+        → usage_of (behind b g args) + gas_left (behind b g args).gas * most_added c ≤ most
+    spent b k e g args d =
+        less_total (usage_of (behind b g args)) (gas_left (behind b g args).gas)
+        (gas_left (before_in b.store.host).gas) (most_added c) most (meaning_is_host.no_more_gas (before b) g args)
+        (moved_total (usage_of b.store.host + most_added c) (usage_of (behind b g args))
+        (gas_left (before_in b.store.host).gas * most_added c) most d.usage (paid_within b.store.host k e))
 
     call_within : (b : State HostState) → IsWithin b.store.host
         → nat_lt (gas_left b.store.host.gas) m.limits.cost ≡ false → (g : HostFn) (args : List ℕ)
-        → OnGives IsWithin (meaning.call (before b) g args).answer (meaning.call (before b) g args).store.host
+        → OnGives IsWithin (meaning.call (before b) g args).answer (behind b g args)
     call_within b k e g args =
-        let less = paid_within b.store.host k e in
-        let u = usage_of b.store.host in
-        let fits : u < 2 ^ 64 = omega (arith, less, small) in
-        let here : Counts c u (before b).host =
-        record { fits = burnt_fits b.store.host m.limits.cost k.fits; config = k.config; usage = omega arith } in
-        let gas = meaning_is_host.no_more_gas (before b) g args in
-        let times = mul-le-mul_right (most_added c) gas in
-        on_gives (Counts c (u + most_added c)) IsWithin (meaning.call (before b) g args).answer
-        (meaning.call (before b) g args).store.host
-        (λ d. record { fits = d.fits; config = d.config; usage = omega (arith, d.usage, times, less) })
-        (counts_behind c u fits (before b) here g args)
+        on_gives (Counts c (usage_of b.store.host + most_added c)) IsWithin (meaning.call (before b) g args).answer
+        (behind b g args)
+        (λ d. record { fits = d.fits; config = d.config; usage = spent b k e g args d })
+        (counts_behind c (usage_of b.store.host) (small_before b k e) (before b)
+        (record { fits = burnt_fits b.store.host m.limits.cost k.fits; config = k.config; usage = omega arith }) g args)
 
     within : (n : ℕ) (s : State HostState) → Leads (rules m) (start c w x m) f n s → IsWithin s.store.host
     within zero s r = led_first IsWithin (rules m) (start c w x m) (func_at m.program f) s first_within r

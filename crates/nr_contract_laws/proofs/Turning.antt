@@ -502,7 +502,8 @@ module _ (c : Config) (u : ℕ) where
       (λ b. tested b _)
 
   pub sizes : (count : ℕ) → Stays (promises.indices_size count)
-  sizes count = either (nat_lt (8 * count) (2 ^ 64)) (give (8 * count)) (fault out_of_bounds) (here (8 * count))
+  sizes count =
+      either {A = ℕ} (nat_lt (8 * count) (2 ^ 64)) (give (8 * count)) (fault out_of_bounds) (here (8 * count))
       (faults AnyValue out_of_bounds)
 
   pub results : (reg : ℕ) (o : Option (List ℕ)) → Gives Small (promises.result_in reg o)
