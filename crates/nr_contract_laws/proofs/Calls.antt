@@ -4,8 +4,9 @@ use Rattle.std.proofs.Common.{Option, Some, None, Result, Ok, Err, refl, sym, ap
 use Rattle.std.proofs.Common.{arith}
 use Rattle.std.specs.Prelude.{IsTrue, find}
 use Rattle.std.specs.Str.{bytes_eq}
+use Rattle.nr_bytes.specs.Numbers.{IsBytes}
 use Rattle.nr_bytes.specs.Reading.{◌>>=◌}
-use Rattle.nr_config.specs.Config.{Config, max_code, max_pages}
+use Rattle.nr_config.specs.Config.{Config, IsValidConfig, max_code, max_pages}
 use Rattle.nr_contract.proofs.Judging.{is_valid}
 use Rattle.nr_contract.proofs.Making.{made_is}
 use Rattle.nr_contract.specs.Contract.{call, code_in, load_gas, run, started}
@@ -20,7 +21,6 @@ use Rattle.nr_contract_laws.specs.Numbers.{FitsState, most_added, usage_of}
 use Rattle.nr_hostctx.specs.Host.{gas_left, meaning}
 use Rattle.nr_hostctx.specs.Laws.{meaning_is_host}
 use Rattle.nr_hostctx.specs.State.{HostState}
-use Rattle.nr_machine_laws.proofs.Machines.{whole}
 use Rattle.nr_machine_laws.specs.Steps.{Reaches}
 use Rattle.nr_machine_laws.specs.Typed.{IsTypedConfig}
 use Rattle.nr_state.specs.Calls.{Stopped}
@@ -32,6 +32,7 @@ use Rattle.nr_wasmbin.specs.Modules.{decoded}
 use Rattle.nr_wasmbin.specs.declared.fault.DecodeFault.{DecodeFault}
 use Rattle.nr_wasmexec.proofs.Made.{cost_bound}
 use Rattle.nr_wasmexec.specs.Functions.{func_at}
+use Rattle.nr_wasmexec.specs.Machine.{rules_of, runtime}
 use Rattle.nr_wasmexec.specs.Making.{MachineView, is_method, limits_of, machine_of, method_of, program_of}
 use Rattle.nr_wasmexec.specs.Reduction.{Config as State, paid}
 use Rattle.nr_wasmexec.specs.declared.making.MakeFault.{MakeFault}
@@ -117,6 +118,14 @@ below u p q most total small = omega (arith, total, small)
 one_less : (g h cost : ℕ) → 1 ≤ cost → cost ≤ h → g ≡ h - cost → suc g ≤ h
 one_less g h cost one enough is = omega (arith, one, enough, is)
 
+-- what `typing_laws` says of the host that contracts have
+abbrev pub KeepsTypes : Type 0
+KeepsTypes =
+    (c : Config) (bytes : List ℕ) (source : Module) (m : MachineView) → IsValidConfig c → IsBytes bytes
+    → IsModule bytes source → IsValid (max_pages c) source → machine_of c source ≡ Ok m
+    → (s : HostState) (f n : ℕ) (t : State HostState) → IsTrue (is_method (func_at m.program f))
+    → Reaches (rules_of meaning m.program m.limits) (runtime s m.guest) f n t → IsTypedConfig m.program t
+
 -- ---- a call
 module _ (c : Config) (w : World) (x : CallContext) (m : MachineView) (f : ℕ) (h : IsRun c w x m f) where
   loaded : Loads c (code_in w x.current) m f
@@ -154,10 +163,11 @@ module _ (c : Config) (w : World) (x : CallContext) (m : MachineView) (f : ℕ) 
       r.2,
     )
 
-    pub typed : (n : ℕ) (s : State HostState) → Leads (rules m) (start c w x m) f n s → IsTypedConfig m.program s
-    typed n s r =
-        whole meaning meaning_is_host c (code_in w x.current) loaded.source m h.config h.code loaded.spells
-        loaded.valid loaded.made (begun c w x) f n s loaded.method (reaches n s r)
+    pub typed : KeepsTypes → (n : ℕ) (s : State HostState) → Leads (rules m) (start c w x m) f n s
+        → IsTypedConfig m.program s
+    typed keeps n s r =
+        keeps c (code_in w x.current) loaded.source m h.config h.code loaded.spells loaded.valid loaded.made
+        (begun c w x) f n s loaded.method (reaches n s r)
 
   -- ---- what the account can come to be counted as
   module _ (small : usage_of (begun c w x) + x.gas * most_added c < 2 ^ 64) where

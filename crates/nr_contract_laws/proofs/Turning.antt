@@ -174,8 +174,7 @@ set_is r new id bytes e = by_test (can_set r id bytes) refl e
   where
     by_test : (b : Bool) → can_set r id bytes ≡ b → cond b (Some (with_it r id bytes)) None ≡ Some new → IsSet r new
     by_test true is e =
-        subst (IsSet r) (some_is (with_it r id bytes) new e)
-        (
+        subst (IsSet r) (some_is (with_it r id bytes) new e) (
           leb-true (all_bytes (held_with r id bytes)) r.limits.all_bytes
               (last_true (nat_le (length bytes) r.limits.register_bytes) (has_place r id) _ is),
           refl,
@@ -602,10 +601,10 @@ sets c u n key value most =
         tt,
         with_world c u (u + n) s (change.set_datum s.config s.world s.context.current key value)
             (
-              let more = added_usage s.config s.world s.context.current key value in
-              let same : datum_usage s.config key value ≡ datum_usage c key value =
-              ap (λ (d : Config). datum_usage d key value) h.config in
-              omega (arith, h.usage, more, same, most)
+            let more = added_usage s.config s.world s.context.current key value in
+            let same : datum_usage s.config key value ≡ datum_usage c key value =
+            ap (λ (d : Config). datum_usage d key value) h.config in
+            omega (arith, h.usage, more, same, most)
             ) h,
       );
     }

@@ -27,8 +27,11 @@ ghost use Rattle.nr_wasmtypes.specs.declared.module.Module.{Module};
 ghost use Rattle.nr_wasmvalid.specs.Modules.{IsFirstBreach, IsValid};
 ghost use Rattle.nr_wasmvalid.specs.declared.fault.ValidFault.{ValidFault};
 
+use nr_hostctx::HostContext;
+use nr_machine_laws::laws::typing_laws;
 use nr_records::Account;
 use nr_state::CallContext;
+use nr_store::PlainStore;
 use nr_wasmvalid::running_laws;
 
 /// The verdict on a module, which is computed by two stacks, is that of typing.
@@ -117,4 +120,6 @@ pub fn moment_laws()
     ensures each { (c : Config) (w : World) (x : CallContext) (m : MachineView) (f n : ℕ)
         → run_by (rules m) (start c w x m) f n ≡ Unfinished
         → (s : State HostState) × Leads (rules m) (start c w x m) f n s }
-{}
+{
+    typing_laws::<HostContext<'_, PlainStore>>();
+}

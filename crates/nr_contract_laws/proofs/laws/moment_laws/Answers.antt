@@ -9,7 +9,8 @@ pub returns-clause-same : goal.returns-clause-same
 returns-clause-same c = same
 
 pub returns-clause-typed : goal.returns-clause-typed
-returns-clause-typed c = typed
+returns-clause-typed c = λ config w x m f is counted.
+    typed config w x m f is counted c.typing_laws.ensures.made
 
 pub returns-clause-stays : goal.returns-clause-stays
 returns-clause-stays c = stays
