@@ -101,7 +101,7 @@ pub fn account_law(account: &Account)
 }
 
 /// At each moment of a contract's call operands, locals and globals are of their types.
-pub fn moment_laws()
+pub fn moment_laws<'a>()
     // The call is the run of its method in its machine, once the loading is paid.
     ensures same { (c : Config) (w : World) (x : CallContext) (m : MachineView) (f : ℕ) → IsRun c w x m f
         → load_gas c (code_in w x.current) ≤ x.gas → call c w x ≡ run (begun c w x) m f }
@@ -121,5 +121,5 @@ pub fn moment_laws()
         → run_by (rules m) (start c w x m) f n ≡ Unfinished
         → (s : State HostState) × Leads (rules m) (start c w x m) f n s }
 {
-    typing_laws::<HostContext<'_, PlainStore>>();
+    typing_laws::<HostContext<'a, PlainStore>>();
 }
