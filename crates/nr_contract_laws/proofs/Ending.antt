@@ -69,7 +69,7 @@ by_kind p exported.Table f g e = absurd cc
 by_kind p exported.Memory f g e = absurd cc
 by_kind p exported.Global f g e = absurd cc
 
-by_export : (p : Program) (o : Option Export) (g : ℕ) → method_in p o ≡ Some g → IsTrue (is_method (func_at p g))
+pub by_export : (p : Program) (o : Option Export) (g : ℕ) → method_in p o ≡ Some g → IsTrue (is_method (func_at p g))
 by_export p None g e = absurd cc
 by_export p (Some x) g e = by_kind p x.kind x.index g e
 

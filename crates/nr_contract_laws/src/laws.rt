@@ -1,24 +1,37 @@
 //! What the definition of a contract's call rests on. Each function here does nothing when it runs: its contract is the
 //! law.
 
-ghost use Rattle.std.specs.Prelude.{◌≡◌, ◌≤◌, ◌↔◌, ℕ, List, length, Ok, Err};
+ghost use Rattle.std.specs.Prelude.{◌≡◌, ◌≤◌, ◌<◌, ◌+◌, ◌*◌, ◌^◌, ◌↔◌, ℕ, List, Option, length, Ok, Err};
 ghost use Rattle.nr_config.specs.Config.{Config, IsValidConfig};
-ghost use Rattle.nr_contract.specs.Contract.{call, enough, over, run};
+ghost use Rattle.nr_contract.specs.Contract.{call, enough, first_state, load_gas, code_in, over, run};
 ghost use Rattle.nr_contract.specs.Runs.{IsOver};
 ghost use Rattle.nr_contract.specs.Verdicts.{module_verdict};
 ghost use Rattle.nr_contract_laws.specs.Ending.{IsFailure, steps};
+ghost use Rattle.nr_contract_laws.specs.Moments.{IsRun, Leads, StaysCounted, begun, rules, start};
+ghost use Rattle.nr_contract_laws.specs.Numbers.{FitsContext, FitsState, most_added, usage_of};
 ghost use Rattle.nr_hostctx.specs.Host.{meaning};
 ghost use Rattle.nr_hostctx.specs.declared.seen.HostState.{HostState};
+ghost use Rattle.nr_machine_laws.specs.Steps.{GivesOf};
+ghost use Rattle.nr_machine_laws.specs.Typed.{IsTypedConfig};
 ghost use Rattle.nr_state.specs.Calls.{Stopped};
 ghost use Rattle.nr_state.specs.World.{World};
 ghost use Rattle.nr_state.specs.declared.calls.CallContext.{CallContext};
 ghost use Rattle.nr_wasmbin.specs.Grammar.{IsModule};
 ghost use Rattle.nr_wasmbin.specs.Modules.{decoded};
 ghost use Rattle.nr_wasmexec.specs.Making.{MachineView};
+ghost use Rattle.nr_wasmexec.specs.Reduction.{Config as State, Unfinished, run_by, runs};
+ghost use Rattle.nr_wasmmem.specs.Meaning.{Gives, Store};
+ghost use Rattle.nr_wasmtypes.specs.Host.{host_type};
+ghost use Rattle.nr_wasmtypes.specs.declared.host.HostFn.{HostFn};
 ghost use Rattle.nr_wasmtypes.specs.declared.module.Module.{Module};
 ghost use Rattle.nr_wasmvalid.specs.Modules.{IsFirstBreach, IsValid};
 ghost use Rattle.nr_wasmvalid.specs.declared.fault.ValidFault.{ValidFault};
 
+use nr_hostctx::HostContext;
+use nr_machine_laws::laws::typing_laws;
+use nr_records::Account;
+use nr_state::CallContext;
+use nr_store::PlainStore;
 use nr_wasmvalid::running_laws;
 
 /// The verdict on a module, which is computed by two stacks, is that of typing.
@@ -52,4 +65,61 @@ pub fn ending_laws()
         → IsOver (steps s m f n) }
 {
     running_laws();
+}
+
+/// What the host's functions give fits in 64 bits.
+pub fn answer_laws()
+    // Where the numbers of the state fit, and the account is counted as less than 2^64 bytes of storage, each function
+    // gives a number of its type, or none where it has no result.
+    ensures answers { (s : Store HostState) (f : HostFn) (args : List ℕ) → FitsState s.host
+        → usage_of s.host < 2 ^ 64 → GivesOf (host_type f).result (meaning.call s f args).answer }
+    // Behind a call that goes on they fit too, and the account is counted as at most so much more.
+    ensures goes_on { (s : Store HostState) (f : HostFn) (args : List ℕ) (value : Option ℕ) → FitsState s.host
+        → usage_of s.host < 2 ^ 64 → (meaning.call s f args).answer ≡ Gives value
+        → FitsState (meaning.call s f args).store.host
+        × (usage_of (meaning.call s f args).store.host ≤ usage_of s.host + most_added s.host.config) }
+    // They fit as a call begins.
+    ensures begins { (c : Config) (w : World) (x : CallContext) (load : ℕ) → IsValidConfig c → FitsContext x
+        → FitsState (first_state c w x load) }
+{}
+
+/// Each context of the code has such numbers.
+pub fn context_law(context: &CallContext)
+    ensures fits { FitsContext context.now }
+{
+    let _gas = context.gas;
+    let _height = context.height.0;
+    let _time = context.timestamp;
+    let _inputs = context.inputs.inner().len();
+}
+
+/// Each account of the code is counted as less than 2^64 bytes of storage.
+pub fn account_law(account: &Account)
+    ensures counted { account.now.storage_usage < 2 ^ 64 }
+{
+    let _usage = account.storage_usage;
+}
+
+/// At each moment of a contract's call operands, locals and globals are of their types.
+pub fn moment_laws<'a>()
+    // The call is the run of its method in its machine, once the loading is paid.
+    ensures same { (c : Config) (w : World) (x : CallContext) (m : MachineView) (f : ℕ) → IsRun c w x m f
+        → load_gas c (code_in w x.current) ≤ x.gas → call c w x ≡ run (begun c w x) m f }
+    // Whatever number of steps leads from there, as long as the account is counted as less than 2^64 bytes of storage.
+    ensures typed { (c : Config) (w : World) (x : CallContext) (m : MachineView) (f : ℕ) → IsRun c w x m f
+        → StaysCounted c w x m f → (n : ℕ) (s : State HostState) → Leads (rules m) (start c w x m) f n s
+        → IsTypedConfig m.program s }
+    // It stays so where what it is counted as, with the most that a call can add for each unit of gas, is less.
+    ensures stays { (c : Config) (w : World) (x : CallContext) (m : MachineView) (f : ℕ) → IsRun c w x m f
+        → usage_of (begun c w x) + x.gas * most_added c < 2 ^ 64 → StaysCounted c w x m f }
+    // With more steps the run is where these lead from there.
+    ensures way { (c : Config) (w : World) (x : CallContext) (m : MachineView) (f n k : ℕ) (s : State HostState)
+        → Leads (rules m) (start c w x m) f n s
+        → run_by (rules m) (start c w x m) f (n + k) ≡ runs (rules m) k s }
+    // A run that isn't over in so many steps is where these lead.
+    ensures each { (c : Config) (w : World) (x : CallContext) (m : MachineView) (f n : ℕ)
+        → run_by (rules m) (start c w x m) f n ≡ Unfinished
+        → (s : State HostState) × Leads (rules m) (start c w x m) f n s }
+{
+    typing_laws::<HostContext<'a, PlainStore>>();
 }
