@@ -31,7 +31,8 @@ module _ {S : Type 0} (Q : S → Type 0) (s : Runtime S) (here : Q s.host) where
   either false y z h k = k
 
   left : (own : List ℕ) (n : ℕ) (inner values : List ℕ) (code : Code) → OnTo Q (left_over s own n inner values code)
-  left own n inner values code = either (nat_lt (length inner) n) _ _ tt here
+  left own n inner values code =
+      either (nat_lt (length inner) n) NoRule (To s own (Plain (take n inner ++ values) code)) tt here
 
   on_label : (own values : List ℕ) (n : ℕ) (again code : Code) (step : Step S) → OnTo Q step
       → OnTo Q (in_label s own values n again code step)
@@ -90,29 +91,27 @@ module _ {S : Type 0} (Q : S → Type 0) (w : Rules S) (s : Runtime S) (here : Q
       → OnGives Q (call_of w.host s f args).answer (call_of w.host s f args).store.host) → (own : List ℕ) (seq : Seq)
       → OnTo Q (reduce w s own seq)
   on_reduced asked own (Plain values code) =
-      either Q s here (begins code) _ _
+      either Q s here (begins code)
+      (rewritten w.host s own (after code) (effect w.program s.guest own values code)) (Over values)
       (on_effect Q s here w.host asked own (after code) (effect w.program s.guest own values code)) tt
   on_reduced asked own (Label values n again inner code) =
       on_label Q s here own values n again code (reduce w s own inner) (on_reduced asked own inner)
   on_reduced asked own (Frame values n more inner code) =
       on_frame Q s here own values n code (reduce w s more inner) (on_reduced asked more inner)
 
--- a step keeps what holds of the host's state, where paying keeps it and each call keeps it that is paid for
+-- a step leads to what holds of the host's state before it, once the step is paid for, and behind each call that gives
 module _ {S : Type 0} (Q : S → Type 0) (w : Rules S) (c : Config S) (here : Q c.store.host)
-    (pays : nat_lt (w.host.gas c.store.host) w.cost ≡ false → Q (paid w c.store).host)
-    (asked : nat_lt (w.host.gas c.store.host) w.cost ≡ false → (f : HostFn) (args : List ℕ)
+    (pays : Q (paid w c.store).host)
+    (asked : (f : HostFn) (args : List ℕ)
     → OnGives Q (call_of w.host (paid w c.store) f args).answer (call_of w.host (paid w c.store) f args).store.host) where
-  by_gas : (b : Bool) → nat_lt (w.host.gas c.store.host) w.cost ≡ b
-      → OnTo Q (cond b (Stopping (paid w c.store) GasExceeded) (reduce w (paid w c.store) c.locals c.seq))
-  by_gas true e = tt
-  by_gas false e = on_reduced Q w (paid w c.store) (pays e) (asked e) c.locals c.seq
-
   by_instr : (b : Bool) → has_instr c.seq ≡ b
       → OnTo Q
       (cond b
       (cond (nat_lt (w.host.gas c.store.host) w.cost) (Stopping (paid w c.store) GasExceeded)
       (reduce w (paid w c.store) c.locals c.seq)) (reduce w c.store c.locals c.seq))
-  by_instr true e = by_gas (nat_lt (w.host.gas c.store.host) w.cost) refl
+  by_instr true e =
+      either Q (paid w c.store) pays (nat_lt (w.host.gas c.store.host) w.cost) (Stopping (paid w c.store) GasExceeded)
+      (reduce w (paid w c.store) c.locals c.seq) tt (on_reduced Q w (paid w c.store) pays asked c.locals c.seq)
   by_instr false e = on_quiet Q w c.store here c.locals c.seq e
 
   on_step : OnTo Q (stepped w c)

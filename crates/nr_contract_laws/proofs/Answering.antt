@@ -1,5 +1,5 @@
 -- What a call of one of the host's functions answers, and the state behind it.
-use Rattle.std.proofs.Common.{◌≡◌, ℕ, ◌+◌, ◌-◌, ◌^◌, ◌<◌, List, [], Option, arith}
+use Rattle.std.proofs.Common.{◌≡◌, ℕ, ◌+◌, ◌^◌, ◌<◌, List, [], Option, arith}
 use Rattle.nr_config.specs.Config.{Config, IsValidConfig, greatest, max_all_register_bytes, max_promises}
 use Rattle.nr_config.specs.Table.{table}
 use Rattle.nr_contract.specs.Contract.{first_state}
@@ -57,51 +57,42 @@ pub begins : (c : Config) (w : World) (x : CallContext) (load : ℕ) → IsValid
 begins c w x load v fits = burnt_fits (fresh w x c) load (fresh_fits c w x v fits)
 
 -- ---- a call
-given : (t : Types?) (Q : HostState → Type 0) (came : Came (Option ℕ)) → Good Q (IsGiven t) came
-    → GivesOf t (called came).answer
-given t Q (Goes s value) h = h.0
-given t Q (Stops s stop.Gas) h = tt
-given t Q (Stops s (stop.Fault kind)) h = tt
-given t Q (Stops s stop.Memory) h = tt
+module _ (c : Config) (u : ℕ) where
+  abbrev More : HostState → Type 0
+  More s = Counts c (u + most_added c) s
 
-behind : (c : Config) (u : ℕ) (t : Types?) (came : Came (Option ℕ)) → Good (Counts c u) (IsGiven t) came
-    → OnGives (Counts c u) (called came).answer (called came).store.host
-behind c u t (Goes s value) h = apart c u s [] s.logs s.returned h.1
-behind c u t (Stops s stop.Gas) h = tt
-behind c u t (Stops s (stop.Fault kind)) h = tt
-behind c u t (Stops s stop.Memory) h = tt
+  given : (t : Types?) (came : Came (Option ℕ)) → Good More (IsGiven u t) came → u < 2 ^ 64
+      → GivesOf t (called came).answer
+  given t (Goes s value) h small = h.0 small
+  given t (Stops s stop.Gas) h small = tt
+  given t (Stops s (stop.Fault kind)) h small = tt
+  given t (Stops s stop.Memory) h small = tt
 
-module _ (c : Config) (u : ℕ) (small : u < 2 ^ 64) (s : Store HostState) (h : Counts c u s.host) (f : HostFn)
-    (args : List ℕ) where
-  came : Good (Counts c (u + most_added c)) (IsGiven (host_type f).result) (row f args (with_guest s.host s.memory))
-  came =
-      (row_given c u small f args).at (with_guest s.host s.memory) (apart c u s.host s.memory s.host.logs s.host.returned h)
+  behind : (t : Types?) (came : Came (Option ℕ)) → Good More (IsGiven u t) came
+      → OnGives More (called came).answer (called came).store.host
+  behind t (Goes s value) h = apart c (u + most_added c) s [] s.logs s.returned h.1
+  behind t (Stops s stop.Gas) h = tt
+  behind t (Stops s (stop.Fault kind)) h = tt
+  behind t (Stops s stop.Memory) h = tt
 
-  pub answer_given : GivesOf (host_type f).result (meaning.call s f args).answer
-  answer_given =
-      given (host_type f).result (Counts c (u + most_added c)) (row f args (with_guest s.host s.memory)) came
+  module _ (s : Store HostState) (h : Counts c u s.host) (f : HostFn) (args : List ℕ) where
+    came : Good More (IsGiven u (host_type f).result) (row f args (with_guest s.host s.memory))
+    came =
+        (row_given c u f args).at (with_guest s.host s.memory)
+        (apart c u s.host s.memory s.host.logs s.host.returned h)
 
-  pub counts_behind : OnGives (Counts c (u + most_added c)) (meaning.call s f args).answer
-      (meaning.call s f args).store.host
-  counts_behind =
-      behind c (u + most_added c) (host_type f).result (row f args (with_guest s.host s.memory)) came
+    pub answer_given : u < 2 ^ 64 → GivesOf (host_type f).result (meaning.call s f args).answer
+    answer_given small = given (host_type f).result (row f args (with_guest s.host s.memory)) came small
+
+    pub counts_behind : OnGives (Counts c (u + most_added c)) (meaning.call s f args).answer
+        (meaning.call s f args).store.host
+    counts_behind = behind (host_type f).result (row f args (with_guest s.host s.memory)) came
 
 -- ---- the laws of a call
 pub answers : (s : Store HostState) (f : HostFn) (args : List ℕ) → FitsState s.host → usage_of s.host < 2 ^ 64
     → GivesOf (host_type f).result (meaning.call s f args).answer
-answers s f args fits small = answer_given s.host.config (usage_of s.host) small s (counts_here s.host fits) f args
-
-pub on_gives : (Q R : HostState → Type 0) (a : Answer) (s : HostState) → (Q s → R s) → OnGives Q a s → OnGives R a s
-on_gives Q R (Gives value) s k h = k h
-on_gives Q R OutOfGas s k h = tt
-on_gives Q R (Fails kind) s k h = tt
-
-pub fits_behind : (s : Store HostState) (f : HostFn) (args : List ℕ) → FitsState s.host → usage_of s.host < 2 ^ 64
-    → OnGives FitsState (meaning.call s f args).answer (meaning.call s f args).store.host
-fits_behind s f args fits small =
-    on_gives (Counts s.host.config (usage_of s.host + most_added s.host.config)) FitsState
-    (meaning.call s f args).answer (meaning.call s f args).store.host (λ k. k.fits)
-    (counts_behind s.host.config (usage_of s.host) small s (counts_here s.host fits) f args)
+answers s f args fits small =
+    answer_given s.host.config (usage_of s.host) s (counts_here s.host fits) f args small
 
 goes_on_by : (Q : HostState → Type 0) (a : Answer) (s : HostState) (value : Option ℕ) → a ≡ Gives value → OnGives Q a s
     → Q s
@@ -111,9 +102,9 @@ goes_on_by Q (Fails kind) s other e h = absurd cc
 
 -- where the call goes on, the numbers fit behind it, and the account is counted as at most so much more
 pub goes_on : (s : Store HostState) (f : HostFn) (args : List ℕ) (value : Option ℕ) → FitsState s.host
-    → usage_of s.host < 2 ^ 64 → (meaning.call s f args).answer ≡ Gives value
+    → (meaning.call s f args).answer ≡ Gives value
     → Counts s.host.config (usage_of s.host + most_added s.host.config) (meaning.call s f args).store.host
-goes_on s f args value fits small e =
+goes_on s f args value fits e =
     goes_on_by (Counts s.host.config (usage_of s.host + most_added s.host.config))
     (meaning.call s f args).answer (meaning.call s f args).store.host value e
-    (counts_behind s.host.config (usage_of s.host) small s (counts_here s.host fits) f args)
+    (counts_behind s.host.config (usage_of s.host) s (counts_here s.host fits) f args)

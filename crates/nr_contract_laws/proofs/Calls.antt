@@ -1,6 +1,6 @@
 -- The moments of a call: what it runs is of a valid module, its numbers fit, and so it is of its types.
-use Rattle.std.proofs.Common.{◌≡◌, ℕ, zero, suc, ◌+◌, ◌*◌, ◌^◌, ◌<◌, ◌≤◌, ◌-◌, Bool, true, false, cond, nat_lt, List}
-use Rattle.std.proofs.Common.{Option, Some, None, Result, Ok, Err, refl, sym, ap, ◌∙◌, subst, mul-le-mul_right, suc-mul}
+use Rattle.std.proofs.Common.{◌≡◌, ℕ, zero, suc, ◌+◌, ◌*◌, ◌≤◌, Bool, true, false, cond, nat_lt, List}
+use Rattle.std.proofs.Common.{Option, Some, None, Result, Ok, Err, refl, sym, ap, ◌∙◌, subst, suc-mul}
 use Rattle.std.proofs.Common.{arith}
 use Rattle.std.specs.Prelude.{IsTrue, find}
 use Rattle.std.specs.Str.{bytes_eq}
@@ -13,13 +13,13 @@ use Rattle.nr_contract.specs.Contract.{call, code_in, load_gas, run, started}
 use Rattle.nr_contract.specs.Loading.{judged, made, named, out_of_gas, prepared, read}
 use Rattle.nr_contract.specs.Verdicts.{module_verdict}
 use Rattle.nr_contract_laws.proofs.Along.{OnGives, answers_next, led_first, led_to}
-use Rattle.nr_contract_laws.proofs.Answering.{answers, begins, burnt_fits, counts_behind, fits_behind, on_gives}
+use Rattle.nr_contract_laws.proofs.Answering.{answers, begins, burnt_fits, counts_behind}
 use Rattle.nr_contract_laws.proofs.Ending.{by_export}
-use Rattle.nr_contract_laws.proofs.Turning.{Counts, not_less}
+use Rattle.nr_contract_laws.proofs.Given.{rises}
+use Rattle.nr_contract_laws.proofs.Turning.{Counts}
 use Rattle.nr_contract_laws.specs.Moments.{IsRun, Leads, StaysCounted, begun, rules, start}
 use Rattle.nr_contract_laws.specs.Numbers.{FitsState, most_added, usage_of}
-use Rattle.nr_hostctx.specs.Host.{gas_left, meaning}
-use Rattle.nr_hostctx.specs.Laws.{meaning_is_host}
+use Rattle.nr_hostctx.specs.Host.{meaning}
 use Rattle.nr_hostctx.specs.State.{HostState}
 use Rattle.nr_machine_laws.specs.Steps.{Reaches}
 use Rattle.nr_machine_laws.specs.Typed.{IsTypedConfig}
@@ -30,17 +30,14 @@ use Rattle.nr_wasmbin.proofs.ModuleLaws.{decoded_is}
 use Rattle.nr_wasmbin.specs.Grammar.{IsModule}
 use Rattle.nr_wasmbin.specs.Modules.{decoded}
 use Rattle.nr_wasmbin.specs.declared.fault.DecodeFault.{DecodeFault}
-use Rattle.nr_wasmexec.proofs.Made.{cost_bound}
 use Rattle.nr_wasmexec.specs.Functions.{func_at}
 use Rattle.nr_wasmexec.specs.Machine.{rules_of, runtime}
-use Rattle.nr_wasmexec.specs.Making.{MachineView, is_method, limits_of, machine_of, method_of, program_of}
+use Rattle.nr_wasmexec.specs.Making.{MachineView, is_method, machine_of, method_of, program_of}
 use Rattle.nr_wasmexec.specs.Reduction.{Config as State, paid}
 use Rattle.nr_wasmexec.specs.declared.making.MakeFault.{MakeFault}
 use Rattle.nr_wasmexec.specs.declared.making.MakeFault.TheVariants as make
-use Rattle.nr_wasmexec.specs.declared.program.Limits.{Limits}
 use Rattle.nr_wasmexec.specs.declared.program.Program.{Program}
-use Rattle.nr_wasmmem.specs.Meaning.{Store, burnt}
-use Rattle.nr_wasmtypes.specs.declared.host.HostFn.{HostFn}
+use Rattle.nr_wasmmem.specs.Meaning.{Answer, Fails, Gives, OutOfGas, Store, burnt}
 use Rattle.nr_wasmtypes.specs.declared.module.Export.{Export}
 use Rattle.nr_wasmtypes.specs.declared.module.Module.{Module}
 use Rattle.nr_wasmvalid.specs.Modules.{IsValid}
@@ -102,21 +99,12 @@ module _ (c : Config) (code name : List ℕ) (m : MachineView) (f : ℕ) where
   unfolding prepared
   loads e = by_reading (decoded (max_code c) code) refl e
 
--- ---- so much for each of some gas, and more
-less_total : (u g h k most : ℕ) → g ≤ h → u + h * k ≤ most → u + g * k ≤ most
-less_total u g h k most le total = let times = mul-le-mul_right k le in omega (arith, times, total)
+-- ---- so much for each of some steps
+at_first : (u k : ℕ) → u ≤ u + 0 * k
+at_first u k = omega arith
 
-paid_total : (u g h k most : ℕ) → suc g ≤ h → u + h * k ≤ most → u + k + g * k ≤ most
-paid_total u g h k most le total = let times = mul-le-mul_right k le in omega (arith, times, suc-mul g k, total)
-
-moved_total : (u v p most : ℕ) → v ≤ u → u + p ≤ most → v + p ≤ most
-moved_total u v p most le total = omega (arith, le, total)
-
-below : (u p q most : ℕ) → u + p + q ≤ most → most < 2 ^ 64 → u < 2 ^ 64
-below u p q most total small = omega (arith, total, small)
-
-one_less : (g h cost : ℕ) → 1 ≤ cost → cost ≤ h → g ≡ h - cost → suc g ≤ h
-one_less g h cost one enough is = omega (arith, one, enough, is)
+one_more : (u v n k : ℕ) → v ≤ u + n * k + k → v ≤ u + suc n * k
+one_more u v n k le = omega (arith, le, suc-mul n k)
 
 -- what `typing_laws` says of the host that contracts have
 abbrev pub KeepsTypes : Type 0
@@ -127,6 +115,11 @@ KeepsTypes =
     → Reaches (rules_of meaning m.program m.limits) (runtime s m.guest) f n t → IsTypedConfig m.program t
 
 -- ---- a call
+on_gives : (Q R : HostState → Type 0) (a : Answer) (s : HostState) → (Q s → R s) → OnGives Q a s → OnGives R a s
+on_gives Q R (Gives value) s k h = k h
+on_gives Q R OutOfGas s k h = tt
+on_gives Q R (Fails kind) s k h = tt
+
 module _ (c : Config) (w : World) (x : CallContext) (m : MachineView) (f : ℕ) (h : IsRun c w x m f) where
   loaded : Loads c (code_in w x.current) m f
   loaded = loads c (code_in w x.current) x.method m f h.found
@@ -134,130 +127,68 @@ module _ (c : Config) (w : World) (x : CallContext) (m : MachineView) (f : ℕ) 
   first_fits : FitsState (begun c w x)
   first_fits = begins c w x (load_gas c (code_in w x.current)) h.config h.context
 
+  -- ---- the numbers of the state at each moment
+  abbrev most_at : ℕ → ℕ
+  most_at n = usage_of (begun c w x) + n * most_added c
+
+  first_counts : Counts c (most_at 0) (begun c w x)
+  first_counts =
+      record { fits = first_fits; config = refl; usage = at_first (usage_of (begun c w x)) (most_added c) }
+
+  one_more_at : (n : ℕ) (s : HostState) → Counts c (most_at n + most_added c) s → Counts c (most_at (suc n)) s
+  one_more_at n s k =
+      record {
+        fits = k.fits;
+        config = k.config;
+        usage = one_more (usage_of (begun c w x)) (usage_of s) n (most_added c) k.usage;
+      }
+
   -- the state once a step is paid for, and the guest's memory
-  abbrev before_in : HostState → HostState
-  before_in s = burnt meaning s m.limits.cost
-
   abbrev before : State HostState → Store HostState
-  before b = record { host = before_in b.store.host; memory = b.store.guest.memory.bytes }
+  before b = record { host = burnt meaning b.store.host m.limits.cost; memory = b.store.guest.memory.bytes }
 
-  module _ (counted : StaysCounted c w x m f) where
-    fits_at : (n : ℕ) (s : State HostState) → Leads (rules m) (start c w x m) f n s → FitsState s.store.host
-    fits_at zero s r =
-        led_first FitsState (rules m) (start c w x m) (func_at m.program f) s first_fits r
-    fits_at (suc n) s r =
-        let fits : FitsState r.0.store.host = fits_at n r.0 r.1 in
-        let paid_for : FitsState (before r.0).host = burnt_fits r.0.store.host m.limits.cost fits in
-        led_to FitsState (rules m) r.0 fits (λ e. paid_for)
-        (λ e g args. fits_behind (before r.0) g args paid_for (counted n r.0 r.1)) s r.2
+  before_counts : (u : ℕ) (b : State HostState) → Counts c u b.store.host → Counts c u (before b).host
+  before_counts u b k =
+      record { fits = burnt_fits b.store.host m.limits.cost k.fits; config = k.config; usage = k.usage }
 
-    reaches : (n : ℕ) (s : State HostState) → Leads (rules m) (start c w x m) f n s
-        → Reaches (rules m) (start c w x m) f n s
-    reaches zero s r = r
-    reaches (suc n) s r = (
-      r.0,
-      reaches n r.0 r.1,
-      answers_next (rules m) (paid (rules m) r.0.store)
-          (λ g args. answers (before r.0) g args
-          (burnt_fits r.0.store.host m.limits.cost (fits_at n r.0 r.1)) (counted n r.0 r.1)) r.0.locals r.0.seq,
-      r.2,
-    )
+  counts_at : (n : ℕ) (s : State HostState) → Leads (rules m) (start c w x m) f n s
+      → Counts c (most_at n) s.store.host
+  counts_at zero s r =
+      led_first (Counts c (most_at 0)) (rules m) (start c w x m) (func_at m.program f) s first_counts r
+  counts_at (suc n) s r =
+      let k : Counts c (most_at n) r.0.store.host = counts_at n r.0 r.1 in
+      let more : Counts c (most_at (suc n)) r.0.store.host =
+      one_more_at n r.0.store.host (rises c (most_at n) r.0.store.host k) in
+      led_to (Counts c (most_at (suc n))) (rules m) r.0 more (before_counts (most_at (suc n)) r.0 more)
+      (λ g args. on_gives (Counts c (most_at n + most_added c)) (Counts c (most_at (suc n)))
+      (meaning.call (before r.0) g args).answer (meaning.call (before r.0) g args).store.host
+      (one_more_at n (meaning.call (before r.0) g args).store.host)
+      (counts_behind c (most_at n) (before r.0) (before_counts (most_at n) r.0 k) g args))
+      s r.2
 
-    pub typed : KeepsTypes → (n : ℕ) (s : State HostState) → Leads (rules m) (start c w x m) f n s
-        → IsTypedConfig m.program s
-    typed keeps n s r =
-        keeps c (code_in w x.current) loaded.source m h.config h.code loaded.spells loaded.valid loaded.made
-        (begun c w x) f n s loaded.method (reaches n s r)
+  pub counted : (n : ℕ) (s : State HostState) → Leads (rules m) (start c w x m) f n s
+      → usage_of s.store.host ≤ usage_of (begun c w x) + n * most_added c
+  counted n s r = (counts_at n s r).usage
 
-  -- ---- what the account can come to be counted as
-  module _ (small : usage_of (begun c w x) + x.gas * most_added c < 2 ^ 64) where
-    abbrev most : ℕ
-    most = usage_of (begun c w x) + x.gas * most_added c
+  -- ---- the answers of the host are of their types
+  reaches : (n : ℕ) (s : State HostState) → StaysCounted c w x m f n → Leads (rules m) (start c w x m) f n s
+      → Reaches (rules m) (start c w x m) f n s
+  reaches zero s small r = r
+  reaches (suc n) s small r = (
+    r.0,
+    reaches n r.0 (λ k b lt. small k b (omega (arith, lt))) r.1,
+    answers_next (rules m) (paid (rules m) r.0.store)
+        (λ g args. answers (before r.0) g args
+        (burnt_fits r.0.store.host m.limits.cost (counts_at n r.0 r.1).fits) (small n r.0 (omega arith) r.1))
+        r.0.locals r.0.seq,
+    r.2,
+  )
 
-    -- so much gas as is left, each time with the most that a call can add
-    record IsWithin (s : HostState) : Type 0 where
-      fits : FitsState s
-      config : s.config ≡ c
-      usage : usage_of s + gas_left s.gas * most_added c ≤ most
-
-    first_less : gas_left (begun c w x).gas ≤ x.gas
-    first_less = omega arith
-
-    first_within : IsWithin (begun c w x)
-    first_within =
-        record {
-          fits = first_fits;
-          config = refl;
-          usage =
-              less_total (usage_of (begun c w x)) (gas_left (begun c w x).gas) x.gas (most_added c) most first_less
-              (omega arith);
-        }
-
-    cost : 1 ≤ m.limits.cost
-    cost =
-        let same : m.limits ≡ limits_of c = (made_is c loaded.source m loaded.made).1 in
-        subst (λ (l : Limits). 1 ≤ l.cost) (sym same) (cost_bound c h.config)
-
-    -- a step takes gas
-    takes : (s : HostState) → nat_lt (gas_left s.gas) m.limits.cost ≡ false
-        → suc (gas_left (before_in s).gas) ≤ gas_left s.gas
-    takes s e =
-        one_less (gas_left (before_in s).gas) (gas_left s.gas) m.limits.cost cost (not_less _ _ e)
-        (meaning_is_host.gas_is s (gas_left s.gas - m.limits.cost) (omega arith))
-
-    paid_within : (s : HostState) → IsWithin s → nat_lt (gas_left s.gas) m.limits.cost ≡ false
-        → usage_of s + most_added c + gas_left (before_in s).gas * most_added c ≤ most
-    paid_within s k e =
-        paid_total (usage_of s) (gas_left (before_in s).gas) (gas_left s.gas) (most_added c) most (takes s e) k.usage
-
-    step_within : (b : State HostState) → IsWithin b.store.host
-        → nat_lt (gas_left b.store.host.gas) m.limits.cost ≡ false → IsWithin (before b).host
-    step_within b k e =
-        record {
-          fits = burnt_fits b.store.host m.limits.cost k.fits;
-          config = k.config;
-          usage =
-              moved_total (usage_of b.store.host + most_added c) (usage_of b.store.host)
-              (gas_left (before_in b.store.host).gas * most_added c) most (omega arith) (paid_within b.store.host k e);
-        }
-
-    abbrev behind : State HostState → HostFn → List ℕ → HostState
-    behind b g args = (meaning.call (before b) g args).store.host
-
-    small_before : (b : State HostState) → IsWithin b.store.host
-        → nat_lt (gas_left b.store.host.gas) m.limits.cost ≡ false → usage_of b.store.host < 2 ^ 64
-    small_before b k e =
-        below (usage_of b.store.host) (most_added c) (gas_left (before_in b.store.host).gas * most_added c) most
-        (paid_within b.store.host k e) small
-
-    spent : (b : State HostState) → IsWithin b.store.host
-        → nat_lt (gas_left b.store.host.gas) m.limits.cost ≡ false → (g : HostFn) (args : List ℕ)
-        → Counts c (usage_of b.store.host + most_added c) (behind b g args)
-        → usage_of (behind b g args) + gas_left (behind b g args).gas * most_added c ≤ most
-    spent b k e g args d =
-        less_total (usage_of (behind b g args)) (gas_left (behind b g args).gas)
-        (gas_left (before_in b.store.host).gas) (most_added c) most (meaning_is_host.no_more_gas (before b) g args)
-        (moved_total (usage_of b.store.host + most_added c) (usage_of (behind b g args))
-        (gas_left (before_in b.store.host).gas * most_added c) most d.usage (paid_within b.store.host k e))
-
-    call_within : (b : State HostState) → IsWithin b.store.host
-        → nat_lt (gas_left b.store.host.gas) m.limits.cost ≡ false → (g : HostFn) (args : List ℕ)
-        → OnGives IsWithin (meaning.call (before b) g args).answer (behind b g args)
-    call_within b k e g args =
-        on_gives (Counts c (usage_of b.store.host + most_added c)) IsWithin (meaning.call (before b) g args).answer
-        (behind b g args)
-        (λ d. record { fits = d.fits; config = d.config; usage = spent b k e g args d })
-        (counts_behind c (usage_of b.store.host) (small_before b k e) (before b)
-        (record { fits = burnt_fits b.store.host m.limits.cost k.fits; config = k.config; usage = omega arith }) g args)
-
-    within : (n : ℕ) (s : State HostState) → Leads (rules m) (start c w x m) f n s → IsWithin s.store.host
-    within zero s r = led_first IsWithin (rules m) (start c w x m) (func_at m.program f) s first_within r
-    within (suc n) s r =
-        let k : IsWithin r.0.store.host = within n r.0 r.1 in
-        led_to IsWithin (rules m) r.0 k (step_within r.0 k) (call_within r.0 k) s r.2
-
-    pub stays : StaysCounted c w x m f
-    stays n s r = let usage = (within n s r).usage in omega (arith, usage, small)
+  pub typed : KeepsTypes → (n : ℕ) (s : State HostState) → StaysCounted c w x m f n
+      → Leads (rules m) (start c w x m) f n s → IsTypedConfig m.program s
+  typed keeps n s small r =
+      keeps c (code_in w x.current) loaded.source m h.config h.code loaded.spells loaded.valid loaded.made
+      (begun c w x) f n s loaded.method (reaches n s small r)
 
   -- ---- the call's meaning is that of this run
   by_gas : (b : Bool) → nat_lt x.gas (load_gas c (code_in w x.current)) ≡ b

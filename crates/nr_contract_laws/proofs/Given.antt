@@ -36,16 +36,16 @@ use Rattle.nr_wasmtypes.specs.declared.host.HostFn.TheVariants as host
 use Rattle.nr_wasmtypes.specs.declared.instr.ValType.TheVariants.{I64}
 use Rattle.nr_wasmvalid.specs.Rules.{Types?, types}
 
--- a number of the type, or none where there is no type
-abbrev pub IsGiven : Types? → Option ℕ → Type 0
-IsGiven t value = AreOf (types t) (on_those value [])
+-- a number of the type, or none where there is no type, if the account is counted as less than 2 ^ 64 bytes
+abbrev pub IsGiven : ℕ → Types? → Option ℕ → Type 0
+IsGiven u t value = u < 2 ^ 64 → AreOf (types t) (on_those value [])
 
 module _ (c : Config) (u : ℕ) where
-  abbrev K : HostState → Type 0
+  abbrev pub K : HostState → Type 0
   K s = Counts c u s
 
   -- behind a call the account may be counted as so much more
-  abbrev More : HostState → Type 0
+  abbrev pub More : HostState → Type 0
   More s = Counts c (u + most_added c) s
 
   abbrev Gives : {A : Type 0} → (A → Type 0) → Act A → Type 0
@@ -54,7 +54,7 @@ module _ (c : Config) (u : ℕ) where
   abbrev Stays : {A : Type 0} → Act A → Type 0
   Stays a = Turn K K AnyValue a
 
-  rises : (s : HostState) → K s → More s
+  pub rises : (s : HostState) → K s → More s
   rises s h = record { fits = h.fits; config = h.config; usage = omega (arith, h.usage) }
 
   begins : Stays begin
@@ -112,9 +112,9 @@ module _ (c : Config) (u : ℕ) where
   unfolding context.block_timestamp
   block_timestamp = after begin _ begins (λ b. looks c u Small _ (λ s h. h.fits.context.time))
 
-  storage_usage : u < 2 ^ 64 → Gives Small context.storage_usage
+  storage_usage : Gives (λ n. n ≤ u) context.storage_usage
   unfolding context.storage_usage
-  storage_usage small = after begin _ begins (λ b. looks c u Small _ (λ s h. omega (arith, small, h.usage)))
+  storage_usage = after begin _ begins (λ b. looks c u (λ n. n ≤ u) _ (λ s h. h.usage))
 
   prepaid_gas : Gives Small context.prepaid_gas
   unfolding context.prepaid_gas
@@ -364,61 +364,64 @@ module _ (c : Config) (u : ℕ) where
       after (action.has_room actions) _ (has_room c u actions) (λ r. appends c u index _)))))
 
   -- ---- all of them, by their names
-  nones : (a : Act (Unit {0})) → Stays a → Turn K More (IsGiven None) (none a)
-  nones a h = after a _ h (λ d. record { at = λ s k. (tt, rises s k) })
+  nones : (a : Act (Unit {0})) → Stays a → Turn K More (IsGiven u None) (none a)
+  nones a h = after a _ h (λ d. record { at = λ s k. ((λ small. tt), rises s k) })
 
-  numbers : (a : Act ℕ) → Turn K More Small a → Turn K More (IsGiven (Some I64)) (some a)
-  numbers a h = chain a _ h (λ n v. record { at = λ s k. ((v, tt), k) })
+  numbers : (a : Act ℕ) → Turn K More Small a → Turn K More (IsGiven u (Some I64)) (some a)
+  numbers a h = chain a _ h (λ n v. record { at = λ s k. ((λ small. (v, tt)), k) })
 
-  somes : (a : Act ℕ) → Gives Small a → Turn K More (IsGiven (Some I64)) (some a)
-  somes a h = chain a _ h (λ n v. record { at = λ s k. ((v, tt), rises s k) })
+  somes : (a : Act ℕ) → Gives Small a → Turn K More (IsGiven u (Some I64)) (some a)
+  somes a h = chain a _ h (λ n v. record { at = λ s k. ((λ small. (v, tt)), rises s k) })
 
-  pub row_given : u < 2 ^ 64 → (f : HostFn) (a : List ℕ) → Turn K More (IsGiven (host_type f).result) (row f a)
+  counted : (a : Act ℕ) → Gives (λ n. n ≤ u) a → Turn K More (IsGiven u (Some I64)) (some a)
+  counted a h = chain a _ h (λ n v. record { at = λ s k. ((λ small. (omega (arith, v, small), tt)), rises s k) })
+
+  pub row_given : (f : HostFn) (a : List ℕ) → Turn K More (IsGiven u (host_type f).result) (row f a)
   unfolding row
-  row_given small host.ReadRegister a = nones _ (read_register (arg a 0) (arg a 1))
-  row_given small host.RegisterLen a = somes _ (register_len (arg a 0))
-  row_given small host.WriteRegister a = nones _ (write_register (arg a 0) (arg a 1) (arg a 2))
-  row_given small host.CurrentAccountId a = nones _ (current_account_id (arg a 0))
-  row_given small host.SignerAccountId a = nones _ (signer_account_id (arg a 0))
-  row_given small host.PredecessorAccountId a = nones _ (predecessor_account_id (arg a 0))
-  row_given small host.SignerAccountPk a = nones _ (signer_account_pk (arg a 0))
-  row_given small host.Input a = nones _ (input (arg a 0))
-  row_given small host.BlockIndex a = somes _ block_index
-  row_given small host.BlockTimestamp a = somes _ block_timestamp
-  row_given small host.StorageUsage a = somes _ (storage_usage small)
-  row_given small host.PrepaidGas a = somes _ prepaid_gas
-  row_given small host.UsedGas a = somes _ used_gas
-  row_given small host.AccountBalance a = nones _ (account_balance (arg a 0))
-  row_given small host.AccountLockedBalance a = nones _ (account_locked_balance (arg a 0))
-  row_given small host.AttachedDeposit a = nones _ (attached_deposit (arg a 0))
-  row_given small host.Sha256 a = nones _ (sha256 (arg a 0) (arg a 1) (arg a 2))
-  row_given small host.ValueReturn a = nones _ (value_return (arg a 0) (arg a 1))
-  row_given small host.PanicUtf8 a = nones _ (panic_utf8 (arg a 0) (arg a 1))
-  row_given small host.LogUtf8 a = nones _ (log_utf8 (arg a 0) (arg a 1))
-  row_given small host.Abort a = nones _ abort
-  row_given small host.StorageWrite a =
+  row_given host.ReadRegister a = nones _ (read_register (arg a 0) (arg a 1))
+  row_given host.RegisterLen a = somes _ (register_len (arg a 0))
+  row_given host.WriteRegister a = nones _ (write_register (arg a 0) (arg a 1) (arg a 2))
+  row_given host.CurrentAccountId a = nones _ (current_account_id (arg a 0))
+  row_given host.SignerAccountId a = nones _ (signer_account_id (arg a 0))
+  row_given host.PredecessorAccountId a = nones _ (predecessor_account_id (arg a 0))
+  row_given host.SignerAccountPk a = nones _ (signer_account_pk (arg a 0))
+  row_given host.Input a = nones _ (input (arg a 0))
+  row_given host.BlockIndex a = somes _ block_index
+  row_given host.BlockTimestamp a = somes _ block_timestamp
+  row_given host.StorageUsage a = counted _ storage_usage
+  row_given host.PrepaidGas a = somes _ prepaid_gas
+  row_given host.UsedGas a = somes _ used_gas
+  row_given host.AccountBalance a = nones _ (account_balance (arg a 0))
+  row_given host.AccountLockedBalance a = nones _ (account_locked_balance (arg a 0))
+  row_given host.AttachedDeposit a = nones _ (attached_deposit (arg a 0))
+  row_given host.Sha256 a = nones _ (sha256 (arg a 0) (arg a 1) (arg a 2))
+  row_given host.ValueReturn a = nones _ (value_return (arg a 0) (arg a 1))
+  row_given host.PanicUtf8 a = nones _ (panic_utf8 (arg a 0) (arg a 1))
+  row_given host.LogUtf8 a = nones _ (log_utf8 (arg a 0) (arg a 1))
+  row_given host.Abort a = nones _ abort
+  row_given host.StorageWrite a =
       numbers _ (storage_write (arg a 0) (arg a 1) (arg a 2) (arg a 3) (arg a 4))
-  row_given small host.StorageRead a = somes _ (storage_read (arg a 0) (arg a 1) (arg a 2))
-  row_given small host.StorageRemove a = somes _ (storage_remove (arg a 0) (arg a 1) (arg a 2))
-  row_given small host.StorageHasKey a = somes _ (storage_has_key (arg a 0) (arg a 1))
-  row_given small host.PromiseBatchCreate a = somes _ (promise_batch_create (arg a 0) (arg a 1))
-  row_given small host.PromiseBatchThen a = somes _ (promise_batch_then (arg a 0) (arg a 1) (arg a 2))
-  row_given small host.PromiseAnd a = somes _ (promise_and (arg a 0) (arg a 1))
-  row_given small host.PromiseCreate a =
+  row_given host.StorageRead a = somes _ (storage_read (arg a 0) (arg a 1) (arg a 2))
+  row_given host.StorageRemove a = somes _ (storage_remove (arg a 0) (arg a 1) (arg a 2))
+  row_given host.StorageHasKey a = somes _ (storage_has_key (arg a 0) (arg a 1))
+  row_given host.PromiseBatchCreate a = somes _ (promise_batch_create (arg a 0) (arg a 1))
+  row_given host.PromiseBatchThen a = somes _ (promise_batch_then (arg a 0) (arg a 1) (arg a 2))
+  row_given host.PromiseAnd a = somes _ (promise_and (arg a 0) (arg a 1))
+  row_given host.PromiseCreate a =
       somes _ (promise_create (arg a 0) (arg a 1) (arg a 2) (arg a 3) (arg a 4) (arg a 5) (arg a 6) (arg a 7))
-  row_given small host.PromiseThen a =
+  row_given host.PromiseThen a =
       somes _ (promise_then (arg a 0) (arg a 1) (arg a 2) (arg a 3) (arg a 4) (arg a 5) (arg a 6) (arg a 7) (arg a 8))
-  row_given small host.PromiseBatchActionCreateAccount a = nones _ (create_account (arg a 0))
-  row_given small host.PromiseBatchActionDeployContract a = nones _ (deploy_contract (arg a 0) (arg a 1) (arg a 2))
-  row_given small host.PromiseBatchActionFunctionCall a =
+  row_given host.PromiseBatchActionCreateAccount a = nones _ (create_account (arg a 0))
+  row_given host.PromiseBatchActionDeployContract a = nones _ (deploy_contract (arg a 0) (arg a 1) (arg a 2))
+  row_given host.PromiseBatchActionFunctionCall a =
       nones _ (function_call (arg a 0) (arg a 1) (arg a 2) (arg a 3) (arg a 4) (arg a 5) (arg a 6))
-  row_given small host.PromiseBatchActionTransfer a = nones _ (transfer (arg a 0) (arg a 1))
-  row_given small host.PromiseBatchActionAddKeyWithFullAccess a =
+  row_given host.PromiseBatchActionTransfer a = nones _ (transfer (arg a 0) (arg a 1))
+  row_given host.PromiseBatchActionAddKeyWithFullAccess a =
       nones _ (add_full_key (arg a 0) (arg a 1) (arg a 2) (arg a 3))
-  row_given small host.PromiseBatchActionAddKeyWithFunctionCall a =
+  row_given host.PromiseBatchActionAddKeyWithFunctionCall a =
       nones _ (add_call_key (arg a 0) (arg a 1) (arg a 2) (arg a 3) (arg a 4) (arg a 5) (arg a 6) (arg a 7) (arg a 8))
-  row_given small host.PromiseBatchActionDeleteKey a = nones _ (delete_key (arg a 0) (arg a 1) (arg a 2))
-  row_given small host.PromiseBatchActionDeleteAccount a = nones _ (delete_account (arg a 0) (arg a 1) (arg a 2))
-  row_given small host.PromiseResultsCount a = somes _ promise_results_count
-  row_given small host.PromiseResult a = somes _ (promise_result (arg a 0) (arg a 1))
-  row_given small host.PromiseReturn a = nones _ (promise_return (arg a 0))
+  row_given host.PromiseBatchActionDeleteKey a = nones _ (delete_key (arg a 0) (arg a 1) (arg a 2))
+  row_given host.PromiseBatchActionDeleteAccount a = nones _ (delete_account (arg a 0) (arg a 1) (arg a 2))
+  row_given host.PromiseResultsCount a = somes _ promise_results_count
+  row_given host.PromiseResult a = somes _ (promise_result (arg a 0) (arg a 1))
+  row_given host.PromiseReturn a = nones _ (promise_return (arg a 0))

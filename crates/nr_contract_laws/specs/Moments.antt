@@ -40,7 +40,7 @@ pub record IsRun (c : Config) (w : World) (x : CallContext) (m : MachineView) (f
   pub code : IsBytes (code_in w x.current)
   pub found : prepared c (code_in w x.current) x.method ≡ Ok (m, f)
 
--- at each moment of the run the account is counted as less than 2 ^ 64 bytes of storage
-abbrev pub StaysCounted : Config → World → CallContext → MachineView → ℕ → Type 0
-StaysCounted c w x m f =
-    (n : ℕ) (s : State HostState) → Leads (rules m) (start c w x m) f n s → usage_of s.store.host < 2 ^ 64
+-- before each of so many steps of the run the account is counted as less than 2 ^ 64 bytes of storage
+abbrev pub StaysCounted : Config → World → CallContext → MachineView → ℕ → ℕ → Type 0
+StaysCounted c w x m f n =
+    (k : ℕ) (s : State HostState) → k < n → Leads (rules m) (start c w x m) f k s → usage_of s.store.host < 2 ^ 64

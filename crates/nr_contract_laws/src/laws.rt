@@ -2,6 +2,7 @@
 //! law.
 
 ghost use Rattle.std.specs.Prelude.{◌≡◌, ◌≤◌, ◌<◌, ◌+◌, ◌*◌, ◌^◌, ◌↔◌, ℕ, List, Option, length, Ok, Err};
+ghost use Rattle.nr_bytes.specs.Numbers.{IsBytes};
 ghost use Rattle.nr_config.specs.Config.{Config, IsValidConfig};
 ghost use Rattle.nr_contract.specs.Contract.{call, enough, first_state, load_gas, code_in, over, run};
 ghost use Rattle.nr_contract.specs.Runs.{IsOver};
@@ -67,7 +68,7 @@ pub fn ending_laws()
     running_laws();
 }
 
-/// What the host's functions give fits in 64 bits.
+/// What the host's functions give is of their types.
 pub fn answer_laws()
     // Where the numbers of the state fit, and the account is counted as less than 2^64 bytes of storage, each function
     // gives a number of its type, or none where it has no result.
@@ -75,7 +76,7 @@ pub fn answer_laws()
         → usage_of s.host < 2 ^ 64 → GivesOf (host_type f).result (meaning.call s f args).answer }
     // Behind a call that goes on they fit too, and the account is counted as at most so much more.
     ensures goes_on { (s : Store HostState) (f : HostFn) (args : List ℕ) (value : Option ℕ) → FitsState s.host
-        → usage_of s.host < 2 ^ 64 → (meaning.call s f args).answer ≡ Gives value
+        → (meaning.call s f args).answer ≡ Gives value
         → FitsState (meaning.call s f args).store.host
         × (usage_of (meaning.call s f args).store.host ≤ usage_of s.host + most_added s.host.config) }
     // They fit as a call begins.
@@ -100,18 +101,26 @@ pub fn account_law(account: &Account)
     let _usage = account.storage_usage;
 }
 
+/// Code is bytes.
+pub fn code_law(code: &[u8])
+    ensures bytes { IsBytes code.now }
+{
+    let _code = code;
+}
+
 /// At each moment of a contract's call operands, locals and globals are of their types.
 pub fn moment_laws<'a>()
     // The call is the run of its method in its machine, once the loading is paid.
     ensures same { (c : Config) (w : World) (x : CallContext) (m : MachineView) (f : ℕ) → IsRun c w x m f
         → load_gas c (code_in w x.current) ≤ x.gas → call c w x ≡ run (begun c w x) m f }
     // Whatever number of steps leads from there, as long as the account is counted as less than 2^64 bytes of storage.
-    ensures typed { (c : Config) (w : World) (x : CallContext) (m : MachineView) (f : ℕ) → IsRun c w x m f
-        → StaysCounted c w x m f → (n : ℕ) (s : State HostState) → Leads (rules m) (start c w x m) f n s
+    ensures typed { (c : Config) (w : World) (x : CallContext) (m : MachineView) (f n : ℕ) (s : State HostState)
+        → IsRun c w x m f → StaysCounted c w x m f n → Leads (rules m) (start c w x m) f n s
         → IsTypedConfig m.program s }
-    // It stays so where what it is counted as, with the most that a call can add for each unit of gas, is less.
-    ensures stays { (c : Config) (w : World) (x : CallContext) (m : MachineView) (f : ℕ) → IsRun c w x m f
-        → usage_of (begun c w x) + x.gas * most_added c < 2 ^ 64 → StaysCounted c w x m f }
+    // It is counted as at most so much more for each step.
+    ensures counted { (c : Config) (w : World) (x : CallContext) (m : MachineView) (f n : ℕ) (s : State HostState)
+        → IsRun c w x m f → Leads (rules m) (start c w x m) f n s
+        → usage_of s.store.host ≤ usage_of (begun c w x) + n * most_added c }
     // With more steps the run is where these lead from there.
     ensures way { (c : Config) (w : World) (x : CallContext) (m : MachineView) (f n k : ℕ) (s : State HostState)
         → Leads (rules m) (start c w x m) f n s

@@ -5,8 +5,8 @@ pub returns-clause-answers : goal.returns-clause-answers
 returns-clause-answers c = answers
 
 pub returns-clause-goes_on : goal.returns-clause-goes_on
-returns-clause-goes_on c = λ s f args value fits small e.
-    let behind = goes_on s f args value fits small e in
+returns-clause-goes_on c = λ s f args value fits e.
+    let behind = goes_on s f args value fits e in
     (behind.fits, behind.usage)
 
 pub returns-clause-begins : goal.returns-clause-begins
