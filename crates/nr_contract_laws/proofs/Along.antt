@@ -1,5 +1,6 @@
 -- What a step of the reduction leaves of the host's state, and what a run leads to.
-use Rattle.std.proofs.Common.{◌≡◌, ℕ, zero, suc, ◌+◌, Bool, true, false, cond, List, length, nat_lt, Option, Some, None}
+use Rattle.std.proofs.Common.{◌≡◌, ℕ, zero, suc, ◌+◌, Bool, true, false, cond, List, ◌++◌, length, take, nat_lt}
+use Rattle.std.proofs.Common.{Option, Some, None}
 use Rattle.std.proofs.Common.{refl, sym, ap, ◌∙◌, subst, arith}
 use Rattle.nr_contract_laws.specs.Moments.{Leads}
 use Rattle.nr_machine_laws.specs.Steps.{AnswersNext, GivesOf, IsAnswered, LeadsTo, first_step}

@@ -4,7 +4,7 @@ use Rattle.nr_config.specs.Config.{Config, IsValidConfig, greatest, max_all_regi
 use Rattle.nr_config.specs.Table.{table}
 use Rattle.nr_contract.specs.Contract.{first_state}
 use Rattle.nr_contract_laws.proofs.Along.{OnGives}
-use Rattle.nr_contract_laws.proofs.Given.{IsGiven, row_given}
+use Rattle.nr_contract_laws.proofs.Given.{IsGiven, IsSmall, row_given}
 use Rattle.nr_contract_laws.proofs.Turning.{Counts, Good, apart, counts_here}
 use Rattle.nr_contract_laws.specs.Numbers.{FitsContext, FitsState, most_added, usage_of}
 use Rattle.nr_hostctx.specs.Acts.{Came, Goes, Stops}
@@ -61,38 +61,39 @@ module _ (c : Config) (u : ℕ) where
   abbrev More : HostState → Type 0
   More s = Counts c (u + most_added c) s
 
-  given : (t : Types?) (came : Came (Option ℕ)) → Good More (IsGiven u t) came → u < 2 ^ 64
+  given : (Met : Type 0) (t : Types?) (came : Came (Option ℕ)) → Good More (IsGiven Met t) came → Met
       → GivesOf t (called came).answer
-  given t (Goes s value) h small = h.0 small
-  given t (Stops s stop.Gas) h small = tt
-  given t (Stops s (stop.Fault kind)) h small = tt
-  given t (Stops s stop.Memory) h small = tt
+  given Met t (Goes s value) h met = h.0 met
+  given Met t (Stops s stop.Gas) h met = tt
+  given Met t (Stops s (stop.Fault kind)) h met = tt
+  given Met t (Stops s stop.Memory) h met = tt
 
-  behind : (t : Types?) (came : Came (Option ℕ)) → Good More (IsGiven u t) came
+  behind : (V : Option ℕ → Type 0) (came : Came (Option ℕ)) → Good More V came
       → OnGives More (called came).answer (called came).store.host
-  behind t (Goes s value) h = apart c (u + most_added c) s [] s.logs s.returned h.1
-  behind t (Stops s stop.Gas) h = tt
-  behind t (Stops s (stop.Fault kind)) h = tt
-  behind t (Stops s stop.Memory) h = tt
+  behind V (Goes s value) h = apart c (u + most_added c) s [] s.logs s.returned h.1
+  behind V (Stops s stop.Gas) h = tt
+  behind V (Stops s (stop.Fault kind)) h = tt
+  behind V (Stops s stop.Memory) h = tt
 
   module _ (s : Store HostState) (h : Counts c u s.host) (f : HostFn) (args : List ℕ) where
-    came : Good More (IsGiven u (host_type f).result) (row f args (with_guest s.host s.memory))
+    came : Good More (IsGiven (IsSmall f u) (host_type f).result) (row f args (with_guest s.host s.memory))
     came =
         (row_given c u f args).at (with_guest s.host s.memory)
         (apart c u s.host s.memory s.host.logs s.host.returned h)
 
-    pub answer_given : u < 2 ^ 64 → GivesOf (host_type f).result (meaning.call s f args).answer
-    answer_given small = given (host_type f).result (row f args (with_guest s.host s.memory)) came small
+    pub answer_given : IsSmall f u → GivesOf (host_type f).result (meaning.call s f args).answer
+    answer_given met = given (IsSmall f u) (host_type f).result (row f args (with_guest s.host s.memory)) came met
 
     pub counts_behind : OnGives (Counts c (u + most_added c)) (meaning.call s f args).answer
         (meaning.call s f args).store.host
-    counts_behind = behind (host_type f).result (row f args (with_guest s.host s.memory)) came
+    counts_behind =
+        behind (IsGiven (IsSmall f u) (host_type f).result) (row f args (with_guest s.host s.memory)) came
 
 -- ---- the laws of a call
-pub answers : (s : Store HostState) (f : HostFn) (args : List ℕ) → FitsState s.host → usage_of s.host < 2 ^ 64
+pub answers : (s : Store HostState) (f : HostFn) (args : List ℕ) → FitsState s.host → IsSmall f (usage_of s.host)
     → GivesOf (host_type f).result (meaning.call s f args).answer
-answers s f args fits small =
-    answer_given s.host.config (usage_of s.host) s (counts_here s.host fits) f args small
+answers s f args fits met =
+    answer_given s.host.config (usage_of s.host) s (counts_here s.host fits) f args met
 
 goes_on_by : (Q : HostState → Type 0) (a : Answer) (s : HostState) (value : Option ℕ) → a ≡ Gives value → OnGives Q a s
     → Q s

@@ -179,7 +179,7 @@ module _ (c : Config) (w : World) (x : CallContext) (m : MachineView) (f : ℕ) 
     reaches n r.0 (λ k b lt. small k b (omega (arith, lt))) r.1,
     answers_next (rules m) (paid (rules m) r.0.store)
         (λ g args. answers (before r.0) g args
-        (burnt_fits r.0.store.host m.limits.cost (counts_at n r.0 r.1).fits) (small n r.0 (omega arith) r.1))
+        (burnt_fits r.0.store.host m.limits.cost (counts_at n r.0 r.1).fits) (λ is. small n r.0 (omega arith) r.1))
         r.0.locals r.0.seq,
     r.2,
   )

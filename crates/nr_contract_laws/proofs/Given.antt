@@ -1,6 +1,6 @@
 -- What each of the host's functions gives is a number of its type, or none, and the numbers of the state fit on.
-use Rattle.std.proofs.Common.{ℕ, ◌+◌, ◌^◌, ◌<◌, ◌≤◌, Bool, true, false, nat_lt, List, [], length, Option, Some, None}
-use Rattle.std.proofs.Common.{arith}
+use Rattle.std.proofs.Common.{◌≡◌, ℕ, ◌+◌, ◌^◌, ◌<◌, ◌≤◌, Bool, true, false, nat_lt, List, [], length, Option, Some, None}
+use Rattle.std.proofs.Common.{refl, arith}
 use Rattle.std.specs.Prelude.{if◌then◌else◌}
 use Rattle.std.specs.List.{slice_get}
 use Rattle.nr_bytes.specs.Numbers.{little}
@@ -36,9 +36,13 @@ use Rattle.nr_wasmtypes.specs.declared.host.HostFn.TheVariants as host
 use Rattle.nr_wasmtypes.specs.declared.instr.ValType.TheVariants.{I64}
 use Rattle.nr_wasmvalid.specs.Rules.{Types?, types}
 
--- a number of the type, or none where there is no type, if the account is counted as less than 2 ^ 64 bytes
-abbrev pub IsGiven : ℕ → Types? → Option ℕ → Type 0
-IsGiven u t value = u < 2 ^ 64 → AreOf (types t) (on_those value [])
+-- a number of the type, or none where there is no type, on this condition
+abbrev pub IsGiven : Type 0 → Types? → Option ℕ → Type 0
+IsGiven Met t value = Met → AreOf (types t) (on_those value [])
+
+-- of `storage_usage` it is that the account is counted as less than 2 ^ 64 bytes
+abbrev pub IsSmall : HostFn → ℕ → Type 0
+IsSmall f u = f ≡ host.StorageUsage → u < 2 ^ 64
 
 module _ (c : Config) (u : ℕ) where
   abbrev pub K : HostState → Type 0
@@ -364,64 +368,66 @@ module _ (c : Config) (u : ℕ) where
       after (action.has_room actions) _ (has_room c u actions) (λ r. appends c u index _)))))
 
   -- ---- all of them, by their names
-  nones : (a : Act (Unit {0})) → Stays a → Turn K More (IsGiven u None) (none a)
-  nones a h = after a _ h (λ d. record { at = λ s k. ((λ small. tt), rises s k) })
+  nones : (Met : Type 0) (a : Act (Unit {0})) → Stays a → Turn K More (IsGiven Met None) (none a)
+  nones Met a h = after a _ h (λ d. record { at = λ s k. ((λ met. tt), rises s k) })
 
-  numbers : (a : Act ℕ) → Turn K More Small a → Turn K More (IsGiven u (Some I64)) (some a)
-  numbers a h = chain a _ h (λ n v. record { at = λ s k. ((λ small. (v, tt)), k) })
+  numbers : (Met : Type 0) (a : Act ℕ) → Turn K More Small a → Turn K More (IsGiven Met (Some I64)) (some a)
+  numbers Met a h = chain a _ h (λ n v. record { at = λ s k. ((λ met. (v, tt)), k) })
 
-  somes : (a : Act ℕ) → Gives Small a → Turn K More (IsGiven u (Some I64)) (some a)
-  somes a h = chain a _ h (λ n v. record { at = λ s k. ((λ small. (v, tt)), rises s k) })
+  somes : (Met : Type 0) (a : Act ℕ) → Gives Small a → Turn K More (IsGiven Met (Some I64)) (some a)
+  somes Met a h = chain a _ h (λ n v. record { at = λ s k. ((λ met. (v, tt)), rises s k) })
 
-  counted : (a : Act ℕ) → Gives (λ n. n ≤ u) a → Turn K More (IsGiven u (Some I64)) (some a)
-  counted a h = chain a _ h (λ n v. record { at = λ s k. ((λ small. (omega (arith, v, small), tt)), rises s k) })
+  counted : (a : Act ℕ) → Gives (λ n. n ≤ u) a
+      → Turn K More (IsGiven (IsSmall host.StorageUsage u) (Some I64)) (some a)
+  counted a h =
+      chain a _ h (λ n v. record { at = λ s k. ((λ met. (omega (arith, v, met refl), tt)), rises s k) })
 
-  pub row_given : (f : HostFn) (a : List ℕ) → Turn K More (IsGiven u (host_type f).result) (row f a)
+  pub row_given : (f : HostFn) (a : List ℕ) → Turn K More (IsGiven (IsSmall f u) (host_type f).result) (row f a)
   unfolding row
-  row_given host.ReadRegister a = nones _ (read_register (arg a 0) (arg a 1))
-  row_given host.RegisterLen a = somes _ (register_len (arg a 0))
-  row_given host.WriteRegister a = nones _ (write_register (arg a 0) (arg a 1) (arg a 2))
-  row_given host.CurrentAccountId a = nones _ (current_account_id (arg a 0))
-  row_given host.SignerAccountId a = nones _ (signer_account_id (arg a 0))
-  row_given host.PredecessorAccountId a = nones _ (predecessor_account_id (arg a 0))
-  row_given host.SignerAccountPk a = nones _ (signer_account_pk (arg a 0))
-  row_given host.Input a = nones _ (input (arg a 0))
-  row_given host.BlockIndex a = somes _ block_index
-  row_given host.BlockTimestamp a = somes _ block_timestamp
+  row_given host.ReadRegister a = nones _ _ (read_register (arg a 0) (arg a 1))
+  row_given host.RegisterLen a = somes _ _ (register_len (arg a 0))
+  row_given host.WriteRegister a = nones _ _ (write_register (arg a 0) (arg a 1) (arg a 2))
+  row_given host.CurrentAccountId a = nones _ _ (current_account_id (arg a 0))
+  row_given host.SignerAccountId a = nones _ _ (signer_account_id (arg a 0))
+  row_given host.PredecessorAccountId a = nones _ _ (predecessor_account_id (arg a 0))
+  row_given host.SignerAccountPk a = nones _ _ (signer_account_pk (arg a 0))
+  row_given host.Input a = nones _ _ (input (arg a 0))
+  row_given host.BlockIndex a = somes _ _ block_index
+  row_given host.BlockTimestamp a = somes _ _ block_timestamp
   row_given host.StorageUsage a = counted _ storage_usage
-  row_given host.PrepaidGas a = somes _ prepaid_gas
-  row_given host.UsedGas a = somes _ used_gas
-  row_given host.AccountBalance a = nones _ (account_balance (arg a 0))
-  row_given host.AccountLockedBalance a = nones _ (account_locked_balance (arg a 0))
-  row_given host.AttachedDeposit a = nones _ (attached_deposit (arg a 0))
-  row_given host.Sha256 a = nones _ (sha256 (arg a 0) (arg a 1) (arg a 2))
-  row_given host.ValueReturn a = nones _ (value_return (arg a 0) (arg a 1))
-  row_given host.PanicUtf8 a = nones _ (panic_utf8 (arg a 0) (arg a 1))
-  row_given host.LogUtf8 a = nones _ (log_utf8 (arg a 0) (arg a 1))
-  row_given host.Abort a = nones _ abort
+  row_given host.PrepaidGas a = somes _ _ prepaid_gas
+  row_given host.UsedGas a = somes _ _ used_gas
+  row_given host.AccountBalance a = nones _ _ (account_balance (arg a 0))
+  row_given host.AccountLockedBalance a = nones _ _ (account_locked_balance (arg a 0))
+  row_given host.AttachedDeposit a = nones _ _ (attached_deposit (arg a 0))
+  row_given host.Sha256 a = nones _ _ (sha256 (arg a 0) (arg a 1) (arg a 2))
+  row_given host.ValueReturn a = nones _ _ (value_return (arg a 0) (arg a 1))
+  row_given host.PanicUtf8 a = nones _ _ (panic_utf8 (arg a 0) (arg a 1))
+  row_given host.LogUtf8 a = nones _ _ (log_utf8 (arg a 0) (arg a 1))
+  row_given host.Abort a = nones _ _ abort
   row_given host.StorageWrite a =
-      numbers _ (storage_write (arg a 0) (arg a 1) (arg a 2) (arg a 3) (arg a 4))
-  row_given host.StorageRead a = somes _ (storage_read (arg a 0) (arg a 1) (arg a 2))
-  row_given host.StorageRemove a = somes _ (storage_remove (arg a 0) (arg a 1) (arg a 2))
-  row_given host.StorageHasKey a = somes _ (storage_has_key (arg a 0) (arg a 1))
-  row_given host.PromiseBatchCreate a = somes _ (promise_batch_create (arg a 0) (arg a 1))
-  row_given host.PromiseBatchThen a = somes _ (promise_batch_then (arg a 0) (arg a 1) (arg a 2))
-  row_given host.PromiseAnd a = somes _ (promise_and (arg a 0) (arg a 1))
+      numbers _ _ (storage_write (arg a 0) (arg a 1) (arg a 2) (arg a 3) (arg a 4))
+  row_given host.StorageRead a = somes _ _ (storage_read (arg a 0) (arg a 1) (arg a 2))
+  row_given host.StorageRemove a = somes _ _ (storage_remove (arg a 0) (arg a 1) (arg a 2))
+  row_given host.StorageHasKey a = somes _ _ (storage_has_key (arg a 0) (arg a 1))
+  row_given host.PromiseBatchCreate a = somes _ _ (promise_batch_create (arg a 0) (arg a 1))
+  row_given host.PromiseBatchThen a = somes _ _ (promise_batch_then (arg a 0) (arg a 1) (arg a 2))
+  row_given host.PromiseAnd a = somes _ _ (promise_and (arg a 0) (arg a 1))
   row_given host.PromiseCreate a =
-      somes _ (promise_create (arg a 0) (arg a 1) (arg a 2) (arg a 3) (arg a 4) (arg a 5) (arg a 6) (arg a 7))
+      somes _ _ (promise_create (arg a 0) (arg a 1) (arg a 2) (arg a 3) (arg a 4) (arg a 5) (arg a 6) (arg a 7))
   row_given host.PromiseThen a =
-      somes _ (promise_then (arg a 0) (arg a 1) (arg a 2) (arg a 3) (arg a 4) (arg a 5) (arg a 6) (arg a 7) (arg a 8))
-  row_given host.PromiseBatchActionCreateAccount a = nones _ (create_account (arg a 0))
-  row_given host.PromiseBatchActionDeployContract a = nones _ (deploy_contract (arg a 0) (arg a 1) (arg a 2))
+      somes _ _ (promise_then (arg a 0) (arg a 1) (arg a 2) (arg a 3) (arg a 4) (arg a 5) (arg a 6) (arg a 7) (arg a 8))
+  row_given host.PromiseBatchActionCreateAccount a = nones _ _ (create_account (arg a 0))
+  row_given host.PromiseBatchActionDeployContract a = nones _ _ (deploy_contract (arg a 0) (arg a 1) (arg a 2))
   row_given host.PromiseBatchActionFunctionCall a =
-      nones _ (function_call (arg a 0) (arg a 1) (arg a 2) (arg a 3) (arg a 4) (arg a 5) (arg a 6))
-  row_given host.PromiseBatchActionTransfer a = nones _ (transfer (arg a 0) (arg a 1))
+      nones _ _ (function_call (arg a 0) (arg a 1) (arg a 2) (arg a 3) (arg a 4) (arg a 5) (arg a 6))
+  row_given host.PromiseBatchActionTransfer a = nones _ _ (transfer (arg a 0) (arg a 1))
   row_given host.PromiseBatchActionAddKeyWithFullAccess a =
-      nones _ (add_full_key (arg a 0) (arg a 1) (arg a 2) (arg a 3))
+      nones _ _ (add_full_key (arg a 0) (arg a 1) (arg a 2) (arg a 3))
   row_given host.PromiseBatchActionAddKeyWithFunctionCall a =
-      nones _ (add_call_key (arg a 0) (arg a 1) (arg a 2) (arg a 3) (arg a 4) (arg a 5) (arg a 6) (arg a 7) (arg a 8))
-  row_given host.PromiseBatchActionDeleteKey a = nones _ (delete_key (arg a 0) (arg a 1) (arg a 2))
-  row_given host.PromiseBatchActionDeleteAccount a = nones _ (delete_account (arg a 0) (arg a 1) (arg a 2))
-  row_given host.PromiseResultsCount a = somes _ promise_results_count
-  row_given host.PromiseResult a = somes _ (promise_result (arg a 0) (arg a 1))
-  row_given host.PromiseReturn a = nones _ (promise_return (arg a 0))
+      nones _ _ (add_call_key (arg a 0) (arg a 1) (arg a 2) (arg a 3) (arg a 4) (arg a 5) (arg a 6) (arg a 7) (arg a 8))
+  row_given host.PromiseBatchActionDeleteKey a = nones _ _ (delete_key (arg a 0) (arg a 1) (arg a 2))
+  row_given host.PromiseBatchActionDeleteAccount a = nones _ _ (delete_account (arg a 0) (arg a 1) (arg a 2))
+  row_given host.PromiseResultsCount a = somes _ _ promise_results_count
+  row_given host.PromiseResult a = somes _ _ (promise_result (arg a 0) (arg a 1))
+  row_given host.PromiseReturn a = nones _ _ (promise_return (arg a 0))

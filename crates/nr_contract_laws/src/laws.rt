@@ -24,6 +24,7 @@ ghost use Rattle.nr_wasmexec.specs.Reduction.{Config as State, Unfinished, run_b
 ghost use Rattle.nr_wasmmem.specs.Meaning.{Gives, Store};
 ghost use Rattle.nr_wasmtypes.specs.Host.{host_type};
 ghost use Rattle.nr_wasmtypes.specs.declared.host.HostFn.{HostFn};
+ghost use Rattle.nr_wasmtypes.specs.declared.host.HostFn.TheVariants.{StorageUsage};
 ghost use Rattle.nr_wasmtypes.specs.declared.module.Module.{Module};
 ghost use Rattle.nr_wasmvalid.specs.Modules.{IsFirstBreach, IsValid};
 ghost use Rattle.nr_wasmvalid.specs.declared.fault.ValidFault.{ValidFault};
@@ -70,10 +71,11 @@ pub fn ending_laws()
 
 /// What the host's functions give is of their types.
 pub fn answer_laws()
-    // Where the numbers of the state fit, and the account is counted as less than 2^64 bytes of storage, each function
-    // gives a number of its type, or none where it has no result.
+    // Where the numbers of the state fit, each function gives a number of its type, or none where it has no result:
+    // `storage_usage` as long as the account is counted as less than 2^64 bytes of storage.
     ensures answers { (s : Store HostState) (f : HostFn) (args : List ℕ) → FitsState s.host
-        → usage_of s.host < 2 ^ 64 → GivesOf (host_type f).result (meaning.call s f args).answer }
+        → (f ≡ StorageUsage → usage_of s.host < 2 ^ 64)
+        → GivesOf (host_type f).result (meaning.call s f args).answer }
     // Behind a call that goes on they fit too, and the account is counted as at most so much more.
     ensures goes_on { (s : Store HostState) (f : HostFn) (args : List ℕ) (value : Option ℕ) → FitsState s.host
         → (meaning.call s f args).answer ≡ Gives value
