@@ -10,7 +10,8 @@ use Rattle.nr_contract_laws.specs.Numbers.{FitsContext, FitsState, most_added, u
 use Rattle.nr_hostctx.specs.Acts.{Came, Goes, Stops}
 use Rattle.nr_hostctx.specs.Host.{called, meaning, with_guest}
 use Rattle.nr_hostctx.specs.Rows.{row}
-use Rattle.nr_hostctx.specs.State.{HostState, fresh}
+use Rattle.nr_hostctx.specs.State.{fresh}
+use Rattle.nr_hostctx.specs.declared.seen.HostState.{HostState}
 use Rattle.nr_machine_laws.specs.Steps.{GivesOf}
 use Rattle.nr_state.specs.World.{World}
 use Rattle.nr_state.specs.declared.calls.CallContext.{CallContext}

@@ -20,7 +20,7 @@ use Rattle.nr_contract_laws.proofs.Turning.{Counts}
 use Rattle.nr_contract_laws.specs.Moments.{IsRun, Leads, StaysCounted, begun, rules, start}
 use Rattle.nr_contract_laws.specs.Numbers.{FitsState, most_added, usage_of}
 use Rattle.nr_hostctx.specs.Host.{meaning}
-use Rattle.nr_hostctx.specs.State.{HostState}
+use Rattle.nr_hostctx.specs.declared.seen.HostState.{HostState}
 use Rattle.nr_machine_laws.specs.Steps.{Reaches}
 use Rattle.nr_machine_laws.specs.Typed.{IsTypedConfig}
 use Rattle.nr_state.specs.Calls.{Stopped}

@@ -24,8 +24,8 @@ use Rattle.nr_hostctx.specs.PromiseActions as action
 use Rattle.nr_hostctx.specs.Promises as promises
 use Rattle.nr_hostctx.specs.Registers as register
 use Rattle.nr_hostctx.specs.Rows.{arg, none, row, some}
-use Rattle.nr_hostctx.specs.State.{HostState}
 use Rattle.nr_hostctx.specs.Storage as storage
+use Rattle.nr_hostctx.specs.declared.seen.HostState.{HostState}
 use Rattle.nr_ids.specs.Keys.{key_bytes}
 use Rattle.nr_machine_laws.specs.Typed.{AreOf}
 use Rattle.nr_state.specs.Usage.{datum_usage}

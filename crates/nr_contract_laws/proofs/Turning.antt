@@ -28,8 +28,9 @@ use Rattle.nr_hostctx.specs.Logs as log
 use Rattle.nr_hostctx.specs.PromiseActions as action
 use Rattle.nr_hostctx.specs.Promises as promises
 use Rattle.nr_hostctx.specs.Ready.{account_in, account_less, no_account, world_less}
-use Rattle.nr_hostctx.specs.State.{Gas, HostState}
 use Rattle.nr_hostctx.specs.Storage as storage
+use Rattle.nr_hostctx.specs.declared.seen.Gas.{Gas}
+use Rattle.nr_hostctx.specs.declared.seen.HostState.{HostState}
 use Rattle.nr_ids.specs.Grammar.{id_fault}
 use Rattle.nr_ids.specs.declared.key.Hash32.{Hash32}
 use Rattle.nr_ids.specs.declared.key.PublicKey.{PublicKey}
