@@ -34,6 +34,7 @@ fn is_behind(chain: &ChainRun<ContractCaller>, height: u64) -> bool
 }
 
 /// The second leg, for which the first one is run to its end.
+#[inline(never)]
 fn second_leg(
     alloc: Global,
     chain: ChainRun<ContractCaller>,

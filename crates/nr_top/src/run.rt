@@ -80,6 +80,7 @@ fn one_leg(alloc: Global, outcome: &Outcome<ContractCaller>) -> Result<Blob, All
 }
 
 /// The report of a run that goes on behind its first leg.
+#[inline(never)]
 fn both_legs(
     alloc: Global,
     outcome: Outcome<ContractCaller>,
@@ -124,6 +125,7 @@ fn reported(
 /// # Errors
 ///
 /// Where memory runs out. It counts as that where a total doesn't fit its number.
+#[inline(never)]
 pub(crate) fn report(alloc: Global, files: ChainFiles) -> Result<Blob, AllocError>
     requires sound { IsSoundGenesis files.config files.genesis }
     requires can { CanRun (loaded files) }
