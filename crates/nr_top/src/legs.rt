@@ -89,6 +89,7 @@ fn leg_of(alloc: Global, begun: Begun, height: u64) -> Result<Leg, AllocError>
     }
 }
 
+#[inline(never)]
 fn leg_at(alloc: Global, files: ChainFiles, height: u64) -> Result<Leg, AllocError>
     requires sound { IsSoundGenesis files.config files.genesis }
     requires can { CanRun (loaded files) }

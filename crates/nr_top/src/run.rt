@@ -1,4 +1,5 @@
-//! The run of a chain to its end, and its report.
+//! The run of a chain to its end, and its report. What makes or takes a chain is not inlined: each has room for several
+//! chains in its frame, which then aren't on the stack while a chunk is run.
 
 ghost use Rattle.std.specs.Prelude.{◌≡◌, ◌++◌, Some, IfOk};
 ghost use Rattle.nr_blocks.specs.Genesis.{IsSoundGenesis};
@@ -31,6 +32,7 @@ use std::alloc::{AllocError, Global};
 pub(crate) type Run = Core<ChainRun<ContractCaller>>;
 
 /// A chain at work, before its first chunk.
+#[inline(never)]
 pub(crate) fn opened(alloc: Global, chain: ChainRun<ContractCaller>) -> Result<Run, AllocError>
     ensures chain { IfOk result (λ core. core.phases ≡ chain) }
     ensures moment { IfOk result IsMoment }
@@ -46,6 +48,7 @@ pub(crate) fn opened(alloc: Global, chain: ChainRun<ContractCaller>) -> Result<R
 /// # Errors
 ///
 /// Where memory runs out.
+#[inline(never)]
 pub(crate) fn run_over(
     alloc: Global,
     chain: ChainRun<ContractCaller>,
@@ -103,6 +106,7 @@ fn both_legs(
 }
 
 /// The report of a run whose first leg is over.
+#[inline(never)]
 fn reported(
     alloc: Global,
     outcome: Outcome<ContractCaller>,
