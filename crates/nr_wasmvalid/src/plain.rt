@@ -283,8 +283,6 @@ fn check_select(scope: &Scope<'_>, stacks: &mut Stacks) -> Result<(), Refusal>
 }
 
 /// One instruction that holds no others.
-// Not inlined: its frame would stand on the stack for each block around.
-#[inline(never)]
 #[tactic(auto, unfolding(crate::specs::Shapes::asked_all))]
 pub(crate) fn check_plain(
     scope: &Scope<'_>,
