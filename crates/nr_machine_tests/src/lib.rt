@@ -4,6 +4,8 @@
 #[cfg(test)]
 mod decoding;
 #[cfg(test)]
+mod nesting;
+#[cfg(test)]
 mod running;
 #[cfg(test)]
 mod validating;

@@ -89,6 +89,7 @@ pub(crate) fn supply_of(config: &Config, genesis: &Genesis) -> u128
 /// # Errors
 ///
 /// Where memory runs out.
+#[inline(never)]
 pub fn begin(files: ChainFiles) -> Result<Begun, AllocError>
     requires { IsSoundGenesis files.config files.genesis }
     ensures first { IfOk result (λ begun. chain_in begun.chain ≡ (loaded files).first) }

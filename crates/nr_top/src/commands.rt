@@ -1,4 +1,5 @@
-//! The commands: what each answers before anything is written.
+//! The commands: what each answers before anything is written. Their functions are not inlined: each has room for
+//! several chains in its frame, and so the stack holds that of one command alone.
 
 ghost use Rattle.nr_shell.specs.Answers.{Follows};
 ghost use Rattle.nr_top.specs.Answers.{refuses};

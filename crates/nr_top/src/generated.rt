@@ -100,6 +100,7 @@ pub fn first_lines(
 /// # Errors
 ///
 /// Where memory runs out. It counts as that where a total doesn't fit its number.
+#[inline(never)]
 pub(crate) fn generated(
     alloc: Global,
     start: u64,

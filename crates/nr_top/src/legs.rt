@@ -34,6 +34,7 @@ fn is_behind(chain: &ChainRun<ContractCaller>, height: u64) -> bool
 }
 
 /// The second leg, for which the first one is run to its end.
+#[inline(never)]
 fn second_leg(
     alloc: Global,
     chain: ChainRun<ContractCaller>,
@@ -88,6 +89,7 @@ fn leg_of(alloc: Global, begun: Begun, height: u64) -> Result<Leg, AllocError>
     }
 }
 
+#[inline(never)]
 fn leg_at(alloc: Global, files: ChainFiles, height: u64) -> Result<Leg, AllocError>
     requires sound { IsSoundGenesis files.config files.genesis }
     requires can { CanRun (loaded files) }

@@ -1,4 +1,5 @@
-//! The run of a chain to its end, and its report.
+//! The run of a chain to its end, and its report. Functions that move a chain are not inlined: each has room for several
+//! chains in its frame, and most of them have returned before a chunk is run.
 
 ghost use Rattle.std.specs.Prelude.{◌≡◌, ◌++◌, Some, IfOk};
 ghost use Rattle.nr_blocks.specs.Genesis.{IsSoundGenesis};
@@ -31,6 +32,7 @@ use std::alloc::{AllocError, Global};
 pub(crate) type Run = Core<ChainRun<ContractCaller>>;
 
 /// A chain at work, before its first chunk.
+#[inline(never)]
 pub(crate) fn opened(alloc: Global, chain: ChainRun<ContractCaller>) -> Result<Run, AllocError>
     ensures chain { IfOk result (λ core. core.phases ≡ chain) }
     ensures moment { IfOk result IsMoment }
@@ -46,6 +48,7 @@ pub(crate) fn opened(alloc: Global, chain: ChainRun<ContractCaller>) -> Result<R
 /// # Errors
 ///
 /// Where memory runs out.
+#[inline(never)]
 pub(crate) fn run_over(
     alloc: Global,
     chain: ChainRun<ContractCaller>,
@@ -80,6 +83,7 @@ fn one_leg(alloc: Global, outcome: &Outcome<ContractCaller>) -> Result<Blob, All
 }
 
 /// The report of a run that goes on behind its first leg.
+#[inline(never)]
 fn both_legs(
     alloc: Global,
     outcome: Outcome<ContractCaller>,
@@ -102,6 +106,7 @@ fn both_legs(
 }
 
 /// The report of a run whose first leg is over.
+#[inline(never)]
 fn reported(
     alloc: Global,
     outcome: Outcome<ContractCaller>,
@@ -124,6 +129,7 @@ fn reported(
 /// # Errors
 ///
 /// Where memory runs out. It counts as that where a total doesn't fit its number.
+#[inline(never)]
 pub(crate) fn report(alloc: Global, files: ChainFiles) -> Result<Blob, AllocError>
     requires sound { IsSoundGenesis files.config files.genesis }
     requires can { CanRun (loaded files) }

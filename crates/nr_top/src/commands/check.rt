@@ -118,6 +118,7 @@ fn scheduled<S: Shelf>(
 }
 
 /// What the lines of a schedule do to the run that the files give.
+#[inline(never)]
 pub(crate) fn check_text<S: Shelf>(
     alloc: Global,
     names: &FileNames<'_>,

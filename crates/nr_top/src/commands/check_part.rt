@@ -41,6 +41,7 @@ fn accepted(alloc: Global, root: &Hash32, part: &Part) -> Result<Blob, Stop<Stat
 }
 
 /// What is said of the part of a file, against the root that 64 digits spell.
+#[inline(never)]
 pub(crate) fn check_part_text<S: Shelf>(
     alloc: Global,
     word: &str,

@@ -74,6 +74,7 @@ fn gathered(alloc: Global, files: ChainFiles, chunk: ChunkPlace) -> Result<Blob,
 }
 
 /// The file of a chunk of the chain that the files give, with all that it is run again from.
+#[inline(never)]
 pub(crate) fn gather_text<S: Shelf>(
     alloc: Global,
     names: &FileNames<'_>,

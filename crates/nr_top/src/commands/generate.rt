@@ -12,6 +12,7 @@ use nr_shell::Stop;
 use std::alloc::AllocError;
 
 /// Generates a chain, runs it to its end, and makes the text.
+#[inline(never)]
 pub(crate) fn generate_text<F: Fn(Work) -> Result<Blob, AllocError>>(
     run: &F,
     start: u64,

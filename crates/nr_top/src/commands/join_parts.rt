@@ -81,6 +81,7 @@ fn joined_text(alloc: Global, word: &str, parts: &List<Part>) -> Result<Blob, St
 }
 
 /// What is said of all parts, in files that are named by a prefix and the position from 0.
+#[inline(never)]
 pub(crate) fn join_parts_text<S: Shelf>(
     alloc: Global,
     word: &str,

@@ -73,6 +73,7 @@ fn cut(alloc: Global, files: ChainFiles, part: StatePart) -> Result<Blob, Stop<S
 }
 
 /// The file of a part of a shard's state behind a chunk of the chain that the files give.
+#[inline(never)]
 pub(crate) fn part_text<S: Shelf>(
     alloc: Global,
     names: &FileNames<'_>,

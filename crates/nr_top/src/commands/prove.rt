@@ -79,6 +79,7 @@ fn proved(alloc: Global, files: ChainFiles, item: ChunkItem) -> Result<Blob, Sto
 }
 
 /// The proof of an item in the chain that the files give.
+#[inline(never)]
 pub(crate) fn prove_text<S: Shelf>(
     alloc: Global,
     names: &FileNames<'_>,

@@ -101,6 +101,7 @@ fn of_file<S: Shelf>(
 }
 
 /// The same, under the configuration of a word.
+#[inline(never)]
 pub(crate) fn recheck_text<S: Shelf>(
     alloc: Global,
     config: &str,

@@ -136,6 +136,7 @@ fn rooted(alloc: Global, files: ChainFiles) -> Result<Blob, Stop<Status>>
 }
 
 /// The roots of the chunks of the chain that the files give.
+#[inline(never)]
 pub(crate) fn roots_text<S: Shelf>(
     alloc: Global,
     names: &FileNames<'_>,

@@ -37,6 +37,7 @@ fn reported<F: Fn(Work) -> Result<Blob, AllocError>>(
 }
 
 /// The report of the chain that the files give.
+#[inline(never)]
 pub(crate) fn run_text<F: Fn(Work) -> Result<Blob, AllocError>, S: Shelf>(
     alloc: Global,
     run: &F,

@@ -53,6 +53,7 @@ fn judged_bytes(alloc: Global, root: &Hash32, bytes: &[u8]) -> Result<Blob, Stop
 }
 
 /// Whether the proof of a file is accepted against the root that 64 digits spell.
+#[inline(never)]
 pub(crate) fn verify_text<S: Shelf>(
     alloc: Global,
     root: &str,
