@@ -26,9 +26,9 @@ impl Status {
     }
 }
 
-/// The line that tells the answer: why a file is refused, in words, or that no program prints the words to be
-/// explained; otherwise the exit status, and the
-/// kind and the entry of a configuration's fault, in decimal, parted by single spaces.
+/// The line that tells the answer: why a file is refused, in words, or that there is no sentence for the words to be
+/// explained; otherwise the exit status, and the kind and the entry of a configuration's fault, in decimal, parted by
+/// single spaces.
 impl fmt::Display for Status {
     ghost output = { λ status. Some (status_line status) };
 
@@ -38,7 +38,7 @@ impl fmt::Display for Status {
             Status::Config { kind, entry } => write!(f, "{number} {kind} {entry}"),
             Status::TooLong => f.write_str("the file is longer than 268435456 bytes"),
             Status::Faulty { line } => f.write_str(line.inner()),
-            Status::NoSentence => f.write_str("No program prints these numbers."),
+            Status::NoSentence => f.write_str("There is no sentence for these words."),
             Status::Done => write!(f, "{number}"),
             Status::Usage => write!(f, "{number}"),
             Status::ReadFault => write!(f, "{number}"),
