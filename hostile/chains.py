@@ -8,6 +8,7 @@ EXAMPLES = os.path.join(os.path.dirname(os.path.abspath(__file__)), "..", "examp
 KEY = b"\0" + b"\1" * 32
 LONG_KEY = b"\1" + b"\2" * 64
 FOR_ALL = b"\1"
+STEPS = (b"open 0\nseal 0\nreshard\npublish 0\nopen 2\nrest\nreshard\nopen 1\n")
 SCHEDULE = (b"open 1\nopen 0\nopen 0\nseal 0\nseal 1\npublish 1\npublish 0\nopen 0\ntake 0 1 1\ntake 0 1 1\n"
             b"take 0 0 18446744073709551615\nrest\nopen 0\n")
 
@@ -68,9 +69,14 @@ def call(method, data=b"", gas=10_000, deposit=0):
     return b"\2" + counted(method) + counted(data) + u64(gas) + u128(deposit)
 
 
-def blocks(rows, prices=None):
-    """Blocks of rows of chunks, each None or a list of transactions; with prices, of version 2."""
-    parts = [b"NRB2" if prices else b"NRB1", u32(len(rows))]
+def blocks(rows, prices=None, change=None):
+    """Blocks of rows of chunks, each None or a list of transactions; with prices, of version 2. With a change, which is
+    a height and the boundaries from there on, of version 3, in which each block has a price."""
+    parts = [b"NRB3" if change else b"NRB2" if prices else b"NRB1"]
+    if change:
+        height, boundaries = change
+        parts.append(b"\1" + u64(height) + listed([counted(name) for name in boundaries]))
+    parts.append(u32(len(rows)))
     for place, row in enumerate(rows):
         parts.append(u64(place + 1) + u64(10**9 * (place + 1)) + (u64(prices[place]) if prices else b""))
         parts.append(listed([b"\0" if chunk is None else b"\1" + listed(chunk) for chunk in row]))
@@ -104,8 +110,8 @@ def people(code):
     })
 
 
-def every_action():
-    """Transactions with each action but staking, over the genesis of `people`."""
+def acting():
+    """The transactions of two chunks, with each action but staking, over the genesis of `people`."""
     made = [b"\0", b"\3" + u128(10**9), b"\5" + KEY + u64(0) + FOR_ALL, b"\1" + counted(example_code())]
     for_ask = b"\5" + b"\0" + b"\3" * 32 + u64(1) + for_calls(5, b"desk", [b"ask"])
     first = [
@@ -116,8 +122,21 @@ def every_action():
         transaction(5, b"nobody", [b"\3" + u128(1)]),
     ]
     last = [transaction(6, b"registrar", [b"\7" + counted(b"alice")]), transaction(6, b"vault", [call(b"put")])]
+    return first, last
+
+
+def every_action():
+    first, last = acting()
     rows = [[first, []], [[], None], [last, []], [None, []], [[], []], [[], []]]
     return blocks(rows, prices=[100, 100, 50, 120, 100, 0])
+
+
+def resharded():
+    """The same in two shards and then in three, between which lists are carried, and delayed and postponed receipts
+    move; under `busy_config` there are some at the change."""
+    first, last = acting()
+    rows = [[first, []], [[], []], [last, [], []], [[], None, []], [[], [], []], [[], [], []]]
+    return blocks(rows, prices=[100, 100, 50, 120, 100, 0], change=(3, [b"c", b"p"]))
 
 
 def busy_config(**changes):

@@ -5,28 +5,31 @@ usage: hostile/damage.py [--programs FOLDER] [--only KIND] [--files N] [--seed N
        hostile/damage.py --show KIND NUMBER FILE [--seed N]
 
 Build the programs first. Of each kind (genesis, blocks, contract, configuration, schedule, module, genesis text,
-blocks text, report, words, proof, part) N files (100,000) are made from a few good ones, which of the last two
-near_serial makes: bits flipped, bytes set, counts turned into 2^32 - 1 or nearly kept, pieces cut out, doubled, moved
-and added, the end cut off, and in texts numbers out of range, quotes, and brackets in one another. A contract is
+blocks text, report, words, proof, part, gathered) N files (100,000) are made from a few good ones, which of the last
+three near_serial makes: bits flipped, bytes set, counts turned into 2^32 - 1 or nearly kept, pieces cut out, doubled,
+moved and added, the end cut off, and in texts numbers out of range, quotes, and brackets in one another. A contract is
 damaged code in a genesis that is otherwise whole; words are what stands behind a program's name, and each program is
 given them. A file is made by its kind, its number and the seed (1), and --show writes it again.
 
 What is right: the program ends by itself, with a status that it has for this kind. Where the status is above 0 there
 is nothing on standard output and one line on standard error (of near_module one line on standard output), and
-`near_files explain` has a sentence for it. It takes at most 1 second of processor time and 100 microseconds for each
-byte of the file, and holds at most 64 MiB and 64 times the file's length. And
+`near_files explain` has a sentence for it behind the program's name. It takes at most 1 second of processor time and
+100 microseconds for each byte of the file, and holds at most 64 MiB and 64 times the file's length. And
 
-  genesis, blocks, contract,    near_serial and near_replay end alike, with the same texts
-  configuration
+  genesis, blocks, contract,    near_serial and near_replay end alike, with the same texts, and near_audit refuses what
+  configuration                 they refuse, with the same line; else its archive has the chunks' lines of their report
   genesis, blocks               what `near_files show` makes of one that it reads is made into the same bytes
   genesis text                  what `near_files genesis` makes of it near_serial doesn't refuse as a genesis
   module                        `run` answers as `check` does where that refuses; of a valid one that never runs `check`
-                                has a line on standard error, the one that `run` then writes where there is the method
+                                has a line on standard error, the one that `run` then writes where there is the method;
+                                `list` refuses what `check` can't decode, with the same line, and nothing else
   words                         near_serial and near_replay end alike behind `gen`
   proof                         `verify` says valid of no other bytes than those that `prove` writes, and `near_files
                                 show` refuses what `verify` can't read
   part                          what `checkpart` accepts has no entry that the state hasn't, what `joinparts` accepts as
                                 the one part has all of them, and `near_files show` refuses what these can't read
+  gathered                      `recheck` of a whole one writes the lines that `run` writes of its chunk, and
+                                `near_files show` refuses what `recheck` can't read
 
 The exit status is 0 where every run was right.
 """
@@ -48,14 +51,17 @@ MEMORY, MEMORY_A_BYTE = 64 * MIB, 64
 WORDS = [b"-1", b"1e400", b"0.5", b"18446744073709551616", b"340282366920938463463374607431768211456", b'"', b"\\",
          b"\\ud800", b"\\u0000", b"\0", b"\xff", b"null", b"true", b"{", b"}", b"[", b"]", b",", b":", b"[" * 100,
          b"[" * 127, b"[" * 128, b"]" * 127, b'{"a":' * 127, b"[" * 3000, b" " * 50, b"\n", b"\r\n", b"\t", b"00",
-         b"rest\n", b"take 1 0 1\n", b"seal 1\n"]
+         b"rest\n", b"take 1 0 1\n", b"seal 1\n", b"reshard\n"]
 COMMANDS = [b"run config genesis blocks", b"check config genesis blocks schedule", b"gen 7 2 1",
             b"replay config genesis blocks", b"check config module", b"run config module run 1000",
             b"genesis config genesis.json", b"blocks blocks.json", b"show genesis config genesis",
             b"show blocks blocks", b"show report report", b"explain 3 4 0 182 100", b"roots config genesis blocks",
             b"prove config genesis blocks 2 0 outcome 0", b"part config genesis blocks 2 0 3 1",
             b"verify " + b"0a" * 32 + b" blocks", b"checkpart " + b"0a" * 32 + b" blocks",
-            b"joinparts " + b"0a" * 32 + b" 1 blocks", b"show part blocks", b"show proof report"]
+            b"joinparts " + b"0a" * 32 + b" 1 blocks", b"show part blocks", b"show proof report", b"help", b"version",
+            b"gather config genesis blocks 2 0", b"gather config genesis blocks", b"recheck config blocks",
+            b"show gathered blocks", b"hex module", b"list module", b"explain near_audit 4 2 1",
+            b"explain no 5 0 0", b"check config genesis changing steps"]
 VOCABULARY = [b"", b"-", b"--", b"-h", b"--help", b"-V", b"run", b"gen", b"show", b"free", b"config", b"genesis",
               b"blocks", b"0", b"1", b"01", b"+1", b"-1", b"2", b"17", b"257", b"18446744073709551615",
               b"18446744073709551616", b"\xff", b"\xc3\xa9", b"x" * 5000, b"=", b"gen=1", b"none/here", b".", b"a b"]
@@ -70,16 +76,18 @@ def seeds(found):
     code = chains.example_code()
     return {
         "genesis": [read("contract", "genesis"), chains.people(code)],
-        "blocks": [read("contract", "blocks"), chains.busy_blocks(6), chains.every_action()],
+        "blocks": [read("contract", "blocks"), chains.busy_blocks(6), chains.every_action(), chains.resharded()],
         "contract": [code],
         "configuration": [read("config", "generated.json"), read("config", "receipt_fees.json"), chains.busy_config()],
-        "schedule": [chains.SCHEDULE, b"rest\n", b"open 0\nseal 0\npublish 0\nopen 1\nseal 1\npublish 1\n" * 3],
+        "schedule": [chains.SCHEDULE, chains.STEPS, b"rest\n",
+                     b"open 0\nseal 0\npublish 0\nopen 1\nseal 1\npublish 1\n" * 3],
         "module": [code, wasm.lively(), wasm.nested(20, wasm.IF)],
         "genesis text": [read(name, "genesis.json") for name in ("contract", "one_transfer")],
-        "blocks text": [read(name, "blocks.json") for name in ("contract", "one_transfer")],
+        "blocks text": [read(name, "blocks.json") for name in ("contract", "one_transfer", "reshard")],
         "report": [read("contract", "report")],
         "words": COMMANDS,
-        **({"proof": made.proofs, "part": [made.whole, *made.parts]} if made else {}),
+        **({"proof": made.proofs, "part": [made.whole, *made.parts],
+            "gathered": [data for _, data, _ in made.gathered]} if made else {}),
     }
 
 
@@ -193,7 +201,9 @@ class Judge:
         self.config = shared.write("config", chains.busy_config())
         self.genesis = shared.write("genesis", chains.people(chains.example_code()))
         self.blocks = shared.write("blocks", chains.every_action())
+        self.changing = shared.write("changing", chains.resharded())
         shared.write("schedule", chains.SCHEDULE)
+        shared.write("steps", chains.STEPS)
         shared.write("module", wasm.lively())
         shared.write("report", chains.bytes_of("contract", "report"))
         for kind in ("genesis", "blocks"):
@@ -226,26 +236,34 @@ class Judge:
         """Whether a refusal has no text and one line, that of its status, which can be explained."""
         if ran.status == 0:
             return not ran.err
-        lines = ran.err.count(b"\n") == 1 and ran.err.endswith(b"\n")
-        if program == "near_files" and ran.status == 20:
-            return lines and not ran.out
-        return lines and not ran.out and ran.err.split()[0] == b"%d" % ran.status and self.is_explained(ran.err)
+        if ran.out or ran.err.count(b"\n") != 1 or not ran.err.endswith(b"\n"):
+            return False
+        if program == "near_files" and ran.status >= shared.FAULTY:
+            return ran.status == shared.FAULTY or ran.err == b"No program prints these numbers.\n"
+        return ran.err.split()[0] == b"%d" % ran.status and self.is_explained(program, ran.err)
 
-    def is_explained(self, line):
-        if line in self.explained or "near_files" not in self.found:
+    def is_explained(self, program, line):
+        """Whether `near_files explain` has a sentence for the line, behind the name of the program that wrote it."""
+        words = [program, *line.decode().split()]
+        if " ".join(words) in self.explained or "near_files" not in self.found:
             return True
-        ran = self.runner.run([self.found["near_files"], "explain", *line.decode().split()])
-        self.explained.add(line)
+        ran = self.runner.run([self.found["near_files"], "explain", *words])
+        self.explained.add(" ".join(words))
         return ran.status == 0 and len(ran.out) > 20
 
     def both(self, config, genesis, blocks, statuses):
-        """What the serial program answers, and the other must."""
+        """What the serial program answers, and the others must."""
         one = self.run("near_serial", "run", config, genesis, blocks, statuses=statuses)
         other = self.run("near_replay", "replay", config, genesis, blocks, statuses=statuses)
         if one and other and one[:3] != other[:3]:
             ends = f"{one.status}, {one.err!r}; near_replay: {other.status}, {other.err!r}"
             self.wrong.append(f"near_serial: {ends}")
-        return one or other
+        archive = self.run("near_audit", "gather", config, genesis, blocks, statuses=statuses)
+        if one and archive and (one.status, one.err) != (archive.status, archive.err):
+            self.wrong.append(f"near_serial: {one.err!r}; near_audit: {archive.status}, {archive.err!r}")
+        elif one and archive and one.status == 0 and lines_in(archive.out) != chunks_of(one.out):
+            self.wrong.append("near_audit: the archive has other lines than the report")
+        return one or other or archive
 
     def shown(self, data, words, back):
         """The file shown as a text, which is made into the same bytes again."""
@@ -277,7 +295,7 @@ class Judge:
         return self.both(self.file, self.genesis, self.blocks, (0, 2, 3))
 
     def judge_schedule(self, _):
-        return self.run("near_serial", "check", self.config, self.genesis, self.blocks, self.file, statuses=(0, 8))
+        return self.run("near_serial", "check", self.config, self.genesis, self.changing, self.file, statuses=(0, 8))
 
     def judge_module(self, _):
         ran = self.run("near_module", "check", self.config, self.file, statuses=(0, 20))
@@ -287,7 +305,16 @@ class Judge:
             self.wrong.append(f"near_module writes {ran.out!r}, {ran.err!r}; {lively.out!r}, {lively.err!r}")
         if ran and ran.status == 20 and ran[:3] != lively[:3]:
             self.wrong.append(f"near_module: check says {ran.out!r}, run {lively.out!r}")
+        if ran and not all(self.is_explained("near_module", line) for line in (ran.out, lively.out)):
+            self.wrong.append(f"near_module: no sentence for {ran.out!r}, {lively.out!r}")
+        self.judge_listing(ran)
         return ran
+
+    def judge_listing(self, checked):
+        listed = self.run("near_module", "list", self.file, statuses=(0, 20))
+        undecoded = checked and checked.out.startswith(b"decode ")
+        if checked and (listed[:3] != checked[:3] if undecoded else listed.status or listed.err):
+            self.wrong.append(f"near_module: check says {checked.out!r}, list {listed[:3]!r}")
 
     def judge_genesis_text(self, _):
         ran = self.run("near_files", "genesis", self.config, self.file, statuses=(0, 20))
@@ -304,10 +331,10 @@ class Judge:
 
     def judge_words(self, data):
         these = data.split(b"\0") if data else []
-        runs = [self.run(name, *these, statuses=(*range(6), 8, 10, 11, 13, 20)) for name in shared.NAMES]
+        runs = [self.run(name, *these, statuses=(*range(6), 8, *range(10, 14), 20, 21)) for name in shared.NAMES]
         if these[:1] == [b"gen"] and runs[0] and runs[1] and runs[0][:3] != runs[1][:3]:
             self.wrong.append(f"near_replay: {runs[1][:3]}; near_serial: {runs[0][:3]}")
-        return runs[0] or runs[1] or runs[2] or runs[3]
+        return next((ran for ran in runs if ran), None)
 
     def judge_proof(self, data):
         made = self.made_files
@@ -334,6 +361,14 @@ class Judge:
         self.is_shown_alike("part", not ran.err.startswith(b"13 1 "))
         return ran
 
+    def judge_gathered(self, data):
+        ran = self.run("near_serial", "recheck", self.config, self.file, statuses=(0, 12))
+        self.is_shown_alike("gathered", not ran.err.startswith((b"12 1 ", b"12 5 ")))
+        for config, whole, lines in self.made_files.gathered:
+            if data == whole and self.run("near_serial", "recheck", config, self.file).out != lines:
+                self.wrong.append("near_serial recheck: other lines than those of run")
+        return ran
+
     def judge_report(self, _):
         return self.run("near_files", "show", "report", self.file, statuses=(0, 20))
 
@@ -350,6 +385,22 @@ def entries_of(part):
         value, at = field(at)
         entries.add((key, value))
     return entries
+
+
+def chunks_of(report):
+    """The lines of the chunks of a report."""
+    return report[: (b"\n" + report).rindex(b"\ntotal supply ")]
+
+
+def lines_in(archive):
+    """What the files of an archive hold whose names end with `.lines`."""
+    at, lines = 0, []
+    while (name := archive[at : at + 100].rstrip(b"\0")):
+        size = int(archive[at + 124 : at + 135], 8)
+        if name.endswith(b".lines"):
+            lines.append(archive[at + 512 : at + 512 + size])
+        at += 512 + (size + 511) // 512 * 512
+    return b"".join(lines)
 
 
 def ready(found, folder, limit):

@@ -14,8 +14,8 @@ import wasm
 from chains import example
 
 HERE = os.path.dirname(os.path.abspath(__file__))
-NAMES = ("near_serial", "near_replay", "near_files", "near_module")
-DONE, USAGE, UNREADABLE, UNWRITTEN, NO_MEMORY = 0, 1, 5, 6, 7
+NAMES = ("near_serial", "near_replay", "near_audit", "near_files", "near_module")
+DONE, USAGE, UNREADABLE, UNWRITTEN, NO_MEMORY, FAULTY, UNEXPLAINED = 0, 1, 5, 6, 7, 20, 21
 HUNG = "hung"
 
 
@@ -141,46 +141,71 @@ class Case(NamedTuple):
 
 class Made(NamedTuple):
     """What near_serial makes of the chain of examples/contract behind the chunk of height 4 in shard 0: the root of
-    its outcomes with all their proofs, the root of its state, the state as one part, and as three."""
+    its outcomes with all their proofs, the root of its state, the state as one part, and as three. The chunk itself,
+    gathered, with the configuration's file and its lines, each pair also for a chunk to which lists were carried."""
     items: str
     proofs: list
     state: str
     whole: bytes
     parts: list
+    gathered: list
+
+
+CHAIN = [example("config", "generated.json"), example("contract", "genesis"), example("contract", "blocks")]
+RESHARDED = ["free", example("reshard", "genesis"), example("reshard", "blocks")]
+
+
+def lines_of(report, height, shard):
+    """The lines of a chunk in a report."""
+    begin = report.index(b"chunk %d %d " % (height, shard))
+    ends = [at for word in (b"\nchunk ", b"\ntotal ") if (at := report.find(word, begin)) >= 0]
+    return report[begin : min(ends) + 1]
 
 
 def made_by(program):
-    chain = [example("config", "generated.json"), example("contract", "genesis"), example("contract", "blocks")]
-
-    def text(verb, *words):
+    def text(verb, *words, chain=CHAIN):
         return subprocess.run([program, verb, *chain, *words], check=True, stdout=subprocess.PIPE).stdout
 
     def root(verb, begin):
         return next(line.split()[3].decode() for line in text(verb).splitlines() if line.startswith(begin))
 
+    def gathered(chain, height, shard):
+        lines = lines_of(text("run", chain=chain), height, shard)
+        return chain[0], text("gather", str(height), str(shard), chain=chain), lines
+
     return Made(root("roots", b"roots 4 0 "), [text("prove", "4", "0", "outcome", str(place)) for place in range(3)],
                 root("run", b"chunk 4 0 "), text("part", "4", "0", "1", "0"),
-                [text("part", "4", "0", "3", str(number)) for number in range(3)])
+                [text("part", "4", "0", "3", str(number)) for number in range(3)],
+                [gathered(CHAIN, 4, 0), gathered(CHAIN, 3, 0), gathered(RESHARDED, 2, 1)])
 
 
 def made_cases(folder, program):
-    """The commands on roots, proofs and parts."""
+    """The commands on roots, proofs, parts and gathered chunks."""
     at = lambda name: os.path.join(folder, name)
     made = made_by(program)
     proof = write(at("proof"), made.proofs[1])
     parts = [write(at(f"part{number}"), data) for number, data in enumerate(made.parts)]
-    chain = [example("config", "generated.json"), example("contract", "genesis"), example("contract", "blocks")]
+    config, gathered, _ = made.gathered[0]
+    chunk, carried = write(at("gathered"), gathered), write(at("carried"), made.gathered[2][1])
     return [
-        ("roots", "near_serial", ["roots", *chain]),
-        ("prove", "near_serial", ["prove", *chain, "4", "0", "outcome", "1"]),
-        ("prove nothing", "near_serial", ["prove", *chain, "4", "0", "receipt", "9"]),
+        ("roots", "near_serial", ["roots", *CHAIN]),
+        ("prove", "near_serial", ["prove", *CHAIN, "4", "0", "outcome", "1"]),
+        ("prove nothing", "near_serial", ["prove", *CHAIN, "4", "0", "receipt", "9"]),
         ("verify", "near_serial", ["verify", made.items, proof]),
-        ("part", "near_serial", ["part", *chain, "4", "0", "3", "1"]),
+        ("part", "near_serial", ["part", *CHAIN, "4", "0", "3", "1"]),
+        ("part behind the change", "near_serial", ["part", *RESHARDED, "2", "1", "2", "0"]),
         ("checkpart", "near_serial", ["checkpart", made.state, parts[1]]),
         ("checkpart refused", "near_serial", ["checkpart", made.items, parts[1]]),
         ("joinparts", "near_serial", ["joinparts", made.state, "3", at("part")]),
+        ("gather", "near_serial", ["gather", *CHAIN, "4", "0"]),
+        ("gather behind the change", "near_serial", ["gather", *RESHARDED, "2", "1"]),
+        ("gather nothing", "near_serial", ["gather", *CHAIN, "2", "1"]),
+        ("recheck", "near_serial", ["recheck", config, chunk]),
+        ("recheck behind the change", "near_serial", ["recheck", "free", carried]),
+        ("recheck refused", "near_serial", ["recheck", config, parts[1]]),
         ("show proof", "near_files", ["show", "proof", proof]),
         ("show part", "near_files", ["show", "part", parts[1]]),
+        ("show gathered", "near_files", ["show", "gathered", chunk]),
     ]
 
 
@@ -199,41 +224,59 @@ def write(path, data):
     return path
 
 
+def chain_cases(at, config, people):
+    """Runs of chains by the programs that replay them, as (name, program, words)."""
+    priced, genesis = CHAIN[:2]
+    blocks, actions = write(at("blocks"), chains.busy_blocks()), write(at("actions"), chains.every_action())
+    schedule, steps = write(at("schedule"), chains.SCHEDULE), write(at("steps"), chains.STEPS)
+    four = ["free", *(example("four_shards", part) for part in ("genesis", "blocks"))]
+    changing = [config, people, write(at("changing"), chains.resharded())]
+    rows = [("", CHAIN), (" delayed", [config, genesis, blocks]), (" four shards", four),
+            (" every action", [config, people, actions]), (" changing boundaries", changing)]
+    for verb, program in (("run", "near_serial"), ("replay", "near_replay"), ("gather", "near_audit")):
+        for name, words in rows:
+            yield f"{'archive' if verb == 'gather' else verb}{name}", program, [verb, *words]
+    yield "check", "near_serial", ["check", config, genesis, blocks, schedule]
+    yield "check changing boundaries", "near_serial", ["check", *changing, steps]
+    yield "roots changing boundaries", "near_serial", ["roots", *changing]
+    yield "gen", "near_serial", ["gen", "7", "3", "8"]
+    yield "replay gen", "near_replay", ["gen", "7", "3", "8"]
+    yield "run refused", "near_serial", ["run", priced, blocks, blocks]
+    yield "archive refused", "near_audit", ["gather", priced, genesis, genesis]
+    yield "no command", "near_serial", ["walk", "free"]
+    yield "archive help", "near_audit", ["help"]
+
+
+def file_cases(at):
+    """Commands on files of other kinds, as (name, program, words)."""
+    priced, genesis = CHAIN[:2]
+    blocks, module = at("blocks"), write(at("module"), wasm.lively())
+    return [
+        ("genesis", "near_files", ["genesis", priced, example("contract", "genesis.json")]),
+        ("blocks", "near_files", ["blocks", example("four_shards", "blocks.json")]),
+        ("blocks changing boundaries", "near_files", ["blocks", example("reshard", "blocks.json")]),
+        ("genesis refused", "near_files", ["genesis", priced, example("contract", "blocks.json")]),
+        ("hex", "near_files", ["hex", module]),
+        ("show genesis", "near_files", ["show", "genesis", priced, genesis]),
+        ("show blocks", "near_files", ["show", "blocks", blocks]),
+        ("show blocks changing boundaries", "near_files", ["show", "blocks", at("changing")]),
+        ("show report", "near_files", ["show", "report", example("contract", "report")]),
+        ("explain", "near_files", ["explain", "3", "4", "0", "182", "100"]),
+        ("explain nothing", "near_files", ["explain", "3", "4", "0", "182"]),
+        ("files help", "near_files", ["help"]),
+        ("module check", "near_module", ["check", priced, module]),
+        ("module run", "near_module", ["run", priced, module, "run", "100000"]),
+        ("module list", "near_module", ["list", module]),
+        ("module help", "near_module", ["help"]),
+    ]
+
+
 def cases(folder, programs):
     """Each command of the programs that are there, on chains with contracts, promises and delayed receipts."""
     at = lambda name: os.path.join(folder, name)
-    config, blocks = write(at("config"), chains.busy_config()), write(at("blocks"), chains.busy_blocks())
     people = write(at("people"), chains.people(chains.example_code()))
-    actions = write(at("actions"), chains.every_action())
-    schedule = write(at("schedule"), chains.SCHEDULE)
-    module = write(at("module"), wasm.lively())
-    priced, genesis = example("config", "generated.json"), example("contract", "genesis")
-    four = [example("four_shards", part) for part in ("genesis", "blocks")]
-    rows = [
-        ("run", "near_serial", ["run", priced, genesis, example("contract", "blocks")]),
-        ("run delayed", "near_serial", ["run", config, genesis, blocks]),
-        ("run four shards", "near_serial", ["run", "free", *four]),
-        ("check", "near_serial", ["check", config, genesis, blocks, schedule]),
-        ("gen", "near_serial", ["gen", "7", "3", "8"]),
-        ("run every action", "near_serial", ["run", config, people, actions]),
-        ("run refused", "near_serial", ["run", priced, blocks, blocks]),
-        ("no command", "near_serial", ["walk", "free"]),
-        ("replay", "near_replay", ["replay", priced, genesis, example("contract", "blocks")]),
-        ("replay delayed", "near_replay", ["replay", config, genesis, blocks]),
-        ("replay four shards", "near_replay", ["replay", "free", *four]),
-        ("replay every action", "near_replay", ["replay", config, people, actions]),
-        ("replay gen", "near_replay", ["gen", "7", "3", "8"]),
-        ("genesis", "near_files", ["genesis", priced, example("contract", "genesis.json")]),
-        ("blocks", "near_files", ["blocks", example("four_shards", "blocks.json")]),
-        ("genesis refused", "near_files", ["genesis", priced, example("contract", "blocks.json")]),
-        ("show genesis", "near_files", ["show", "genesis", priced, genesis]),
-        ("show blocks", "near_files", ["show", "blocks", blocks]),
-        ("show report", "near_files", ["show", "report", example("contract", "report")]),
-        ("explain", "near_files", ["explain", "3", "4", "0", "182", "100"]),
-        ("module check", "near_module", ["check", priced, module]),
-        ("module run", "near_module", ["run", priced, module, "run", "100000"]),
-        ("module help", "near_module", ["help"]),
-    ]
+    config = write(at("config"), chains.busy_config())
+    rows = [*chain_cases(at, config, people), *file_cases(at)]
     if "near_serial" in programs:
         rows += made_cases(folder, programs["near_serial"])
     return [Case(name, program, [programs[program], *words]) for name, program, words in rows if program in programs]
@@ -252,6 +295,7 @@ def long_cases(folder, programs):
     rows = [
         ("run long", "near_serial", ["run", *chain]),
         ("replay long", "near_replay", ["replay", *chain]),
+        ("archive long", "near_audit", ["gather", *chain]),
         ("blocks long", "near_files", ["blocks", text]),
         ("show blocks long", "near_files", ["show", "blocks", blocks]),
         ("show report long", "near_files", ["show", "report", report]),

@@ -224,8 +224,9 @@ def inputs(case, right, limit, folder):
 def is_too_long(ran):
     """The answer of kind 0, or that of near_files in words, or of a module: the file is too long."""
     status, kind = (ran.err.split() + [b"", b""])[:2]
-    refused = not ran.out and str(ran.status).encode() == status and ran.status in (2, 3, 4, 8, 10, 13) and kind == b"0"
-    return refused or ran.status == 20 and (b"is longer than" in ran.err or ran.out.startswith(b"long"))
+    known = ran.status in (2, 3, 4, 8, 10, 12, 13) and str(ran.status).encode() == status
+    refused = known and kind == b"0" and not ran.out
+    return refused or ran.status == shared.FAULTY and (b"is longer than" in ran.err or ran.out.startswith(b"long"))
 
 
 def really(case, limit, folder):

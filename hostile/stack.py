@@ -50,6 +50,9 @@ def texts(at):
             config = at(f"config-{depth}-{len(opening)}", with_member(chains.busy_config(), member))
             module = at("module", wasm.lively())
             yield f"configuration, {what}", "near_module", ["check", config, module], min(status, 2)
+            chain = [config, *(chains.example("one_transfer", part) for part in ("genesis", "blocks"))]
+            for program, verb in (("near_serial", "run"), ("near_replay", "replay"), ("near_audit", "gather")):
+                yield f"configuration, {what}", program, [verb, *chain], min(status, 2)
     member = b'"wide":[' + b"[]," * 300_000 + b"1]"
     wide = at("wide", with_member(chains.bytes_of("one_transfer", "genesis.json"), member))
     yield "genesis text, 300,000 lists", "near_files", ["genesis", "free", wide], 0
@@ -81,6 +84,7 @@ def module_runs(at):
         file = at(f"module-{place}", data)
         yield f"module, {name}", "near_module", ["check", config, file], checked
         yield f"module, {name}, run", "near_module", ["run", config, file, "run", "10000000"], ran
+        yield f"module, {name}, list", "near_module", ["list", file], checked
 
 
 def chain_runs(at):
@@ -94,27 +98,37 @@ def chain_runs(at):
         genesis = at(f"genesis-{place}", chains.people(data))
         yield f"contract, {name}", "near_serial", ["run", config, genesis, blocks], 0
         yield f"contract, {name}", "near_replay", ["replay", config, genesis, blocks], 0
+        yield f"contract, {name}", "near_audit", ["gather", config, genesis, blocks], 0
 
 
 def key_runs(at, count, serial):
-    """A genesis whose data's keys nest in one another, blocks that change it, and a half of its state as a part."""
+    """A genesis whose data's keys nest in one another, blocks that change it, also with other boundaries from the third
+    on, a half of its state as a part, and its first chunk gathered."""
     data = [(b"k" * length, b"v") for length in range(1, count + 1)]
     genesis = at("nested", chains.genesis([b"mm"], {b"alice": (10**20, None, [(chains.KEY, chains.FOR_ALL)], data)}))
     moves = [chains.transaction(turn, b"zoe.alice", [b"\0", b"\3" + chains.u128(10**9)]) for turn in (1, 2)]
-    blocks = at("nested-blocks", chains.blocks([[moves, []], [[], []], [[], []]]))
+    rows = [[moves, []], [[], []], [[], []]]
+    chain = ["free", genesis, at("nested-blocks", chains.blocks(rows))]
+    changing = ["free", genesis, at("nested-changing", chains.blocks(rows, prices=[1] * 3, change=(3, [b"aa"])))]
     schedule = at("nested-schedule", b"open 0\nseal 0\nrest\n")
+    one, half = ["1", "0"], ["1", "0", "2", "1"]
     name = f"{count} keys in one another"
-    yield name, "near_serial", ["run", "free", genesis, blocks], 0
-    yield name, "near_serial", ["check", "free", genesis, blocks, schedule], 0
-    yield name, "near_replay", ["replay", "free", genesis, blocks], 0
+    yield name, "near_serial", ["check", *chain, schedule], 0
+    for what, words in ((name, chain), (f"{name}, boundaries change", changing)):
+        yield what, "near_serial", ["run", *words], 0
+        yield what, "near_replay", ["replay", *words], 0
+        yield what, "near_audit", ["gather", *words], 0
     yield name, "near_files", ["show", "genesis", "free", genesis], 0
-    yield name, "near_serial", ["part", "free", genesis, blocks, "1", "0", "2", "1"], 0
+    yield name, "near_serial", ["part", *chain, *half], 0
+    yield name, "near_serial", ["gather", *chain, *one], 0
     if serial:
-        ran = [shared.limited([serial, *words], {}).out for words in (
-            ["run", "free", genesis, blocks], ["part", "free", genesis, blocks, "1", "0", "2", "1"])]
-        part, root = at("nested-part", ran[1]), ran[0].split(b" ", 4)[3].decode()
-        yield name, "near_serial", ["checkpart", root, part], 0
+        made = [shared.limited([serial, *words], {}).out for words in (
+            ["run", *chain], ["part", *chain, *half], ["gather", *chain, *one])]
+        part, gathered, root = at("nested-part", made[1]), at("nested-gathered", made[2]), made[0].split(b" ", 4)[3]
+        yield name, "near_serial", ["checkpart", root.decode(), part], 0
+        yield name, "near_serial", ["recheck", "free", gathered], 0
         yield name, "near_files", ["show", "part", part], 0
+        yield name, "near_files", ["show", "gathered", gathered], 0
 
 
 def other_runs(at):
@@ -125,6 +139,7 @@ def other_runs(at):
     blocks = at("many", chains.blocks([[many], [[]]]))
     yield "30,000 actions in a chunk", "near_serial", ["run", "free", example[0], blocks], 0
     yield "30,000 actions in a chunk", "near_replay", ["replay", "free", example[0], blocks], 0
+    yield "30,000 actions in a chunk", "near_audit", ["gather", "free", example[0], blocks], 0
     yield "16 shards", "near_serial", ["gen", "7", "16", "20"], 0
     yield "16 shards", "near_replay", ["gen", "7", "16", "20"], 0
 

@@ -5,8 +5,8 @@ usage: hostile/threads.py [--programs FOLDER] [--only WAY] [--runs N] [--busy N]
                           [--limit SECONDS]
 
 Build the programs first. Chains that numbers generate, with 2 to 16 shards, and chains of contracts with promises,
-delayed receipts and chunks that are missing, are run in each of these ways, N times in all a way (1,000), while some
-processes (4) keep the processors busy:
+delayed receipts, chunks that are missing and boundaries that change, are run in each of these ways, N times in all a
+way (1,000), while some processes (4) keep the processors busy:
 
   one processor, two processors, all processors
   allocations pause     by faults.c each so many-th allocation sleeps, so that a thread stands still at any place
@@ -58,6 +58,7 @@ def words_of(folder):
         [config, genesis, write("busy", chains.busy_blocks())],
         [config, people, write("every", chains.every_action())],
         ["free", four, write("four-blocks", chains.bytes_of("four_shards", "blocks"))],
+        [config, people, write("changing", chains.resharded())],
     ]
     return rows + [[["run", *some], ["replay", *some]] for some in files]
 
