@@ -111,32 +111,31 @@ def people(code):
 
 
 def acting():
-    """The transactions of two chunks, with each action but staking, over the genesis of `people`."""
+    """Transactions with each action but staking and the deletion of an account, over the genesis of `people`."""
     made = [b"\0", b"\3" + u128(10**9), b"\5" + KEY + u64(0) + FOR_ALL, b"\1" + counted(example_code())]
     for_ask = b"\5" + b"\0" + b"\3" * 32 + u64(1) + for_calls(5, b"desk", [b"ask"])
-    first = [
+    return [
         transaction(1, b"desk", [call(b"ask", b"hello"), call(b"put", b"again", 5_000, 7)]),
         transaction(2, b"new.alice", made),
         transaction(3, b"ab" * 32, [b"\3" + u128(5)]),
         transaction(4, b"alice", [for_ask, b"\6" + LONG_KEY]),
         transaction(5, b"nobody", [b"\3" + u128(1)]),
     ]
-    last = [transaction(6, b"registrar", [b"\7" + counted(b"alice")]), transaction(6, b"vault", [call(b"put")])]
-    return first, last
 
 
 def every_action():
-    first, last = acting()
-    rows = [[first, []], [[], None], [last, []], [None, []], [[], []], [[], []]]
+    """Transactions with each action but staking, over the genesis of `people`."""
+    last = [transaction(6, b"registrar", [b"\7" + counted(b"alice")]), transaction(6, b"vault", [call(b"put")])]
+    rows = [[acting(), []], [[], None], [last, []], [None, []], [[], []], [[], []]]
     return blocks(rows, prices=[100, 100, 50, 120, 100, 0])
 
 
 def resharded():
-    """The same in two shards and then in three, between which lists are carried, and delayed and postponed receipts
-    move; under `busy_config` there are some at the change."""
-    first, last = acting()
-    rows = [[first, []], [[], []], [last, [], []], [[], None, []], [[], [], []], [[], [], []]]
-    return blocks(rows, prices=[100, 100, 50, 120, 100, 0], change=(3, [b"c", b"p"]))
+    """Transactions in two shards that become three, over the genesis of `people`. Under `busy_config` lists are carried
+    over the change, delayed receipts move to other shards, and behind it receipts wait for data."""
+    calls = [transaction(turn, b"desk", [call(b"ask", b"text %d" % turn)]) for turn in (6, 7, 8)]
+    rows = [[acting(), []], [calls, []], [[], []], [[], [], []], [[], None, []], [[], [], []], [[], [], []]]
+    return blocks(rows, prices=[100, 100, 50, 120, 100, 0, 100], change=(4, [b"cc", b"pp"]))
 
 
 def busy_config(**changes):
