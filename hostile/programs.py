@@ -199,7 +199,7 @@ def made_cases(folder, program):
         ("joinparts", "near_serial", ["joinparts", made.state, "3", at("part")]),
         ("gather", "near_serial", ["gather", *CHAIN, "4", "0"]),
         ("gather behind the change", "near_serial", ["gather", *RESHARDED, "2", "1"]),
-        ("gather nothing", "near_serial", ["gather", *CHAIN, "2", "1"]),
+        ("gather nothing", "near_serial", ["gather", *CHAIN, "99", "0"]),
         ("recheck", "near_serial", ["recheck", config, chunk]),
         ("recheck behind the change", "near_serial", ["recheck", "free", carried]),
         ("recheck refused", "near_serial", ["recheck", config, parts[1]]),
