@@ -30,11 +30,11 @@ fn magic_version_and_counts(rt: HostRuntime) {
     );
 }
 
-/// What stands before a body of 256 blocks, which has 770 bytes: a function that takes and leaves nothing.
+/// What stands before the blocks of a body with 256 of them: a function that takes and leaves nothing.
 const BEFORE_256: &[u8] =
     b"\x00asm\x01\x00\x00\x00\x01\x04\x01\x60\x00\x00\x03\x02\x01\x00\x0a\x85\x06\x01\x82\x06\x00";
 
-/// The same before a body of 257 blocks, which has 773 bytes.
+/// The same of a body with 257.
 const BEFORE_257: &[u8] =
     b"\x00asm\x01\x00\x00\x00\x01\x04\x01\x60\x00\x00\x03\x02\x01\x00\x0a\x88\x06\x01\x85\x06\x00";
 
@@ -55,8 +55,11 @@ fn nested(alloc: Global, before: &[u8], blocks: u32) -> Result<Vec<u8>, AllocErr
 fn blocks_stand_in_one_another_256_deep(rt: HostRuntime) -> Result<(), AllocError> {
     let alloc = rt.alloc();
     let deepest = nested(alloc, BEFORE_256, 256)?;
-    assert!(rt; fault_of(alloc, &deepest) == None);
+    assert_eq!(rt; fault_of(alloc, &deepest), None);
     let deeper = nested(alloc, BEFORE_257, 257)?;
-    assert!(rt; matches!(fault_of(alloc, &deeper), Some(DecodeFault::TooMany { .. })));
+    assert_eq!(rt;
+        fault_of(alloc, &deeper),
+        Some(DecodeFault::TooMany { at: 537 })
+    );
     Ok(())
 }
