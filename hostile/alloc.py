@@ -8,7 +8,8 @@ and once with all behind it. Where a command has more than --most allocations (2
 are tried each, and the others evenly. A run has to end with status 7, the line `7` on standard error and nothing on
 standard output; or as it ends undisturbed, with the same text. Then commands on long files run with --rooms sizes of
 address space (60), from what the program needs to start, to what it needs to end: the same two answers are right.
-The exit status is 0 where every run was right.
+With --most 0 the address spaces are tried alone, and with --rooms 0 the allocations. The exit status is 0 where every
+run was right.
 """
 import collections
 import multiprocessing
@@ -107,11 +108,12 @@ def main():
     found, wrong = shared.programs_in(arguments.programs), 0
     with tempfile.TemporaryDirectory() as folder:
         library = shared.faults_in(folder)
-        cases = [case for case in shared.cases(folder, found) if shared.fits(case, arguments.only)]
-        with multiprocessing.Pool(arguments.jobs, ready, (arguments.limit, library, folder)) as pool:
-            wrong += sum(sweep(pool, case, arguments.most) for case in cases)
+        chosen = lambda cases: [case for case in cases if shared.fits(case, arguments.only)]
+        if arguments.most:
+            with multiprocessing.Pool(arguments.jobs, ready, (arguments.limit, library, folder)) as pool:
+                wrong += sum(sweep(pool, case, arguments.most) for case in chosen(shared.cases(folder, found)))
         if arguments.rooms:
-            cases = [case for case in shared.long_cases(folder, found) if shared.fits(case, arguments.only)]
+            cases = chosen(shared.long_cases(folder, found))
             wrong += sum(rooms(case, found[case.program], arguments.rooms) for case in cases)
     print(f"{wrong} runs were wrong")
     sys.exit(1 if wrong else 0)
