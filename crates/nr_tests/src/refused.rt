@@ -60,6 +60,7 @@ fn failed_writes_leave_a_front(rt: HostRuntime) -> Result<(), Fail> {
     let shelf = shelf_of(rt.alloc(), worked::GENESIS, worked::TRANSFER, &[])?;
     let ended = end_failing(rt.alloc(), &["run", "free", "G", "B"], shelf, &[3])?;
     assert_eq!(rt; ended.status, Status::WriteFault);
+    assert!(rt; ended.asked(rt.alloc(), "Some([\"G\", \"B\"])")?);
     assert_eq!(rt; ended.sink.bytes(), b"chunk 1 0 fe170e308d".as_slice());
     Ok(())
 }
