@@ -172,7 +172,7 @@ const ASKED: [&str; 4] = [
 
 #[test]
 fn each_load_may_fail(rt: HostRuntime) -> Result<(), Fail> {
-    for (load, asked) in (1..).zip(ASKED) {
+    for (load, asked) in (1..5).zip(ASKED) {
         let ended = check_failing(rt.alloc(), load, 0)?;
         assert_eq!(rt; ended.status, Status::ReadFault);
         assert!(rt; ended.wrote_nothing(rt.alloc(), asked)?);
@@ -216,7 +216,7 @@ fn leaves(alloc: Global, write: u64, front: &[u8]) -> Result<bool, Fail> {
 fn each_write_may_fail(rt: HostRuntime) -> Result<(), Fail> {
     let text = with_steps(rt.alloc(), worked::FEES_REPORT)?;
     let mut front = Vec::new(rt.alloc());
-    for (write, piece) in (1..).zip(text.as_bytes().chunks(10)) {
+    for (piece, write) in text.as_bytes().chunks(10).zip(1..u64::MAX) {
         assert!(rt; leaves(rt.alloc(), write, &front)?, "{write}");
         front.extend_from_slice(piece)?;
     }
