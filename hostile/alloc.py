@@ -7,9 +7,9 @@ Build the programs first. faults.c is compiled and loaded before them; it makes 
 and once with all behind it. Where a command has more than --most allocations (20,000), the first half of that many
 are tried each, and the others evenly. A run has to end with status 7, the line `7` on standard error and nothing on
 standard output; or as it ends undisturbed, with the same text. Then commands on long files run with --rooms sizes of
-address space (60), from what the program needs to start, to what it needs to end: the same two answers are right.
-With --most 0 the address spaces are tried alone, and with --rooms 0 the allocations. The exit status is 0 where every
-run was right.
+address space (60), from what the program needs to start and 256 KiB for its stack, to what it needs to end: the same
+two answers are right. (With less, the stack can't grow, and the system ends the program.) With --most 0 the address
+spaces are tried alone, and with --rooms 0 the allocations. The exit status is 0 where every run was right.
 """
 import collections
 import multiprocessing
@@ -21,6 +21,7 @@ import time
 import programs as shared
 
 MIB = 1 << 20
+STACK = MIB // 4
 
 
 def ready(limit, library, folder):
@@ -77,7 +78,8 @@ def rooms(case, program, many):
     none = shared.Case("", case.program, [program, "walk"])
     starts = lambda size: in_room(none, size).status == shared.USAGE
     serves = lambda size: in_room(case, size)[:3] == right[:3]
-    least, most = least_that(starts, MIB // 4), least_that(serves, MIB // 4)
+    least = least_that(starts, MIB // 4) + STACK
+    most = max(least, least_that(serves, MIB // 4))
     ends = collections.Counter()
     for step in range(many):
         size = least + (most - least) * step // many
