@@ -7,8 +7,8 @@ Build the programs first. faults.c is compiled and loaded before them; it makes 
 and once with all behind it. Where a command has more than --most allocations (20,000), the first half of that many
 are tried each, and the others evenly. A run has to end with status 7, the line `7` on standard error and nothing on
 standard output; or as it ends undisturbed, with the same text. Then commands on long files run with --rooms sizes of
-address space (60), from what the program needs to start and 256 KiB for its stack, to what it needs to end: the same
-two answers are right. (With less, the stack can't grow, and the system ends the program.) With --most 0 the address
+address space (60), from what the program needs to start, to what it needs to end: the same two answers are right. They
+have 256 KiB of stack from the start, since the system ends a program whose stack can't grow. With --most 0 the address
 spaces are tried alone, and with --rooms 0 the allocations. The exit status is 0 where every run was right.
 """
 import collections
@@ -68,18 +68,15 @@ def sweep(pool, case, most):
     return ends["wrong"] + (not same)
 
 
-def in_room(case, size):
-    return shared.limited(case.words, {resource.RLIMIT_AS: size})
-
-
-def rooms(case, program, many):
+def rooms(case, program, many, library):
     """The command in rising address spaces; the count of wrong runs."""
+    grown = {"LD_PRELOAD": library, "FAULTS_STACK": str(STACK)}
+    in_room = lambda case, size: shared.limited(case.words, {resource.RLIMIT_AS: size}, environment=grown)
     right = in_room(case, resource.RLIM_INFINITY)
     none = shared.Case("", case.program, [program, "walk"])
     starts = lambda size: in_room(none, size).status == shared.USAGE
     serves = lambda size: in_room(case, size)[:3] == right[:3]
-    least = least_that(starts, MIB // 4) + STACK
-    most = max(least, least_that(serves, MIB // 4))
+    least, most = least_that(starts, MIB // 4), least_that(serves, MIB // 4)
     ends = collections.Counter()
     for step in range(many):
         size = least + (most - least) * step // many
@@ -116,7 +113,7 @@ def main():
                 wrong += sum(sweep(pool, case, arguments.most) for case in chosen(shared.cases(folder, found)))
         if arguments.rooms:
             cases = chosen(shared.long_cases(folder, found))
-            wrong += sum(rooms(case, found[case.program], arguments.rooms) for case in cases)
+            wrong += sum(rooms(case, found[case.program], arguments.rooms, library) for case in cases)
     print(f"{wrong} runs were wrong")
     sys.exit(1 if wrong else 0)
 

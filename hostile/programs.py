@@ -86,14 +86,15 @@ class Runner:
                    used.ru_utime + used.ru_stime, used.ru_maxrss)
 
 
-def limited(words, limits, user=None, seconds=60):
+def limited(words, limits, user=None, seconds=60, environment=None):
     """A run under limits of resources, as {resource.RLIMIT_STACK: 262144}, maybe by another user."""
     def begin():
         for what, most in limits.items():
             resource.setrlimit(what, (most, most))
 
     try:
-        done = subprocess.run(words, capture_output=True, preexec_fn=begin, user=user, timeout=seconds)
+        done = subprocess.run(words, capture_output=True, preexec_fn=begin, user=user, timeout=seconds,
+                              env={**os.environ, **(environment or {})})
     except subprocess.TimeoutExpired as late:
         return Ran(HUNG, late.stdout or b"", late.stderr or b"", 0, 0)
     return Ran(done.returncode, done.stdout, done.stderr, 0, 0)
