@@ -35,7 +35,8 @@ HOST = {
     "register_len": (1, 1), "write_register": (3, 0), "input": (1, 0), "account_balance": (1, 0),
     "sha256": (3, 0), "value_return": (2, 0), "storage_write": (5, 1), "storage_read": (3, 1),
     "storage_remove": (3, 1), "storage_has_key": (2, 1), "promise_batch_create": (2, 1), "promise_and": (2, 1),
-    "promise_batch_action_transfer": (2, 0), "used_gas": (0, 1), "block_index": (0, 1),
+    "promise_batch_then": (3, 1), "promise_batch_action_transfer": (2, 0), "used_gas": (0, 1), "block_index": (0, 1),
+    "read_register": (2, 0), "log_utf8": (2, 0),
 }
 
 
@@ -291,6 +292,17 @@ def read_without_gas(count):
     return called(module(read, ("storage_read",), pages=1, others=BIG_KEY), count, gas=2_000, data=DATA, least=100)
 
 
+def read_back(count):
+    """Calls of a loop that copies a register of 65,536 bytes into memory."""
+    code = consts(0, 65_536, 0) + call(0) + rounds(count, (consts(0, 0) + call(1)) * 4)
+    return called(module(code, ("write_register", "read_register"), pages=1), 4)
+
+
+def logged(count):
+    """Calls that each log as much as one may, in a hundred texts."""
+    return called(module(rounds(100, consts(160, 0) + call(0)), ("log_utf8",), pages=1), count, least=100)
+
+
 def undone(count):
     """Calls that write a thousand data and then trap."""
     return called(module(rounds(1_000, write_counted(8)) + UNREACHABLE, ("storage_write",), pages=1), count, least=20)
@@ -309,6 +321,12 @@ def promises(count, more=b"", imports=()):
 def with_transfer(count):
     """The same, each with a transfer of no tokens."""
     return promises(count, GET + b"\x01" + const64(64) + call(1), ("promise_batch_action_transfer",))
+
+
+def waiting(count):
+    """Calls that make 250 receipts for themselves, and for each another one that waits for its result."""
+    code = rounds(250, (const64(3) + const64(0) + call(0)) + (const64(3) + const64(0) + call(1)) + DROP)
+    return called(module(code, ("promise_batch_create", "promise_batch_then"), pages=1, others=CON), count, least=400)
 
 
 def joined(count):
@@ -391,7 +409,10 @@ ROWS = [
     Row("contract", "`storage_write`, 2,000 keys above it", deepest_key, 1, 20),
     Row("contract", "`storage_read`, 1,000,000 bytes, with too little gas", read_without_gas, 2, 100, "failure 0 17 0"),
     Row("contract", "a thousand writes that are undone", undone, 1, 20, "failure 0 15 1"),
+    Row("contract", "`read_register`, 65,536 bytes", read_back, 5, 500),
+    Row("contract", "`log_utf8`, a hundred texts of 160 bytes a call", logged, 1, 100),
     Row("contract", "500 receipts without an action", promises, 1, 20),
+    Row("contract", "250 receipts that wait for 250 others", waiting, 1, 20),
     Row("contract", "500 receipts with a transfer", with_transfer, 1, 20),
     Row("contract", "a joint promise of 128, joined again", joined, 1, 20),
 ]

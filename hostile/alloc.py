@@ -7,8 +7,9 @@ Build the programs first. faults.c is compiled and loaded before them; it makes 
 and once with all behind it. Where a command has more than --most allocations (20,000), the first half of that many
 are tried each, and the others evenly. A run has to end with status 7, the line `7` on standard error and nothing on
 standard output; or as it ends undisturbed, with the same text. Then commands on long files run with --rooms sizes of
-address space (60), from what the program needs to start, to what it needs to end: the same two answers are right.
-The exit status is 0 where every run was right.
+address space (60), from what the program needs to start, to what it needs to end: the same two answers are right. They
+have 256 KiB of stack from the start, since the system ends a program whose stack can't grow. With --most 0 the address
+spaces are tried alone, and with --rooms 0 the allocations. The exit status is 0 where every run was right.
 """
 import collections
 import multiprocessing
@@ -20,6 +21,7 @@ import time
 import programs as shared
 
 MIB = 1 << 20
+STACK = MIB // 4
 
 
 def ready(limit, library, folder):
@@ -66,12 +68,10 @@ def sweep(pool, case, most):
     return ends["wrong"] + (not same)
 
 
-def in_room(case, size):
-    return shared.limited(case.words, {resource.RLIMIT_AS: size})
-
-
-def rooms(case, program, many):
+def rooms(case, program, many, library):
     """The command in rising address spaces; the count of wrong runs."""
+    grown = {"LD_PRELOAD": library, "FAULTS_STACK": str(STACK)}
+    in_room = lambda case, size: shared.limited(case.words, {resource.RLIMIT_AS: size}, environment=grown)
     right = in_room(case, resource.RLIM_INFINITY)
     none = shared.Case("", case.program, [program, "walk"])
     starts = lambda size: in_room(none, size).status == shared.USAGE
@@ -107,12 +107,13 @@ def main():
     found, wrong = shared.programs_in(arguments.programs), 0
     with tempfile.TemporaryDirectory() as folder:
         library = shared.faults_in(folder)
-        cases = [case for case in shared.cases(folder, found) if shared.fits(case, arguments.only)]
-        with multiprocessing.Pool(arguments.jobs, ready, (arguments.limit, library, folder)) as pool:
-            wrong += sum(sweep(pool, case, arguments.most) for case in cases)
+        chosen = lambda cases: [case for case in cases if shared.fits(case, arguments.only)]
+        if arguments.most:
+            with multiprocessing.Pool(arguments.jobs, ready, (arguments.limit, library, folder)) as pool:
+                wrong += sum(sweep(pool, case, arguments.most) for case in chosen(shared.cases(folder, found)))
         if arguments.rooms:
-            cases = [case for case in shared.long_cases(folder, found) if shared.fits(case, arguments.only)]
-            wrong += sum(rooms(case, found[case.program], arguments.rooms) for case in cases)
+            cases = chosen(shared.long_cases(folder, found))
+            wrong += sum(rooms(case, found[case.program], arguments.rooms, library) for case in cases)
     print(f"{wrong} runs were wrong")
     sys.exit(1 if wrong else 0)
 

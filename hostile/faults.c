@@ -7,6 +7,7 @@
  * FAULTS_HOW    the error number of a call that fails; or 'short': it moves one byte; or 'pause': it sleeps
  *               FAULTS_PAUSE microseconds first and then does its work
  * FAULTS_PIECE  the most bytes that any read or write moves; 0 or absent: no bound
+ * FAULTS_STACK  how many bytes the stack grows by first, so that it has them where there is no room later
  * FAULTS_TOLD   a file of 8 bytes that is there: the count of calls so far stands in it
  *
  * Calls count from the moment when this file is loaded, so not those that load the program. Writes to standard error
@@ -42,6 +43,11 @@ static unsigned long number_of(const char *name) {
     return text ? strtoul(text, NULL, 10) : 0;
 }
 
+static __attribute__((noinline)) void grow_stack(unsigned long size) {
+    volatile char *room = __builtin_alloca(size);
+    while (size > 4096) room[size -= 4096] = 0;
+}
+
 __attribute__((constructor)) static void begin(void) {
     const char *name = getenv("FAULTS_TOLD"), *word = getenv("FAULTS_HOW");
     if (name) {
@@ -51,6 +57,7 @@ __attribute__((constructor)) static void begin(void) {
         syscall(SYS_close, file);
         told = place;
     }
+    grow_stack(number_of("FAULTS_STACK"));
     first = number_of("FAULTS_FROM");
     many = number_of("FAULTS_MANY");
     piece = number_of("FAULTS_PIECE");

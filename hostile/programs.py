@@ -86,14 +86,15 @@ class Runner:
                    used.ru_utime + used.ru_stime, used.ru_maxrss)
 
 
-def limited(words, limits, user=None, seconds=60):
+def limited(words, limits, user=None, seconds=60, environment=None):
     """A run under limits of resources, as {resource.RLIMIT_STACK: 262144}, maybe by another user."""
     def begin():
         for what, most in limits.items():
             resource.setrlimit(what, (most, most))
 
     try:
-        done = subprocess.run(words, capture_output=True, preexec_fn=begin, user=user, timeout=seconds)
+        done = subprocess.run(words, capture_output=True, preexec_fn=begin, user=user, timeout=seconds,
+                              env={**os.environ, **(environment or {})})
     except subprocess.TimeoutExpired as late:
         return Ran(HUNG, late.stdout or b"", late.stderr or b"", 0, 0)
     return Ran(done.returncode, done.stdout, done.stderr, 0, 0)
@@ -282,8 +283,32 @@ def cases(folder, programs):
     return [Case(name, program, [programs[program], *words]) for name, program, words in rows if program in programs]
 
 
+def wide_cases(at, program):
+    """The commands on a state with many data, and on what the program makes of it, as (name, program, words)."""
+    data = [(b"key %06d" % number, b"v" * 64) for number in range(1000)]
+    alice = {b"alice": (10**20, None, [(chains.KEY, chains.FOR_ALL)], data)}
+    moved = chains.transaction(1, b"alice", [b"\3" + chains.u128(1)])
+    chain = ["free", write(at("wide"), chains.genesis([], alice)), write(at("wide-blocks"), chains.blocks([[[moved]]]))]
+    chunk, whole = ["1", "0"], ["1", "0", "1", "0"]
+
+    def text(verb, *words):
+        return subprocess.run([program, verb, *chain, *words], check=True, stdout=subprocess.PIPE).stdout
+
+    root = text("run").split()[3].decode()
+    part, gathered = write(at("wide-part0"), text("part", *whole)), write(at("wide-gathered"), text("gather", *chunk))
+    return [
+        ("part long", "near_serial", ["part", *chain, *whole]),
+        ("checkpart long", "near_serial", ["checkpart", root, part]),
+        ("joinparts long", "near_serial", ["joinparts", root, "1", at("wide-part")]),
+        ("gather long", "near_serial", ["gather", *chain, *chunk]),
+        ("recheck long", "near_serial", ["recheck", "free", gathered]),
+        ("show part long", "near_files", ["show", "part", part]),
+        ("show gathered long", "near_files", ["show", "gathered", gathered]),
+    ]
+
+
 def long_cases(folder, programs):
-    """Commands on long files, with texts that are longer than a pipe holds."""
+    """Commands on long files, most of them with texts that are longer than a pipe holds."""
     at = lambda name: os.path.join(folder, name)
     heights = range(1, 1001)
     blocks = write(at("long"), chains.blocks([[[], []]] * len(heights)))
@@ -294,6 +319,8 @@ def long_cases(folder, programs):
     chain = ["free", example("contract", "genesis"), blocks]
     rows = [
         ("run long", "near_serial", ["run", *chain]),
+        ("check long", "near_serial", ["check", *chain, write(at("rest"), b"rest\n")]),
+        ("roots long", "near_serial", ["roots", *chain]),
         ("replay long", "near_replay", ["replay", *chain]),
         ("archive long", "near_audit", ["gather", *chain]),
         ("blocks long", "near_files", ["blocks", text]),
@@ -301,6 +328,8 @@ def long_cases(folder, programs):
         ("show report long", "near_files", ["show", "report", report]),
         ("module long", "near_module", ["check", "free", module]),
     ]
+    if "near_serial" in programs:
+        rows += wide_cases(at, programs["near_serial"])
     return [Case(name, program, [programs[program], *words]) for name, program, words in rows if program in programs]
 
 

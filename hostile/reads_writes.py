@@ -5,8 +5,8 @@ files, pipes and devices that really are so.
 usage: hostile/reads_writes.py [--programs FOLDER] [--only WORD] [--most N] [--jobs N] [--limit SECONDS]
 
 Build the programs first. faults.c is compiled and loaded before them; each read and write moves at most 100 bytes, so
-that there are many. Where a command makes more than --most calls of a
-kind (1,000), the first half of that many are tried each, and the others evenly. What is right:
+that there are many. Where a command makes more than --most calls of a kind (1,000), the first half of that many are
+tried each, and the others evenly; with --most 0 none, but only what really is so. What is right:
 
   a read or an opening fails        status 5, the line `5`, nothing on standard output
   a write fails                     status 6, the line `6`, and on standard output a front of the text, not all of it
@@ -251,8 +251,9 @@ def main():
         library = shared.faults_in(folder)
         cases = shared.cases(folder, found) + shared.long_cases(folder, found)
         cases = [case for case in cases if shared.fits(case, arguments.only)]
-        with multiprocessing.Pool(arguments.jobs, ready, (arguments.limit, library, folder)) as pool:
-            wrong += sum(sweep(pool, case, arguments.most) for case in cases)
+        if arguments.most:
+            with multiprocessing.Pool(arguments.jobs, ready, (arguments.limit, library, folder)) as pool:
+                wrong += sum(sweep(pool, case, arguments.most) for case in cases)
         wrong += sum(really(case, arguments.limit, folder) for case in cases)
     print(f"{wrong} runs were wrong")
     sys.exit(1 if wrong else 0)

@@ -1,10 +1,9 @@
 //! Schedules that drive a run: what they write, and which are refused.
 
 use crate::config_text::{FEES, config_text};
-use crate::setting::{Ended, ROOM, end_of, shelf_of_all, shelf_with, text_of, words_of};
+use crate::setting::{Ended, end_failing, end_of, shelf_of_all, shelf_with, text_of};
 use crate::{resharded, schedules, sharded, worked};
-use nr_bytes::MemorySink;
-use nr_top::{Status, serial};
+use nr_top::Status;
 use std::alloc::Global;
 use std::test::Fail;
 
@@ -155,34 +154,74 @@ fn schedules_have_a_greatest_length(rt: HostRuntime) -> Result<(), Fail> {
     Ok(())
 }
 
-/// What a check under a configuration's file ends with, where a load or a write fails.
-fn check_failing(alloc: Global, load: u64, write: u64) -> Result<(Status, MemorySink), Fail> {
+/// What a check by `rest` under a configuration's file ends with, where a load or a write fails.
+fn check_failing(alloc: Global, load: u64, write: u64) -> Result<Ended, Fail> {
     let config = config_text(alloc, &[&FEES])?;
-    let words = words_of(alloc, &["check", "C", "G", "B", "S"])?;
     let more: [(&str, &[u8]); 2] = [("C", config.as_bytes()), ("S", b"rest\n")];
-    let mut shelf = shelf_of_all(alloc, worked::GENESIS, worked::TRANSFER, &more, &[load])?;
-    let fail = Vec::from_slice(alloc, &[write])?;
-    let mut sink = MemorySink::new(alloc, 10, fail, ROOM)?;
-    let status = serial(alloc, &words, &mut shelf, &mut sink);
-    Ok((status, sink))
+    let shelf = shelf_of_all(alloc, worked::GENESIS, worked::TRANSFER, &more, &[load])?;
+    end_failing(alloc, &["check", "C", "G", "B", "S"], shelf, &[write])
 }
+
+/// What the shelf tells where each load failed, up to the one of the schedule.
+const ASKED: [&str; 4] = [
+    "Some([\"C\"])",
+    "Some([\"C\", \"G\"])",
+    "Some([\"C\", \"G\", \"B\"])",
+    "Some([\"C\", \"G\", \"B\", \"S\"])",
+];
 
 #[test]
 fn each_load_may_fail(rt: HostRuntime) -> Result<(), Fail> {
-    for load in 1..5 {
-        let (status, sink) = check_failing(rt.alloc(), load, 0)?;
-        assert_eq!(rt; status, Status::ReadFault);
-        assert!(rt; sink.bytes().is_empty());
+    for (load, asked) in (1..5).zip(ASKED) {
+        let ended = check_failing(rt.alloc(), load, 0)?;
+        assert_eq!(rt; ended.status, Status::ReadFault);
+        assert!(rt; ended.wrote_nothing(rt.alloc(), asked)?);
     }
     Ok(())
 }
 
+/// What a check of one transfer by `rest` writes of its steps before each line of the run's report.
+const STEPS: [&str; 10] = [
+    "ok\nok\n",
+    "",
+    "",
+    "ok\nok\nok\nok\n",
+    "",
+    "ok\n",
+    "",
+    "",
+    "",
+    "",
+];
+
+/// A report of ten lines with these steps between.
+fn with_steps(alloc: Global, report: &str) -> Result<String, Fail> {
+    let mut text = String::new(alloc);
+    for (line, steps) in report.lines().zip(STEPS) {
+        text.push_str(steps)?;
+        text.push_str(line)?;
+        text.push_str("\n")?;
+    }
+    Ok(text)
+}
+
+/// Whether a check whose write of this number fails leaves what was written before, having asked for all files.
+fn leaves(alloc: Global, write: u64, front: &[u8]) -> Result<bool, Fail> {
+    let ended = check_failing(alloc, 0, write)?;
+    let fault = ended.status == Status::WriteFault;
+    Ok(fault && ended.sink.bytes() == front && ended.asked(alloc, ASKED[3])?)
+}
+
 #[test]
 fn each_write_may_fail(rt: HostRuntime) -> Result<(), Fail> {
-    for (write, front) in [(1, ""), (2, "ok\nok\nchun"), (3, "ok\nok\nchunk 1 0 c870")] {
-        let (status, sink) = check_failing(rt.alloc(), 0, write)?;
-        assert_eq!(rt; status, Status::WriteFault);
-        assert_eq!(rt; sink.bytes(), front.as_bytes());
+    let text = with_steps(rt.alloc(), worked::FEES_REPORT)?;
+    let mut front = Vec::new(rt.alloc());
+    for (piece, write) in text.as_bytes().chunks(10).zip(1..u64::MAX) {
+        assert!(rt; leaves(rt.alloc(), write, &front)?, "{write}");
+        front.extend_from_slice(piece)?;
     }
+    let ended = check_failing(rt.alloc(), 0, 0)?;
+    assert_eq!(rt; ended.status, Status::Done);
+    assert_eq!(rt; ended.sink.bytes(), text.as_bytes());
     Ok(())
 }

@@ -12,6 +12,8 @@ mod config_text;
 #[cfg(test)]
 mod contracts;
 #[cfg(test)]
+mod cutting;
+#[cfg(test)]
 mod ends;
 #[cfg(test)]
 mod faulty;

@@ -1,9 +1,8 @@
 //! Runs that end with a refusal or a fault.
 
-use crate::setting::{Ended, ROOM, end_of, shelf_of, words_of};
+use crate::setting::{Ended, end_failing, end_of, shelf_of};
 use crate::worked;
-use nr_bytes::MemorySink;
-use nr_top::{Status, serial};
+use nr_top::Status;
 use std::alloc::Global;
 use std::test::Fail;
 
@@ -47,25 +46,21 @@ fn words_of_no_command_are_usage(rt: HostRuntime) -> Result<(), Fail> {
 
 #[test]
 fn failed_loads_are_read_faults(rt: HostRuntime) -> Result<(), Fail> {
-    for call in [1, 2] {
-        let words = words_of(rt.alloc(), &["run", "free", "G", "B"])?;
-        let mut shelf = shelf_of(rt.alloc(), worked::GENESIS, worked::TRANSFER, &[call])?;
-        let mut sink = MemorySink::new(rt.alloc(), 10, Vec::new(rt.alloc()), ROOM)?;
-        let status = serial(rt.alloc(), &words, &mut shelf, &mut sink);
-        assert_eq!(rt; status, Status::ReadFault);
-        assert_eq!(rt; sink.bytes(), [].as_slice());
+    for (call, asked) in [(1, "Some([\"G\"])"), (2, "Some([\"G\", \"B\"])")] {
+        let shelf = shelf_of(rt.alloc(), worked::GENESIS, worked::TRANSFER, &[call])?;
+        let ended = end_of(rt.alloc(), &["run", "free", "G", "B"], shelf)?;
+        assert_eq!(rt; ended.status, Status::ReadFault);
+        assert!(rt; ended.wrote_nothing(rt.alloc(), asked)?);
     }
     Ok(())
 }
 
 #[test]
 fn failed_writes_leave_a_front(rt: HostRuntime) -> Result<(), Fail> {
-    let words = words_of(rt.alloc(), &["run", "free", "G", "B"])?;
-    let mut shelf = shelf_of(rt.alloc(), worked::GENESIS, worked::TRANSFER, &[])?;
-    let fail = Vec::from_slice(rt.alloc(), &[3])?;
-    let mut sink = MemorySink::new(rt.alloc(), 10, fail, ROOM)?;
-    let status = serial(rt.alloc(), &words, &mut shelf, &mut sink);
-    assert_eq!(rt; status, Status::WriteFault);
-    assert_eq!(rt; sink.bytes(), b"chunk 1 0 fe170e308d".as_slice());
+    let shelf = shelf_of(rt.alloc(), worked::GENESIS, worked::TRANSFER, &[])?;
+    let ended = end_failing(rt.alloc(), &["run", "free", "G", "B"], shelf, &[3])?;
+    assert_eq!(rt; ended.status, Status::WriteFault);
+    assert!(rt; ended.asked(rt.alloc(), "Some([\"G\", \"B\"])")?);
+    assert_eq!(rt; ended.sink.bytes(), b"chunk 1 0 fe170e308d".as_slice());
     Ok(())
 }

@@ -6,7 +6,7 @@ use std::alloc::Global;
 use std::test::Fail;
 
 /// The room of a sink.
-pub(crate) const ROOM: usize = 67_108_864;
+const ROOM: usize = 67_108_864;
 
 /// How a run ended: its status, the names that it asked for, and what the sink took.
 #[derive(Drop)]
@@ -33,7 +33,7 @@ impl Ended {
 }
 
 /// Words as texts of their own.
-pub(crate) fn words_of(alloc: Global, words: &[&str]) -> Result<Vec<String>, Fail> {
+fn words_of(alloc: Global, words: &[&str]) -> Result<Vec<String>, Fail> {
     let mut texts = Vec::new(alloc);
     for word in words {
         texts.push(String::from_str(alloc, word)?)?;
@@ -103,17 +103,27 @@ pub(crate) fn shelf_with(
     shelf_of_all(alloc, genesis, blocks, &[(name, bytes)], &[])
 }
 
-/// What words over a shelf end with.
-pub(crate) fn end_of(alloc: Global, words: &[&str], shelf: MemoryShelf) -> Result<Ended, Fail> {
+/// What words over a shelf end with, where some writes of ten bytes fail.
+pub(crate) fn end_failing(
+    alloc: Global,
+    words: &[&str],
+    shelf: MemoryShelf,
+    fail: &[u64],
+) -> Result<Ended, Fail> {
     let words = words_of(alloc, words)?;
     let mut shelf = shelf;
-    let mut sink = MemorySink::new(alloc, 10, Vec::new(alloc), ROOM)?;
+    let mut sink = MemorySink::new(alloc, 10, Vec::from_slice(alloc, fail)?, ROOM)?;
     let status = serial(alloc, &words, &mut shelf, &mut sink);
     Ok(Ended {
         status,
         sink,
         shelf,
     })
+}
+
+/// What words over a shelf end with.
+pub(crate) fn end_of(alloc: Global, words: &[&str], shelf: MemoryShelf) -> Result<Ended, Fail> {
+    end_failing(alloc, words, shelf, &[])
 }
 
 /// What `run free G B` ends with, for the bytes of both files.
