@@ -15,7 +15,9 @@ same_seats : {P : Type 0} (xs ys : List (PortView P)) → length xs ≡ length y
 same_seats [] [] long same = refl
 same_seats [] (y ∷ ys) long same = absurd (omega arith)
 same_seats (x ∷ xs) [] long same = absurd (omega arith)
-same_seats (x ∷ xs) (y ∷ ys) long same = λ i. same 0 x y refl refl i ∷ same_seats xs ys (omega arith) (λ s a b. same (suc s) a b) i i
+same_seats (x ∷ xs) (y ∷ ys) long same =
+    ap (λ k. k ∷ map (λ z. z.seat) xs) (same 0 x y refl refl)
+    ∙ ap (λ seats. y.seat ∷ seats) (same_seats xs ys (omega arith) (λ s a b. same (suc s) a b))
 
 module _ {P W K L R : Type 0} (rules : P → Rules W K L R) (e : ExchangeView (Serial P W K L R)) where
   pub returned : (taken ports : List (PortView (Serial P W K L R))) → AreMade e (rules e.run.0).shards (rules e.run.0).shards taken → HaveDoneAll rules e ports
