@@ -1,10 +1,8 @@
 use mir.Syntax.{named}
 use denote.Param.{param}
 use denote.Param.Send.{sendable, param_send, arg_send, shr_send}
-use denote.Param.SendFields.{as_row_send, declared_send}
-use denote.Struct.Tuple.{type_at}
 use Rattle.std.proofs.Crossing.{crosses, Box-send}
-use Rattle.nr_workers.proofs.Crossing.{run_sync, worker_send}
+use Rattle.nr_workers.proofs.Crossing.{closure_send, run_sync, worker_send}
 use Rattle.nr_workers.proofs.crew.start.Goals as goal
 
 pub spawn_with-requires-send-F : goal.spawn_with-requires-send-F
@@ -13,5 +11,4 @@ spawn_with-requires-send-F g c κs within =
     let t = c.type_bounds in
     let worker = worker_send (param 2 r.P) (param 4 r.P-World) (param 5 r.P-Working) (param 6 r.P-Parcel) (param 7 r.P-Report) g.P.Phases t.send-P-World t.send-P-Working t.send-P-Parcel t.send-P-Report in
     let run = run_sync (record { mir = named 8; lft = κs.1.1.1.1.1.1.1.1.0 }) (param 1 r.R) (param 2 r.P) (param 3 r.G) (param 4 r.P-World) (param 5 r.P-Working) (param 6 r.P-Parcel) (param 7 r.P-Report) g.P.Phases t.sync-R t.sync-P t.sync-G t.send-P-Parcel in
-    param_send 2 _ (arg_send _ _ _ (declared_send (type_at _ _)
-    (search (crosses, sendable) depth 40, (search (crosses, sendable) depth 40, (as_row_send _ (Box-send _ worker), (as_row_send _ (shr_send _ _ _ run), tt))))))
+    param_send 2 _ (arg_send _ _ _ (closure_send _ _ _ _ _ (search (crosses, sendable) depth 40) (search (crosses, sendable) depth 40) (Box-send _ worker) (shr_send _ _ _ run)))
