@@ -12,6 +12,7 @@ pub mod Rooms
 pub mod Puts
 pub mod Seating
 pub mod Makes
+pub mod Parting
 pub mod Claimed
 pub mod Plans
 pub mod Ties

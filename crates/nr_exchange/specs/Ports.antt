@@ -1,5 +1,5 @@
 -- What clauses say of an exchange and its ports. This project's own.
-use Rattle.std.specs.Prelude.{◌≡◌, ℕ, ◌+◌, ◌%◌, ◌^◌, ◌<◌, ◌≤◌, Bool, true, List, Option, Some, None, Result, Ok, Err, length, nat_le, slice_get}
+use Rattle.std.specs.Prelude.{◌≡◌, ℕ, ◌+◌, ◌%◌, ◌^◌, ◌<◌, ◌≤◌, Bool, true, List, Option, Some, None, Result, Ok, Err, length, nat_le, slice_get, slice_index}
 use Rattle.nr_exchange.specs.declared.note.Link.{Link}
 use Rattle.nr_exchange.specs.declared.note.Room.{Room}
 use Rattle.nr_exchange.specs.declared.note.Note.{Note}
@@ -12,10 +12,15 @@ use Rattle.nr_exchange.specs.Notes.{fresh, link, room, looked, claims, gave_back
 use Rattle.nr_exchange.specs.Steps.{Tells, sent}
 use Rattle.nr_exchange.specs.Views.{ExchangeView, PortView}
 
--- the port was made with the exchange, whose run has this plan
+-- the seat of the port that was made for a shard
+abbrev pub seat_of : {P : Type 0} → ExchangeView P → ℕ → ℕ
+seat_of e s = slice_index e.seats s
+
+-- the port is the one that was made with the exchange for its shard. The run has this plan
 pub record IsPortOf {P L : Type 0} (plan : P → Plan L) (e : ExchangeView P) (p : PortView P) : Type 0 where
   pub name : p.name ≡ e.name
   pub run : p.note.run ≡ e.run
+  pub seat : p.seat ≡ seat_of e p.note.shard
   pub inside : p.note.shard < (plan e.run).shards
   pub linked : length p.note.links ≡ (plan e.run).shards
   pub roomed : length p.note.rooms ≡ (plan e.run).shards
@@ -23,7 +28,7 @@ pub record IsPortOf {P L : Type 0} (plan : P → Plan L) (e : ExchangeView P) (p
 module _ {P : Type 0} where
   -- a port that has done nothing
   abbrev pub start_port : ExchangeView P → ℕ → ℕ → ℕ → PortView P
-  start_port e shards i made = record { name = e.name; note = fresh e.run shards i made }
+  start_port e shards i made = record { name = e.name; seat = seat_of e i; note = fresh e.run shards i made }
 
   -- the first k ports, of which port 0 notes that there are k
   pub record AreMade (e : ExchangeView P) (shards k : ℕ) (ports : List (PortView P)) : Type 0 where

@@ -1,11 +1,13 @@
 -- What a port keeps beside its seat. This project's own.
-use Rattle.std.specs.Prelude.{◌≡◌, ℕ, ◌≤◌, Bool, List, Option, map, length, slice_index}
+use Rattle.std.specs.Prelude.{◌≡◌, ℕ, ◌<◌, ◌≤◌, Bool, List, Option, Some, map, length, slice_get, slice_index}
+use Rattle.atomic_table.specs.Seated.{TableId}
 use Rattle.atomic_table.specs.Table.{Me}
 use Rattle.nr_exchange.specs.declared.note.Note.{Note}
 use Rattle.nr_exchange.specs.Plan.{Plan, chunks_to}
-use Rattle.nr_exchange.specs.Notes.{link}
+use Rattle.nr_exchange.specs.Notes.{fresh, link}
 use Rattle.nr_exchange.specs.Places.{spaces}
 use Rattle.nr_exchange.specs.Steps.{sent}
+use Rattle.nr_exchange.specs.Views.{PortView}
 
 module _ {P L : Type 0} (p : Plan L) where
   -- the places that are out with a port are those for its next list, to the first destinations
@@ -25,3 +27,15 @@ module _ {P L : Type 0} (p : Plan L) where
     pub published_are : published ≡ sent p me.0
     pub has_taken : HasTaken me.0 taken
     pub has_out : HasOut me
+
+module _ {P : Type 0} (table : TableId) (key : P) (shards : ℕ) where
+  -- port i, which has done nothing
+  pub record IsStart (i made : ℕ) (p : PortView P) : Type 0 where
+    pub name_is : p.name ≡ table
+    pub note_is : p.note ≡ fresh key shards i made
+
+  -- the first k ports, each on a seat of its own
+  pub record AreSplit (k : ℕ) (ports : List (PortView P)) : Type 0 where
+    pub all : length ports ≡ k
+    pub front : (p : PortView P) × (slice_get ports 0 ≡ Some p) × IsStart 0 k p
+    pub others : (i : ℕ) → 0 < i → i < k → (p : PortView P) × (slice_get ports i ≡ Some p) × IsStart i 0 p

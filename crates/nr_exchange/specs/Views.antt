@@ -1,5 +1,5 @@
 -- What contracts see of an exchange and of a port, and what an exchange keeps of its numbers. This project's own.
-use Rattle.std.specs.Prelude.{◌≡◌, ℕ, ◌^◌, ◌<◌}
+use Rattle.std.specs.Prelude.{◌≡◌, ℕ, ◌^◌, ◌<◌, List}
 use Rattle.atomic_table.specs.Seated.{TableId}
 use Rattle.nr_exchange.specs.declared.note.Note.{Note}
 use Rattle.nr_exchange.specs.Plan.{Plan}
@@ -8,9 +8,13 @@ use Rattle.nr_exchange.specs.Places.{words, places}
 pub record ExchangeView (P : Type 0) : Type 0 where
   pub name : TableId
   pub run : P
+  -- the seats of its ports, in order of number
+  pub seats : List ℕ
 
 pub record PortView (P : Type 0) : Type 0 where
   pub name : TableId
+  -- its seat at the exchange's table, which it keeps
+  pub seat : ℕ
   pub note : Note P
 
 -- an exchange has as many words and places as its run asks for

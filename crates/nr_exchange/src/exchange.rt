@@ -1,11 +1,12 @@
 //! The exchange of a run, and how it is made and closed.
-ghost use Rattle.std.specs.Prelude.{◌≡◌, ◌<◌, ◌≤◌, [], IfOk};
+ghost use Rattle.std.specs.Prelude.{◌≡◌, ◌<◌, ◌≤◌, [], IfOk, map};
 ghost use Rattle.std.specs.Mem.Slots.{slots_items, slots_len, IsFull};
 ghost use Rattle.atomic_table.specs.Table.{Final};
 ghost use Rattle.nr_exchange.specs.Notes.{fresh};
 ghost use Rattle.nr_exchange.specs.Places.{words, places};
 ghost use Rattle.nr_exchange.specs.Ports.{AreMade};
 ghost use Rattle.nr_exchange.specs.Rule.{ExchangeRule};
+ghost use Rattle.nr_exchange.specs.Seats.{AreSplit};
 
 use crate::law::{Law, Next};
 use crate::note::Note;
@@ -15,25 +16,29 @@ use crate::port::Port;
 use atomic_table::{Closed, Seat, Table};
 use std::alloc::{AllocError, Global};
 use std::marker::Model;
+use std::snapshot::Snapshot;
 
 /// The exchange between the shards of a run: a published word for each of them, and for each link from one to another
 /// a taken word and a ring of eight places for the lists on their way.
 ///
 /// A published word is the number of heights that its shard has published, plus 2^32 where the shard has abandoned the
 /// run. A taken word is the number of lists that the destination has taken out of the ring. Contracts see the
-/// exchange's name and its run.
+/// exchange's name, its run, and the seats of its ports.
 #[derive(Drop)]
 pub struct Exchange<P: Planned> {
     pub(crate) table: Table<Option<P::Parcel>, Note<P>, P, Law, Global>,
     pub(crate) shards: u32,
+    /// The ports as they were made. It takes no bytes.
+    ports: Snapshot<Vec<Port<P>>>,
 }
 
 impl<P: Planned> Model for Exchange<P> {
+    ghost use Rattle.std.specs.Prelude.{map};
     ghost use Rattle.nr_exchange.specs.Views.{ExchangeView, IsSized};
 
     ghost Value = { ExchangeView P };
 
-    ghost view = { λ e. record { name = e.table.shared.table_id; run = e.table.shared.key } };
+    ghost view = { λ e. record { name = e.table.shared.table_id; run = e.table.shared.key; seats = map (λ p. p.seat) e.ports.value.items } };
 
     ghost invariant = { λ e. IsSized (P.plan e.table.shared.key) e.table.shared.table_id e.shards × P.is_run e.table.shared.key };
 }
@@ -57,8 +62,14 @@ pub fn make_exchange<P: Planned>(
     let count = count_places(shards)?;
     let words = Vec::from_elem(alloc, 0u64, count_words(shards)?)?;
     let (table, seat) = Table::vacant(alloc, words.as_slice(), count, run)?;
-    let exchange = Exchange { table, shards };
-    let ports = split_all(alloc, &exchange, seat)?;
+    let none = Vec::new(alloc);
+    let bare = Exchange {
+        table,
+        shards,
+        ports: Snapshot::of(&none),
+    };
+    let ports = split_all(alloc, &bare, seat)?;
+    let exchange = bare.with_ports(&ports);
     Ok((exchange, ports))
 }
 
@@ -70,7 +81,7 @@ fn split_all<P: Planned>(
 ) -> Result<Vec<Port<P>>, AllocError>
     requires seat { (seat.table_id ≡ exchange.now.name) × (seat.me ≡ (fresh exchange.now.run (P.plan exchange.now.run).shards 0 1, [])) }
     requires some { 0 < (P.plan exchange.now.run).shards }
-    ensures { IfOk result (λ ports. AreMade exchange.now (P.plan exchange.now.run).shards (P.plan exchange.now.run).shards ports.items) }
+    ensures { let n = (P.plan exchange.now.run).shards in IfOk result (λ ports. AreSplit exchange.now.name exchange.now.run n n ports.items) }
 {
     let shards = exchange.shards as usize;
     let mut ports = Vec::new(alloc);
@@ -100,6 +111,23 @@ fn split_all<P: Planned>(
 }
 
 impl<P: Planned> Exchange<P> {
+    /// The same exchange, whose ports are these.
+    fn with_ports(self, ports: &Vec<Port<P>>) -> Exchange<P>
+        ensures same { (result.name ≡ self.name) × (result.run ≡ self.run) }
+        ensures seats { result.seats ≡ map (λ p. p.seat) ports.now.items }
+    {
+        let Exchange {
+            table,
+            shards,
+            ports: _,
+        } = self;
+        Exchange {
+            table,
+            shards,
+            ports: Snapshot::of(ports),
+        }
+    }
+
     /// The words and the places of an exchange that no thread shares any more. They are those of a state that keeps
     /// the exchange rule.
     pub fn close(self) -> Closed<Option<P::Parcel>, Global>
@@ -108,7 +136,7 @@ impl<P: Planned> Exchange<P> {
         ensures words { slots_len result.words ≡ words (P.plan self.run) }
         ensures places { slots_len result.slots ≡ places (P.plan self.run) }
     {
-        let Exchange { table, shards: _ } = self;
+        let Exchange { table, .. } = self;
         table.close()
     }
 }

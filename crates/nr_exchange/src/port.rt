@@ -42,8 +42,9 @@ const MARK: u64 = 1 << 32;
 
 /// The port of a shard on the exchange that it was made with. It carries what the shard knows of the others.
 ///
-/// Contracts see the exchange's name and a `Note`: what the shard has published, of each source what was claimed, seen
-/// and given back, of each destination what was known as taken, and how often the words were loaded.
+/// Contracts see the exchange's name, the port's seat there, which it keeps, and a `Note`: what the shard has
+/// published, of each source what was claimed, seen and given back, of each destination what was known as taken, and
+/// how often the words were loaded.
 #[derive(Drop)]
 pub struct Port<P: Planned> {
     pub(crate) seat: Seat<Option<P::Parcel>, Note<P>>,
@@ -61,7 +62,7 @@ impl<P: Planned> Model for Port<P> {
 
     ghost Value = { PortView P };
 
-    ghost view = { λ p. record { name = p.seat.table_id; note = p.seat.me.0 } };
+    ghost view = { λ p. record { name = p.seat.table_id; seat = p.seat.id; note = p.seat.me.0 } };
 
     ghost invariant = { λ p. IsSeated (P.plan p.seat.me.0.run) p.seat.me p.shard p.abandoned p.sent p.taken.items };
 }

@@ -22,7 +22,7 @@ module _ {P W K L R : Type 0} (rules : P → Rules W K L R) (e : ExchangeView (S
   starts : (s made : ℕ) → s < (rules e.run.0).shards → IsFresh rules e (start_port e (rules e.run.0).shards s made) × ((start_port e (rules e.run.0).shards s made).note.shard ≡ s)
   starts s made lt = (
     record {
-      port_of = record { name = refl; run = refl; inside = lt; linked = length-replicate (rules e.run.0).shards no_link; roomed = length-replicate (rules e.run.0).shards no_room };
+      port_of = record { name = refl; run = refl; seat = refl; inside = lt; linked = length-replicate (rules e.run.0).shards no_link; roomed = length-replicate (rules e.run.0).shards no_room };
       number_is = refl;
       claimed = λ t inside. no_claim (rules e.run.0).shards t;
     },

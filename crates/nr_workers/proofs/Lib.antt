@@ -7,6 +7,8 @@ pub mod Rows
 pub mod Moves
 pub mod Slots
 pub mod Fresh
+pub mod Crossing
+pub mod Returned
 pub mod Finishing
 pub mod Counted
 pub mod InHand

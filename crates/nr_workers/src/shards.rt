@@ -1,6 +1,6 @@
 //! A worker for each shard, in a thread of its own where there is one.
 
-ghost use Rattle.std.specs.Prelude.{◌≡◌, IfOk, length, vec_len};
+ghost use Rattle.std.specs.Prelude.{◌≡◌, IfOk, length, map, vec_len};
 ghost use Rattle.std.specs.Thread.{IsSend};
 ghost use Rattle.nr_exchange.specs.Ports.{AreMade};
 ghost use Rattle.nr_overlap.specs.Outcome.{last_worlds, reports_by_shard, lists_left};
@@ -33,7 +33,8 @@ fn flags_for(alloc: Global, count: usize) -> Result<Vec<AtomicBool>, AllocError>
 /// are run by the caller, in turns, one step of each at a time.
 ///
 /// Each shard takes the lists that are due to it from the exchange, and publishes its own there. What they come to is
-/// the serial run, whatever the threads do. Nothing says when it ends.
+/// the serial run, whatever the threads do. The ports that come back are those that were taken. Nothing says when it
+/// ends.
 ///
 /// # Errors
 ///
@@ -52,6 +53,7 @@ pub fn run_shards<R: Threads + Wait + Sync, P: Phases + Sync, G: Gate + Sync>(
     ensures reports { IfOk result (λ done. done.reports ≡ reports_by_shard (P.rules phases.now)) }
     ensures left { IfOk result (λ done. done.left ≡ lists_left (P.rules phases.now)) }
     ensures ports { IfOk result (λ done. HaveDoneAll P.rules exchange.now done.ports.items) }
+    ensures seats { IfOk result (λ done. map (λ p. p.seat) done.ports.items ≡ map (λ p. p.seat) ports.items) }
 {
     let workers = begin_all(alloc, phases, exchange, ports)?;
     let flags = flags_for(alloc, workers.len())?;
