@@ -1,3 +1,5 @@
+//! An entry of a genesis: its kinds, its reading and its writing.
+
 ghost use Rattle.std.specs.Prelude.{◌≡◌};
 ghost use Rattle.nr_bytes.specs.Fields.{mapped, pair};
 ghost use Rattle.nr_records.specs.Reading.{account_id_at, blob_at};

@@ -1,3 +1,5 @@
+//! A shelf in memory, whose loads fail where they shall.
+
 ghost use Rattle.std.specs.Prelude.{◌≡◌, ◌≤◌, ℕ, List, option_copied, [], OnOk, OnErr, ◌++◌, ◌∷◌};
 ghost use Rattle.nr_bytes.specs.Memory.{held_in, asked_of, found_at, PutsFound, Finds};
 ghost use Rattle.nr_bytes.specs.Outside.{Loads, Fails, Asks};

@@ -1,3 +1,5 @@
+//! A sink in memory, whose writes are short and fail where they shall.
+
 ghost use Rattle.std.specs.Prelude.{◌≡◌, ◌≤◌, ◌<◌, IfOk, OnErr, [], Some, length};
 ghost use Rattle.nr_bytes.specs.Outside.{Takes, Rose};
 ghost use Rattle.nr_bytes.specs.Memory.{TakesNext};

@@ -1,3 +1,5 @@
+//! What a program answers where a file of a chain is refused.
+
 ghost use Rattle.std.specs.Prelude.{◌≡◌, true};
 
 use nr_configfile::ConfigRefusal;

@@ -1,3 +1,5 @@
+//! A chunk at work, as those who drive it see it.
+
 ghost use Rattle.std.specs.Prelude.{◌≡◌};
 
 use crate::work::Work;

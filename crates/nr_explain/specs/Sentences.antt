@@ -32,7 +32,7 @@ gathered kind text a = one_number (codes "12") (codes "The gathered chunk is ref
 abbrev pub parts : List ℕ → List ℕ → Field → Form
 parts kind text a = one_number (codes "13") (codes "The state parts are refused: ") kind text a
 
--- an entry, a place, a height, a line or a part, and what is wrong with it
+-- a place in bytes at which a field can't be read
 abbrev pub unread : Field
 unread = number (codes " (from 0) can't be read.")
 

@@ -33,7 +33,8 @@ pub data Output : Type 0 where
   Bytes : List ℕ → Output
   Json : Data → Output
 
--- a text of the value, laid out over lines, with its members in order, that is read as the value
+-- a text of the value, laid out over lines, with its members in order; it is read as the value, where this nests no
+-- deeper than the reader goes
 pub record IsTextOf (d : Data) (text : List ℕ) : Type 0 where
   pub utf8 : IsUtf8 text
   pub layout : text ≡ pretty (tokens text)

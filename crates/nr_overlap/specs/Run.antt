@@ -45,7 +45,7 @@ module _ {W K L R : Type 0} (r : Rules W K L R) where
   run_of ps [] = ps
   run_of ps (e ∷ es) = run_of (tried ps e) es
 
-  -- what a step answers and leaves; a core that is whole meets want of memory at a step that is enabled
+  -- what a step answers and leaves; a core that is whole meets want of memory only at a step that is enabled
   abbrev pub Steps : {P : Type 0} → CoreView P → Event → Result (Unit {0}) StepFault → CoreView P → Type 0
   Steps old e (Ok _) new = (old.lost ≡ false) × (refusal r old.positions e ≡ None) × (new ≡ whole_at old (moved old.positions e))
   Steps old e (Err (NotEnabled why)) new = (old.lost ≡ false) × (refusal r old.positions e ≡ Some why) × (new ≡ old)

@@ -1,3 +1,5 @@
+//! The core: shards at different heights and stages, by single steps.
+
 ghost use Rattle.std.specs.Prelude.{◌≡◌, ◌<◌, false, IfOk, None};
 ghost use Rattle.std.specs.Option.{option_copied};
 ghost use Rattle.nr_overlap.specs.Moment.{world_at, working_at, report_at, flight_at};

@@ -1,3 +1,5 @@
+//! The phases of a chunk as a trait.
+
 ghost use Rattle.std.specs.Prelude.{◌≡◌, ℕ, ◌<◌, IfOk, OnOk};
 ghost use Rattle.nr_overlap.specs.Rules.{Rules};
 ghost use Rattle.nr_overlap.specs.Lawful.{AreLawful};

@@ -146,7 +146,8 @@ pub fn take_postponed<S: Store>(
     Ok(receipt)
 }
 
-/// Puts a receipt at the end of the delayed queue. With it at most 2^63 receipts were ever delayed.
+/// Puts a receipt at the end of the delayed queue. With it at most 2^63 receipts were ever delayed, counted
+/// from the genesis or the last change of boundaries.
 pub fn add_delayed<S: Store>(
     _alloc: Global,
     state: &mut ShardState<S>,

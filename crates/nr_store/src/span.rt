@@ -27,6 +27,7 @@ impl<'a> Model for Entry<'a> {
 }
 
 impl<'a> Entry<'a> {
+    /// An entry of a key and its value.
     pub fn of(key: &'a [u8], value: &'a [u8]) -> Entry<'a>
         ensures value { result ≡ (nibbles key.now, value.now) }
         ensures small { IsNibbles result.0 }
@@ -133,6 +134,7 @@ impl<'a> Span<'a> {
         Span { entries, offset: 0 }
     }
 
+    /// How many entries there are.
     pub fn len(&self) -> usize
         ensures count { result ≡ length self.now }
         ensures order { CanWalk self.now }

@@ -14,6 +14,7 @@ Decides all place some =
 abbrev pub covers : List ℕ → Searched → Bool
 covers place one = one.below && starts_with ◌==◌ place one.path
 
+-- those of a step decide from its place on; so do those of each step
 abbrev pub IsStep : List Searched → Step → Type 0
 IsStep all step = Decides all step.place step.met.items
 

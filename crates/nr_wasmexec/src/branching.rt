@@ -29,6 +29,8 @@ pub fn arity(kind: Option<ValType>) -> usize
     }
 }
 
+/// Opens a block that leaves so many values. A branch to it goes on behind the block, or at the block again
+/// (a loop). `Memory` is its one stop.
 pub fn enter<'a>(
     thread: &mut Thread<'a>,
     arity: usize,
@@ -41,6 +43,7 @@ pub fn enter<'a>(
     Ok(())
 }
 
+/// Takes an i32 and opens the first body, or the other where it is zero. `Lost` where no operand is there.
 pub fn choose<'a>(
     thread: &mut Thread<'a>,
     arity: usize,
@@ -57,12 +60,14 @@ pub fn choose<'a>(
     }
 }
 
+/// Branches out of so many blocks and one more. `Lost` where there are not so many.
 pub fn branch(thread: &mut Thread, depth: u32) -> Result<(), Stop>
     ensures { Moves result thread.new (by thread.old (Branches depth thread.old.values)) }
 {
     reached(thread.branch(depth))
 }
 
+/// Takes an i32, and branches unless it is zero. `Lost` where no operand or no such block is there.
 pub fn branch_if(thread: &mut Thread, depth: u32) -> Result<(), Stop>
     ensures { Moves result thread.new (by thread.old (on_top thread.old.values (λ v rest. if v == 0 then Goes thread.old.locals rest else Branches depth rest))) }
 {
@@ -75,6 +80,8 @@ pub fn branch_if(thread: &mut Thread, depth: u32) -> Result<(), Stop>
     }
 }
 
+/// Takes an i32, and branches to the label with this number, counted from 0, or to the one for every other.
+/// `Lost` where no operand or no such block is there.
 pub fn branch_by(thread: &mut Thread, labels: &Labels) -> Result<(), Stop>
     ensures { Moves result thread.new (by thread.old (on_top thread.old.values (λ v rest. Branches (chosen (slice_get labels.now.0 v) labels.now.1) rest))) }
 {
@@ -91,6 +98,7 @@ fn label_of(labels: &Labels, value: u64) -> u32
     }
 }
 
+/// Returns from the innermost frame with its function's result. `Lost` where there is no frame or no such operand.
 pub fn leave(thread: &mut Thread) -> Result<(), Stop>
     ensures { Moves result thread.new (by thread.old (Returns thread.old.values)) }
 {

@@ -34,6 +34,7 @@ pub fn popped(thread: &mut Thread) -> Result<u64, Stop>
     }
 }
 
+/// Drops the topmost operand. `Lost` where there is none.
 pub fn discard(thread: &mut Thread) -> Result<(), Stop>
     ensures { Moves result thread.new (by thread.old (on_top thread.old.values (λ v rest. Goes thread.old.locals rest))) }
 {

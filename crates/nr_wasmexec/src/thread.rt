@@ -92,6 +92,7 @@ impl<'a> Thread<'a> {
         self.code = after_first(self.code);
     }
 
+    /// Puts a number on top of the operands of the innermost sequence.
     pub fn push(&mut self, value: u64) -> Result<(), AllocError>
         ensures { OnOk result (self.new ≡ record self.old { values = value ∷ self.old.values }) }
     {
