@@ -31,7 +31,8 @@ pub enum GenesisEntry {
 }
 
 fn read_key(alloc: Global, reader: &mut Reader<'_>) -> Result<GenesisEntry, RecordFault>
-    ensures { GivesRead Memory result reader.new (mapped key_of (pair account_id_at (pair key_at access_key_at)) reader.old) }
+    ensures { GivesRead Memory result reader.new
+        (mapped key_of (pair account_id_at (pair key_at access_key_at)) reader.old) }
 {
     let id = AccountId::read(alloc, reader)?;
     let key = PublicKey::read(alloc, reader)?;
@@ -40,7 +41,8 @@ fn read_key(alloc: Global, reader: &mut Reader<'_>) -> Result<GenesisEntry, Reco
 }
 
 fn read_datum(alloc: Global, reader: &mut Reader<'_>) -> Result<GenesisEntry, RecordFault>
-    ensures { GivesRead Memory result reader.new (mapped datum_of (pair account_id_at (pair blob_at blob_at)) reader.old) }
+    ensures { GivesRead Memory result reader.new
+        (mapped datum_of (pair account_id_at (pair blob_at blob_at)) reader.old) }
 {
     let id = AccountId::read(alloc, reader)?;
     let key = Blob::read(alloc, reader)?;

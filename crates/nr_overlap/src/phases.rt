@@ -110,5 +110,6 @@ pub trait Phases {
         ensures lists { IfOk result (λ sealed. sealed.2 ≡ ((rules self.now).seals working).lists) };
 
     /// A seal gives a list for each shard, and in the serial run each phase may be called.
-    ghost laws: { (phases : Self) → is_run phases → AreLawful (rules phases) (can_open phases) (can_take phases) (can_seal phases) };
+    ghost laws: { (phases : Self) → is_run phases → AreLawful (rules phases) (can_open phases) (can_take phases)
+        (can_seal phases) };
 }

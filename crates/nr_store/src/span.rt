@@ -1,6 +1,7 @@
 //! Entries in the order of their keys, and slices of them that leave out the front of each key.
 
-ghost use Rattle.std.specs.Prelude.{◌≡◌, ◌≤◌, ◌<◌, ◌+◌, ◌-◌, ◌^◌, true, false, None, Some, length, take, drop, IsSome, IfOk, MatchOption};
+ghost use Rattle.std.specs.Prelude.{◌≡◌, ◌≤◌, ◌<◌, ◌+◌, ◌-◌, ◌^◌, true, false, None, Some, length, take, drop, IsSome};
+ghost use Rattle.std.specs.Prelude.{IfOk, MatchOption};
 ghost use Rattle.std.specs.List.{AllByRecursion};
 ghost use Rattle.nr_triedef.specs.Node.{nibbles, IsNibbles};
 ghost use Rattle.nr_triedef.specs.Root.{common, front, behind, value_here, under};

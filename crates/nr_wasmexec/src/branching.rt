@@ -37,7 +37,8 @@ pub fn enter<'a>(
     again: bool,
     body: &'a [Instr],
 ) -> Result<(), Stop>
-    ensures { Moves result thread.new (by thread.old (Opens thread.old.values arity (target_at again thread.old.code) (code_of body.now))) }
+    ensures { Moves result thread.new (by thread.old
+        (Opens thread.old.values arity (target_at again thread.old.code) (code_of body.now))) }
 {
     thread.enter(arity, again, body)?;
     Ok(())
@@ -50,7 +51,9 @@ pub fn choose<'a>(
     first: &'a [Instr],
     other: &'a [Instr],
 ) -> Result<(), Stop>
-    ensures { Moves result thread.new (by thread.old (on_top thread.old.values (λ v rest. Opens rest arity (after thread.old.code) (if v == 0 then code_of other.now else code_of first.now)))) }
+    ensures { Moves result thread.new (by thread.old
+        (on_top thread.old.values (λ v rest. Opens rest arity (after thread.old.code)
+        (if v == 0 then code_of other.now else code_of first.now)))) }
 {
     let value = popped(thread)?;
     if value == 0 {
@@ -69,7 +72,8 @@ pub fn branch(thread: &mut Thread, depth: u32) -> Result<(), Stop>
 
 /// Takes an i32, and branches unless it is zero. `Lost` where no operand or no such block is there.
 pub fn branch_if(thread: &mut Thread, depth: u32) -> Result<(), Stop>
-    ensures { Moves result thread.new (by thread.old (on_top thread.old.values (λ v rest. if v == 0 then Goes thread.old.locals rest else Branches depth rest))) }
+    ensures { Moves result thread.new (by thread.old
+        (on_top thread.old.values (λ v rest. if v == 0 then Goes thread.old.locals rest else Branches depth rest))) }
 {
     let value = popped(thread)?;
     if value == 0 {
@@ -83,7 +87,8 @@ pub fn branch_if(thread: &mut Thread, depth: u32) -> Result<(), Stop>
 /// Takes an i32, and branches to the label with this number, counted from 0, or to the one for every other.
 /// `Lost` where no operand or no such block is there.
 pub fn branch_by(thread: &mut Thread, labels: &Labels) -> Result<(), Stop>
-    ensures { Moves result thread.new (by thread.old (on_top thread.old.values (λ v rest. Branches (chosen (slice_get labels.now.0 v) labels.now.1) rest))) }
+    ensures { Moves result thread.new (by thread.old
+        (on_top thread.old.values (λ v rest. Branches (chosen (slice_get labels.now.0 v) labels.now.1) rest))) }
 {
     let value = popped(thread)?;
     branch(thread, label_of(labels, value))

@@ -1,6 +1,7 @@
 //! Where a run stands in its code, with its operands and locals.
 
-ghost use Rattle.std.specs.Prelude.{◌≡◌, ℕ, ◌≤◌, ◌+◌, [], ◌∷◌, ◌++◌, length, drop, take, reverse, replicate, slice_get, IfOk, OnOk, MatchOption};
+ghost use Rattle.std.specs.Prelude.{◌≡◌, ℕ, ◌≤◌, ◌+◌, [], ◌∷◌, ◌++◌, length, drop, take, reverse, replicate, slice_get};
+ghost use Rattle.std.specs.Prelude.{IfOk, OnOk, MatchOption};
 ghost use Rattle.nr_wasmexec.specs.Place.{Place, InLabel, InFrame};
 ghost use Rattle.nr_wasmtypes.specs.Code.{End, code_of, put, after};
 ghost use Rattle.nr_wasmexec.specs.Thread.{target_at};
@@ -42,7 +43,8 @@ impl<'a> Model for Thread<'a> {
     ghost use Rattle.nr_wasmtypes.specs.Code.{code_of};
     ghost use Rattle.nr_wasmexec.specs.Thread.{place_of, IsThread};
 
-    ghost view = { λ t. place_of t.operands.items t.locals.items t.height t.base (code_of t.code.now) t.controls.items };
+    ghost view = { λ t. place_of t.operands.items t.locals.items t.height t.base (code_of t.code.now) t.controls.items
+        };
 
     ghost invariant = { λ t. IsThread t.operands.items t.locals.items t.height t.base t.controls.items t.frames };
 }
@@ -58,7 +60,8 @@ impl<'a> Thread<'a> {
         arity: usize,
         body: &'a [Instr],
     ) -> Result<Thread<'a>, AllocError>
-        ensures { IfOk result (λ t. t ≡ record { values = []; code = code_of body.now; locals = locals.items; contexts = InFrame [] arity [] End ∷ [] }) }
+        ensures { IfOk result (λ t. t ≡ record { values = []; code = code_of body.now; locals = locals.items;
+            contexts = InFrame [] arity [] End ∷ [] }) }
     {
         let mut controls = Vec::new(alloc);
         controls.push(Control::Frame {
@@ -134,7 +137,9 @@ impl<'a> Thread<'a> {
 
     /// Enters a block whose instruction is the next one.
     pub fn enter(&mut self, arity: usize, again: bool, body: &'a [Instr]) -> Result<(), AllocError>
-        ensures { OnOk result (self.new ≡ record { values = []; code = code_of body.now; locals = self.old.locals; contexts = InLabel self.old.values arity (target_at again self.old.code) (after self.old.code) ∷ self.old.contexts }) }
+        ensures { OnOk result (self.new ≡ record { values = []; code = code_of body.now; locals = self.old.locals;
+            contexts = InLabel self.old.values arity (target_at again self.old.code) (after self.old.code)
+            ∷ self.old.contexts }) }
     {
         let height = self.height;
         let at = self.code;
@@ -182,7 +187,10 @@ impl<'a> Thread<'a> {
         body: &'a [Instr],
     ) -> Result<(), AllocError>
         requires { params ≤ length self.old.values }
-        ensures { OnOk result (self.new ≡ record { values = []; code = code_of body.now; locals = reverse (take params self.old.values) ++ replicate more 0; contexts = InFrame (drop params self.old.values) arity self.old.locals (after self.old.code) ∷ self.old.contexts }) }
+        ensures { OnOk result (self.new ≡ record { values = []; code = code_of body.now;
+            locals = reverse (take params self.old.values) ++ replicate more 0;
+            contexts = InFrame (drop params self.old.values) arity self.old.locals (after self.old.code)
+            ∷ self.old.contexts }) }
     {
         let control = Control::Frame {
             height: self.height,
