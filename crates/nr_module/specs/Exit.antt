@@ -2,7 +2,8 @@
 use Rattle.std.specs.Prelude.{ℕ, List, [], ◌∷◌, codes}
 use Rattle.nr_shell.specs.Exit.{told_line}
 use Rattle.nr_module.specs.declared.status.Status.{Status}
-use Rattle.nr_module.specs.declared.status.Status.TheVariants.{Sound, Unfit, Faulty, Usage, Config, ReadFault, WriteFault}
+use Rattle.nr_module.specs.declared.status.Status.TheVariants.{Sound, Unfit, Faulty, Usage, Config, ReadFault}
+use Rattle.nr_module.specs.declared.status.Status.TheVariants.{WriteFault}
 use Rattle.nr_module.specs.declared.status.Status.TheVariants.{NoMemory}
 
 -- the exit status, and the numbers that it tells
