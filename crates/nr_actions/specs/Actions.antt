@@ -94,7 +94,7 @@ on_code (Some code) acted = acted
 abbrev pub called : (World → CallContext → Called) → World → Frame → Bool → CallContext → Acted
 called call w f last x = on_account (get w.accounts f.receiver) (λ account.
     on_code (get w.code f.receiver) (ended f last
-        (call (with_account w f.receiver (with_deposit account x.deposit)) x)))
+    (call (with_account w f.receiver (with_deposit account x.deposit)) x)))
 
 -- ---- a transfer: an absent account is made where its id is implicit and the receipt does nothing else
 abbrev pub makes_account : Frame → Bool
@@ -121,12 +121,12 @@ transferred c w f deposit = given c w f deposit (get w.accounts f.receiver)
 abbrev pub key_added : Config → World → Frame → PublicKey → AccessKey → Acted
 key_added c w f key access = on_account (get w.accounts f.receiver) (λ account.
     unless ((is_other f, NoPermission) ∷ (is_some (get w.keys (f.receiver, key)), KeyExists) ∷ [])
-        (Acts (set_key c w f.receiver key access) f))
+    (Acts (set_key c w f.receiver key access) f))
 
 abbrev pub key_deleted : Config → World → Frame → PublicKey → Acted
 key_deleted c w f key = on_account (get w.accounts f.receiver) (λ account.
     unless ((is_other f, NoPermission) ∷ (not (is_some (get w.keys (f.receiver, key))), NoSuchKey) ∷ [])
-        (Acts (removed_key c w f.receiver key) f))
+    (Acts (removed_key c w f.receiver key) f))
 
 -- ---- the end of an account with all that it owns: what it had goes to the beneficiary, and the predecessor acts again
 abbrev pub with_refund : Frame → List ℕ → ℕ → Frame
@@ -150,7 +150,7 @@ after_deletion f beneficiary account = record (with_refund f beneficiary account
 abbrev pub deleted : Config → World → Frame → List ℕ → Acted
 deleted c w f beneficiary = on_account (get w.accounts f.receiver) (λ account.
     unless (deletion_failures c w f account)
-        (Acts (without_account w f.receiver) (after_deletion f beneficiary account)))
+    (Acts (without_account w f.receiver) (after_deletion f beneficiary account)))
 
 -- ---- an action, by what calls mean and by whether it is the receipt's last one
 unfoldable pub act : Config → (World → CallContext → Called) → World → Frame → Bool → Action → Acted

@@ -12,8 +12,14 @@ use Rattle.nr_records.specs.declared.receipt.Receipt.{Receipt}
 
 abbrev pub refund_body : List ℕ → PublicKey → ℕ → Body
 refund_body signer key amount =
-    Act (record { signer = signer; signer_key = key; gas_price = 0; outputs = []; inputs = [];
-    actions = Transfer amount ∷ [] })
+    Act (record {
+      signer = signer;
+      signer_key = key;
+      gas_price = 0;
+      outputs = [];
+      inputs = [];
+      actions = Transfer amount ∷ [];
+    })
 
 abbrev pub refund : List ℕ → Hash32 → List ℕ → PublicKey → ℕ → Receipt
 refund receiver id signer key amount =

@@ -33,7 +33,7 @@ price_law One = record {
 price_law Two = record {
   taken = λ s p fits e.
       mapped_case (λ price. Some price) (nat_at 8) (little 8) (Below (256 ^ 8)) (nat_law record_fault 8)
-          (λ q. IsPrice Two q.0 × Takes s (price_bytes q.0) q.1) s p fits (λ price t ok takes. (ok, takes)) e;
+      (λ q. IsPrice Two q.0 × Takes s (price_bytes q.0) q.1) s p fits (λ price t ok takes. (ok, takes)) e;
   again = λ v at rest fits. some_again v at rest fits;
 }
   where
@@ -48,5 +48,5 @@ pub block_law : (version : Version) → IsRead (block_at version) block_bytes (I
 unfolding block_at
 block_law version = mapped_law block_of fields_of (λ _. refl) (λ _. refl) _ _ _
     (pair_law _ _ _ _ _ _ (nat_law record_fault 8)
-        (pair_law _ _ _ _ _ _ (nat_law record_fault 8)
-        (pair_law _ _ _ _ _ _ (price_law version) (list_law record_fault _ _ _ chunk_law))))
+    (pair_law _ _ _ _ _ _ (nat_law record_fault 8)
+    (pair_law _ _ _ _ _ _ (price_law version) (list_law record_fault _ _ _ chunk_law))))

@@ -80,16 +80,16 @@ EntryArm = IsArm ordinal inner IsEntry
 arms : (at n : ℕ) (s : Input) (p : GenesisEntry × Input) → IsBytes s.left → entry_body at n s ≡ Ok p → EntryArm n s p
 arms at zero s p fits e =
     mapped_case account_of (pair account_id_at account_at) account_fields AreAccountFields account_fields_law
-        (EntryArm 0 s) s p fits (λ x t ok takes. record { ordinal = refl; fits = ok; takes = takes }) e
+    (EntryArm 0 s) s p fits (λ x t ok takes. record { ordinal = refl; fits = ok; takes = takes }) e
 arms at (suc zero) s p fits e =
     mapped_case code_of (pair account_id_at blob_at) code_fields AreCodeFields code_fields_law (EntryArm 1 s) s p fits
-        (λ x t ok takes. record { ordinal = refl; fits = ok; takes = takes }) e
+    (λ x t ok takes. record { ordinal = refl; fits = ok; takes = takes }) e
 arms at (suc (suc zero)) s p fits e =
     mapped_case key_of (pair account_id_at (pair key_at access_key_at)) key_fields AreKeyFields key_fields_law
-        (EntryArm 2 s) s p fits (λ x t ok takes. record { ordinal = refl; fits = ok; takes = takes }) e
+    (EntryArm 2 s) s p fits (λ x t ok takes. record { ordinal = refl; fits = ok; takes = takes }) e
 arms at (suc (suc (suc zero))) s p fits e =
     mapped_case datum_of (pair account_id_at (pair blob_at blob_at)) datum_fields AreDatumFields datum_fields_law
-        (EntryArm 3 s) s p fits (λ x t ok takes. record { ordinal = refl; fits = ok; takes = takes }) e
+    (EntryArm 3 s) s p fits (λ x t ok takes. record { ordinal = refl; fits = ok; takes = takes }) e
 arms at (suc (suc (suc (suc b)))) s p fits e = absurd cc
 
 again : (at : ℕ) (v : GenesisEntry) (here : ℕ) (rest : List ℕ) → IsEntry v → entry_body at (ordinal v) (before (inner v) here rest) ≡ Ok (v, behind (inner v) here rest)

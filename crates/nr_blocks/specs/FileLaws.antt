@@ -56,7 +56,7 @@ headed_law : {X : Type 0} (magic : List ℕ) → length magic ≡ 4 → (r : Inp
 headed_law {X} magic four r a P law = record {
   taken = λ s p fits e.
       mapped_case (λ (f : List ℕ × X). f.1) (pair (magic_at magic) r) (in_turn (λ word. word) a)
-          (Both (IsMagic magic) P) (both_law magic r a P law)
+      (Both (IsMagic magic) P) (both_law magic r a P law)
       (λ q. P q.0 × Takes s (headed_bytes magic a q.0) q.1) s p fits
       (λ f t ok takes. (ok.1, subst (λ (word : List ℕ). Takes s (word ++ a f.1) t) (is_word magic f.0 ok.0.1) takes)) e;
   again = λ v at rest fits. rw ((both_law magic r a P law).again (magic, v) at rest (is_magic magic four, fits)) refl;
@@ -70,7 +70,7 @@ pub genesis_law : IsRead genesis_at genesis_bytes IsGenesisFile
 unfolding genesis_at
 genesis_law = headed_law genesis_magic refl _ _ _
     (mapped_law genesis_file_of genesis_fields (λ _. refl) (λ _. refl) _ _ _
-        (pair_law _ _ _ _ _ _ layout_law (list_law record_fault _ _ _ entry_law)))
+    (pair_law _ _ _ _ _ _ layout_law (list_law record_fault _ _ _ entry_law)))
 
 -- ---- the version of a blocks file
 version_again : (version : Version) → version_named (blocks_magic version) ≡ Some version
@@ -109,9 +109,11 @@ version_law = record {
   taken = λ s p fits e.
       let x = bind_ok (raw_at 4 s) (λ word. known_at s.at (version_named word.0) word.1) p e in
       let one = (raw_law record_fault 4).taken s x.0 fits x.1 in
-      let two = known s.at (version_named x.0.0) x.0.1 p x.2 in
-      (tt, subst (λ (t : Input). Takes s (blocks_magic p.0) t) two.1
-          (subst (λ (word : List ℕ). Takes s word x.0.1) (version_word x.0.0 p.0 two.0) one.1));
+      let two = known s.at (version_named x.0.0) x.0.1 p x.2 in (
+        tt,
+        subst (λ (t : Input). Takes s (blocks_magic p.0) t) two.1
+            (subst (λ (word : List ℕ). Takes s word x.0.1) (version_word x.0.0 p.0 two.0) one.1),
+      );
   again = λ version at rest fits. rw ((raw_law record_fault 4).again (blocks_magic version) at rest (magic_size version), version_again version) refl;
 }
 
@@ -134,7 +136,7 @@ blocks_law = record {
       let y = bind_ok (list_at (block_at x.0.0) x.0.1) (file_answer x.0.0) p x.2 in
       let two = (blocks_list_law x.0.0).taken x.0.1 y.0 one.1.bytes y.1 in
       subst (λ (q : BlocksFile × Input). IsBlocksFile q.0 × Takes s (blocks_bytes q.0) q.1)
-          (ok_is (blocks_file x.0.0 y.0.0, y.0.1) p y.2)
+      (ok_is (blocks_file x.0.0 y.0.0, y.0.1) p y.2)
       (two.0, Takes-then s x.0.1 y.0.1 (blocks_magic x.0.0) (list block_bytes y.0.0) one.1 two.1);
   again = λ f at rest fits.
       let word = blocks_magic f.version in

@@ -67,8 +67,11 @@ Finds (Ok u) old new name =
 Finds (Err TooLong) old new name =
     IsSome (found old name) × (new ≡ record old { calls = one_more old.calls; asked = old.asked ++ name ∷ [] })
 Finds (Err Failed) old new name =
-    (found old name ≡ None) × (new ≡ record old { calls = one_more old.calls; faults = one_more old.faults;
-    asked = old.asked ++ name ∷ [] })
+    (found old name ≡ None) × (new ≡ record old {
+      calls = one_more old.calls;
+      faults = one_more old.faults;
+      asked = old.asked ++ name ∷ [];
+    })
 Finds (Err Memory) old new name = new ≡ old
 
 -- bytes taken; how many it takes in all and in one call; the numbers of the calls that fail, from 1; how many

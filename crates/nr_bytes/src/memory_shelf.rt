@@ -24,8 +24,13 @@ impl Model for MemoryShelf {
 
     ghost Value = { ShelfInMemory };
 
-    ghost view = { λ a. record { files = a.files.items; fail = a.fail.items; calls = a.calls; faults = a.faults;
-        asked = asked_of a.asked } };
+    ghost view = { λ a. record {
+      files = a.files.items;
+      fail = a.fail.items;
+      calls = a.calls;
+      faults = a.faults;
+      asked = asked_of a.asked;
+    } };
 }
 
 /// The bytes of the first file with a name.

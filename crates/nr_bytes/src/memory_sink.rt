@@ -28,8 +28,14 @@ impl Model for MemorySink {
 
     ghost Value = { SinkInMemory };
 
-    ghost view = { λ a. record { taken = a.bytes.items; room = a.room; step = a.step; fail = a.fail.items;
-        calls = a.calls; faults = a.faults } };
+    ghost view = { λ a. record {
+      taken = a.bytes.items;
+      room = a.room;
+      step = a.step;
+      fail = a.fail.items;
+      calls = a.calls;
+      faults = a.faults;
+    } };
 
     ghost invariant = { λ a. (length a.bytes.items ≤ a.room) × (a.room ≤ vec_capacity a.bytes) };
 }

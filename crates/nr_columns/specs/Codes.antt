@@ -51,9 +51,10 @@ second =
     (coded× (coded_option (coded× coded_ℕ coded_ℕ)) (code coded_ℕ receipt.the_row.coded))))
 
 abbrev taken_apart : Columns → First × Second
-taken_apart k =
-    ((k.accounts, (k.keys, (k.code, (k.data_of, k.received)))),
-    (k.awaited, (k.missing, (k.postponed, (k.queue, k.delayed)))))
+taken_apart k = (
+  (k.accounts, (k.keys, (k.code, (k.data_of, k.received)))),
+  (k.awaited, (k.missing, (k.postponed, (k.queue, k.delayed)))),
+)
 
 abbrev put_together : First × Second → Columns
 put_together p =

@@ -57,14 +57,24 @@ key_of_rest bs = option_and_then with_key (at_first 2 bs)
 -- by id
 abbrev pub text_table : ℕ → {X : Type 0} → (X → List ℕ) → (List ℕ → Option X) → Table (List ℕ) X
 text_table column spell read =
-    record { cmp = bytes_cmp; key = λ id. column ∷ id; unkey = in_column column (λ bs. Some bs); spell = spell;
-        read = read }
+    record {
+      cmp = bytes_cmp;
+      key = λ id. column ∷ id;
+      unkey = in_column column (λ bs. Some bs);
+      spell = spell;
+      read = read;
+    }
 
 -- by id and the rest behind a comma
 abbrev pub pair_table : ℕ → {X : Type 0} → (X → List ℕ) → (List ℕ → Option X) → Table (List ℕ × List ℕ) X
 pair_table column spell read =
-    record { cmp = pair_cmp; key = λ k. column_key column k.0 k.1; unkey = in_column column (at_first 44);
-        spell = spell; read = read }
+    record {
+      cmp = pair_cmp;
+      key = λ k. column_key column k.0 k.1;
+      unkey = in_column column (at_first 44);
+      spell = spell;
+      read = read;
+    }
 
 -- bytes that spell themselves
 abbrev pub same_bytes : List ℕ → Option (List ℕ)

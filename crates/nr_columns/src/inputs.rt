@@ -38,8 +38,10 @@ impl<S: Store> Columns<S> {
         bytes: &Option<Blob>,
     ) -> Result<(), AllocError>
         ensures ok { OnOk result (self.new ≡ with_columns self.old
-            (record self.old.columns { received = map.insert self.old.columns.received
-            (receiver.now, data_id.now.0) bytes.now })) }
+            (record self.old.columns {
+              received = map.insert self.old.columns.received
+                  (receiver.now, data_id.now.0) bytes.now;
+            })) }
         ensures fits { OnOk result (IsId receiver.now × (IsHash data_id.now × IsOption IsCounted bytes.now)) }
         ensures err { OnErr result (self.new ≡ self.old) }
     {
@@ -57,8 +59,10 @@ impl<S: Store> Columns<S> {
         ensures found { IfOk result (λ found. found
             ≡ is_some (map.get self.old.columns.received (receiver.now, data_id.now.0))) }
         ensures ok { OnOk result (self.new ≡ with_columns self.old
-            (record self.old.columns { received = map.remove self.old.columns.received
-            (receiver.now, data_id.now.0) })) }
+            (record self.old.columns {
+              received = map.remove self.old.columns.received
+                  (receiver.now, data_id.now.0);
+            })) }
         ensures err { OnErr result (self.new ≡ self.old) }
     {
         let key = keys::pair_key(self.alloc, keys::RECEIVED, receiver, &data_id.0)?;
@@ -86,8 +90,10 @@ impl<S: Store> Columns<S> {
         receipt_id: &Hash32,
     ) -> Result<(), AllocError>
         ensures ok { OnOk result (self.new ≡ with_columns self.old
-            (record self.old.columns { awaited = map.insert self.old.columns.awaited
-            (receiver.now, data_id.now.0) receipt_id.now })) }
+            (record self.old.columns {
+              awaited = map.insert self.old.columns.awaited
+                  (receiver.now, data_id.now.0) receipt_id.now;
+            })) }
         ensures err { OnErr result (self.new ≡ self.old) }
     {
         let key = keys::pair_key(self.alloc, keys::AWAITED, receiver, &data_id.0)?;
@@ -104,8 +110,7 @@ impl<S: Store> Columns<S> {
         ensures found { IfOk result (λ found. found
             ≡ is_some (map.get self.old.columns.awaited (receiver.now, data_id.now.0))) }
         ensures ok { OnOk result (self.new ≡ with_columns self.old
-            (record self.old.columns { awaited = map.remove self.old.columns.awaited (receiver.now, data_id.now.0) }))
-            }
+            (record self.old.columns { awaited = map.remove self.old.columns.awaited (receiver.now, data_id.now.0) })) }
         ensures err { OnErr result (self.new ≡ self.old) }
     {
         let key = keys::pair_key(self.alloc, keys::AWAITED, receiver, &data_id.0)?;
@@ -133,8 +138,10 @@ impl<S: Store> Columns<S> {
         count: u32,
     ) -> Result<(), AllocError>
         ensures ok { OnOk result (self.new ≡ with_columns self.old
-            (record self.old.columns { missing = map.insert self.old.columns.missing
-            (receiver.now, receipt_id.now.0) count })) }
+            (record self.old.columns {
+              missing = map.insert self.old.columns.missing
+                  (receiver.now, receipt_id.now.0) count;
+            })) }
         ensures err { OnErr result (self.new ≡ self.old) }
     {
         let key = keys::pair_key(self.alloc, keys::MISSING, receiver, &receipt_id.0)?;
@@ -151,8 +158,10 @@ impl<S: Store> Columns<S> {
         ensures found { IfOk result (λ found. found
             ≡ is_some (map.get self.old.columns.missing (receiver.now, receipt_id.now.0))) }
         ensures ok { OnOk result (self.new ≡ with_columns self.old
-            (record self.old.columns { missing = map.remove self.old.columns.missing
-            (receiver.now, receipt_id.now.0) })) }
+            (record self.old.columns {
+              missing = map.remove self.old.columns.missing
+                  (receiver.now, receipt_id.now.0);
+            })) }
         ensures err { OnErr result (self.new ≡ self.old) }
     {
         let key = keys::pair_key(self.alloc, keys::MISSING, receiver, &receipt_id.0)?;

@@ -37,8 +37,10 @@ impl<S: Store> Columns<S> {
         receipt: &Receipt,
     ) -> Result<(), AllocError>
         ensures ok { OnOk result (self.new ≡ with_columns self.old
-            (record self.old.columns { postponed = map.insert self.old.columns.postponed
-            (receiver.now, receipt_id.now.0) receipt.now })) }
+            (record self.old.columns {
+              postponed = map.insert self.old.columns.postponed
+                  (receiver.now, receipt_id.now.0) receipt.now;
+            })) }
         ensures fits { OnOk result (IsId receiver.now × (IsHash receipt_id.now × IsReceipt receipt.now)) }
         ensures err { OnErr result (self.new ≡ self.old) }
     {
@@ -56,8 +58,10 @@ impl<S: Store> Columns<S> {
         ensures found { IfOk result (λ found. found
             ≡ is_some (map.get self.old.columns.postponed (receiver.now, receipt_id.now.0))) }
         ensures ok { OnOk result (self.new ≡ with_columns self.old
-            (record self.old.columns { postponed = map.remove self.old.columns.postponed
-            (receiver.now, receipt_id.now.0) })) }
+            (record self.old.columns {
+              postponed = map.remove self.old.columns.postponed
+                  (receiver.now, receipt_id.now.0);
+            })) }
         ensures err { OnErr result (self.new ≡ self.old) }
     {
         let key = keys::pair_key(self.alloc, keys::POSTPONED, receiver, &receipt_id.0)?;

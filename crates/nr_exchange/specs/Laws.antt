@@ -18,4 +18,4 @@ module _ {W K L R : Type 0} (r : Rules W K L R) where
       let is : h ≡ (h - 1) + 1 = omega arith in
       subst (λ (k : ℕ). length ((plan_of r).lists s k) ≡ r.shards) (sym is)
       (ap length (lists_there s (h - 1) (subst (λ (k : ℕ). r.present s k ≡ true) is there)) ∙ laws.one_each
-          (last_work r s (h - 1)))
+      (last_work r s (h - 1)))

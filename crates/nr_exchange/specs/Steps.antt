@@ -36,9 +36,13 @@ module _ {P L : Type 0} (plan : P → Plan L) where
   abbrev pub Tries : Step (Option L) → Seated → ℕ → Seated → Type 0
   Tries st m n m' = Tells m.0 st.word n
       × ((h : ℕ) × IsNextChunk (plan m.0.run) st.word (link m.0 st.word).claimed h
-      × (h ≤ n % 2 ^ 32 → m' ≡ (claims m.0 st.word n h,
-          (place (plan m.0.run) st.word m.0.shard (chunks_to (plan m.0.run) st.word (h - 1)),
-          list_of (plan m.0.run) st.word h m.0.shard) ∷ m.1))
+      × (h ≤ n % 2 ^ 32 → m' ≡ (
+        claims m.0 st.word n h,
+        (
+          place (plan m.0.run) st.word m.0.shard (chunks_to (plan m.0.run) st.word (h - 1)),
+          list_of (plan m.0.run) st.word h m.0.shard,
+        ) ∷ m.1,
+      ))
       × (n % 2 ^ 32 < h → m' ≡ (looked m.0 st.word n, m.1)))
 
   -- the place of a claimed list goes home
@@ -54,7 +58,7 @@ module _ {P L : Type 0} (plan : P → Plan L) where
       (d : ℕ) × (d < (plan m.0.run).shards) × (st.word ≡ taken_word (plan m.0.run) m.0.shard d)
       × TellsTaken (plan m.0.run) m.0 d n
       × (m.0.out ≡ d → sent (plan m.0.run) m.0 < n + 8 → (x : Option L)
-          × (m' ≡ (held m.0 d n, (place (plan m.0.run) m.0.shard d (sent (plan m.0.run) m.0), x) ∷ m.1)))
+      × (m' ≡ (held m.0 d n, (place (plan m.0.run) m.0.shard d (sent (plan m.0.run) m.0), x) ∷ m.1)))
       × ((m.0.out ≡ d → n + 8 ≤ sent (plan m.0.run) m.0) → m' ≡ (asked m.0 d n, m.1))
 
   -- the places go home, and the number rises

@@ -164,8 +164,11 @@ impl<P: Planned> Exchange<P> {
         requires lists { lists ≡ (P.plan self.now.run).lists shard height }
         requires all { length lists ≡ (P.plan self.now.run).shards }
         ensures same { (seat.new.table_id ≡ seat.old.table_id) × (seat.new.id ≡ seat.old.id) }
-        ensures me { seat.new.me ≡ (seat.old.me.0, carry (P.plan self.now.run) shard published height
-            (P.plan self.now.run).shards) }
+        ensures me { seat.new.me ≡ (
+          seat.old.me.0,
+          carry (P.plan self.now.run) shard published height
+              (P.plan self.now.run).shards,
+        ) }
     {
         let _height = height;
         let mut rest = lists.into_inner();

@@ -50,7 +50,7 @@ unfoldable pub items : List Form
 items =
     (figure (codes "11") (codes "There is no such chunk, or it has no item of the kind.") ∷ zero_told ∷ [])
     ∷ (figure (codes "11") (codes "There is no item at that place: the chunk has only ")
-        ∷ number (codes " of the kind.") ∷ [])
+    ∷ number (codes " of the kind.") ∷ [])
     ∷ []
 
 unfoldable pub configurations : List Form
@@ -60,8 +60,8 @@ configurations =
     ∷ configuration (codes "2") (codes "entry ") (entry (codes " is missing."))
     ∷ configuration (codes "3") (codes "entry ") (entry (codes " is no whole number from 0 to 18446744073709551615."))
     ∷ configuration (codes "4") (codes "entry ")
-        (figure (codes "11")
-        (codes "11, reward_numerator (0 to 1000000), is out of bounds, or above entry 12, reward_denominator."))
+    (figure (codes "11")
+    (codes "11, reward_numerator (0 to 1000000), is out of bounds, or above entry 12, reward_denominator."))
     ∷ configuration (codes "4") (codes "entry ") (entry (codes " is out of its bounds."))
     ∷ []
 
@@ -70,16 +70,16 @@ geneses =
     genesis (codes "0") (codes "its file is longer than 67108864 bytes.") zero_told zero_told zero_told
     ∷ genesis (codes "1") (codes "the field at byte ") unread zero_told zero_told
     ∷ genesis (codes "2") (codes "entry ") (number (codes " (from 0) has the trie key of an earlier one.")) zero_told
-        zero_told
+    zero_told
     ∷ genesis (codes "3") (codes "entry ") (number
-        (codes " (from 0) belongs to no account of the file, or to `system`.")) zero_told zero_told
+    (codes " (from 0) belongs to no account of the file, or to `system`.")) zero_told zero_told
     ∷ genesis (codes "4") (codes "entry ") (number (codes " (from 0) states a storage usage of "))
-        (number (codes " bytes, but ")) (number (codes " are counted."))
+    (number (codes " bytes, but ")) (number (codes " are counted."))
     ∷ genesis (codes "5") (codes "its amounts and locked amounts are together above 2^127.") zero_told zero_told
-        zero_told
+    zero_told
     ∷ genesis (codes "6") (codes "entry ") (number
-        (codes " (from 0) states a code hash that is not the SHA-256 of its code, or zeros without code.")) zero_told
-        zero_told
+    (codes " (from 0) states a code hash that is not the SHA-256 of its code, or zeros without code.")) zero_told
+    zero_told
     ∷ []
 
 unfoldable pub chains : List Form
@@ -91,7 +91,7 @@ chains =
     ∷ blocks (codes "4") (codes "there are more than 100,000.") zero_told
     ∷ blocks (codes "5") (codes "the action at byte ") (number (codes " (from 0) is one of staking."))
     ∷ blocks (codes "6") (codes "they change their shards at height ")
-        (number (codes ", but there or just before a block or a chunk is missing."))
+    (number (codes ", but there or just before a block or a chunk is missing."))
     ∷ []
 
 unfoldable pub schedules : List Form

@@ -26,7 +26,7 @@ begun bytes =
     (cond (starts_with ◌==◌ bytes (codes "NRB3")) (Some (codes "the file begins with NRB3: it is a blocks file"))
     (cond (starts_with ◌==◌ bytes (codes "NRP1")) (Some (codes "the file begins with NRP1: it is a part of a state"))
     (cond (starts_with ◌==◌ bytes (codes "NRS1")) (Some (codes "the file begins with NRS1: it is a gathered chunk"))
-        None)))))
+    None)))))
 
 -- a line, unless the file begins as one of another kind
 abbrev pub or_begun : List ℕ → List ℕ → List ℕ

@@ -16,7 +16,7 @@ made_forms =
 abbrev pub shown_forms : List Form
 shown_forms =
     form (codes "genesis") (file (codes "CONFIG") ∷ one_file) ∷ form (codes "blocks") one_file
-        ∷ form (codes "report") one_file
+    ∷ form (codes "report") one_file
     ∷ form (codes "part") one_file ∷ form (codes "proof") one_file ∷ form (codes "gathered") one_file ∷ []
 
 -- the words of a form behind the program's name, and behind more of its words, parted by single spaces

@@ -40,8 +40,8 @@ looked_texts depth searched place [] = []
 looked_texts zero searched place (p ∷ ps) = []
 looked_texts (suc depth) searched place (p ∷ ps) =
     node_text (top_of (p ∷ ps)) ∷ cond (looks searched place)
-        (own_text searched place (p ∷ ps) ++ flat_map (λ (t : List ℕ × Paths). looked_texts depth searched t.0 t.1)
-        (tries_below place (p ∷ ps))) []
+    (own_text searched place (p ∷ ps) ++ flat_map (λ (t : List ℕ × Paths). looked_texts depth searched t.0 t.1)
+    (tries_below place (p ∷ ps))) []
 
 -- each text whose hash none before it has, where the texts before them are held
 abbrev pub once : Contents → List (List ℕ) → List (List ℕ)

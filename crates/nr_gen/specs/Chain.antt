@@ -38,8 +38,10 @@ call_of shard nonce user target =
 unfoldable pub transaction_of : ℕ → ℕ → ℕ → ℕ → ℕ → Transaction × ℕ
 transaction_of shards shard nonce user x =
     let target = draw shards x in
-    if nat_lt user 6 then transfer_of shard nonce user target.0 target.1 else (call_of shard nonce user target.0,
-        target.1)
+    if nat_lt user 6 then transfer_of shard nonce user target.0 target.1 else (
+      call_of shard nonce user target.0,
+      target.1,
+    )
 
 -- ---- chunks and blocks: the state is the number from which is drawn, and the last nonce that the users of each
 -- shard signed with

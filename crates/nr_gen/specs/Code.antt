@@ -43,7 +43,7 @@ function_type params results = 96 ∷ counted (replicate params 126) ++ counted 
 unfoldable pub type_section : List ℕ
 type_section =
     section 1 (vector (function_type 0 0 ∷ function_type 1 0 ∷ function_type 2 0 ∷ function_type 1 1
-        ∷ function_type 2 1 ∷ function_type 3 1 ∷ function_type 5 1 ∷ function_type 8 1 ∷ function_type 9 1 ∷ []))
+    ∷ function_type 2 1 ∷ function_type 3 1 ∷ function_type 5 1 ∷ function_type 8 1 ∷ function_type 9 1 ∷ []))
 
 -- a function of the host, with the number of its type
 abbrev pub import_of : List ℕ → ℕ → List ℕ

@@ -20,8 +20,11 @@ pub record RegisterView : Type 0 where
 -- how many registers there may be, how many bytes one may have, and how many all of them
 abbrev pub limits_of : Config → Limits
 limits_of c =
-    record { registers = max_registers c; register_bytes = max_register_bytes c;
-    all_bytes = max_all_register_bytes c }
+    record {
+      registers = max_registers c;
+      register_bytes = max_register_bytes c;
+      all_bytes = max_all_register_bytes c;
+    }
 
 abbrev pub no_registers : Config → RegisterView
 no_registers c = record { held = []; limits = limits_of c }

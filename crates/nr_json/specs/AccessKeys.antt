@@ -18,8 +18,8 @@ use Rattle.nr_json.specs.declared.fault.Wrong.TheVariants.{NoPermission}
 abbrev pub call_permission_members : CallPermission → Members
 call_permission_members c =
     put (codes "method_names") (list_json string c.methods)
-        (put (codes "receiver_id") (string c.receiver)
-        (put (codes "allowance") (option_json amount_json c.allowance) no_members))
+    (put (codes "receiver_id") (string c.receiver)
+    (put (codes "allowance") (option_json amount_json c.allowance) no_members))
 
 abbrev pub call_permission_json : CallPermission → Data
 call_permission_json c = object (call_permission_members c)

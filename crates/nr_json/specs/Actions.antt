@@ -22,8 +22,8 @@ use Rattle.nr_json.specs.declared.fault.Wrong.TheVariants.{NoAction}
 abbrev pub call_members : List ℕ → List ℕ → ℕ → ℕ → Members
 call_members method args gas deposit =
     put (codes "deposit") (amount_json deposit)
-        (put (codes "gas") (number_json gas) (put (codes "args") (bytes_json args)
-        (put (codes "method_name") (string method) no_members)))
+    (put (codes "gas") (number_json gas) (put (codes "args") (bytes_json args)
+    (put (codes "method_name") (string method) no_members)))
 
 abbrev pub add_key_members : PublicKey → AccessKey → Members
 add_key_members public_key access_key =

@@ -31,8 +31,8 @@ abbrev pub block_members : Block → Members
 block_members b =
     with_optional (codes "price") number_json b.price
     (put (codes "chunks") (list_json chunk_json b.chunks)
-        (put (codes "timestamp") (number_json b.timestamp)
-        (put (codes "height") (number_json b.height.0) no_members)))
+    (put (codes "timestamp") (number_json b.timestamp)
+    (put (codes "height") (number_json b.height.0) no_members)))
 
 abbrev pub block_json : Block → Data
 block_json b = object (block_members b)

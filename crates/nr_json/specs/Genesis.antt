@@ -28,14 +28,14 @@ abbrev pub account_members : StatedAccount → Members
 account_members a =
     with_optional (codes "storage_usage") number_json a.storage_usage
     (with_optional (codes "code_hash") hash_json a.code_hash
-        (put (codes "locked") (amount_json a.locked) (put (codes "amount") (amount_json a.amount) no_members)))
+    (put (codes "locked") (amount_json a.locked) (put (codes "amount") (amount_json a.amount) no_members)))
 
 abbrev pub entry_members : StatedEntry → Members
 entry_members (Account id a) = of_account (codes "account") id (account_members a)
 entry_members (Code id code) = of_account (codes "code") id (put (codes "code") (bytes_json code) no_members)
 entry_members (Key id public_key access_key) =
     of_account (codes "key") id (put (codes "access_key") (access_key_json access_key)
-        (put (codes "public_key") (key_json public_key) no_members))
+    (put (codes "public_key") (key_json public_key) no_members))
 entry_members (Datum id key value) =
     of_account (codes "datum") id (put (codes "value") (bytes_json value)
     (put (codes "key") (bytes_json key) no_members))
@@ -83,7 +83,7 @@ entry_under kind d =
     (cond (bytes_eq kind (codes "code")) (code_entry_of d)
     (cond (bytes_eq kind (codes "key")) (key_entry_of d)
     (cond (bytes_eq kind (codes "datum")) (datum_entry_of d)
-        (Err (under (member_step (codes "kind")) (fault NoKind))))))
+    (Err (under (member_step (codes "kind")) (fault NoKind))))))
 
 unfoldable pub entry_of : Data → Read StatedEntry
 entry_of d = do

@@ -41,9 +41,12 @@ boundaries_taken last (suc n) s p fits e =
     let two = boundaries_taken (Some x.0.0) n x.0.1 y.0 one.1.bytes y.1 in
     let made : List (List ℕ) × Input = (x.0.0 ∷ y.0.0, y.0.1) in
     subst (λ (p : List (List ℕ) × Input). (length p.0 ≡ suc n) × Rises last p.0
-        × Takes s (flat_map counted_bytes p.0) p.1) (ok_is made p y.2)
-    (ap suc two.0, ((one.0.1, two.1.0), (one.0.0, two.1.1)), Takes-then s x.0.1 y.0.1 (counted_bytes x.0.0)
-        (flat_map counted_bytes y.0.0) one.1 two.2)
+    × Takes s (flat_map counted_bytes p.0) p.1) (ok_is made p y.2) (
+      ap suc two.0,
+      ((one.0.1, two.1.0), (one.0.0, two.1.1)),
+      Takes-then s x.0.1 y.0.1 (counted_bytes x.0.0)
+          (flat_map counted_bytes y.0.0) one.1 two.2,
+    )
 
 boundaries_again : (last : Option (List ℕ)) (bs : List (List ℕ)) (at : ℕ) (rest : List ℕ) → Rises last bs
     → boundaries_at last (length bs) (before (flat_map counted_bytes bs) at rest) ≡ Ok (bs, behind (flat_map counted_bytes bs) at rest)
@@ -70,9 +73,11 @@ layout_taken s p fits e =
     let y = few (ltb 15 x.0.0) (TooManyBoundaries s.at) (boundaries_at None x.0.0 x.0.1) p x.2 in
     let two = boundaries_taken None x.0.0 x.0.1 p one.1.bytes y.1 in
     let low : x.0.0 ≤ 15 = ltb-false _ _ y.0 in
-    let count : little 4 x.0.0 ≡ little 4 (length p.0) = ap (little 4) (sym two.0) in
-    (((subst (λ n. n ≤ 15) (sym two.0) low, two.1.0), two.1.1), Takes-then s x.0.1 p.1 (little 4 (length p.0))
-        (flat_map counted_bytes p.0) (subst (λ (t : List ℕ). Takes s t x.0.1) count one.1) two.2)
+    let count : little 4 x.0.0 ≡ little 4 (length p.0) = ap (little 4) (sym two.0) in (
+      ((subst (λ n. n ≤ 15) (sym two.0) low, two.1.0), two.1.1),
+      Takes-then s x.0.1 p.1 (little 4 (length p.0))
+          (flat_map counted_bytes p.0) (subst (λ (t : List ℕ). Takes s t x.0.1) count one.1) two.2,
+    )
 
 layout_again : (bs : List (List ℕ)) (at : ℕ) (rest : List ℕ) → FitsLayout bs → layout_at (before (layout_bytes bs) at rest) ≡ Ok (bs, behind (layout_bytes bs) at rest)
 unfolding layout_at

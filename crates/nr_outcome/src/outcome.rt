@@ -41,10 +41,8 @@ pub struct Outcome<C: Caller<ChunkStore>> {
     /// All tokens of the chain's start.
     supply: u128,
     ghost told: { AreReports (rules_of (chain_in chain)) reports } by { told_prop (rules_of (chain_in chain)) reports },
-    ghost last: { worlds ≡ last_worlds (rules_of (chain_in chain)) }
-        by { worlds_prop worlds (last_worlds (rules_of (chain_in chain))) },
-    ghost rest: { left ≡ lists_left (rules_of (chain_in chain)) }
-        by { left_prop left (lists_left (rules_of (chain_in chain))) },
+    ghost last: { worlds ≡ last_worlds (rules_of (chain_in chain)) } by { worlds_prop worlds (last_worlds (rules_of (chain_in chain))) },
+    ghost rest: { left ≡ lists_left (rules_of (chain_in chain)) } by { left_prop left (lists_left (rules_of (chain_in chain))) },
     ghost first: { supply ≡ start_tokens chain.config chain.grounds.start },
 }
 

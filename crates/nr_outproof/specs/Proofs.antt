@@ -43,8 +43,15 @@ FitsRoot height shard count = (height < 256 ^ 8) × ((shard < 256 ^ 4) × (count
 -- the proof of a chunk's item, where there is one at the place
 abbrev pub proof_of : ChunkResult → ProofKind → ℕ → Option Proof
 proof_of result kind place =
-    option_map (λ item. record { kind = kind; height = result.height; shard = result.shard; place = place;
-        count = length (items kind result); item = item; path = path_of (leaf_tops (items kind result)) place })
+    option_map (λ item. record {
+      kind = kind;
+      height = result.height;
+      shard = result.shard;
+      place = place;
+      count = length (items kind result);
+      item = item;
+      path = path_of (leaf_tops (items kind result)) place;
+    })
     (slice_get (items kind result) place)
 
 -- the top that a proof leads to, and the text of the root with it

@@ -137,8 +137,15 @@ path_from n (piece ∷ next ∷ more) = with_hash n (hash_in piece) (path_from (
 abbrev pub with_path : Head → List ℕ → Result (List Hash32) ProofFault → Result Proof ProofFault
 with_path h item (Err fault) = Err fault
 with_path h item (Ok path) =
-    Ok (record { kind = h.kind; height = record { 0 = h.height }; shard = record { 0 = h.shard }; place = h.place;
-    count = h.count; item = item; path = path })
+    Ok (record {
+      kind = h.kind;
+      height = record { 0 = h.height };
+      shard = record { 0 = h.shard };
+      place = h.place;
+      count = h.count;
+      item = item;
+      path = path;
+    })
 
 abbrev pub with_item : Head → Option (List ℕ) → List (List ℕ) → Result Proof ProofFault
 with_item h None rest = Err (Form 2)

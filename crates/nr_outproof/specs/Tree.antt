@@ -60,7 +60,7 @@ path_at zero ts p = []
 path_at (suc h) ts p =
     cond (nat_le (length ts) (2 ^ h)) (path_at h ts p)
     (cond (nat_lt p (2 ^ h)) (path_at h (take (2 ^ h) ts) p ++ top_at h (drop (2 ^ h) ts) ∷ [])
-        (path_at h (drop (2 ^ h) ts) (p - 2 ^ h) ++ top_at h (take (2 ^ h) ts) ∷ []))
+    (path_at h (drop (2 ^ h) ts) (p - 2 ^ h) ++ top_at h (take (2 ^ h) ts) ∷ []))
 
 abbrev pub path_of : List Hash32 → ℕ → List Hash32
 path_of ts p = path_at (length ts) ts p
@@ -91,4 +91,4 @@ unfoldable pub IsInside : ℕ → List Hash32 → List ℕ → Type 0
 IsInside zero ts text = ⊥
 IsInside (suc h) ts text = MatchBool (nat_le (length ts) (2 ^ h)) (IsInside h ts text)
     ((text ≡ pair_text (top_at h (take (2 ^ h) ts)) (top_at h (drop (2 ^ h) ts)))
-        ⊎ (IsInside h (take (2 ^ h) ts) text ⊎ IsInside h (drop (2 ^ h) ts) text))
+    ⊎ (IsInside h (take (2 ^ h) ts) text ⊎ IsInside h (drop (2 ^ h) ts) text))

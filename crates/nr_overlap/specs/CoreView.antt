@@ -29,7 +29,7 @@ abbrev pub position_code : Coded Position
 position_code =
     code_by (ℕ × (ℕ × ℕ)) (coded× coded_ℕ (coded× coded_ℕ coded_ℕ)) (λ p. (p.number, (stage_number p.stage, p.taken)))
     (λ q. record { number = q.0; stage = stage_of q.1.0; taken = q.1.1 })
-        (λ p i. record { number = p.number; stage = stage_back p.stage i; taken = p.taken })
+    (λ p i. record { number = p.number; stage = stage_back p.stage i; taken = p.taken })
 
 abbrev pub core_code : {P : Type 0} → Coded P → Coded (CoreView P)
 core_code {P} p =

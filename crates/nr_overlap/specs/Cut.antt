@@ -80,8 +80,13 @@ module _ {W K L R : Type 0} (r : Rules W K L R) where
         list = put c.list s.0 (put (c.list s.0) height (list_for sealed));
       }
   stepped c (PublishLists s) =
-      record { positions = moved c.positions (PublishLists s); world = c.world; working = c.working;
-          report = c.report; list = c.list }
+      record {
+        positions = moved c.positions (PublishLists s);
+        world = c.world;
+        working = c.working;
+        report = c.report;
+        list = c.list;
+      }
 
   -- a step that isn't enabled changes nothing
   abbrev pub stepped_if : Option Why → Cut W K L R → Event → Cut W K L R

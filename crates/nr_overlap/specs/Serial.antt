@@ -99,4 +99,4 @@ module _ {W K L R : Type 0} (r : Rules W K L R) where
   EachTaken P =
       (shard h n : ℕ) (pair : ℕ × ℕ) (list : L) → shard < r.shards → h < r.heights → r.present shard (h + 1) ≡ true
       → slice_get (due_after shard h) n ≡ Some pair → list_to (sealing_at pair.1 pair.0) shard ≡ Some list
-          → P shard h n list
+      → P shard h n list

@@ -27,8 +27,12 @@ lists_to shards n receipts = map (λ dest. out_to shards dest receipts) (range_w
 -- an amount is sent where there is as much
 abbrev pub spend : Work → ℕ → Work
 spend k r =
-    cond (nat_le r k.balance) (record { balance = k.balance - r; waiting = k.waiting; done = k.done;
-    outgoing = k.outgoing ++ r ∷ [] }) k
+    cond (nat_le r k.balance) (record {
+      balance = k.balance - r;
+      waiting = k.waiting;
+      done = k.done;
+      outgoing = k.outgoing ++ r ∷ [];
+    }) k
 
 abbrev pub begun : Place → Work
 begun w = record { balance = w.balance; waiting = w.waiting; done = []; outgoing = [] }

@@ -33,7 +33,7 @@ module _ (f : ℕ → ℕ) (n : ℕ) where
   miss (suc k) a x xs l =
       sum_by-cons (sum_by f) (out_to n a (x ∷ xs)) (part (a + 1) k (x ∷ xs))
       ∙ (λ i. sum_by f (cond (eq_other (x % n) a (λ e. omega arith) i) (x ∷ out_to n a xs) (out_to n a xs)) + miss k
-          (a + 1) x xs (omega arith) i)
+      (a + 1) x xs (omega arith) i)
       ∙ sym (sum_by-cons (sum_by f) (out_to n a xs) (part (a + 1) k xs))
 
   hit : (k a x : ℕ) (xs : List ℕ) → a ≤ x % n → x % n < a + k → all (part a k (x ∷ xs)) ≡ f x + all (part a k xs)
@@ -44,7 +44,7 @@ module _ (f : ℕ → ℕ) (n : ℕ) where
         | inl e ↦ (λ i. sum_by f (cond (eq_same (x % n) a e i) (x ∷ out_to n a xs) (out_to n a xs)) + miss k
             (a + 1) x xs (omega (arith, e)) i)
             ∙ ap (λ t. t + all (part (a + 1) k xs)) (sum_by-cons f x (out_to n a xs)) ∙ regroup (f x)
-                (sum_by f (out_to n a xs)) (all (part (a + 1) k xs))
+            (sum_by f (out_to n a xs)) (all (part (a + 1) k xs))
         | inr ne ↦ (λ i. sum_by f (cond (eq_other (x % n) a ne i) (x ∷ out_to n a xs) (out_to n a xs)) + hit k
             (a + 1) x xs (omega (arith, ne)) (omega arith) i)
             ∙ swap (f x) (sum_by f (out_to n a xs)) (all (part (a + 1) k xs))
@@ -85,8 +85,12 @@ spend_tokens : (k : Work) (r : ℕ) → held_tokens (spend k r) ≡ held_tokens 
 spend_tokens k r = by (nat_le r k.balance) refl
   where
     by : (b : Bool) → nat_le r k.balance ≡ b
-        → held_tokens (cond b (record { balance = k.balance - r; waiting = k.waiting; done = k.done;
-        outgoing = k.outgoing ++ r ∷ [] }) k) ≡ held_tokens k
+        → held_tokens (cond b (record {
+          balance = k.balance - r;
+          waiting = k.waiting;
+          done = k.done;
+          outgoing = k.outgoing ++ r ∷ [];
+        }) k) ≡ held_tokens k
     by true e = let l : r ≤ k.balance = le_of r k.balance e in let s : value_of (k.outgoing ++ r ∷ []) ≡ value_of k.outgoing + r = last (λ r. r) k.outgoing r in omega arith
     by false e = refl
 
@@ -139,8 +143,8 @@ module _ (t : SmallChain) where
         (took_tokens (work r s h n) list);
     seals = λ s h a b c. let k = work r s h (length (due_after r s h)) in
         seal k.balance (value_of k.waiting) (value_of k.outgoing)
-            (sum_by value_of (lists_to t.shards t.shards k.outgoing))
-            (routed_all (λ r. r) t.shards k.outgoing (omega arith));
+        (sum_by value_of (lists_to t.shards t.shards k.outgoing))
+        (routed_all (λ r. r) t.shards k.outgoing (omega arith));
   }
     where
       first : (a b : ℕ) → (a + b) + 0 ≡ (a + b) + 0
@@ -159,8 +163,8 @@ module _ (t : SmallChain) where
         (took_receipts v (work r s h n) list);
     seals = λ s h a b c. let k = work r s h (length (due_after r s h)) in
         seal (times v k.waiting) (times v k.done) (times v k.outgoing)
-            (sum_by (times v) (lists_to t.shards t.shards k.outgoing))
-            (routed_all (λ r. cond (r == v) 1 0) t.shards k.outgoing (omega arith));
+        (sum_by (times v) (lists_to t.shards t.shards k.outgoing))
+        (routed_all (λ r. cond (r == v) 1 0) t.shards k.outgoing (omega arith));
   }
     where
       seal : (a b c d : ℕ) → d ≡ c → ((a + b) + d) + 0 ≡ (a + b) + c

@@ -33,8 +33,8 @@ AreAllOfEach root parts all =
 abbrev pub IsCutAccepted : Contents → ℕ → ℕ → Type 0
 IsCutAccepted m count number =
     1 ≤ count → count ≤ 10000 → number < count
-        → IsOf (texts_of (part_cut (entries m) count number).texts) (root_of m).hash m
-        → checked (root_of m).hash (part_cut (entries m) count number) ≡ Ok tt
+    → IsOf (texts_of (part_cut (entries m) count number).texts) (root_of m).hash m
+    → checked (root_of m).hash (part_cut (entries m) count number) ≡ Ok tt
 
 -- a part of these entries is accepted, if the map of the entries agrees with its texts
 abbrev pub IsAcceptedOf : List Entry → Part → Type 0
@@ -49,5 +49,5 @@ all_cut m count = map (λ number. part_cut (entries m) count number) (range_with
 abbrev pub AreCutsJoined : Contents → ℕ → Type 0
 AreCutsJoined m count =
     1 ≤ count → count ≤ 10000 → AllByRecursion (λ (p : Part). IsOf (texts_of p.texts) (root_of m).hash m)
-        (all_cut m count) → (es : List Entry) → pairs_of es ≡ entries m
-        → joined_or_fault (root_of m).hash (all_cut m count) ≡ Ok es
+    (all_cut m count) → (es : List Entry) → pairs_of es ≡ entries m
+    → joined_or_fault (root_of m).hash (all_cut m count) ≡ Ok es

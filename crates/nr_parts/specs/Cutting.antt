@@ -43,5 +43,10 @@ part_texts es count number =
 -- the part of these entries
 abbrev pub part_cut : List (List ℕ × List ℕ) → ℕ → ℕ → Part
 part_cut es count number =
-    record { root = (root_of_entries es).hash; count = count; number = number;
-    entries = part_of_entries es count number; texts = part_texts es count number }
+    record {
+      root = (root_of_entries es).hash;
+      count = count;
+      number = number;
+      entries = part_of_entries es count number;
+      texts = part_texts es count number;
+    }

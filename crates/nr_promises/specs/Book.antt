@@ -82,8 +82,14 @@ new_receipt o id receiver inputs =
       receiver = receiver;
       receipt_id = id;
       body =
-          Act (record { signer = o.signer; signer_key = o.signer_key; gas_price = o.gas_price; outputs = [];
-          inputs = inputs; actions = [] });
+          Act (record {
+            signer = o.signer;
+            signer_key = o.signer_key;
+            gas_price = o.gas_price;
+            outputs = [];
+            inputs = inputs;
+            actions = [];
+          });
     }
 
 abbrev pub body_with_output : DataReceiver → Body → Body

@@ -35,8 +35,14 @@ asked x =
       receiver = x.current;
       receipt_id = next_id x;
       body =
-          Act (record { signer = x.signer; signer_key = x.signer_key; gas_price = x.gas_price; outputs = [];
-          inputs = []; actions = [] });
+          Act (record {
+            signer = x.signer;
+            signer_key = x.signer_key;
+            gas_price = x.gas_price;
+            outputs = [];
+            inputs = [];
+            actions = [];
+          });
     }
 
 -- the gas that this receipt is promised
@@ -45,13 +51,25 @@ asked_gas c = prepaid_gas c []
 
 abbrev pub returning : ℕ → CallContext → CallEnd
 returning burnt x =
-    record { burnt = min burnt x.gas; promised = 0; returned = Value (codes "v"); made = [];
-    next_ordinal = x.next_ordinal; logs = codes "x" ∷ [] }
+    record {
+      burnt = min burnt x.gas;
+      promised = 0;
+      returned = Value (codes "v");
+      made = [];
+      next_ordinal = x.next_ordinal;
+      logs = codes "x" ∷ [];
+    }
 
 abbrev pub asking : Config → ℕ → CallContext → CallEnd
 asking c burnt x =
-    record { burnt = min burnt (x.gas - asked_gas c); promised = asked_gas c; returned = Promise (next_id x);
-    made = asked x ∷ []; next_ordinal = x.next_ordinal + 1; logs = [] }
+    record {
+      burnt = min burnt (x.gas - asked_gas c);
+      promised = asked_gas c;
+      returned = Promise (next_id x);
+      made = asked x ∷ [];
+      next_ordinal = x.next_ordinal + 1;
+      logs = [];
+    }
 
 abbrev pub asks : Config → ℕ → World → CallContext → Called
 asks c burnt w x = cond (nat_le (asked_gas c) x.gas) (Ended (asking c burnt x) w) (Stopped 17 0 x.gas)
@@ -152,8 +170,12 @@ burning_law c burnt = record {
       λ w x end after can e. call_ended c burnt w x (bytes_eq x.method (codes "trap"))
       (bytes_eq x.method (codes "ask")) end after e;
   stopped =
-      λ w x kind part b can e. omega (arith, ap burnt_of e, call_burns c burnt w x (bytes_eq x.method (codes "trap"))
-      (bytes_eq x.method (codes "ask")));
+      λ w x kind part b can e. omega (
+        arith,
+        ap burnt_of e,
+        call_burns c burnt w x (bytes_eq x.method (codes "trap"))
+            (bytes_eq x.method (codes "ask")),
+      );
 }
 
 -- ---- they leave the world, and look at nothing of it
@@ -165,10 +187,10 @@ module _ (c : Config) (burnt : ℕ) (w v : World) (x : CallContext) where
 
   call_there : (trap ask : Bool)
       → cond trap (Stopped 15 1 (min burnt x.gas))
-          (cond ask (asks c burnt (over (one_account x.current) w v) x)
-          (Ended (returning burnt x) (over (one_account x.current) w v)))
+      (cond ask (asks c burnt (over (one_account x.current) w v) x)
+      (Ended (returning burnt x) (over (one_account x.current) w v)))
       ≡ over_called (one_account x.current) v (cond trap (Stopped 15 1 (min burnt x.gas))
-          (cond ask (asks c burnt w x) (Ended (returning burnt x) w)))
+      (cond ask (asks c burnt w x) (Ended (returning burnt x) w)))
   call_there true ask = refl
   call_there false true = asks_there (nat_le (asked_gas c) x.gas)
   call_there false false = refl

@@ -27,7 +27,7 @@ pub call_permission_law : IsRead call_permission_at call_permission_bytes IsCall
 unfolding call_permission_at
 call_permission_law = mapped_law call_permission_of call_fields_of (λ _. refl) (λ _. refl) _ _ _
     (pair_law _ _ _ _ _ _ (option_law _ _ _ (nat_law record_fault 16))
-        (pair_law _ _ _ _ _ _ (string_law record_fault) (list_law record_fault _ _ _ (string_law record_fault))))
+    (pair_law _ _ _ _ _ _ (string_law record_fault) (list_law record_fault _ _ _ (string_law record_fault))))
 
 -- ---- what a key may do
 

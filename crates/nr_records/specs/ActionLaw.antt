@@ -74,11 +74,11 @@ arms at (suc (suc (suc zero))) s p fits e = mapped_case (λ deposit. Transfer de
 arms at (suc (suc (suc (suc zero)))) s p fits e = absurd cc
 arms at (suc (suc (suc (suc (suc zero))))) s p fits e =
     mapped_case add_key_of (pair key_at access_key_at) add_key_bytes IsAddKey add_key_law (ActionArm 5 s) s p fits
-        (λ x t ok takes. record { ordinal = refl; fits = ok; takes = takes }) e
+    (λ x t ok takes. record { ordinal = refl; fits = ok; takes = takes }) e
 arms at (suc (suc (suc (suc (suc (suc zero)))))) s p fits e = mapped_case (λ public_key. DeleteKey public_key) key_at key_bytes IsKey key_law (ActionArm 6 s) s p fits (λ x t ok takes. record { ordinal = refl; fits = ok; takes = takes }) e
 arms at (suc (suc (suc (suc (suc (suc (suc zero))))))) s p fits e =
     mapped_case (λ beneficiary. DeleteAccount beneficiary) account_id_at counted_bytes IsId id_law
-        (ActionArm 7 s) s p fits (λ x t ok takes. record { ordinal = refl; fits = ok; takes = takes }) e
+    (ActionArm 7 s) s p fits (λ x t ok takes. record { ordinal = refl; fits = ok; takes = takes }) e
 arms at (suc (suc (suc (suc (suc (suc (suc (suc b)))))))) s p fits e = absurd cc
 
 again : (at : ℕ) (v : Action) (here : ℕ) (rest : List ℕ) → IsAction v → action_body at (ordinal v) (before (inner v) here rest) ≡ Ok (v, behind (inner v) here rest)

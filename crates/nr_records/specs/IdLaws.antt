@@ -49,7 +49,7 @@ id_law =
     IsRead-where account_id_at counted_bytes (Passes IsString is_id) IsId (λ id fits. none_is (id_fault id) fits.1)
     is_text
     (IsRead-along account_id_at (tested is_id BadAccountId string_at) counted_bytes (Passes IsString is_id)
-        (λ s. id_read_is s (string_at s))
+    (λ s. id_read_is s (string_at s))
     (tested_law is_id BadAccountId string_at counted_bytes IsString (string_law record_fault)))
 
 -- ---- hashes

@@ -25,7 +25,7 @@ arms {X} r a P law at zero s p fits e =
     subst (IsArm ordinal (inner a) (IsOption P) 0 s) (ok_is made p e) (record { ordinal = refl; fits = tt; takes = record { left = refl; at = omega arith; bytes = fits } })
 arms {X} r a P law at (suc zero) s p fits e =
     mapped_case (λ (x : X). Some x) r a P law (IsArm ordinal (inner a) (IsOption P) 1 s) s p fits
-        (λ x t ok takes. record { ordinal = refl; fits = ok; takes = takes }) e
+    (λ x t ok takes. record { ordinal = refl; fits = ok; takes = takes }) e
 arms r a P law at (suc (suc b)) s p fits e = absurd cc
 
 again : {X : Type 0} (r : Input → Read X) (a : X → List ℕ) (P : X → Type 0) → IsRead r a P → (at : ℕ) (v : Option X) (here : ℕ) (rest : List ℕ) → IsOption P v

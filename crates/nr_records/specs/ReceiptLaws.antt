@@ -56,8 +56,8 @@ pub action_receipt_law : IsRead action_receipt_at action_receipt_bytes IsActionR
 unfolding action_receipt_at
 action_receipt_law = mapped_law action_receipt_of action_fields_of (λ _. refl) (λ _. refl) _ _ _
     (pair_law _ _ _ _ _ _ id_law (pair_law _ _ _ _ _ _ key_law
-        (pair_law _ _ _ _ _ _ (nat_law record_fault 16)
-        (pair_law _ _ _ _ _ _ (list_law record_fault _ _ _ data_receiver_law)
+    (pair_law _ _ _ _ _ _ (nat_law record_fault 16)
+    (pair_law _ _ _ _ _ _ (list_law record_fault _ _ _ data_receiver_law)
     (pair_law _ _ _ _ _ _ (list_law record_fault _ _ _ hash_law) (list_law record_fault _ _ _ action_law))))))
 
 -- ---- what a receipt is of

@@ -54,8 +54,8 @@ data_receipt_at = mapped data_receipt_of (pair hash_at (option_at blob_at))
 abbrev pub action_receipt_bytes : ActionReceipt → List ℕ
 action_receipt_bytes a =
     counted_bytes a.signer ++ (key_bytes a.signer_key
-        ++ (little 16 a.gas_price ++ (list data_receiver_bytes a.outputs
-        ++ (list hash_bytes a.inputs ++ list action_bytes a.actions))))
+    ++ (little 16 a.gas_price ++ (list data_receiver_bytes a.outputs
+    ++ (list hash_bytes a.inputs ++ list action_bytes a.actions))))
 
 abbrev pub IsActionReceipt : ActionReceipt → Type 0
 IsActionReceipt a =
@@ -67,8 +67,14 @@ ActionFields = List ℕ × (PublicKey × (ℕ × (List DataReceiver × (List Has
 
 abbrev pub action_receipt_of : ActionFields → ActionReceipt
 action_receipt_of f =
-    record { signer = f.0; signer_key = f.1.0; gas_price = f.1.1.0; outputs = f.1.1.1.0; inputs = f.1.1.1.1.0;
-    actions = f.1.1.1.1.1 }
+    record {
+      signer = f.0;
+      signer_key = f.1.0;
+      gas_price = f.1.1.0;
+      outputs = f.1.1.1.0;
+      inputs = f.1.1.1.1.0;
+      actions = f.1.1.1.1.1;
+    }
 
 abbrev pub action_fields_at : Input → Read ActionFields
 action_fields_at =

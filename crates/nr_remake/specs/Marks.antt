@@ -61,7 +61,7 @@ marked_trie (suc depth) (p ∷ q ∷ ps) =
     let shared = front (p ∷ q ∷ ps) in
     let rest = behind (length shared) (p ∷ q ∷ ps) in
     Some (with_front shared (summary (branch_with (marked_field (value_here rest))
-        (map (λ n. marked_trie depth (under n rest)) sixteen))))
+    (map (λ n. marked_trie depth (under n rest)) sixteen))))
 
 -- what stands at a mark's path; a known trie is all that stands there
 pub record IsGroup (all : Paths) (p : List ℕ × List ℕ) (ps : Paths) : Type 0 where

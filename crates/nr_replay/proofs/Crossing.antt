@@ -13,16 +13,7 @@ use Rattle.nr_contract.specs.contracts.caller.ContractCaller as C
 use Rattle.nr_contract.specs.contracts.caller.ContractCaller.TheInside as D
 
 kept_send : IsSend (L.the_row B.the_row) → IsSend P.the_row
-kept_send bodies =
-    declared_send P.the_type (search (crosses, sendable) depth 40,
-    (view_send _ _ _ _ _ (declared_send V.the_type
-    (declared_send M.the_type (search (crosses, sendable) depth 40,
-    (search (crosses, sendable) depth 40, (search (crosses, sendable) depth 40,
-    (search (crosses, sendable) depth 40, (search (crosses, sendable) depth 40,
-    (search (crosses, sendable) depth 40, (search (crosses, sendable) depth 40,
-    (search (crosses, sendable) depth 40, (as_row_send (L.the_field B.the_row) bodies,
-    (search (crosses, sendable) depth 40, tt)))))))))), tt)),
-    (search (crosses, sendable) depth 40, (search (crosses, sendable) depth 40, tt))))
+kept_send bodies = declared_send P.the_type (search (crosses, sendable) depth 40, (view_send _ _ _ _ _ (declared_send V.the_type (declared_send M.the_type (search (crosses, sendable) depth 40, (search (crosses, sendable) depth 40, (search (crosses, sendable) depth 40, (search (crosses, sendable) depth 40, (search (crosses, sendable) depth 40, (search (crosses, sendable) depth 40, (search (crosses, sendable) depth 40, (search (crosses, sendable) depth 40, (as_row_send (L.the_field B.the_row) bodies, (search (crosses, sendable) depth 40, tt)))))))))), tt)), (search (crosses, sendable) depth 40, (search (crosses, sendable) depth 40, tt))))
 
 modules_send : IsSend (L.the_row B.the_row) → IsSend K.the_row
 modules_send bodies = search (kept_send, crosses, sendable) depth 40

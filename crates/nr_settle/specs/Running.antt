@@ -22,4 +22,4 @@ ChainSerial P = Serial P Kept Working (List Receipt) ChunkResult
 abbrev pub HoldsWhileRunning : {P : Type 0} → ChainSerial P → (P → Chain) → Type 0
 HoldsWhileRunning {P} run chain_of = (s : State (Option (List Receipt)) (Note (ChainSerial P))) (ps : List Position)
     → IsChain (chain_of run.0) → ExchangeRule run (serial_plan (λ p. rules_of (chain_of p)) run) s
-        → AreShown (rules_of (chain_of run.0)) s.views ps → HoldsAt (chain_of run.0) ps
+    → AreShown (rules_of (chain_of run.0)) s.views ps → HoldsAt (chain_of run.0) ps

@@ -78,7 +78,7 @@ with_postponed_at k at n r = record k { missing = insert k.missing at n; postpon
 abbrev pub more_postponed : Columns → Receipt → Columns
 more_postponed k r =
     with_postponed_at (all_awaited k r.receiver r.receipt_id (inputs_of r.body)) (r.receiver, r.receipt_id.0)
-        (missing_inputs (world_in k) r) r
+    (missing_inputs (world_in k) r) r
 
 -- no receipt under a key
 abbrev pub without_postponed_at : Columns → List ℕ × List ℕ → Columns

@@ -109,8 +109,10 @@ fn take_key<S: Store>(
 
 fn take_owned<S: Store>(columns: &mut Columns<S>, id: &AccountId) -> Result<(), AllocError>
     ensures ok { OnOk result (columns.new ≡ with_columns columns.old
-        (record columns.old.columns { keys = without_owner columns.old.columns.keys id.now;
-        data_of = without_owner columns.old.columns.data_of id.now })) }
+        (record columns.old.columns {
+          keys = without_owner columns.old.columns.keys id.now;
+          data_of = without_owner columns.old.columns.data_of id.now;
+        })) }
     ensures marks { columns.new.marks ≡ columns.old.marks }
 {
     columns.remove_access_keys(id)?;
@@ -120,9 +122,12 @@ fn take_owned<S: Store>(columns: &mut Columns<S>, id: &AccountId) -> Result<(), 
 
 fn take_account<S: Store>(columns: &mut Columns<S>, id: &AccountId) -> Result<(), AllocError>
     ensures ok { OnOk result (columns.new ≡ with_columns columns.old
-        (record columns.old.columns { accounts = map.remove columns.old.columns.accounts id.now;
-        keys = without_owner columns.old.columns.keys id.now; code = map.remove columns.old.columns.code id.now;
-        data_of = without_owner columns.old.columns.data_of id.now })) }
+        (record columns.old.columns {
+          accounts = map.remove columns.old.columns.accounts id.now;
+          keys = without_owner columns.old.columns.keys id.now;
+          code = map.remove columns.old.columns.code id.now;
+          data_of = without_owner columns.old.columns.data_of id.now;
+        })) }
     ensures marks { columns.new.marks ≡ columns.old.marks }
 {
     take_owned(columns, id)?;

@@ -116,8 +116,10 @@ fn write_datum<S: Store>(
     owner: &Account,
 ) -> Result<(), AllocError>
     ensures ok { OnOk result (columns.new ≡ with_columns columns.old
-        (with_owner (record columns.old.columns { data_of = map.insert columns.old.columns.data_of
-        (id.now, key.now) value.now }) id.now owner.now)) }
+        (with_owner (record columns.old.columns {
+          data_of = map.insert columns.old.columns.data_of
+              (id.now, key.now) value.now;
+        }) id.now owner.now)) }
     ensures fits { OnOk result (IsId id.now × IsAccount owner.now) }
     ensures marks { columns.new.marks ≡ columns.old.marks }
 {
@@ -134,8 +136,10 @@ fn take_datum<S: Store>(
 ) -> Result<bool, AllocError>
     ensures found { IfOk result (λ found. found ≡ is_some (map.get columns.old.columns.data_of (id.now, key.now))) }
     ensures ok { OnOk result (columns.new ≡ with_columns columns.old
-        (with_owner (record columns.old.columns { data_of = map.remove columns.old.columns.data_of
-        (id.now, key.now) }) id.now owner.now)) }
+        (with_owner (record columns.old.columns {
+          data_of = map.remove columns.old.columns.data_of
+              (id.now, key.now);
+        }) id.now owner.now)) }
     ensures fits { OnOk result (IsId id.now × IsAccount owner.now) }
     ensures marks { columns.new.marks ≡ columns.old.marks }
 {

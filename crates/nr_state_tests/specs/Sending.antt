@@ -38,8 +38,14 @@ sent_receipt x =
       receiver = x.predecessor;
       receipt_id = derived x.receipt_id x.height.0 x.next_ordinal;
       body =
-          Act (record { signer = x.signer; signer_key = x.signer_key; gas_price = x.gas_price; outputs = [];
-          inputs = []; actions = sent_actions });
+          Act (record {
+            signer = x.signer;
+            signer_key = x.signer_key;
+            gas_price = x.gas_price;
+            outputs = [];
+            inputs = [];
+            actions = sent_actions;
+          });
     }
 
 -- ---- the end of the call: its gas pays for executing the receipt
@@ -78,20 +84,30 @@ Keeps c w x (Stopped kind part burnt) = burnt ≤ x.gas
 module _ (c : Config) (w : World) (x : CallContext) where
   gas_of_made : made_gas c (sent_receipt x ∷ []) ≡ exec_gas c sent_actions
   gas_of_made =
-      omega (arith, sum_by-cons (λ (r : Receipt). body_gas c false r.body) (sent_receipt x) [],
-      sum_by-cons attached (Transfer 1) [])
+      omega (
+        arith,
+        sum_by-cons (λ (r : Receipt). body_gas c false r.body) (sent_receipt x) [],
+        sum_by-cons attached (Transfer 1) [],
+      )
 
   deposits_of_made : made_deposits (sent_receipt x ∷ []) ≡ 1
   deposits_of_made =
-      omega (arith, sum_by-cons (λ (r : Receipt). body_deposits r.body) (sent_receipt x) [],
-      sum_by-cons deposit_of (Transfer 1) [])
+      omega (
+        arith,
+        sum_by-cons (λ (r : Receipt). body_deposits r.body) (sent_receipt x) [],
+        sum_by-cons deposit_of (Transfer 1) [],
+      )
 
   module _ (account : Account) (is : get w.accounts x.current ≡ Some account) (some : 0 < account.amount) (gas : exec_gas c sent_actions ≤ x.gas) where
     tokens_sent : world_tokens c w ≡ world_tokens c (with_account w x.current (with_less account)) + made_deposits
         (sent_receipt x ∷ [])
     tokens_sent =
-        omega (arith, (moves_tokens c w).account_changed x.current account (with_less account) is, deposits_of_made,
-        some)
+        omega (
+          arith,
+          (moves_tokens c w).account_changed x.current account (with_less account) is,
+          deposits_of_made,
+          some,
+        )
 
     sends : IsEnd c w x (sent_end c x) (with_account w x.current (with_less account))
     sends = record {
@@ -109,7 +125,7 @@ module _ (c : Config) (w : World) (x : CallContext) where
   keeps_for : (account : Account) → get w.accounts x.current ≡ Some account → (a b : Bool) → nat_lt 0 account.amount
       ≡ a → nat_le (exec_gas c sent_actions) x.gas ≡ b
       → Keeps c w x (cond (cond a b false) (Ended (sent_end c x) (with_account w x.current (with_less account)))
-          (Stopped 14 0 0))
+      (Stopped 14 0 0))
   keeps_for account is true true some gas = sends account is (ltb-true _ _ some) (leb-true _ _ gas)
   keeps_for account is true false some gas = omega arith
   keeps_for account is false b some gas = omega arith
@@ -132,12 +148,12 @@ sent_law c = record {
 module _ (c : Config) (w v : World) (x : CallContext) where
   sent_where : (b : Bool) (account : Account)
       → cond b (Ended (sent_end c x) (with_account (over (one_account x.current) w v) x.current (with_less account)))
-          (Stopped 14 0 0)
+      (Stopped 14 0 0)
       ≡ over_called (one_account x.current) v (cond b
-          (Ended (sent_end c x) (with_account w x.current (with_less account))) (Stopped 14 0 0))
+      (Ended (sent_end c x) (with_account w x.current (with_less account))) (Stopped 14 0 0))
   sent_where true account =
       ap (Ended (sent_end c x)) (account_written (one_account x.current) v w x.current (with_less account)
-          (itself x.current))
+      (itself x.current))
   sent_where false account = refl
 
   sent_there : (o : Option Account) → sent_by c (over (one_account x.current) w v) x o
@@ -149,6 +165,6 @@ pub sent_local : (c : Config) → IsLocal (sent c)
 sent_local c = record {
   alone = λ w v x.
       ap (sent_by c (over (one_account x.current) w v) x)
-          (seen (one_account x.current) v w x.current (itself x.current))
+      (seen (one_account x.current) v w x.current (itself x.current))
       ∙ sent_there c w v x (get w.accounts x.current);
 }

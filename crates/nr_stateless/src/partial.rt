@@ -109,8 +109,7 @@ impl Partial {
         ensures exact { IfOk result (λ hash. hash ≡ remade self new.now) }
         // Of each map that was walked: it is that of the map with its searched entries replaced by the new ones.
         ensures replaced { IfOk result (λ hash. (accounts : Items (Items ℕ)) (m : Contents) → HasBytes m
-            → IsPart accounts m self → AreNew accounts new.now → hash ≡ (root_of (replaced accounts m new.now)).hash)
-            }
+            → IsPart accounts m self → AreNew accounts new.now → hash ≡ (root_of (replaced accounts m new.now)).hash) }
         // It is that of each map that differs from such a one in the searched entries alone, which are the new ones.
         ensures changed { IfOk result (λ hash. (accounts : Items (Items ℕ)) (m n : Contents) → IsPart accounts m self
             → IsReplaced accounts m n new.now → hash ≡ (root_of n).hash) }
@@ -123,8 +122,7 @@ impl Partial {
     fn root_with(self, new: &List<Entry>) -> Result<Hash32, AllocError>
         ensures exact { IfOk result (λ hash. hash ≡ remade self new.now) }
         ensures changed { IfOk result (λ hash. (searched : Items OneSearched) (m n : Contents)
-            → IsKept searched (paths (map.entries m)) self → IsChanged searched m n new.now → hash ≡ (root_of n).hash)
-            }
+            → IsKept searched (paths (map.entries m)) self → IsChanged searched m n new.now → hash ≡ (root_of n).hash) }
     {
         let hash = remade_root(self.alloc, &self.kept, new)?;
         Ok(hash)

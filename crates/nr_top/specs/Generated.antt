@@ -32,4 +32,4 @@ generated_text start shards blocks =
     let x = generated_chain start shards blocks in
     let r = rules_of x in
     first_lines start shards blocks (count_to r.shards (report_at r (ending r)) r.heights)
-        (digest (course_text (one_leg x))) ++ totals_text (totals_at x (ending r))
+    (digest (course_text (one_leg x))) ++ totals_text (totals_at x (ending r))

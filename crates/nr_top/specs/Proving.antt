@@ -27,7 +27,7 @@ use Rattle.nr_words.specs.declared.words.ChunkItem.{ChunkItem}
 abbrev pub roots_line : ChunkResult → List ℕ
 roots_line y =
     line (codes "roots" ∷ decimal y.height.0 ∷ decimal y.shard.0 ∷ hash_word (root_of y Outcome)
-        ∷ hash_word (root_of y Receipt) ∷ [])
+    ∷ hash_word (root_of y Receipt) ∷ [])
 
 abbrev pub roots_told : Option ChunkResult → List ℕ
 roots_told None = []

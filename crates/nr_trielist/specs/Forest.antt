@@ -51,7 +51,7 @@ forest (suc depth) place (p ∷ q ∷ ps) beside =
     let node = branch (value_here rest) (map (λ n. trie depth (under n rest)) sixteen) in
     let here = place ++ shared in
     fronted place shared (summary node) (stood here node (entry_here here (value_here rest)))
-        (rows (λ n others. forest depth (here ++ n ∷ []) (under n rest) others) sixteen) beside
+    (rows (λ n others. forest depth (here ++ n ∷ []) (under n rest) others) sixteen) beside
 
 -- the nodes of the trie of entries, whose keys are of bytes
 unfoldable pub forest_of : List (List ℕ × List ℕ) → Forest

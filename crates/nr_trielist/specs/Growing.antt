@@ -21,7 +21,7 @@ nodes_at (suc depth) (p ∷ q ∷ ps) =
     let shared = front (p ∷ q ∷ ps) in
     let rest = behind (length shared) (p ∷ q ∷ ps) in
     head_nodes shared (branch (value_here rest) (map (λ n. trie depth (under n rest)) sixteen))
-        ++ flat_map (λ n. nodes_at depth (under n rest)) sixteen
+    ++ flat_map (λ n. nodes_at depth (under n rest)) sixteen
 
 -- all nodes of the trie of the keys
 unfoldable pub all_nodes : Paths → List Node

@@ -127,4 +127,4 @@ pub record Slides (nodes : List Shape) (marks : Names) (now : List Shape) (names
 abbrev pub SlidesOn : List Shape → List Shape → Names → Names → ℕ → ℕ → ℕ → Type 0
 SlidesOn old new before after id next result =
     (nodes : List Shape) (marks : Names) → Sound nodes → length marks ≡ length nodes → id < length nodes
-        → Slides nodes marks old before id next → Slides nodes marks new after (id + 1) result
+    → Slides nodes marks old before id next → Slides nodes marks new after (id + 1) result

@@ -126,8 +126,10 @@ fn with_front<L: Ledger>(
 
 // A value as a branch has it, and its memory usage.
 fn value_of(value: Option<&[u8]>) -> Result<(Option<(u32, Hash32)>, u64), AllocError>
-    ensures { IfOk result (λ v. v ≡ (value_field (option_copied value.entry),
-        value_usage (option_copied value.entry))) }
+    ensures { IfOk result (λ v. v ≡ (
+      value_field (option_copied value.entry),
+      value_usage (option_copied value.entry),
+    )) }
 {
     match value {
         None => Ok((None, 0)),

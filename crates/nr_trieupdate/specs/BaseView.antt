@@ -19,7 +19,7 @@ contents_code = code (coded_list coded_ℕ) (coded_list coded_ℕ)
 abbrev pub base_code : Coded BaseView
 base_code =
     code_by (Contents × (List Contents × (ℕ × (ℕ × ℕ))))
-        (coded× contents_code (coded× (coded_list contents_code) (coded× coded_ℕ (coded× coded_ℕ coded_ℕ))))
+    (coded× contents_code (coded× (coded_list contents_code) (coded× coded_ℕ (coded× coded_ℕ coded_ℕ))))
     (λ v. (v.contents, (v.marks, (v.spare, (v.unhashed, v.saved)))))
     (λ p. record { contents = p.0; marks = p.1.0; spare = p.1.1.0; unhashed = p.1.1.1.0; saved = p.1.1.1.1 })
-        (λ _. refl)
+    (λ _. refl)

@@ -74,8 +74,10 @@ abbrev pub payment_refusals : Config → Account → Permission → ℕ → ℕ 
 payment_refusals c account permission gas whole =
     (is_below (allowance_of permission) gas, Allowance (unwrap_or (allowance_of permission) 0) gas)
     ∷ (nat_lt account.amount whole, Balance account.amount whole)
-    ∷ (nat_lt (left_with account whole) (storage_stake c account),
-        StorageStake (left_with account whole) (storage_stake c account))
+    ∷ (
+      nat_lt (left_with account whole) (storage_stake c account),
+      StorageStake (left_with account whole) (storage_stake c account),
+    )
     ∷ []
 
 -- ---- all of them in the order in which they are tried, each with its test
@@ -84,7 +86,7 @@ refusals c tx price account key =
     use_refusals c tx key
     ++ key_refusals key.permission tx
     ++ (is_too_dear c tx price, CostOverflow) ∷ payment_refusals c account key.permission (gas_cost c tx price)
-        (whole_cost c tx price)
+    (whole_cost c tx price)
 
 abbrev pub first_refusal : List (Bool × TxFault) → Option TxFault
 first_refusal [] = None

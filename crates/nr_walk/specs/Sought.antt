@@ -9,7 +9,7 @@ use Rattle.nr_walk.specs.Searched.{looks, finds}
 abbrev pub Decides : List Searched → List ℕ → List Searched → Type 0
 Decides all place some =
     (k : List ℕ) → (looks some (place ++ k) ≡ looks all (place ++ k))
-        × (finds some (place ++ k) ≡ finds all (place ++ k))
+    × (finds some (place ++ k) ≡ finds all (place ++ k))
 
 -- all below the place is searched
 abbrev pub covers : List ℕ → Searched → Bool

@@ -53,7 +53,7 @@ ended texts searched place None = Ok None
 ended texts searched place (Some ending) =
     let path = place ++ ending.step in
     cond (finds searched path) (found_at texts path ending)
-        (Ok (Some (Beside (kept path (Value ending.length ending.hash)))))
+    (Ok (Some (Beside (kept path (Value ending.length ending.hash)))))
 
 -- a node that is looked at for itself: its value, where its key is searched, and then all its children
 abbrev pub entered : Contents → List Searched → List ℕ → Node → Result Visit WalkFault

@@ -199,13 +199,13 @@ IsSequence depth text (Then p rest) stands =
     × IsSequence depth y rest stands
 IsSequence depth text (Block ty body rest) stands =
     (b : ℕ) × (t x y : List ℕ) × (text ≡ b ∷ (t ++ (x ++ y))) × (op_of b ≡ op.Block) × (depth < 256) × block_type ty t
-        × IsSequence (depth + 1) x body false × IsSequence depth y rest stands
+    × IsSequence (depth + 1) x body false × IsSequence depth y rest stands
 IsSequence depth text (Loop ty body rest) stands =
     (b : ℕ) × (t x y : List ℕ) × (text ≡ b ∷ (t ++ (x ++ y))) × (op_of b ≡ op.Loop) × (depth < 256) × block_type ty t
-        × IsSequence (depth + 1) x body false × IsSequence depth y rest stands
+    × IsSequence (depth + 1) x body false × IsSequence depth y rest stands
 IsSequence depth text (Choice ty one other rest) stands =
     (b : ℕ) × (t x z y : List ℕ) × (text ≡ b ∷ (t ++ (x ++ (z ++ y)))) × (op_of b ≡ op.If) × (depth < 256)
-        × block_type ty t × (split : Bool) × IsSequence (depth + 1) x one split
+    × block_type ty t × (split : Bool) × IsSequence (depth + 1) x one split
     × IsOther split (λ text. IsSequence (depth + 1) text other false) other z × IsSequence depth y rest stands
 
 abbrev pub expression : Code → Language
@@ -283,7 +283,7 @@ front m = section 1 (list func_type) m.types ▸ section 2 (list import) m.impor
 abbrev pub middle : Module → Language
 middle m =
     section 4 (list table) m.tables ▸ section 5 (list limits) m.memories ▸ section 6 (list global) m.globals ▸ section
-        7 (list export) m.exports
+    7 (list export) m.exports
     ▸ section 9 (list element) m.elements
 
 abbrev pub back : Module → Language

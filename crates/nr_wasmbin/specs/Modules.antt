@@ -116,7 +116,7 @@ unfoldable pub middle_at : Input → Read Middle
 middle_at =
     mapped middle_of
     (pair (section_at 4 (list_at table_at)) (pair (section_at 5 (list_at limits_at))
-        (pair (section_at 6 (list_at global_at))
+    (pair (section_at 6 (list_at global_at))
     (pair (section_at 7 (list_at export_at)) (section_at 9 (list_at element_at))))))
 
 -- the code and the data, and the end

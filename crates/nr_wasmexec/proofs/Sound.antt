@@ -431,10 +431,10 @@ module _ {S : Type 0} (prog : Program) where
       (whole, stands prog (record { values = []; code = inner; locals = own; contexts = InFrame values n locals code ∷ around }) f.0 [] [] f.2 refl f.6 (f.3, f.4, inr (c, bs, f.1, body, f.5, f.7, r)))
   led_fits m host_law s whole c bs locals code around (Asks name args values) body sized r f =
       asked_fits (behind_call s (call_of m s name args).store)
-          (record { globals = whole.globals; table = whole.table }) (host_type name).result
-          (call_of m s name args).answer (record { values = values; code = code; locals = locals; contexts = around })
-          c bs f.0 (host_law.result (record { host = s.host; memory = s.guest.memory.bytes }) name args) body f.1 f.2
-          r
+      (record { globals = whole.globals; table = whole.table }) (host_type name).result
+      (call_of m s name args).answer (record { values = values; code = code; locals = locals; contexts = around })
+      c bs f.0 (host_law.result (record { host = s.host; memory = s.guest.memory.bytes }) name args) body f.1 f.2
+      r
   led_fits m host_law s whole c bs locals code around (Branches depth values) body sized r f =
       branch_fits s whole c body around bs depth values locals f.0 f.1 sized f.2 f.3 r
   led_fits m host_law s whole c bs locals code around (Returns values) body sized r f = return_fits s whole c around bs values locals f.0 f.1 r

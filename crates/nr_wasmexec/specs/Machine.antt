@@ -15,8 +15,13 @@ use Rattle.nr_wasmexec.specs.Place.{Place, whole_of}
 
 abbrev pub rules_of : {S : Type 0} → HostMeaning S → Program → Limits → Rules S
 rules_of m program limits =
-    record { host = m; program = program; cost = limits.cost; max_frames = limits.max_frames;
-    max_values = limits.max_values }
+    record {
+      host = m;
+      program = program;
+      cost = limits.cost;
+      max_frames = limits.max_frames;
+      max_values = limits.max_values;
+    }
 
 abbrev pub runtime : {S : Type 0} → S → Guest → Runtime S
 runtime host guest = record { host = host; guest = guest }

@@ -83,7 +83,7 @@ guest_with globals most (Some table) (Some bytes) =
 abbrev pub guest_over : List ℕ → MemoryView → Module → Option Guest
 guest_over globals memory m =
     guest_with globals memory.most (all_into (element_into globals) (replicate (entries_of m.tables) None) m.elements)
-        (all_into (segment_into globals) memory.bytes m.segments)
+    (all_into (segment_into globals) memory.bytes m.segments)
 
 -- for a configuration that allows so many pages
 abbrev pub first_guest : ℕ → Module → Option Guest

@@ -33,7 +33,7 @@ whole_of p = plugged p.contexts p.locals (Plain p.values p.code)
 abbrev pub onward : ℕ → List ℕ → List ℕ → List ℕ → Code → List Context → Option Place
 onward n inner values locals code around =
     if nat_lt (length inner) n then None else Some
-        (record { values = take n inner ++ values; code = code; locals = locals; contexts = around })
+    (record { values = take n inner ++ values; code = code; locals = locals; contexts = around })
 
 -- out of so many labels and one more
 abbrev pub branched : ℕ → List ℕ → List ℕ → List Context → Option Place
@@ -52,8 +52,12 @@ returned inner locals (InFrame values n outer code ∷ around) = onward n inner 
 -- the last step of both, where so many of the operands are of the innermost sequence
 abbrev pub landing : ℕ → ℕ → List ℕ → List ℕ → List ℕ → Code → List Context → Option Place
 landing have n inner values locals code around =
-    if nat_lt have n then None else Some (record { values = take n inner ++ values; code = code; locals = locals;
-        contexts = around })
+    if nat_lt have n then None else Some (record {
+      values = take n inner ++ values;
+      code = code;
+      locals = locals;
+      contexts = around;
+    })
 
 abbrev pub landed : ℕ → List ℕ → List ℕ → List Context → Option Place
 landed have inner locals [] = None
@@ -126,7 +130,7 @@ asked s (Fails kind) p = Halts s (HostFault kind)
 abbrev pub led : {S : Type 0} → HostMeaning S → Runtime S → List ℕ → Code → List Context → Effect → Led S
 led m s locals code around (Asks name args values) =
     asked (behind_call s (call_of m s name args).store) (call_of m s name args).answer
-        (record { values = values; code = code; locals = locals; contexts = around })
+    (record { values = values; code = code; locals = locals; contexts = around })
 led m s locals code around (Writes guest values) =
     Leads (record s { guest = guest }) (record { values = values; code = code; locals = locals; contexts = around })
 led m s locals code around e = with_store s (moved locals code around e)

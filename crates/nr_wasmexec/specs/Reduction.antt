@@ -313,7 +313,7 @@ abbrev pub stepped : {S : Type 0} → Rules S → Config S → Step S
 stepped w c =
     if has_instr c.seq
     then (if nat_lt (w.host.gas c.store.host) w.cost then Stopping (paid w c.store) GasExceeded else reduce w
-        (paid w c.store) c.locals c.seq)
+    (paid w c.store) c.locals c.seq)
     else reduce w c.store c.locals c.seq
 
 -- no rule fits, or a branch out of everything

@@ -44,17 +44,17 @@ Round p c bs own [] = ⊥
 Round p c [] own (InLabel values n target code ∷ around) = ⊥
 Round p c (b ∷ bs) own (InLabel values n target code ∷ around) =
     (n ≡ length (types b.label)) × (target ≡ b.target) × (code ≡ b.after) × (length values ≡ length b.below)
-        × Round p c bs own around
+    × Round p c bs own around
 Round p c (b ∷ bs) own (InFrame values n outer code ∷ around) = ⊥
 Round p c [] own (InFrame values n outer code ∷ around) =
     (n ≡ length (types c.result)) × (length own ≡ length c.locals)
     × (((around ≡ []) × (code ≡ End))
     ⊎ ((d : Context) × (bs : List Open) × (ts : List ValType) × IsBody p d × (length values ≡ length ts)
-        × GoesOn d bs code (types c.result ++ ts) × Round p d bs outer around))
+    × GoesOn d bs code (types c.result ++ ts) × Round p d bs outer around))
 
 -- Where a run of valid code stands: at its end, or where the code goes on with as many operands as there are.
 abbrev pub Stands : Program → Place → Type 0
 Stands p at =
     ((at.contexts ≡ []) × (at.code ≡ End))
     ⊎ ((c : Context) × (bs : List Open) × (ts : List ValType) × IsBody p c × (length at.values ≡ length ts)
-        × GoesOn c bs at.code ts × Round p c bs at.locals at.contexts)
+    × GoesOn c bs at.code ts × Round p c bs at.locals at.contexts)

@@ -16,10 +16,10 @@ abbrev pub contexts_of : List ℕ → List ℕ → List Control → List Context
 contexts_of operands locals [] = []
 contexts_of operands locals (Label height arity again at ∷ cs) =
     InLabel (reverse (drop height operands)) arity (target_at again (code_of at.now)) (after (code_of at.now))
-        ∷ contexts_of (take height operands) locals cs
+    ∷ contexts_of (take height operands) locals cs
 contexts_of operands locals (Frame height base arity at ∷ cs) =
     InFrame (reverse (drop height operands)) arity (drop base locals) (after (code_of at.now))
-        ∷ contexts_of (take height operands) (take base locals) cs
+    ∷ contexts_of (take height operands) (take base locals) cs
 
 abbrev pub place_of : List ℕ → List ℕ → ℕ → ℕ → Code → List Control → Place
 place_of operands locals height base code controls =

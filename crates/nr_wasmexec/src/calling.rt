@@ -28,8 +28,7 @@ pub fn call<'a, H: Host>(
     f: u32,
 ) -> Result<(), Stop>
     ensures goes { Ends result (H.state host.new) guest.new thread.new
-        (led_to H.meaning (H.state host.old) guest.old thread.old (called thread.old.values (func_at program.now f)))
-        }
+        (led_to H.meaning (H.state host.old) guest.old thread.old (called thread.old.values (func_at program.now f))) }
     ensures shape { SameShape guest.old guest.new }
     ensures keeps { H.keeps host.old host.new }
 {

@@ -45,8 +45,12 @@ impl Model for Machine {
 
     ghost Value = { MachineView };
 
-    ghost coded = { Prim.hlevel (codes, program_type.the_row.coded, limits_type.the_row.coded,
-        guest_type.the_row.coded) };
+    ghost coded = { Prim.hlevel (
+      codes,
+      program_type.the_row.coded,
+      limits_type.the_row.coded,
+      guest_type.the_row.coded,
+    ) };
 
     ghost view = { λ m. record { program = m.program; limits = m.limits; guest = m.guest } };
 

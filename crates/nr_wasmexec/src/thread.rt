@@ -43,8 +43,7 @@ impl<'a> Model for Thread<'a> {
     ghost use Rattle.nr_wasmtypes.specs.Code.{code_of};
     ghost use Rattle.nr_wasmexec.specs.Thread.{place_of, IsThread};
 
-    ghost view = { λ t. place_of t.operands.items t.locals.items t.height t.base (code_of t.code.now) t.controls.items
-        };
+    ghost view = { λ t. place_of t.operands.items t.locals.items t.height t.base (code_of t.code.now) t.controls.items };
 
     ghost invariant = { λ t. IsThread t.operands.items t.locals.items t.height t.base t.controls.items t.frames };
 }
@@ -60,8 +59,12 @@ impl<'a> Thread<'a> {
         arity: usize,
         body: &'a [Instr],
     ) -> Result<Thread<'a>, AllocError>
-        ensures { IfOk result (λ t. t ≡ record { values = []; code = code_of body.now; locals = locals.items;
-            contexts = InFrame [] arity [] End ∷ [] }) }
+        ensures { IfOk result (λ t. t ≡ record {
+          values = [];
+          code = code_of body.now;
+          locals = locals.items;
+          contexts = InFrame [] arity [] End ∷ [];
+        }) }
     {
         let mut controls = Vec::new(alloc);
         controls.push(Control::Frame {
@@ -137,9 +140,13 @@ impl<'a> Thread<'a> {
 
     /// Enters a block whose instruction is the next one.
     pub fn enter(&mut self, arity: usize, again: bool, body: &'a [Instr]) -> Result<(), AllocError>
-        ensures { OnOk result (self.new ≡ record { values = []; code = code_of body.now; locals = self.old.locals;
-            contexts = InLabel self.old.values arity (target_at again self.old.code) (after self.old.code)
-            ∷ self.old.contexts }) }
+        ensures { OnOk result (self.new ≡ record {
+          values = [];
+          code = code_of body.now;
+          locals = self.old.locals;
+          contexts = InLabel self.old.values arity (target_at again self.old.code) (after self.old.code)
+              ∷ self.old.contexts;
+        }) }
     {
         let height = self.height;
         let at = self.code;
@@ -187,10 +194,13 @@ impl<'a> Thread<'a> {
         body: &'a [Instr],
     ) -> Result<(), AllocError>
         requires { params ≤ length self.old.values }
-        ensures { OnOk result (self.new ≡ record { values = []; code = code_of body.now;
-            locals = reverse (take params self.old.values) ++ replicate more 0;
-            contexts = InFrame (drop params self.old.values) arity self.old.locals (after self.old.code)
-            ∷ self.old.contexts }) }
+        ensures { OnOk result (self.new ≡ record {
+          values = [];
+          code = code_of body.now;
+          locals = reverse (take params self.old.values) ++ replicate more 0;
+          contexts = InFrame (drop params self.old.values) arity self.old.locals (after self.old.code)
+              ∷ self.old.contexts;
+        }) }
     {
         let control = Control::Frame {
             height: self.height,

@@ -156,7 +156,7 @@ abbrev pub element_asks : Module → List ℕ → ℕ → Element → List Deman
 element_asks m funcs n e =
     offset_asks m.globals n e.offset
     ++ (exists n (is_some (slice_get m.tables e.table))
-        ∷ exists n (list_all (λ f. is_some (slice_get funcs f)) e.funcs) ∷ [])
+    ∷ exists n (list_all (λ f. is_some (slice_get funcs f)) e.funcs) ∷ [])
 
 abbrev pub segment_asks : Module → ℕ → Segment → List Demand
 segment_asks m n s = offset_asks m.globals n s.offset ++ (exists n (is_some (slice_get m.memories s.memory)) ∷ [])

@@ -58,8 +58,12 @@ found_in found = (found.verb.now, values_in found.values)
 
 abbrev pub names_in : FileNames → Names
 names_in n =
-    record { config = n.config.now; genesis = n.genesis.now; blocks = n.blocks.now;
-    schedule = option_copied n.schedule }
+    record {
+      config = n.config.now;
+      genesis = n.genesis.now;
+      blocks = n.blocks.now;
+      schedule = option_copied n.schedule;
+    }
 
 -- the command that lent words are
 abbrev pub command_in : Words → Command

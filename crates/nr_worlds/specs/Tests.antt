@@ -71,7 +71,7 @@ is_lacking k r n = nat_lt 0 n && is_number n (get k.missing (r.receiver, r.recei
 unfoldable pub is_waiting : Columns → Receipt → Bool
 is_waiting k r =
     is_act r.body && not (repeats_input r) && is_lacking k r (missing_inputs (world_in k) r)
-        && are_awaited k r (inputs_of r.body)
+    && are_awaited k r (inputs_of r.body)
 
 abbrev pub inputs_count : List Receipt → ℕ
 inputs_count rs = sum_by (λ r. length (inputs_of r.body)) rs
@@ -130,7 +130,7 @@ tokens_of c accounts postponed delayed =
 abbrev pub are_bounded : Config → List Account → List Receipt → List Receipt → Bool
 are_bounded c accounts postponed delayed =
     list_all (is_bounded c) postponed && list_all (is_bounded c) delayed
-        && nat_le (tokens_of c accounts postponed delayed) (2 ^ 127)
+    && nat_le (tokens_of c accounts postponed delayed) (2 ^ 127)
 
 abbrev pub tokens_told : Config → Columns → Bool
 tokens_told c k = are_bounded c (values k.accounts) (values k.postponed) (delayed_in k)

@@ -51,9 +51,9 @@ check_instr-returns-in_err-next-in-Block-clause-gives t c =
 pub check_instr-returns-in_ok-give_result-in-Block-clause-gives : goal.check_instr-returns-in_ok-give_result-in-Block-clause-gives
 check_instr-returns-in_ok-give_result-in-Block-clause-gives t c = λ rest.
     ap (λ (k : Code). judged (context c.args.scope.now.module.now c.args.scope.now.funcs.now
-        c.args.scope.now.locals.now c.args.scope.now.result c.args.stacks.now.labels) c.args.place k
-        c.args.stacks.now.shape) (put_block_at c.args.instr.now c.in-Block.result_type c.in-Block.body
-        c.deref.result.now rest c.in-Block.is c.deref.ensures)
+    c.args.scope.now.locals.now c.args.scope.now.result c.args.stacks.now.labels) c.args.place k
+    c.args.stacks.now.shape) (put_block_at c.args.instr.now c.in-Block.result_type c.in-Block.body
+    c.deref.result.now rest c.in-Block.is c.deref.ensures)
     ∙ block_goes_on _ _ _ _ _ _ _ _ _ _ c.in_ok-inside.ensures.next c.in_ok-next-in-Block.ensures.gives c.in_ok-next-in-Block.ensures.next
     (c.in_ok-give_result-in-Block.ensures.shape ∙ ap (λ (v : Frames). give_all (types c.in-Block.result_type) v.shape) c.in_ok-next-in-Block.ensures.same)
 
@@ -66,18 +66,18 @@ check_instr-returns-in_err-next-in-Loop-clause-gives t c =
 pub check_instr-returns-in_ok-give_result-in-Loop-clause-gives : goal.check_instr-returns-in_ok-give_result-in-Loop-clause-gives
 check_instr-returns-in_ok-give_result-in-Loop-clause-gives t c = λ rest.
     ap (λ (k : Code). judged (context c.args.scope.now.module.now c.args.scope.now.funcs.now
-        c.args.scope.now.locals.now c.args.scope.now.result c.args.stacks.now.labels) c.args.place k
-        c.args.stacks.now.shape) (put_loop_at c.args.instr.now c.in-Loop.result_type c.in-Loop.body
-        c.deref-in-Loop.result.now rest c.in-Loop.is c.deref-in-Loop.ensures)
+    c.args.scope.now.locals.now c.args.scope.now.result c.args.stacks.now.labels) c.args.place k
+    c.args.stacks.now.shape) (put_loop_at c.args.instr.now c.in-Loop.result_type c.in-Loop.body
+    c.deref-in-Loop.result.now rest c.in-Loop.is c.deref-in-Loop.ensures)
     ∙ loop_goes_on _ _ _ _ _ _ _ _ _ _ c.in_ok-inside.ensures.next c.in_ok-next-in-Loop.ensures.gives c.in_ok-next-in-Loop.ensures.next
     (c.in_ok-give_result-in-Loop.ensures.shape ∙ ap (λ (v : Frames). give_all (types c.in-Loop.result_type) v.shape) c.in_ok-next-in-Loop.ensures.same)
 
 pub check_instr-returns-in-Err-take-clause-gives : goal.check_instr-returns-in-Err-take-clause-gives
 check_instr-returns-in-Err-take-clause-gives t c = λ other rest.
     ap (λ (k : Code). judged (context c.args.scope.now.module.now c.args.scope.now.funcs.now
-        c.args.scope.now.locals.now c.args.scope.now.result c.args.stacks.now.labels) c.args.place k
-        c.args.stacks.now.shape) (put_if_at c.args.instr.now c.in-If.result_type c.in-If.arms c.deref-arms.result.now
-        rest c.in-If.is c.deref-arms.ensures)
+    c.args.scope.now.locals.now c.args.scope.now.result c.args.stacks.now.labels) c.args.place k
+    c.args.stacks.now.shape) (put_if_at c.args.instr.now c.in-If.result_type c.in-If.arms c.deref-arms.result.now
+    rest c.in-If.is c.deref-arms.ensures)
     ∙ condition_stops _ _ _ _ _ _ _ _ (c.in-Err-take.ensures.leaves (not_memory c.args.place c.in-Err-take.refusal (λ e. other (c.at-in-Err-take.ensures ∙ e)))) ∙ sym (ap err c.at-in-Err-take.ensures)
 
 pub check_instr-returns-in_err-next-in-If-clause-gives : goal.check_instr-returns-in_err-next-in-If-clause-gives
@@ -103,9 +103,9 @@ check_instr-returns-in_ok-give_result-in-If-clause-gives t c = λ rest.
     let second = λ (labels : List Types?). ended (c.in_ok-next-in-If.next + count_of (code_of c.deref-arms.result.now.1.items)) c.in-If.result_type (judged (within c.in-If.result_type (context c.args.scope.now.module.now c.args.scope.now.funcs.now c.args.scope.now.locals.now c.args.scope.now.result labels)) c.in_ok-next-in-If.next (code_of c.deref-arms.result.now.1.items) fresh) in
     let around = ap (λ (v : Frames). v.labels) c.in_ok-next-in-If.ensures.same ∙ c.in_default-take.ensures.around.labels in
     ap (λ (k : Code). judged (context c.args.scope.now.module.now c.args.scope.now.funcs.now
-        c.args.scope.now.locals.now c.args.scope.now.result c.args.stacks.now.labels) c.args.place k
-        c.args.stacks.now.shape) (put_if_at c.args.instr.now c.in-If.result_type c.in-If.arms c.deref-arms.result.now
-        rest c.in-If.is c.deref-arms.ensures)
+    c.args.scope.now.locals.now c.args.scope.now.result c.args.stacks.now.labels) c.args.place k
+    c.args.stacks.now.shape) (put_if_at c.args.instr.now c.in-If.result_type c.in-If.arms c.deref-arms.result.now
+    rest c.in-If.is c.deref-arms.ensures)
     ∙ choice_goes_on _ _ _ _ _ _ _ _ _ _ _ _ _ _ c.in_ok-inside.ensures.next c.in_default-take.ensures.leaves (sym (ap first c.in_default-take.ensures.around.labels) ∙ c.in_ok-next-in-If.ensures.gives)
     c.in_ok-next-in-If.ensures.next (sym (ap second around) ∙ c.in_ok-next-in-If-2.ensures.gives) c.in_ok-next-in-If-2.ensures.next
     (c.in_ok-give_result-in-If.ensures.shape ∙ ap (λ (v : Frames). give_all (types c.in-If.result_type) v.shape) (c.in_ok-next-in-If-2.ensures.same ∙ c.in_ok-next-in-If.ensures.same))

@@ -32,9 +32,9 @@ returns-clause-top c =
     if_ok (λ (s : Summary). s ≡ with_front c.inner.result.now (summary c.in_ok-node.node)) (λ (s : Summary). Some s ≡ whole c.args.self.now.keys) c.fronted.result
     (λ s e.
     whole_closed c.self.inside.keys c.self.inside.rest c.deref.result.now c.inner.result.now
-        (summary c.in_ok-node.node) s c.self.invariant.many c.self.invariant.order c.self.invariant.rest
-        (c.deref.ensures.value ∙ made_here c.self.inside.rest c.self.inside.made.items c.self.invariant.made full)
-        (c.inner.ensures ∙ c.in_ok-shared.ensures.value) (ap summary c.in_ok-node.ensures) e
+    (summary c.in_ok-node.node) s c.self.invariant.many c.self.invariant.order c.self.invariant.rest
+    (c.deref.ensures.value ∙ made_here c.self.inside.rest c.self.inside.made.items c.self.invariant.made full)
+    (c.inner.ensures ∙ c.in_ok-shared.ensures.value) (ap summary c.in_ok-node.ensures) e
     ∙ ap (λ (b : Branching). whole b.keys) c.self.view_is)
     c.fronted.ensures.top
 

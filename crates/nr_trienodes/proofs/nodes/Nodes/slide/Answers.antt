@@ -15,8 +15,13 @@ returns-clause-named c =
     c.args.names.now c.loop-id.names c.loop-id.id c.loop-id.next c.self.invariant.sound
     (c.requires.long ∙ ap length (sym c.self.view_is))
     (subst (λ (v : List Shape). IsClosed v c.args.names.now 0) (sym c.self.view_is) c.requires.closed)
-    c.loop-id.invariant.slides (omega (arith, c.loop-id-test.false, c.loop-id.invariant.within, c.len-id-end.ensures,
-    shapes-length c.self.inside.nodes.items)) c.drop_behind.ensures)
+    c.loop-id.invariant.slides (omega (
+      arith,
+      c.loop-id-test.false,
+      c.loop-id.invariant.within,
+      c.len-id-end.ensures,
+      shapes-length c.self.inside.nodes.items,
+    )) c.drop_behind.ensures)
 
 pub invariant_of-self : goal.invariant_of-self
 invariant_of-self c = record {
@@ -26,8 +31,13 @@ invariant_of-self c = record {
       c.drop_behind.new.nodes.items c.args.names.now c.loop-id.names c.loop-id.id c.loop-id.next
       c.self.invariant.sound (c.requires.long ∙ ap length (sym c.self.view_is))
       (subst (λ (v : List Shape). IsClosed v c.args.names.now 0) (sym c.self.view_is) c.requires.closed)
-      c.loop-id.invariant.slides (omega (arith, c.loop-id-test.false, c.loop-id.invariant.within,
-      c.len-id-end.ensures, shapes-length c.self.inside.nodes.items)) c.drop_behind.ensures);
+      c.loop-id.invariant.slides (omega (
+        arith,
+        c.loop-id-test.false,
+        c.loop-id.invariant.within,
+        c.len-id-end.ensures,
+        shapes-length c.self.inside.nodes.items,
+      )) c.drop_behind.ensures);
   few = omega (arith, ap length c.drop_behind.ensures, length-take c.loop-id.next c.loop-id.self-inside.nodes.items, c.loop-id.invariant.slides.same, shapes-length c.loop-id.self-inside.nodes.items, shapes-length c.self.inside.nodes.items, c.self.invariant.few);
 }
 
