@@ -1,3 +1,4 @@
+-- The goals of `execution::try_actions` that no tactic closes.
 use Rattle.std.proofs.Common.{refl}
 use Rattle.nr_receipt.proofs.Concluding.{keeps, undoes}
 use Rattle.nr_receipt.proofs.Stepping.{can_begin}

@@ -1,3 +1,4 @@
+-- The goals of `queues::add_delayed` that no tactic closes.
 use Rattle.std.proofs.Common.{arith, ap}
 use Rattle.nr_state.specs.Changes.{with_delayed}
 use Rattle.nr_state.specs.Queues.{next_in, more_delayed}

@@ -1,3 +1,4 @@
+-- The goals of `putting::split` that no tactic closes.
 use Rattle.std.proofs.Common.{◌≡◌, ◌+◌, ◌<◌, ℕ, List, [], ◌∷◌, length, take, get_or, set, Option, Some, None, ap, sym, subst, ◌∙◌, arith}
 use Rattle.nr_trienodes.specs.Shape.{Shape, child, shape_at}
 use Rattle.nr_trienodes.specs.Tries.{stripped}

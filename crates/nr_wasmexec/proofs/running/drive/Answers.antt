@@ -1,3 +1,4 @@
+-- The goals of `running::drive` that no tactic closes.
 use Rattle.std.proofs.Common.{◌∙◌, ap, sym, refl, suc}
 use Rattle.nr_wasmexec.specs.Reduction.{Done, stepped}
 use Rattle.nr_wasmexec.specs.Machine.{rules_of, runtime, config_of, run_at}

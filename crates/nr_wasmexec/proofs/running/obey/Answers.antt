@@ -1,3 +1,4 @@
+-- The goals of `running::obey` that no tactic closes.
 use Rattle.std.proofs.Common.{ap, ◌∙◌}
 use Rattle.nr_wasmtypes.specs.Code.{begins}
 use Rattle.nr_wasmtypes.proofs.Levels.{begins_put}

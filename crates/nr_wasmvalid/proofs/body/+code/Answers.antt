@@ -1,3 +1,4 @@
+-- The goals of `body::code` that no tactic closes.
 use Rattle.std.proofs.Common.{◌≡◌, ◌+◌, List, Err, Result, sym, ap, ◌∙◌, arith, rules}
 use Rattle.std.proofs.lemmas.Result.{err_from_is_err_and}
 use Rattle.std.proofs.lemmas.List.{drop_all}

@@ -1,3 +1,4 @@
+-- The goals of `steps::keep_one` that no tactic closes.
 use Rattle.std.proofs.Common.{Some, ap, ◌∙◌, subst}
 use Rattle.nr_workers.specs.Taking.{Finds}
 use Rattle.nr_workers.specs.declared.inbox.Found.TheVariants.{Passed}

@@ -1,3 +1,4 @@
+-- The goals of `steps::open_next` that no tactic closes.
 use Rattle.std.proofs.Common.{◌≡◌, ◌+◌, sym, subst}
 use Rattle.nr_workers.proofs.Moves.{opens, may_open}
 use Rattle.nr_workers.proofs.steps.open_next.Goals as goal

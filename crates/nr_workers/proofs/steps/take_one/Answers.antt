@@ -1,3 +1,4 @@
+-- The goals of `steps::take_one` that no tactic closes.
 use Rattle.std.proofs.Common.{◌≡◌, sym, subst}
 use Rattle.std.specs.Prelude.{IfSome}
 use Rattle.nr_overlap.specs.Serial.{with_list}

@@ -1,3 +1,4 @@
+-- The goals of `fork::Fork::close` that no tactic closes.
 use Rattle.std.proofs.Common.{◌≡◌, length, ap, ◌∙◌}
 use Rattle.nr_store.specs.Tries.{Branching, whole}
 use Rattle.nr_store.proofs.Levels.{made_all, links_of_two, whole_closed}

@@ -1,3 +1,4 @@
+-- The goals of `plain::PlainStoreStore::set` that no tactic closes.
 use Rattle.std.proofs.Common.{◌≡◌, ◌≤◌, Some, length, refl, sym, ap, ◌∙◌, subst}
 use Rattle.std.specs.List.{AllByRecursion}
 use Rattle.std.specs.FinMap.{entries}

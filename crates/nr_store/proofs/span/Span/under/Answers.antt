@@ -1,3 +1,4 @@
+-- The goals of `span::Span::under` that no tactic closes.
 use Rattle.std.proofs.Common.{◌-◌, ◌<◌, length, take, drop, subst, sym, ap, ◌∙◌, arith}
 use Rattle.std.proofs.lemmas.Bool.{eqb-true}
 use Rattle.nr_triedef.specs.Root.{behind}

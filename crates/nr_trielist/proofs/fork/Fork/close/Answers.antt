@@ -1,3 +1,4 @@
+-- The goals of `fork::Fork::close` that no tactic closes.
 use Rattle.std.proofs.Common.{◌≡◌, ◌++◌, length, Some, ap, subst, ◌∙◌, List}
 use Rattle.std.specs.Prelude.{reverse}
 use Rattle.std.specs.List.{flat_map}

@@ -1,3 +1,4 @@
+-- The goals of `nodes::Nodes::slide` that no tactic closes.
 use Rattle.std.proofs.Common.{◌∙◌, ◌<◌, ap, sym, subst, length, List, arith}
 use Rattle.std.proofs.lemmas.List.{length-take}
 use Rattle.nr_trienodes.specs.Shape.{Shape}

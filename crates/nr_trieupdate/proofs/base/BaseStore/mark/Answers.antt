@@ -1,3 +1,4 @@
+-- The goals of `base::BaseStore::mark` that no tactic closes.
 use Rattle.std.proofs.Common.{ap, ◌∙◌, arith, get_or, length, ◌+◌, ◌<◌, ◌∷◌}
 use Rattle.nr_trieupdate.specs.Levels.{root_at}
 use Rattle.nr_trieupdate.proofs.Standing.{mark_seen, mark_cost, mark_saved}

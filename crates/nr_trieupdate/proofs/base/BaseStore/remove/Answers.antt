@@ -1,3 +1,4 @@
+-- The goals of `base::BaseStore::remove` that no tactic closes.
 use Rattle.std.proofs.Common.{◌≡◌, ◌+◌, ◌*◌, ap, sym, ◌∙◌, arith, length, true}
 use Rattle.std.specs.Option.{is_some}
 use Rattle.std.specs.FinMap as map

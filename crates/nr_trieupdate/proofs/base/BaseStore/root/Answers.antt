@@ -1,3 +1,4 @@
+-- The goals of `base::BaseStore::root` that no tactic closes.
 use Rattle.std.proofs.Common.{ap, ◌∙◌, arith}
 use Rattle.nr_trieupdate.proofs.Standing.{unchanged}
 use Rattle.nr_trieupdate.proofs.Counting.{kept_moved}

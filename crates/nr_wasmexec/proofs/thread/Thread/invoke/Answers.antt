@@ -1,3 +1,4 @@
+-- The goals of `thread::Thread::invoke` that no tactic closes.
 use Rattle.nr_wasmtypes.specs.Code.{code_of}
 use Rattle.std.proofs.Common.{◌+◌, ◌-◌, ◌≤◌, ◌∙◌, refl, ap, drop, ◌++◌, replicate, arith}
 use Rattle.std.proofs.lemmas.List.{take_rest}
