@@ -63,14 +63,14 @@ pub fn choose<'a>(
     }
 }
 
-/// Branches out of so many blocks and one more. `Lost` where there are not so many.
+/// Branches out of so many blocks and one more. `Lost` where there are not so many, or too few operands.
 pub fn branch(thread: &mut Thread, depth: u32) -> Result<(), Stop>
     ensures { Moves result thread.new (by thread.old (Branches depth thread.old.values)) }
 {
     reached(thread.branch(depth))
 }
 
-/// Takes an i32, and branches unless it is zero. `Lost` where no operand or no such block is there.
+/// Takes an i32, and branches unless it is zero. `Lost` where it is not there, or as for `branch`.
 pub fn branch_if(thread: &mut Thread, depth: u32) -> Result<(), Stop>
     ensures { Moves result thread.new (by thread.old
         (on_top thread.old.values (λ v rest. if v == 0 then Goes thread.old.locals rest else Branches depth rest))) }
@@ -85,7 +85,7 @@ pub fn branch_if(thread: &mut Thread, depth: u32) -> Result<(), Stop>
 }
 
 /// Takes an i32, and branches to the label with this number, counted from 0, or to the one for every other.
-/// `Lost` where no operand or no such block is there.
+/// `Lost` where it is not there, or as for `branch`.
 pub fn branch_by(thread: &mut Thread, labels: &Labels) -> Result<(), Stop>
     ensures { Moves result thread.new (by thread.old
         (on_top thread.old.values (λ v rest. Branches (chosen (slice_get labels.now.0 v) labels.now.1) rest))) }
