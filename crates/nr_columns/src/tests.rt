@@ -1,3 +1,5 @@
+//! Keys and values of entries by their bytes.
+
 use crate::keys;
 use nr_ids::{AccountId, PublicKey};
 use std::test::Fail;

@@ -1,3 +1,5 @@
+//! Fees and a gas counter by numbers worked out by hand.
+
 use crate::{GasCounter, attached_gas, deposits};
 use nr_bytes::{Blob, List, Text};
 use nr_records::Action;

@@ -27,8 +27,8 @@ impl Status {
 }
 
 /// The line that tells the answer: why a file is refused, in words, or that no program prints the words to be
-/// explained; otherwise the exit status, and the
-/// kind and the entry of a configuration's fault, in decimal, parted by single spaces.
+/// explained; otherwise the exit status, and the kind and the entry of a configuration's fault, in decimal, parted
+/// by single spaces.
 impl fmt::Display for Status {
     ghost output = { λ status. Some (status_line status) };
 

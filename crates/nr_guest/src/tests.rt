@@ -1,3 +1,5 @@
+//! Registers and arguments at their limits.
+
 use crate::{GuestFault, Registers, argument, argument_size};
 use nr_config::Config;
 use nr_wasmmem::Memory;

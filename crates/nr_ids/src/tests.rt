@@ -1,3 +1,5 @@
+//! Ids, hashes and keys by examples.
+
 use crate::{AccountId, Hash32, Height, IdFault, PublicKey, ShardId, derive};
 use std::cmp::Ordering;
 use std::test::Fail;

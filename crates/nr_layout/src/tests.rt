@@ -1,3 +1,5 @@
+//! Boundaries at their limits, shards of ids, and lists that are routed.
+
 use crate::Layout;
 use nr_bytes::{List, Reader};
 use nr_ids::{AccountId, Hash32, ShardId};

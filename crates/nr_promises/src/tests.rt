@@ -1,3 +1,5 @@
+//! Callbacks, wrong indices, and calls at their limits.
+
 use crate::{PromiseBook, PromiseFault};
 use nr_bytes::{Blob, List, Text};
 use nr_config::Config;

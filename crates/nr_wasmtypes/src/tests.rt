@@ -1,3 +1,5 @@
+//! The size of an instruction.
+
 use super::*;
 use std::mem::size_of;
 use std::test::Fail;

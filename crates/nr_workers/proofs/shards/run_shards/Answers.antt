@@ -1,3 +1,4 @@
+-- The goals of `shards::run_shards` that no tactic closes.
 use Rattle.nr_workers.proofs.shards.run_shards.Goals as goal
 
 pub begin_all-requires-clause-ports : goal.begin_all-requires-clause-ports
