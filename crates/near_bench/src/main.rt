@@ -5,8 +5,8 @@
 //! `keep`, `back` and `root` are done TURNS times; `change` changes one value and computes the root,
 //! TURNS times, and `working` a thousand values; `behind` sets fifty thousand values behind a
 //! checkpoint and takes them back, TURNS times. `nested` fills the store with the keys `a`, `aa` and
-//! so on, and computes the root TURNS times behind the first one. A script outside measures the time. It prints how many turns were done; other words end it
-//! with status 1, and want of memory with status 7.
+//! so on, and computes the root TURNS times behind the first one. A script outside measures the time. It prints how
+//! many turns were done; other words end it with status 1, and want of memory with status 7.
 //!
 //! The words `module FILE TURNS` decode and validate the module in a file TURNS times, and print
 //! whether it was valid each time. The words `machine FILE METHOD TURNS` decode it and run its method

@@ -128,7 +128,9 @@ fn deposit_of(action: &Action) -> u128
 /// Whether the receiver has room for what the action brings; false where there is no such action.
 fn has_room(state: &State, frame: &Frame, index: usize) -> Result<bool, AllocError>
     ensures index { IfOk result (λ fits. fits ≡ true → index < length frame.now.act.actions) }
-    ensures room { IfOk result (λ fits. fits ≡ true → IfSome (slice_get frame.now.act.actions index) (λ action. HasRoom state.now.world frame.now.receiver (deposit_of action))) }
+    ensures room { IfOk result (λ fits. fits ≡ true
+        → IfSome (slice_get frame.now.act.actions index)
+        (λ action. HasRoom state.now.world frame.now.receiver (deposit_of action))) }
 {
     let actions = frame.act.actions.inner();
     if index >= actions.len() {

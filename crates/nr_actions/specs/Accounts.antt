@@ -1,4 +1,5 @@
--- Accounts and keys that actions make or change. After the Nomicon, Data Structures (Account, Account ID, Access Keys) and Runtime Specification (Refunds).
+-- Accounts and keys that actions make or change. After the Nomicon, Data Structures (Account, Account ID, Access
+-- Keys) and Runtime Specification (Refunds).
 use Rattle.std.specs.Prelude.{ℕ, ◌+◌, ◌-◌, ◌^◌, min, List, Option, Some, None, option_map, Result, Ok, Err, replicate}
 use Rattle.hex.specs.Hex.{decode_sized}
 use Rattle.hex.specs.declared.error.FromHexError.{FromHexError}
@@ -15,7 +16,8 @@ use Rattle.nr_state.specs.World.{World, with_account}
 
 -- an account that owns nothing
 abbrev pub new_account : Config → ℕ → Account
-new_account c amount = record { amount = amount; locked = 0; code_hash = zero_hash; storage_usage = account_bytes_entry c }
+new_account c amount =
+    record { amount = amount; locked = 0; code_hash = zero_hash; storage_usage = account_bytes_entry c }
 
 abbrev pub with_deposit : Account → ℕ → Account
 with_deposit account deposit = record account { amount = account.amount + deposit }
@@ -36,9 +38,11 @@ with_implicit c w id amount = set_key c (with_account w id (new_account c amount
 
 -- ---- a refund raises the allowance of a key for calls that has one, to at most 2^128 - 1
 abbrev pub raised : ℕ → Permission → Permission
-raised amount (Call call) = Call (record call { allowance = option_map (λ allowance. min (allowance + amount) (2 ^ 128 - 1)) call.allowance })
+raised amount (Call call) =
+    Call (record call { allowance = option_map (λ allowance. min (allowance + amount) (2 ^ 128 - 1)) call.allowance })
 raised amount Full = Full
 
 abbrev pub with_raised : Config → World → List ℕ → PublicKey → ℕ → Option AccessKey → World
 with_raised c w id key amount None = w
-with_raised c w id key amount (Some access) = set_key c w id key (record access { permission = raised amount access.permission })
+with_raised c w id key amount (Some access) =
+    set_key c w id key (record access { permission = raised amount access.permission })

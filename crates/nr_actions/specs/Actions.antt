@@ -1,5 +1,6 @@
 -- What an action does to the world and to the frame of its receipt. After the Nomicon, Runtime Specification, Actions.
-use Rattle.std.specs.Prelude.{◌≡◌, ℕ, ◌+◌, ◌-◌, ◌^◌, ◌<◌, ◌==◌, ◌&&◌, ◌||◌, not, Bool, cond, List, [], ◌∷◌, ◌++◌, length, Option, Some, None, Result, Ok, Err, IfSome, is_some, nat_lt, codes}
+use Rattle.std.specs.Prelude.{◌≡◌, ℕ, ◌+◌, ◌-◌, ◌^◌, ◌<◌, ◌==◌, ◌&&◌, ◌||◌, not, Bool, cond, List, [], ◌∷◌, ◌++◌}
+use Rattle.std.specs.Prelude.{length, Option, Some, None, Result, Ok, Err, IfSome, is_some, nat_lt, codes}
 use Rattle.std.specs.FinMap.{get}
 use Rattle.std.specs.Str.{bytes_eq}
 use Rattle.nr_actions.specs.Accounts.{new_account, with_deposit, with_implicit, with_raised}
@@ -7,7 +8,9 @@ use Rattle.nr_actions.specs.Calling.{context_of, after_call}
 use Rattle.nr_actions.specs.Failures.{number}
 use Rattle.nr_actions.specs.Refunds.{deposit_refund}
 use Rattle.nr_actions.specs.declared.failure.Failure.{Failure}
-use Rattle.nr_actions.specs.declared.failure.Failure.TheVariants.{AccountExists, NoAccount, OnlyRegistrar, NotParent, NoPermission, NoSuchKey, KeyExists, Locked, LargeState, OnlyImplicit, NoCode}
+use Rattle.nr_actions.specs.declared.failure.Failure.TheVariants.{AccountExists, NoAccount, OnlyRegistrar, NotParent}
+use Rattle.nr_actions.specs.declared.failure.Failure.TheVariants.{NoPermission, NoSuchKey, KeyExists, Locked}
+use Rattle.nr_actions.specs.declared.failure.Failure.TheVariants.{LargeState, OnlyImplicit, NoCode}
 use Rattle.nr_actions.specs.declared.fault.ActionFault.{ActionFault}
 use Rattle.nr_actions.specs.declared.fault.ActionFault.TheVariants.{Failed, Memory}
 use Rattle.nr_actions.specs.declared.frame.Frame.{Frame}
@@ -18,14 +21,16 @@ use Rattle.nr_ids.specs.declared.key.PublicKey.{PublicKey}
 use Rattle.nr_records.specs.declared.access_key.AccessKey.{AccessKey}
 use Rattle.nr_records.specs.declared.account.Account.{Account}
 use Rattle.nr_records.specs.declared.action.Action.{Action}
-use Rattle.nr_records.specs.declared.action.Action.TheVariants.{CreateAccount, DeployContract, FunctionCall, Transfer, AddKey, DeleteKey, DeleteAccount}
+use Rattle.nr_records.specs.declared.action.Action.TheVariants.{CreateAccount, DeployContract, FunctionCall, Transfer}
+use Rattle.nr_records.specs.declared.action.Action.TheVariants.{AddKey, DeleteKey, DeleteAccount}
 use Rattle.nr_state.specs.Calls.{Called, Ended, Stopped, Stands}
 use Rattle.nr_state.specs.Changes.{set_key, removed_key, set_code, usage_of_code, without_account}
 use Rattle.nr_state.specs.View.{StateView}
 use Rattle.nr_state.specs.World.{World, with_account}
 use Rattle.nr_state.specs.declared.calls.CallContext.{CallContext}
 
--- ---- what an action comes to: the world and the frame after it, or a failure by its number and part, with the gas that its call burnt
+-- ---- what an action comes to: the world and the frame after it, or a failure by its number and part, with the gas
+-- that its call burnt
 pub data Acted : Type 0 where
   Acts : (after : World) (frame : Frame) → Acted
   Fails : (kind : ℕ) (part : ℕ) (burnt : ℕ) → Acted
@@ -52,7 +57,9 @@ abbrev pub registrar : List ℕ
 registrar = codes "registrar"
 
 abbrev pub is_reserved : Config → Frame → Bool
-is_reserved c f = is_system f.receiver || (is_top f.receiver && nat_lt (length f.receiver) (top_level_min_len c) && not (bytes_eq f.predecessor registrar))
+is_reserved c f =
+    is_system f.receiver || (is_top f.receiver && nat_lt (length f.receiver) (top_level_min_len c)
+    && not (bytes_eq f.predecessor registrar))
 
 abbrev pub is_no_child : Frame → Bool
 is_no_child f = not (is_top f.receiver) && not (is_sub_of f.receiver f.predecessor)
@@ -66,7 +73,9 @@ creation_failures c w f =
     ∷ []
 
 abbrev pub created : Config → World → Frame → Acted
-created c w f = unless (creation_failures c w f) (Acts (with_account w f.receiver (new_account c 0)) (record f { actor = f.receiver }))
+created c w f =
+    unless (creation_failures c w f) (Acts (with_account w f.receiver (new_account c 0))
+    (record f { actor = f.receiver }))
 
 -- ---- the code and its hash
 abbrev pub deployed : World → Frame → List ℕ → Acted
@@ -84,7 +93,8 @@ on_code (Some code) acted = acted
 
 abbrev pub called : (World → CallContext → Called) → World → Frame → Bool → CallContext → Acted
 called call w f last x = on_account (get w.accounts f.receiver) (λ account.
-    on_code (get w.code f.receiver) (ended f last (call (with_account w f.receiver (with_deposit account x.deposit)) x)))
+    on_code (get w.code f.receiver) (ended f last
+    (call (with_account w f.receiver (with_deposit account x.deposit)) x)))
 
 -- ---- a transfer: an absent account is made where its id is implicit and the receipt does nothing else
 abbrev pub makes_account : Frame → Bool
@@ -95,11 +105,14 @@ abbrev pub is_refund : Frame → Bool
 is_refund f = is_system f.predecessor && bytes_eq f.act.signer f.receiver
 
 abbrev pub refunded : Config → World → Frame → ℕ → World
-refunded c w f deposit = cond (is_refund f) (with_raised c w f.receiver f.act.signer_key deposit (get w.keys (f.receiver, f.act.signer_key))) w
+refunded c w f deposit =
+    cond (is_refund f) (with_raised c w f.receiver f.act.signer_key deposit
+    (get w.keys (f.receiver, f.act.signer_key))) w
 
 abbrev pub given : Config → World → Frame → ℕ → Option Account → Acted
 given c w f deposit None = cond (makes_account f) (Acts (with_implicit c w f.receiver deposit) f) (fails NoAccount)
-given c w f deposit (Some account) = Acts (refunded c (with_account w f.receiver (with_deposit account deposit)) f deposit) f
+given c w f deposit (Some account) =
+    Acts (refunded c (with_account w f.receiver (with_deposit account deposit)) f deposit) f
 
 abbrev pub transferred : Config → World → Frame → ℕ → Acted
 transferred c w f deposit = given c w f deposit (get w.accounts f.receiver)
@@ -107,11 +120,13 @@ transferred c w f deposit = given c w f deposit (get w.accounts f.receiver)
 -- ---- keys
 abbrev pub key_added : Config → World → Frame → PublicKey → AccessKey → Acted
 key_added c w f key access = on_account (get w.accounts f.receiver) (λ account.
-    unless ((is_other f, NoPermission) ∷ (is_some (get w.keys (f.receiver, key)), KeyExists) ∷ []) (Acts (set_key c w f.receiver key access) f))
+    unless ((is_other f, NoPermission) ∷ (is_some (get w.keys (f.receiver, key)), KeyExists) ∷ [])
+    (Acts (set_key c w f.receiver key access) f))
 
 abbrev pub key_deleted : Config → World → Frame → PublicKey → Acted
 key_deleted c w f key = on_account (get w.accounts f.receiver) (λ account.
-    unless ((is_other f, NoPermission) ∷ (not (is_some (get w.keys (f.receiver, key))), NoSuchKey) ∷ []) (Acts (removed_key c w f.receiver key) f))
+    unless ((is_other f, NoPermission) ∷ (not (is_some (get w.keys (f.receiver, key))), NoSuchKey) ∷ [])
+    (Acts (removed_key c w f.receiver key) f))
 
 -- ---- the end of an account with all that it owns: what it had goes to the beneficiary, and the predecessor acts again
 abbrev pub with_refund : Frame → List ℕ → ℕ → Frame
@@ -134,13 +149,15 @@ after_deletion f beneficiary account = record (with_refund f beneficiary account
 
 abbrev pub deleted : Config → World → Frame → List ℕ → Acted
 deleted c w f beneficiary = on_account (get w.accounts f.receiver) (λ account.
-    unless (deletion_failures c w f account) (Acts (without_account w f.receiver) (after_deletion f beneficiary account)))
+    unless (deletion_failures c w f account)
+    (Acts (without_account w f.receiver) (after_deletion f beneficiary account)))
 
 -- ---- an action, by what calls mean and by whether it is the receipt's last one
 unfoldable pub act : Config → (World → CallContext → Called) → World → Frame → Bool → Action → Acted
 act c call w f last CreateAccount = created c w f
 act c call w f last (DeployContract code) = deployed w f code
-act c call w f last (FunctionCall method args gas deposit) = called call w f last (context_of f last method args gas deposit)
+act c call w f last (FunctionCall method args gas deposit) =
+    called call w f last (context_of f last method args gas deposit)
 act c call w f last (Transfer deposit) = transferred c w f deposit
 act c call w f last (AddKey key access) = key_added c w f key access
 act c call w f last (DeleteKey key) = key_deleted c w f key
@@ -150,7 +167,8 @@ act c call w f last (DeleteAccount beneficiary) = deleted c w f beneficiary
 abbrev pub HasRoom : World → List ℕ → ℕ → Type 0
 HasRoom w id deposit = IfSome (get w.accounts id) (λ account. account.amount + deposit < 2 ^ 128)
 
--- ---- what the call answers: exactly that. A failure leaves the world as it was, and of the frame all but the gas that calls burnt. Where memory runs out nothing is said.
+-- ---- what the call answers: exactly that. A failure leaves the world as it was, and of the frame all but the gas
+-- that calls burnt. Where memory runs out nothing is said.
 pub record IsFailed (kind part : ℕ) (old new : StateView) (before after : Frame) (answer : Acted) : Type 0 where
   pub burnt : ℕ
   pub acted : answer ≡ Fails kind part burnt

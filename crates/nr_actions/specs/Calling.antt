@@ -1,4 +1,5 @@
--- What a call of a contract is given by its receipt, and what it gives the receipt. After the Nomicon, Runtime Specification (Function Call, Receipts); how the parts are counted is this project's.
+-- What a call of a contract is given by its receipt, and what it gives the receipt. After the Nomicon, Runtime
+-- Specification (Function Call, Receipts); how the parts are counted is this project's.
 use Rattle.std.specs.Prelude.{ℕ, ◌+◌, Bool, cond, List, [], ◌++◌}
 use Rattle.nr_actions.specs.declared.frame.Frame.{Frame}
 use Rattle.nr_ids.specs.Grammar.{is_system}

@@ -1,7 +1,11 @@
--- The failures of actions, by number. The names are after the Nomicon, Runtime Specification, Actions; the numbers are this project's.
+-- The failures of actions, by number. The names are after the Nomicon, Runtime Specification, Actions; the numbers
+-- are this project's.
 use Rattle.std.specs.Prelude.{ℕ}
 use Rattle.nr_actions.specs.declared.failure.Failure.{Failure}
-use Rattle.nr_actions.specs.declared.failure.Failure.TheVariants.{AccountExists, NoAccount, OnlyRegistrar, NotParent, NoPermission, NoSuchKey, KeyExists, Locked, LargeState, LackBalanceForState, OnlyImplicit, NoCode, Code, NoMethod, Trap, HostFault, GasExceeded}
+use Rattle.nr_actions.specs.declared.failure.Failure.TheVariants.{AccountExists, NoAccount, OnlyRegistrar, NotParent}
+use Rattle.nr_actions.specs.declared.failure.Failure.TheVariants.{NoPermission, NoSuchKey, KeyExists, Locked}
+use Rattle.nr_actions.specs.declared.failure.Failure.TheVariants.{LargeState, LackBalanceForState, OnlyImplicit, NoCode}
+use Rattle.nr_actions.specs.declared.failure.Failure.TheVariants.{Code, NoMethod, Trap, HostFault, GasExceeded}
 
 abbrev pub number : Failure → ℕ
 number AccountExists = 1

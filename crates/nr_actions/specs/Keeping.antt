@@ -23,13 +23,26 @@ pub record IsDone (c : Config) (w : World) (f : Frame) (a : Action) (after : Wor
   -- the deposit comes in; what leaves the world is in the receipts made, whose gas is paid for by the receipt
   pub tokens : world_tokens c w + deposit_of a + promised * price_of f ≡ world_tokens c after + list_tokens c made
   -- what waits is the same
-  pub rest : after ≡ record w { accounts = after.accounts; keys = after.keys; code = after.code; data_of = after.data_of }
+  pub rest : after ≡ record w {
+    accounts = after.accounts;
+    keys = after.keys;
+    code = after.code;
+    data_of = after.data_of;
+  }
   -- the frame has what was made, burnt and promised
   pub all_made : g.made ≡ f.made ++ made
   pub all_burnt : g.call_burnt ≡ f.call_burnt + burnt
   pub all_promised : g.promised ≡ f.promised + promised
   -- its receipt is the same
-  pub receipt : g ≡ record f { actor = g.actor; next_ordinal = g.next_ordinal; made = g.made; returned = g.returned; logs = g.logs; call_burnt = g.call_burnt; promised = g.promised }
+  pub receipt : g ≡ record f {
+    actor = g.actor;
+    next_ordinal = g.next_ordinal;
+    made = g.made;
+    returned = g.returned;
+    logs = g.logs;
+    call_burnt = g.call_burnt;
+    promised = g.promised;
+  }
   -- it burns and promises no more than the gas attached to it
   pub gas : burnt + promised ≤ attached a
   -- the receipts made are of actions

@@ -1,3 +1,4 @@
+-- Definitions that the contracts cite.
 pub mod Failures
 pub mod Refunds
 pub mod Accounts

@@ -26,10 +26,14 @@ frame_after f (Called end last) = after_call f last end
 
 -- the receipt of what an account had that goes, unless it had nothing
 abbrev pub refund_to : Frame → List ℕ → ℕ → Option Receipt
-refund_to f receiver amount = cond (amount == 0) None (Some (deposit_refund receiver (derived f.receipt_id f.place.height.0 f.next_ordinal) amount))
+refund_to f receiver amount =
+    cond (amount == 0) None (Some (deposit_refund receiver (derived f.receipt_id f.place.height.0 f.next_ordinal)
+    amount))
 
--- ---- an action is done as its definition says, or it failed so and the world is as it was; where memory runs out nothing is said
+-- ---- an action is done as its definition says, or it failed so and the world is as it was; where memory runs out
+-- nothing is said
 abbrev pub Performs : Result Effect Stop → StateView → StateView → Frame → Acted → Type 0
 Performs (Ok effect) old new f acted = (acted ≡ Acts new.world (frame_after f effect)) × Stands old new
-Performs (Err (Failed kind part burnt)) old new f acted = (acted ≡ Fails kind part burnt) × (new.world ≡ old.world) × Stands old new
+Performs (Err (Failed kind part burnt)) old new f acted =
+    (acted ≡ Fails kind part burnt) × (new.world ≡ old.world) × Stands old new
 Performs (Err Memory) old new f acted = Unit {0}

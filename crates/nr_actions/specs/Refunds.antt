@@ -1,4 +1,5 @@
--- Receipts that give tokens back: from the system, with one transfer, and without gas. After the Nomicon, Runtime Specification, Refunds.
+-- Receipts that give tokens back: from the system, with one transfer, and without gas. After the Nomicon, Runtime
+-- Specification, Refunds.
 use Rattle.std.specs.Prelude.{ℕ, List, [], ◌∷◌, replicate}
 use Rattle.nr_ids.specs.Grammar.{system}
 use Rattle.nr_ids.specs.declared.key.Hash32.{Hash32}
@@ -10,7 +11,15 @@ use Rattle.nr_records.specs.declared.receipt.Body.TheVariants.{Act}
 use Rattle.nr_records.specs.declared.receipt.Receipt.{Receipt}
 
 abbrev pub refund_body : List ℕ → PublicKey → ℕ → Body
-refund_body signer key amount = Act (record { signer = signer; signer_key = key; gas_price = 0; outputs = []; inputs = []; actions = Transfer amount ∷ [] })
+refund_body signer key amount =
+    Act (record {
+      signer = signer;
+      signer_key = key;
+      gas_price = 0;
+      outputs = [];
+      inputs = [];
+      actions = Transfer amount ∷ [];
+    })
 
 abbrev pub refund : List ℕ → Hash32 → List ℕ → PublicKey → ℕ → Receipt
 refund receiver id signer key amount =

@@ -34,7 +34,8 @@ fn perform<S: Store, C: Caller<S>>(
     requires spare { 0 < state.old.spare }
     requires marks { length state.old.marks ≤ 6 }
     requires room { HasRoom state.old.world frame.now.receiver (deposit_of action.now) }
-    ensures { Performs result state.old state.new frame.now (act state.old.config (C.meaning caller.now) state.old.world frame.now last action.now) }
+    ensures { Performs result state.old state.new frame.now
+        (act state.old.config (C.meaning caller.now) state.old.world frame.now last action.now) }
 {
     match action {
         Action::CreateAccount => create(alloc, state, frame),
@@ -82,9 +83,12 @@ pub fn apply<S: Store, C: Caller<S>>(
     requires burnt { frame.old.call_burnt ≤ 2 ^ 127 }
     requires promised { frame.old.promised ≤ 2 ^ 127 }
     // What the action brings fits in the receiver's balance.
-    requires room { IfSome (slice_get frame.old.act.actions index) (λ action. HasRoom state.old.world frame.old.receiver (deposit_of action)) }
-    ensures { IfSome (slice_get frame.old.act.actions index) (λ action. Applies result state.old state.new frame.old frame.new
-        (act config.now (C.meaning caller.now) state.old.world frame.old (index + 1 == length frame.old.act.actions) action)) }
+    requires room { IfSome (slice_get frame.old.act.actions index)
+        (λ action. HasRoom state.old.world frame.old.receiver (deposit_of action)) }
+    ensures { IfSome (slice_get frame.old.act.actions index)
+        (λ action. Applies result state.old state.new frame.old frame.new
+        (act config.now (C.meaning caller.now) state.old.world frame.old (index + 1 == length frame.old.act.actions)
+        action)) }
 {
     let actions = frame.act.actions.inner();
     let index = index as usize;

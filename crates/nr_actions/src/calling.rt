@@ -87,7 +87,9 @@ fn run<S: Store, C: Caller<S>>(
     requires code { IsSome (get state.old.world.code frame.now.receiver) }
     requires spare { 0 < state.old.spare }
     requires marks { length state.old.marks ≤ 6 }
-    ensures { Performs result state.old state.new frame.now (ended frame.now last (C.meaning caller.now (with_account state.old.world frame.now.receiver account.now) context.now)) }
+    ensures { Performs result state.old state.new frame.now
+        (ended frame.now last (C.meaning caller.now (with_account state.old.world frame.now.receiver account.now)
+        context.now)) }
 {
     state.mark();
     state.set_account(&frame.receiver, account)?;
@@ -119,7 +121,8 @@ pub(crate) fn call<S: Store, C: Caller<S>>(
     requires spare { 0 < state.old.spare }
     requires marks { length state.old.marks ≤ 6 }
     requires room { HasRoom state.old.world frame.now.receiver context.now.deposit }
-    ensures { Performs result state.old state.new frame.now (called (C.meaning caller.now) state.old.world frame.now last context.now) }
+    ensures { Performs result state.old state.new frame.now
+        (called (C.meaning caller.now) state.old.world frame.now last context.now) }
 {
     let Some(account) = state.account(&frame.receiver)? else {
         return Err(failed(Failure::NoAccount));

@@ -53,7 +53,8 @@ pub(crate) fn delete<S: Store>(
     beneficiary: &AccountId,
 ) -> Result<Effect, Stop>
     requires { state.old.whole ≡ true }
-    ensures { Performs result state.old state.new frame.now (deleted state.old.config state.old.world frame.now beneficiary.now) }
+    ensures { Performs result state.old state.new frame.now
+        (deleted state.old.config state.old.world frame.now beneficiary.now) }
 {
     let Some(account) = state.account(&frame.receiver)? else {
         return Err(failed(Failure::NoAccount));

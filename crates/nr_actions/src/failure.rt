@@ -1,3 +1,5 @@
+//! The seventeen ways in which an action can fail, with their numbers.
+
 ghost use Rattle.std.specs.Prelude.{◌≡◌};
 ghost use Rattle.nr_actions.specs.Failures.{number};
 

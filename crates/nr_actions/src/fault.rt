@@ -1,3 +1,5 @@
+//! Why an action wasn't done.
+
 ghost use Rattle.std.specs.Prelude.{◌≡◌};
 ghost use Rattle.nr_actions.specs.declared.fault.ActionFault.TheVariants.{Memory};
 

@@ -1,3 +1,5 @@
+//! What the actions of one receipt share.
+
 use nr_bytes::{Blob, List};
 use nr_ids::{AccountId, Hash32};
 use nr_records::{ActionReceipt, Receipt};

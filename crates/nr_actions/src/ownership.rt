@@ -46,7 +46,8 @@ pub(crate) fn add_key<S: Store>(
     access: &AccessKey,
 ) -> Result<Effect, Stop>
     requires { state.old.whole ≡ true }
-    ensures { Performs result state.old state.new frame.now (key_added state.old.config state.old.world frame.now key.now access.now) }
+    ensures { Performs result state.old state.new frame.now
+        (key_added state.old.config state.old.world frame.now key.now access.now) }
 {
     let Some(_) = state.account(&frame.receiver)? else {
         return Err(failed(Failure::NoAccount));
@@ -69,7 +70,8 @@ pub(crate) fn delete_key<S: Store>(
     key: &PublicKey,
 ) -> Result<Effect, Stop>
     requires { state.old.whole ≡ true }
-    ensures { Performs result state.old state.new frame.now (key_deleted state.old.config state.old.world frame.now key.now) }
+    ensures { Performs result state.old state.new frame.now
+        (key_deleted state.old.config state.old.world frame.now key.now) }
 {
     let Some(_) = state.account(&frame.receiver)? else {
         return Err(failed(Failure::NoAccount));

@@ -35,7 +35,8 @@ fn make_implicit<S: Store>(
     amount: u128,
 ) -> Result<(), AllocError>
     requires { state.old.whole ≡ true }
-    ensures { OnOk result (state.new ≡ with_world state.old (with_implicit state.old.config state.old.world id.now amount)) }
+    ensures { OnOk result (state.new ≡ with_world state.old
+        (with_implicit state.old.config state.old.world id.now amount)) }
 {
     let account = new_account(state.config(), amount);
     state.set_account(id, &account)?;
@@ -54,7 +55,9 @@ fn is_refund(frame: &Frame) -> bool
 fn raise<S: Store>(state: &mut ShardState<S>, frame: &Frame, amount: u128) -> Result<(), AllocError>
     requires whole { state.old.whole ≡ true }
     requires stands { IsSome (get state.old.world.accounts frame.now.receiver) }
-    ensures { OnOk result (state.new ≡ with_world state.old (with_raised state.old.config state.old.world frame.now.receiver frame.now.act.signer_key amount (get state.old.world.keys (frame.now.receiver, frame.now.act.signer_key)))) }
+    ensures { OnOk result (state.new ≡ with_world state.old
+        (with_raised state.old.config state.old.world frame.now.receiver frame.now.act.signer_key amount
+        (get state.old.world.keys (frame.now.receiver, frame.now.act.signer_key)))) }
 {
     let key = &frame.act.signer_key;
     if let Some(access) = state.key(&frame.receiver, key)? {
@@ -75,7 +78,8 @@ fn refund<S: Store>(
 ) -> Result<(), AllocError>
     requires whole { state.old.whole ≡ true }
     requires stands { IsSome (get state.old.world.accounts frame.now.receiver) }
-    ensures { OnOk result (state.new ≡ with_world state.old (refunded state.old.config state.old.world frame.now amount)) }
+    ensures { OnOk result (state.new ≡ with_world state.old
+        (refunded state.old.config state.old.world frame.now amount)) }
 {
     if is_refund(frame) {
         raise(state, frame, amount)?;
@@ -92,7 +96,8 @@ pub(crate) fn transfer<S: Store>(
 ) -> Result<Effect, Stop>
     requires whole { state.old.whole ≡ true }
     requires room { HasRoom state.old.world frame.now.receiver deposit }
-    ensures { Performs result state.old state.new frame.now (transferred state.old.config state.old.world frame.now deposit) }
+    ensures { Performs result state.old state.new frame.now
+        (transferred state.old.config state.old.world frame.now deposit) }
 {
     let Some(account) = state.account(&frame.receiver)? else {
         if !makes_account(frame) {

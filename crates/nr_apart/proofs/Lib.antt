@@ -1,3 +1,4 @@
+-- Lemmas behind the answers.
 mod Only
 pub mod Chunks
 pub mod Firsts

@@ -1,3 +1,4 @@
+-- Definitions that the contracts cite.
 pub mod Archive
 pub mod Help
 pub mod Command

@@ -1,3 +1,5 @@
+//! Nibbles, parts, texts and hashes of nodes by examples.
+
 ghost use Rattle.std.specs.Prelude.{◌≡◌, ◌<◌, ◌+◌, IfOk};
 ghost use Rattle.nr_triedef.specs.Node.{IsNode, digest};
 

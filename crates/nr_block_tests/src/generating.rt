@@ -1,3 +1,5 @@
+//! Generated chains by the SHA-256 of their files, and that these files are read.
+
 use nr_blocks::{BlocksFile, GenesisFile, Version, read_blocks, read_genesis};
 use nr_config::Config;
 use nr_gen::generate;

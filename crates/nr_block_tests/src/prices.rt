@@ -1,3 +1,5 @@
+//! Blocks files with prices, whole, cut and damaged.
+
 use nr_blocks::{BlocksFault, BlocksFile, Version, read_blocks};
 use nr_records::{Spelled, decode, encode};
 use std::alloc::Global;

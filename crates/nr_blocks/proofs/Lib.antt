@@ -1,3 +1,4 @@
+-- Lemmas behind the answers.
 pub mod Turns
 mod Entries
 mod Spellings

@@ -11,7 +11,8 @@ use Rattle.nr_records.specs.Fault.{record_fault}
 use Rattle.nr_records.specs.OptionLaw.{option_law}
 use Rattle.nr_records.specs.Reading.{nat_at}
 use Rattle.nr_records.specs.TransactionLaw.{transaction_law}
-use Rattle.nr_blocks.specs.BlocksFiles.{Fields, block_of, block_at, block_bytes, chunk_at, chunk_bytes, IsBlock, IsChunk, price_at, price_bytes, IsPrice}
+use Rattle.nr_blocks.specs.BlocksFiles.{Fields, block_of, block_at, block_bytes, chunk_at, chunk_bytes, IsBlock}
+use Rattle.nr_blocks.specs.BlocksFiles.{IsChunk, price_at, price_bytes, IsPrice}
 use Rattle.nr_blocks.specs.declared.block.Block.{Block}
 use Rattle.nr_blocks.specs.declared.version.Version.{Version}
 use Rattle.nr_blocks.specs.declared.version.Version.TheVariants.{One, Two}
@@ -31,7 +32,8 @@ price_law One = record {
     none_again (Some p) at rest fits = absurd fits
 price_law Two = record {
   taken = λ s p fits e.
-      mapped_case (λ price. Some price) (nat_at 8) (little 8) (Below (256 ^ 8)) (nat_law record_fault 8) (λ q. IsPrice Two q.0 × Takes s (price_bytes q.0) q.1) s p fits (λ price t ok takes. (ok, takes)) e;
+      mapped_case (λ price. Some price) (nat_at 8) (little 8) (Below (256 ^ 8)) (nat_law record_fault 8)
+      (λ q. IsPrice Two q.0 × Takes s (price_bytes q.0) q.1) s p fits (λ price t ok takes. (ok, takes)) e;
   again = λ v at rest fits. some_again v at rest fits;
 }
   where
@@ -45,4 +47,6 @@ fields_of b = (b.height.0, (b.timestamp, (b.price, b.chunks)))
 pub block_law : (version : Version) → IsRead (block_at version) block_bytes (IsBlock version)
 unfolding block_at
 block_law version = mapped_law block_of fields_of (λ _. refl) (λ _. refl) _ _ _
-    (pair_law _ _ _ _ _ _ (nat_law record_fault 8) (pair_law _ _ _ _ _ _ (nat_law record_fault 8) (pair_law _ _ _ _ _ _ (price_law version) (list_law record_fault _ _ _ chunk_law))))
+    (pair_law _ _ _ _ _ _ (nat_law record_fault 8)
+    (pair_law _ _ _ _ _ _ (nat_law record_fault 8)
+    (pair_law _ _ _ _ _ _ (price_law version) (list_law record_fault _ _ _ chunk_law))))

@@ -1,4 +1,5 @@
--- The blocks of a blocks file, spelled by Borsh 1.0 (structs, integers, dynamic arrays, options). What a block holds is this project's own.
+-- The blocks of a blocks file, spelled by Borsh 1.0 (structs, integers, dynamic arrays, options). What a block holds
+-- is this project's own.
 use Rattle.std.specs.Prelude.{ℕ, ◌^◌, ◌<◌, List, [], ◌++◌, Option, Some, None, Ok}
 use Rattle.nr_bytes.specs.Numbers.{little}
 use Rattle.nr_bytes.specs.Reading.{Input}
@@ -49,7 +50,8 @@ abbrev pub block_bytes : Block → List ℕ
 block_bytes b = little 8 b.height.0 ++ (little 8 b.timestamp ++ (price_bytes b.price ++ list chunk_bytes b.chunks))
 
 abbrev pub IsBlock : Version → Block → Type 0
-IsBlock version b = (b.height.0 < 256 ^ 8) × ((b.timestamp < 256 ^ 8) × (IsPrice version b.price × FitsList IsChunk b.chunks))
+IsBlock version b =
+    (b.height.0 < 256 ^ 8) × ((b.timestamp < 256 ^ 8) × (IsPrice version b.price × FitsList IsChunk b.chunks))
 
 abbrev pub Fields : Type 0
 Fields = ℕ × (ℕ × (Option ℕ × List Chunk))

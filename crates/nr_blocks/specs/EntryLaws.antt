@@ -21,7 +21,8 @@ use Rattle.nr_bytes.proofs.Combined.{choice_law, IsArm}
 use Rattle.nr_records.specs.Fault.{record_fault}
 use Rattle.nr_records.specs.declared.access_key.AccessKey.{AccessKey}
 use Rattle.nr_records.specs.declared.account.Account.{Account as AccountRecord}
-use Rattle.nr_blocks.specs.GenesisFiles.{entry_at, entry_body, entry_bytes, IsEntry, account_of, code_of, key_of, datum_of}
+use Rattle.nr_blocks.specs.GenesisFiles.{entry_at, entry_body, entry_bytes, IsEntry, account_of, code_of, key_of}
+use Rattle.nr_blocks.specs.GenesisFiles.{datum_of}
 use Rattle.nr_blocks.specs.declared.genesis_entry.GenesisEntry.{GenesisEntry}
 use Rattle.nr_blocks.specs.declared.genesis_entry.GenesisEntry.TheVariants.{Account, Code, Key, Datum}
 
@@ -78,13 +79,17 @@ EntryArm = IsArm ordinal inner IsEntry
 
 arms : (at n : ℕ) (s : Input) (p : GenesisEntry × Input) → IsBytes s.left → entry_body at n s ≡ Ok p → EntryArm n s p
 arms at zero s p fits e =
-    mapped_case account_of (pair account_id_at account_at) account_fields AreAccountFields account_fields_law (EntryArm 0 s) s p fits (λ x t ok takes. record { ordinal = refl; fits = ok; takes = takes }) e
+    mapped_case account_of (pair account_id_at account_at) account_fields AreAccountFields account_fields_law
+    (EntryArm 0 s) s p fits (λ x t ok takes. record { ordinal = refl; fits = ok; takes = takes }) e
 arms at (suc zero) s p fits e =
-    mapped_case code_of (pair account_id_at blob_at) code_fields AreCodeFields code_fields_law (EntryArm 1 s) s p fits (λ x t ok takes. record { ordinal = refl; fits = ok; takes = takes }) e
+    mapped_case code_of (pair account_id_at blob_at) code_fields AreCodeFields code_fields_law (EntryArm 1 s) s p fits
+    (λ x t ok takes. record { ordinal = refl; fits = ok; takes = takes }) e
 arms at (suc (suc zero)) s p fits e =
-    mapped_case key_of (pair account_id_at (pair key_at access_key_at)) key_fields AreKeyFields key_fields_law (EntryArm 2 s) s p fits (λ x t ok takes. record { ordinal = refl; fits = ok; takes = takes }) e
+    mapped_case key_of (pair account_id_at (pair key_at access_key_at)) key_fields AreKeyFields key_fields_law
+    (EntryArm 2 s) s p fits (λ x t ok takes. record { ordinal = refl; fits = ok; takes = takes }) e
 arms at (suc (suc (suc zero))) s p fits e =
-    mapped_case datum_of (pair account_id_at (pair blob_at blob_at)) datum_fields AreDatumFields datum_fields_law (EntryArm 3 s) s p fits (λ x t ok takes. record { ordinal = refl; fits = ok; takes = takes }) e
+    mapped_case datum_of (pair account_id_at (pair blob_at blob_at)) datum_fields AreDatumFields datum_fields_law
+    (EntryArm 3 s) s p fits (λ x t ok takes. record { ordinal = refl; fits = ok; takes = takes }) e
 arms at (suc (suc (suc (suc b)))) s p fits e = absurd cc
 
 again : (at : ℕ) (v : GenesisEntry) (here : ℕ) (rest : List ℕ) → IsEntry v → entry_body at (ordinal v) (before (inner v) here rest) ≡ Ok (v, behind (inner v) here rest)
@@ -107,4 +112,6 @@ spelled (Datum id key value) = refl
 
 pub entry_law : IsRead entry_at entry_bytes IsEntry
 unfolding entry_at
-entry_law = IsRead-spelled (choice entry_body) entry_bytes (tagged ordinal inner) IsEntry spelled (choice_law record_fault entry_body ordinal inner IsEntry low arms again)
+entry_law =
+    IsRead-spelled (choice entry_body) entry_bytes (tagged ordinal inner) IsEntry spelled
+    (choice_law record_fault entry_body ordinal inner IsEntry low arms again)

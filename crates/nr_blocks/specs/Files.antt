@@ -1,4 +1,5 @@
--- Both files: a magic word of four bytes, and then fields by Borsh 1.0 (structs, dynamic arrays). The words and the versions are this project's own.
+-- Both files: a magic word of four bytes, and then fields by Borsh 1.0 (structs, dynamic arrays). The words and the
+-- versions are this project's own.
 use Rattle.std.specs.Prelude.{ℕ, List, ◌++◌, Option, Some, None, Ok, Err, if◌then◌else◌, codes}
 use Rattle.std.specs.Str.{bytes_eq}
 use Rattle.nr_bytes.specs.Reading.{Input, ◌>>=◌}
@@ -47,7 +48,8 @@ genesis_at = headed genesis_magic (mapped genesis_file_of (pair layout_at (list_
 -- ---- the blocks file: its version, and its blocks
 -- the version of this word
 abbrev pub version_named : List ℕ → Option Version
-version_named word = if bytes_eq (blocks_magic One) word then Some One else if bytes_eq (blocks_magic Two) word then Some Two else None
+version_named word =
+    if bytes_eq (blocks_magic One) word then Some One else if bytes_eq (blocks_magic Two) word then Some Two else None
 
 abbrev pub known_at : ℕ → Option Version → Input → Read Version
 known_at at None rest = Err (BadOrdinal at)

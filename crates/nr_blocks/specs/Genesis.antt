@@ -1,5 +1,7 @@
--- The world that the entries of a genesis give. This project's own file; usage after the Nomicon, Data Structures, Account (storage_usage).
-use Rattle.std.specs.Prelude.{◌≡◌, ℕ, ◌^◌, ◌≤◌, ◌==◌, ◌&&◌, not, Bool, true, false, cond, List, [], ◌∷◌, length, map, filter, filter_map, sum_by, Option, Some, None}
+-- The world that the entries of a genesis give. This project's own file; usage after the Nomicon, Data Structures,
+-- Account (storage_usage).
+use Rattle.std.specs.Prelude.{◌≡◌, ℕ, ◌^◌, ◌≤◌, ◌==◌, ◌&&◌, not, Bool, true, false, cond, List, [], ◌∷◌, length, map}
+use Rattle.std.specs.Prelude.{filter, filter_map, sum_by, Option, Some, None}
 use Rattle.std.specs.FinMap.{from_entries}
 use Rattle.std.specs.List.{list_any, list_all}
 use Rattle.std.specs.Str.{bytes_eq}

@@ -1,4 +1,5 @@
--- The entries of a genesis file, spelled by Borsh 1.0 (enums, structs, strings, dynamic arrays). Which entries there are is this project's own.
+-- The entries of a genesis file, spelled by Borsh 1.0 (enums, structs, strings, dynamic arrays). Which entries there
+-- are is this project's own.
 use Rattle.std.specs.Prelude.{ℕ, zero, suc, List, ◌∷◌, ◌++◌, Err}
 use Rattle.nr_bytes.specs.Reading.{Input}
 use Rattle.nr_bytes.specs.Writing.{counted_bytes}

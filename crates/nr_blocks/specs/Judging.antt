@@ -1,5 +1,6 @@
 -- Which genesis and blocks files are refused, and by which fault. This project's own files and limits.
-use Rattle.std.specs.Prelude.{ℕ, ◌+◌, ◌^◌, ◌==◌, List, [], ◌∷◌, length, map, take, Result, Ok, Err, nat_le, if◌then◌else◌}
+use Rattle.std.specs.Prelude.{ℕ, ◌+◌, ◌^◌, ◌==◌, List, [], ◌∷◌, length, map, take, Result, Ok, Err, nat_le}
+use Rattle.std.specs.Prelude.{if◌then◌else◌}
 use Rattle.std.specs.List.{list_any}
 use Rattle.std.specs.Str.{bytes_eq}
 use Rattle.nr_bytes.specs.Reading.{◌>>=◌}
@@ -65,14 +66,16 @@ blocks_fault unread.Memory = blocks.Memory
 -- ---- the genesis file
 -- no entry before it has its trie key
 abbrev pub is_first : List GenesisEntry → Check GenesisEntry GenesisFault
-is_first es n e = if list_any (bytes_eq (trie_key e)) (map trie_key (take n es)) then Err (genesis.Duplicate n) else Ok tt
+is_first es n e =
+    if list_any (bytes_eq (trie_key e)) (map trie_key (take n es)) then Err (genesis.Duplicate n) else Ok tt
 
 abbrev pub has_owner : List GenesisEntry → Check GenesisEntry GenesisFault
 has_owner es n e = if is_owned es e then Ok tt else Err (genesis.NoOwner n)
 
 -- an account states what it uses
 abbrev pub states_usage : (List ℕ → ℕ) → Check GenesisEntry GenesisFault
-states_usage used n (kind.Account id a) = if a.storage_usage == used id then Ok tt else Err (genesis.Usage n a.storage_usage (used id))
+states_usage used n (kind.Account id a) =
+    if a.storage_usage == used id then Ok tt else Err (genesis.Usage n a.storage_usage (used id))
 states_usage used n (kind.Code id code) = Ok tt
 states_usage used n (kind.Key id key access) = Ok tt
 states_usage used n (kind.Datum id key value) = Ok tt

@@ -1,3 +1,4 @@
+-- Definitions that the contracts cite.
 pub mod GenesisFiles
 pub mod BlocksFiles
 pub mod Files

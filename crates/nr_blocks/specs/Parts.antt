@@ -1,4 +1,5 @@
--- What one entry of a genesis adds to what all say of an account: what the bodies of this crate need, and no part of the rules.
+-- What one entry of a genesis adds to what all say of an account: what the bodies of this crate need, and no part of
+-- the rules.
 use Rattle.std.specs.Prelude.{ℕ, Bool, false, cond, List}
 use Rattle.std.specs.Str.{bytes_eq}
 use Rattle.nr_ids.specs.declared.key.Hash32.{Hash32}

@@ -1,3 +1,5 @@
+//! A block of a blocks file: what it holds, its reading and its writing.
+
 ghost use Rattle.std.specs.Prelude.{◌≡◌, ◌++◌, IfOk, OnOk};
 ghost use Rattle.nr_bytes.specs.Answers.{GivesRead};
 ghost use Rattle.nr_records.specs.declared.fault.RecordFault.TheVariants.{Memory};

@@ -1,3 +1,5 @@
+//! What a blocks file of the first two versions holds, its reading and its writing.
+
 ghost use Rattle.std.specs.Prelude.{◌≡◌};
 ghost use Rattle.nr_blocks.specs.Files.{blocks_at, blocks_bytes, IsBlocksFile};
 ghost use Rattle.nr_blocks.specs.FileLaws.{blocks_law};

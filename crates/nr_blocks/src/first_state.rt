@@ -33,7 +33,8 @@ fn stand_in() -> Account
 fn put_contents<S: Store>(state: &mut ShardState<S>, entry: &GenesisEntry) -> Result<(), AllocError>
     requires whole { state.old.whole ≡ true }
     requires owner { IsSome (map.get state.old.world.accounts (owner entry.now)) }
-    ensures { OnOk result (state.new ≡ with_world state.old (with_contents state.old.config state.old.world entry.now)) }
+    ensures { OnOk result (state.new ≡ with_world state.old
+        (with_contents state.old.config state.old.world entry.now)) }
 {
     match entry {
         GenesisEntry::Account(_, _) => Ok(()),
@@ -80,7 +81,9 @@ fn fill_owned<S: Store>(
     shard: ShardId,
 ) -> Result<(), AllocError>
     requires { state.old.whole ≡ true }
-    ensures { OnOk result (state.new ≡ with_world state.old (laid (with_owned state.old.config) state.old.world (entries_of genesis.now.layout shard.0 genesis.now.entries))) }
+    ensures { OnOk result (state.new ≡ with_world state.old
+        (laid (with_owned state.old.config) state.old.world
+        (entries_of genesis.now.layout shard.0 genesis.now.entries))) }
 {
     let entries = genesis.entries.inner();
     let mut left = entries.len();
@@ -99,7 +102,8 @@ fn fill_accounts<S: Store>(
     shard: ShardId,
 ) -> Result<(), AllocError>
     requires { state.old.whole ≡ true }
-    ensures { OnOk result (state.new ≡ with_world state.old (laid with_own_account state.old.world (entries_of genesis.now.layout shard.0 genesis.now.entries))) }
+    ensures { OnOk result (state.new ≡ with_world state.old
+        (laid with_own_account state.old.world (entries_of genesis.now.layout shard.0 genesis.now.entries))) }
 {
     let entries = genesis.entries.inner();
     let mut left = entries.len();
@@ -128,7 +132,8 @@ pub fn fill<S: Store + Drop>(
     requires sound { AreSoundEntries config.now genesis.now.entries }
     requires empty { S.contents store ≡ map.empty }
     requires marks { S.marks store ≡ [] }
-    ensures world { IfOk result (λ state. state.world ≡ genesis_world (entries_of genesis.now.layout shard.0 genesis.now.entries)) }
+    ensures world { IfOk result (λ state. state.world
+        ≡ genesis_world (entries_of genesis.now.layout shard.0 genesis.now.entries)) }
     ensures valid { IfOk result (λ state. IsValidWorld config.now state.world) }
     ensures marks { IfOk result (λ state. state.marks ≡ []) }
     ensures spare { IfOk result (λ state. state.spare ≡ S.spare store) }

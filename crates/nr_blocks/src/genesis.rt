@@ -1,3 +1,5 @@
+//! The first state of a chain.
+
 use crate::genesis_entry::GenesisEntry;
 use nr_bytes::List;
 use nr_layout::Layout;

@@ -1,3 +1,5 @@
+//! An entry of a genesis: its kinds, its reading and its writing.
+
 ghost use Rattle.std.specs.Prelude.{◌≡◌};
 ghost use Rattle.nr_bytes.specs.Fields.{mapped, pair};
 ghost use Rattle.nr_records.specs.Reading.{account_id_at, blob_at};
@@ -29,7 +31,8 @@ pub enum GenesisEntry {
 }
 
 fn read_key(alloc: Global, reader: &mut Reader<'_>) -> Result<GenesisEntry, RecordFault>
-    ensures { GivesRead Memory result reader.new (mapped key_of (pair account_id_at (pair key_at access_key_at)) reader.old) }
+    ensures { GivesRead Memory result reader.new
+        (mapped key_of (pair account_id_at (pair key_at access_key_at)) reader.old) }
 {
     let id = AccountId::read(alloc, reader)?;
     let key = PublicKey::read(alloc, reader)?;
@@ -38,7 +41,8 @@ fn read_key(alloc: Global, reader: &mut Reader<'_>) -> Result<GenesisEntry, Reco
 }
 
 fn read_datum(alloc: Global, reader: &mut Reader<'_>) -> Result<GenesisEntry, RecordFault>
-    ensures { GivesRead Memory result reader.new (mapped datum_of (pair account_id_at (pair blob_at blob_at)) reader.old) }
+    ensures { GivesRead Memory result reader.new
+        (mapped datum_of (pair account_id_at (pair blob_at blob_at)) reader.old) }
 {
     let id = AccountId::read(alloc, reader)?;
     let key = Blob::read(alloc, reader)?;

@@ -51,7 +51,8 @@ fn add_id(
     accounts: &mut BTreeSet<AccountId>,
     id: &AccountId,
 ) -> Result<(), AllocError>
-    ensures { OnOk result ((q : List ℕ) → contains bytes_cmp accounts.new q ≡ (bytes_eq id.now q || contains bytes_cmp accounts.old q)) }
+    ensures { OnOk result ((q : List ℕ) → contains bytes_cmp accounts.new q
+        ≡ (bytes_eq id.now q || contains bytes_cmp accounts.old q)) }
 {
     let name = id.duplicate(alloc)?;
     accounts.insert(name)?;
@@ -63,7 +64,8 @@ fn add_account(
     accounts: &mut BTreeSet<AccountId>,
     entry: &GenesisEntry,
 ) -> Result<(), AllocError>
-    ensures { OnOk result ((q : List ℕ) → contains bytes_cmp accounts.new q ≡ (is_account_of q entry.now || contains bytes_cmp accounts.old q)) }
+    ensures { OnOk result ((q : List ℕ) → contains bytes_cmp accounts.new q
+        ≡ (is_account_of q entry.now || contains bytes_cmp accounts.old q)) }
 {
     match entry {
         GenesisEntry::Account(id, _) => add_id(alloc, accounts, id),
@@ -121,7 +123,9 @@ fn add_usage(
     id: &AccountId,
     bytes: u128,
 ) -> Result<(), AllocError>
-    ensures { OnOk result ((q : List ℕ) → count_at (tree.get bytes_cmp usages.new) q ≡ cond (bytes_eq id.now q) (count_at (tree.get bytes_cmp usages.old) q + bytes) (count_at (tree.get bytes_cmp usages.old) q)) }
+    ensures { OnOk result ((q : List ℕ) → count_at (tree.get bytes_cmp usages.new) q
+        ≡ cond (bytes_eq id.now q) (count_at (tree.get bytes_cmp usages.old) q + bytes)
+        (count_at (tree.get bytes_cmp usages.old) q)) }
 {
     let name = id.duplicate(alloc)?;
     let before = usages.get(&name).copied().unwrap_or(0);
@@ -136,7 +140,8 @@ pub(crate) fn usages_of(
     entries: &[GenesisEntry],
     config: &Config,
 ) -> Result<BTreeMap<AccountId, u128>, AllocError>
-    ensures { IfOk result (λ usages. (q : List ℕ) → count_at (tree.get bytes_cmp usages) q ≡ usage_in config.now entries.now q) }
+    ensures { IfOk result (λ usages. (q : List ℕ) → count_at (tree.get bytes_cmp usages) q
+        ≡ usage_in config.now entries.now q) }
 {
     let mut usages = BTreeMap::new(alloc);
     let mut left = entries.len();
@@ -155,7 +160,8 @@ fn add_code(
     id: &AccountId,
     code: &Blob,
 ) -> Result<(), AllocError>
-    ensures { OnOk result ((q : List ℕ) → unwrap_or (tree.get bytes_cmp hashes.new q) zero_hash ≡ cond (bytes_eq id.now q) (digest code.now) (unwrap_or (tree.get bytes_cmp hashes.old q) zero_hash)) }
+    ensures { OnOk result ((q : List ℕ) → unwrap_or (tree.get bytes_cmp hashes.new q) zero_hash
+        ≡ cond (bytes_eq id.now q) (digest code.now) (unwrap_or (tree.get bytes_cmp hashes.old q) zero_hash)) }
 {
     let name = id.duplicate(alloc)?;
     let hash = value_hash(code.inner());
@@ -168,7 +174,8 @@ fn add_hash(
     hashes: &mut BTreeMap<AccountId, Hash32>,
     entry: &GenesisEntry,
 ) -> Result<(), AllocError>
-    ensures { OnOk result ((q : List ℕ) → unwrap_or (tree.get bytes_cmp hashes.new q) zero_hash ≡ hash_with entry.now q (unwrap_or (tree.get bytes_cmp hashes.old q) zero_hash)) }
+    ensures { OnOk result ((q : List ℕ) → unwrap_or (tree.get bytes_cmp hashes.new q) zero_hash
+        ≡ hash_with entry.now q (unwrap_or (tree.get bytes_cmp hashes.old q) zero_hash)) }
 {
     match entry {
         GenesisEntry::Account(_, _) => Ok(()),
@@ -183,7 +190,8 @@ pub(crate) fn hashes_of(
     alloc: Global,
     entries: &[GenesisEntry],
 ) -> Result<BTreeMap<AccountId, Hash32>, AllocError>
-    ensures { IfOk result (λ hashes. (q : List ℕ) → unwrap_or (tree.get bytes_cmp hashes q) zero_hash ≡ code_hash_in entries.now q) }
+    ensures { IfOk result (λ hashes. (q : List ℕ) → unwrap_or (tree.get bytes_cmp hashes q) zero_hash
+        ≡ code_hash_in entries.now q) }
 {
     let mut hashes = BTreeMap::new(alloc);
     let mut left = entries.len();

@@ -67,7 +67,8 @@ pub fn read_genesis(alloc: Global, bytes: &[u8], config: &Config) -> Result<Gene
     ensures found { IfOk result (λ genesis. IsGenesis config.now genesis × (bytes.now ≡ genesis_spelling genesis)) }
     ensures sound { IfOk result (IsSoundGenesis config.now) }
     // What is spelled so is read, unless memory runs out.
-    ensures only { (g : Genesises) → IsGenesis config.now g → bytes.now ≡ genesis_spelling g → Gives genesis.Memory result (Ok g) }
+    ensures only { (g : Genesises) → IsGenesis config.now g → bytes.now ≡ genesis_spelling g
+        → Gives genesis.Memory result (Ok g) }
 {
     genesis_of(alloc, bytes, config)
 }
@@ -94,11 +95,13 @@ fn blocks_of(alloc: Global, bytes: &[u8], shards: u32) -> Result<List<Block>, Bl
 pub fn read_blocks(alloc: Global, bytes: &[u8], shards: u32) -> Result<List<Block>, BlocksFault>
     ensures gives { Gives blocks.Memory result (blocks_read shards bytes.now) }
     // What is read is spelled so, in one of the versions.
-    ensures found { IfOk result (λ list. (version : Version) × AreBlocks version shards list × (bytes.now ≡ blocks_spelling version list)) }
+    ensures found { IfOk result (λ list. (version : Version) × AreBlocks version shards list
+        × (bytes.now ≡ blocks_spelling version list)) }
     // The price of each block, where it has one, is below 2^64.
     ensures priced { IfOk result (λ list. AllByRecursion FitsPrice list) }
     // What is spelled so is read, unless memory runs out.
-    ensures only { (version : Version) (list : Items Blocks) → AreBlocks version shards list → bytes.now ≡ blocks_spelling version list → Gives blocks.Memory result (Ok list) }
+    ensures only { (version : Version) (list : Items Blocks) → AreBlocks version shards list
+        → bytes.now ≡ blocks_spelling version list → Gives blocks.Memory result (Ok list) }
 {
     blocks_of(alloc, bytes, shards)
 }

@@ -1,3 +1,5 @@
+//! The versions of a blocks file, by the word that it begins with.
+
 /// The form of a blocks file, by the four bytes that it begins with.
 #[derive(Clone, Copy, Debug, PartialEq, Eq)]
 pub enum Version {

@@ -1,3 +1,4 @@
+-- Definitions that the contracts cite.
 pub mod Numbers
 pub mod Reading
 pub mod Answers

@@ -1,5 +1,6 @@
 -- Of this project's own: what a shelf and a sink in memory are, and what the next call on them does.
-use Rattle.std.specs.Prelude.{◌≡◌, ℕ, ◌+◌, ◌-◌, ◌^◌, ◌<◌, ◌≤◌, ◌==◌, List, [], ◌∷◌, ◌++◌, length, take, Option, Some, None, IsSome, Result, Ok, Err, Bool, cond, map, min, max, string_bytes}
+use Rattle.std.specs.Prelude.{◌≡◌, ℕ, ◌+◌, ◌-◌, ◌^◌, ◌<◌, ◌≤◌, ◌==◌, List, [], ◌∷◌, ◌++◌, length, take, Option, Some}
+use Rattle.std.specs.Prelude.{None, IsSome, Result, Ok, Err, Bool, cond, map, min, max, string_bytes}
 use Rattle.std.specs.List.{list_any}
 use Rattle.std.specs.Str.{bytes_eq}
 use Rattle.std.specs.Global.{Vec, Global}
@@ -61,9 +62,16 @@ PutsFound (Err Memory) bytes limit old new = new ≡ old
 
 -- What a load leaves of the shelf. Want of memory leaves it as it was.
 abbrev pub Finds : Result (Unit {0}) LoadFault → ShelfInMemory → ShelfInMemory → List ℕ → Type 0
-Finds (Ok u) old new name = IsSome (found old name) × (new ≡ record old { calls = one_more old.calls; asked = old.asked ++ name ∷ [] })
-Finds (Err TooLong) old new name = IsSome (found old name) × (new ≡ record old { calls = one_more old.calls; asked = old.asked ++ name ∷ [] })
-Finds (Err Failed) old new name = (found old name ≡ None) × (new ≡ record old { calls = one_more old.calls; faults = one_more old.faults; asked = old.asked ++ name ∷ [] })
+Finds (Ok u) old new name =
+    IsSome (found old name) × (new ≡ record old { calls = one_more old.calls; asked = old.asked ++ name ∷ [] })
+Finds (Err TooLong) old new name =
+    IsSome (found old name) × (new ≡ record old { calls = one_more old.calls; asked = old.asked ++ name ∷ [] })
+Finds (Err Failed) old new name =
+    (found old name ≡ None) × (new ≡ record old {
+      calls = one_more old.calls;
+      faults = one_more old.faults;
+      asked = old.asked ++ name ∷ [];
+    })
 Finds (Err Memory) old new name = new ≡ old
 
 -- bytes taken; how many it takes in all and in one call; the numbers of the calls that fail, from 1; how many
@@ -78,9 +86,12 @@ pub record SinkInMemory : Type 0 where
 
 -- how many bytes of a piece the next write takes, 0 where it fails
 abbrev pub next_taken : SinkInMemory → List ℕ → ℕ
-next_taken s piece = cond (fails_at s.fail (one_more s.calls)) 0 (min (min (length piece) (max s.step 1)) (s.room - length s.taken))
+next_taken s piece =
+    cond (fails_at s.fail (one_more s.calls)) 0 (min (min (length piece) (max s.step 1)) (s.room - length s.taken))
 
 -- What a write answers and leaves of the sink.
 abbrev pub TakesNext : {E : Type 0} → Result ℕ E → SinkInMemory → SinkInMemory → List ℕ → Type 0
-TakesNext (Ok n) old new piece = (n ≡ next_taken old piece) × (new ≡ record old { taken = old.taken ++ take n piece; calls = one_more old.calls })
-TakesNext (Err e) old new piece = (next_taken old piece ≡ 0) × (new ≡ record old { calls = one_more old.calls; faults = one_more old.faults })
+TakesNext (Ok n) old new piece =
+    (n ≡ next_taken old piece) × (new ≡ record old { taken = old.taken ++ take n piece; calls = one_more old.calls })
+TakesNext (Err e) old new piece =
+    (next_taken old piece ≡ 0) × (new ≡ record old { calls = one_more old.calls; faults = one_more old.faults })

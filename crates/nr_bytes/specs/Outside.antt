@@ -1,5 +1,6 @@
 -- Of this project's own: what a load and a write do to what a program reads from and writes to.
-use Rattle.std.specs.Prelude.{◌≡◌, ℕ, ◌+◌, ◌<◌, ◌≤◌, ◌^◌, ◌-◌, ◌⊎◌, List, [], ◌∷◌, ◌++◌, length, take, Option, Some, None, Result, Ok, Err}
+use Rattle.std.specs.Prelude.{◌≡◌, ℕ, ◌+◌, ◌<◌, ◌≤◌, ◌^◌, ◌-◌, ◌⊎◌, List, [], ◌∷◌, ◌++◌, length, take, Option, Some}
+use Rattle.std.specs.Prelude.{None, Result, Ok, Err}
 use Rattle.std.specs.Io.{StartsWith}
 use Rattle.nr_bytes.specs.declared.shelf.LoadFault.{LoadFault}
 use Rattle.nr_bytes.specs.declared.shelf.LoadFault.TheVariants.{Failed, TooLong, Memory}

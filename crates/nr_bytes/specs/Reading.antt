@@ -1,6 +1,7 @@
 -- Borsh 1.0, "Integers", "Bool", "Fixed sized arrays", "Dynamic sized array" and "String": each field read from the
 -- front of some bytes, or the fault where no front of them spells one.
-use Rattle.std.specs.Prelude.{◌≡◌, ℕ, zero, suc, ◌+◌, ◌-◌, Option, Some, None, List, length, take, drop, Bool, true, false, Result, Ok, Err, nat_lt, ◌==◌, if◌then◌else◌, slice_index}
+use Rattle.std.specs.Prelude.{◌≡◌, ℕ, zero, suc, ◌+◌, ◌-◌, Option, Some, None, List, length, take, drop, Bool, true}
+use Rattle.std.specs.Prelude.{false, Result, Ok, Err, nat_lt, ◌==◌, if◌then◌else◌, slice_index}
 use Rattle.std.specs.Str.{is_utf8}
 use Rattle.nr_bytes.specs.Numbers.{number}
 use Rattle.nr_bytes.specs.declared.fault.BytesFault.{BytesFault}
@@ -50,7 +51,9 @@ flag_at s = do
 
 -- the bytes behind the count of 4 bytes at the front, as many as it says
 unfoldable pub counted : List ℕ → Option (List ℕ)
-counted bytes = if nat_lt (length bytes) 4 then None else (if nat_lt (length bytes - 4) (number (take 4 bytes)) then None else Some (take (number (take 4 bytes)) (drop 4 bytes)))
+counted bytes =
+    if nat_lt (length bytes) 4 then None else (if nat_lt (length bytes - 4) (number (take 4 bytes)) then None
+    else Some (take (number (take 4 bytes)) (drop 4 bytes)))
 
 -- those bytes as a field, and too few bytes are a fault at the count
 abbrev pub counted_of : Input → Option (List ℕ) → Result (List ℕ × Input) BytesFault

@@ -1,3 +1,5 @@
+//! Bytes that contracts see as a list of numbers.
+
 ghost use Rattle.std.specs.Prelude.{IfOk, ◌≡◌};
 ghost use Rattle.std.specs.Borrow.{sem};
 ghost use Rattle.nr_bytes.specs.Lending.{lends_bytes};

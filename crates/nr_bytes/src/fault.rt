@@ -1,3 +1,5 @@
+//! Why a field was not read.
+
 use thiserror::Error;
 
 /// Why a field was not read. Each place counts bytes from 0, from the front of what the reader was made on.

@@ -1,3 +1,5 @@
+//! A shelf of the process's files.
+
 ghost use Rattle.std.specs.Prelude.{◌≡◌, ◌≤◌, ◌+◌, [], length, OnOk, OnErr};
 ghost use Rattle.std.specs.Io.{StartsWith};
 ghost use Rattle.nr_bytes.specs.Outside.{Loads};

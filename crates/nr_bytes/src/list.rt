@@ -1,3 +1,5 @@
+//! A list over a vector, which contracts see as a list.
+
 ghost use Rattle.std.specs.Prelude.{◌≡◌};
 ghost use Rattle.std.specs.Borrow.{sem};
 ghost use Rattle.nr_bytes.specs.Lending.{lends_items};

@@ -1,3 +1,5 @@
+//! A shelf in memory, whose loads fail where they shall.
+
 ghost use Rattle.std.specs.Prelude.{◌≡◌, ◌≤◌, ℕ, List, option_copied, [], OnOk, OnErr, ◌++◌, ◌∷◌};
 ghost use Rattle.nr_bytes.specs.Memory.{held_in, asked_of, found_at, PutsFound, Finds};
 ghost use Rattle.nr_bytes.specs.Outside.{Loads, Fails, Asks};
@@ -22,7 +24,13 @@ impl Model for MemoryShelf {
 
     ghost Value = { ShelfInMemory };
 
-    ghost view = { λ a. record { files = a.files.items; fail = a.fail.items; calls = a.calls; faults = a.faults; asked = asked_of a.asked } };
+    ghost view = { λ a. record {
+      files = a.files.items;
+      fail = a.fail.items;
+      calls = a.calls;
+      faults = a.faults;
+      asked = asked_of a.asked;
+    } };
 }
 
 /// The bytes of the first file with a name.

@@ -1,3 +1,5 @@
+//! A sink in memory, whose writes are short and fail where they shall.
+
 ghost use Rattle.std.specs.Prelude.{◌≡◌, ◌≤◌, ◌<◌, IfOk, OnErr, [], Some, length};
 ghost use Rattle.nr_bytes.specs.Outside.{Takes, Rose};
 ghost use Rattle.nr_bytes.specs.Memory.{TakesNext};
@@ -26,7 +28,14 @@ impl Model for MemorySink {
 
     ghost Value = { SinkInMemory };
 
-    ghost view = { λ a. record { taken = a.bytes.items; room = a.room; step = a.step; fail = a.fail.items; calls = a.calls; faults = a.faults } };
+    ghost view = { λ a. record {
+      taken = a.bytes.items;
+      room = a.room;
+      step = a.step;
+      fail = a.fail.items;
+      calls = a.calls;
+      faults = a.faults;
+    } };
 
     ghost invariant = { λ a. (length a.bytes.items ≤ a.room) × (a.room ≤ vec_capacity a.bytes) };
 }
@@ -43,7 +52,8 @@ impl MemorySink {
         fail: Vec<u64>,
         room: usize,
     ) -> Result<MemorySink, AllocError>
-        ensures value { IfOk result (λ sink. sink ≡ record { taken = []; room = room; step = step; fail = fail.items; calls = 0; faults = 0 }) }
+        ensures value { IfOk result (λ sink. sink
+            ≡ record { taken = []; room = room; step = step; fail = fail.items; calls = 0; faults = 0 }) }
         ensures taken { IfOk result (λ sink. ⟦<MemorySink as Sink>⟧.taken sink ≡ Some []) }
         ensures faults { IfOk result (λ sink. ⟦<MemorySink as Sink>⟧.faults sink ≡ 0) }
     {

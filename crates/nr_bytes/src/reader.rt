@@ -1,3 +1,5 @@
+//! Reading Borsh fields from left to right.
+
 ghost use Rattle.std.specs.Prelude.{◌≡◌, length, [], option_copied, if◌then◌else◌, IfSome, OnErr, ◌+◌, ◌≤◌};
 ghost use Rattle.std.specs.Str.{is_utf8};
 ghost use Rattle.nr_bytes.specs.Numbers.{IsBytes};

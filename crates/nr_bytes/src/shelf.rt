@@ -1,3 +1,5 @@
+//! What files are read from: the trait, and why a load fails.
+
 ghost use Rattle.std.specs.Prelude.{◌≡◌, ◌≤◌};
 ghost use Rattle.nr_bytes.specs.Outside.{Loads, Asks, Fails};
 

@@ -1,3 +1,5 @@
+//! What the output is written to: the trait, and the fault of a write.
+
 ghost use Rattle.std.specs.Prelude.{◌≤◌, ◌<◌, IfOk, OnErr, length};
 ghost use Rattle.nr_bytes.specs.Outside.{Takes, Rose};
 

@@ -1,3 +1,5 @@
+//! A sink that is the process's output.
+
 ghost use Rattle.std.specs.Prelude.{◌≡◌};
 
 use crate::sink::{Sink, WriteFailed};

@@ -1,3 +1,5 @@
+//! Fields by bytes worked out by hand, and shelves and sinks that fail.
+
 use crate::file_shelf::append_rest;
 use crate::{
     Blob, BytesFault, FileShelf, List, LoadFault, MemoryShelf, MemorySink, Reader, Shelf, Sink,

@@ -1,3 +1,5 @@
+//! A UTF-8 text that contracts see as a list of bytes.
+
 ghost use Rattle.std.specs.Prelude.{IfOk, ◌≡◌, string_bytes};
 
 use std::alloc::{AllocError, Global};

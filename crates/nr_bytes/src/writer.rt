@@ -1,3 +1,5 @@
+//! Writing Borsh fields one after the other.
+
 ghost use Rattle.std.specs.Prelude.{◌≡◌, ◌<◌, ◌^◌, ◌∷◌, [], length};
 ghost use Rattle.nr_bytes.specs.Numbers.{little};
 ghost use Rattle.nr_bytes.specs.Writing.{Puts, counted_bytes};

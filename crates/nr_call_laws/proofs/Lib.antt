@@ -1,1 +1,2 @@
+-- Lemmas behind the laws.
 mod Keeping

@@ -56,7 +56,8 @@ files_with c g file = record { config = c; genesis = g; file = file }
 
 module _ {E : Type 0} (config : ℕ → ℕ → E) (genesis : ℕ → ℕ → ℕ → ℕ → E) (blocks : ℕ → ℕ → E) (names : Names) where
   abbrev pub by_genesis : Config → Genesis → Plan ChainFiles E
-  by_genesis c g = and_then (blocks_plan blocks (length g.layout + 1) names.blocks) (λ file. Answer (files_with c g file))
+  by_genesis c g =
+      and_then (blocks_plan blocks (length g.layout + 1) names.blocks) (λ file. Answer (files_with c g file))
 
   abbrev pub by_config : Config → Plan ChainFiles E
   by_config c = and_then (genesis_plan genesis c names.genesis) (by_genesis c)

@@ -82,7 +82,8 @@ fn genesis_in<E: ChainRefusal>(
     config: &Config,
     bytes: &[u8],
 ) -> Result<Genesis, Stop<E>>
-    ensures judges { Judges E.refuses (λ genesis. genesis) result (by_genesis_bytes E.genesis_refusal config.now bytes.now) }
+    ensures judges { Judges E.refuses (λ genesis. genesis) result
+        (by_genesis_bytes E.genesis_refusal config.now bytes.now) }
     ensures sound { IfOk result (IsSoundGenesis config.now) }
 {
     match read_genesis(alloc, bytes, config) {

@@ -1,3 +1,4 @@
+-- Lemmas behind the answers.
 pub mod Values
 pub mod Converted
 pub mod Tallied

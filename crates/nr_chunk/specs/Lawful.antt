@@ -95,7 +95,8 @@ module _ (x : Chain) (is : IsChain x) where
   -- where a chunk may be opened it can take what is carried
   pub can_take_carried : (s h : ℕ) (w : Kept) → CanOpen x s h w → CanServe c (opened_first x s h w) w.carried
   can_take_carried s h w can =
-      can_serve c (world_tokens c w.world) (opened_first x s h w) w.carried (first_holds s h w can.good) can.good.carried
+      can_serve c (world_tokens c w.world) (opened_first x s h w) w.carried
+      (first_holds s h w can.good) can.good.carried
       can.room
 
   opens_at : (s h : ℕ) → IsGoodWorld c (world_after r s h) → kept_tokens c (world_after r s h) ≤ 2 ^ 127

@@ -1,3 +1,4 @@
+-- Definitions that the contracts cite.
 pub mod Views
 pub mod Codes
 pub mod Refused

@@ -1,3 +1,5 @@
+//! A chain whose chunks are worked on: what it holds, and what is known of it.
+
 ghost use Rattle.std.specs.Prelude.{◌≡◌, ◌+◌, ◌^◌, ◌<◌, length};
 ghost use Rattle.std.specs.List.{AllByRecursion};
 ghost use Rattle.nr_blocks.specs.BlocksFiles.{FitsPrice};

@@ -1,10 +1,12 @@
+//! A chunk at work, as those who drive it see it.
+
 ghost use Rattle.std.specs.Prelude.{◌≡◌};
 
 use crate::work::Work;
 use std::marker::Model;
 
-/// A chunk at work, from its opening to its seal. Contracts see its world, what it made and burnt so far, and whether it
-/// is whole: no change was left in the middle by want of memory.
+/// A chunk at work, from its opening to its seal. Contracts see its world, what it made and burnt so far, and whether
+/// it is whole: no change was left in the middle by want of memory.
 #[derive(Drop)]
 pub struct ChunkWork {
     pub(crate) work: Work,

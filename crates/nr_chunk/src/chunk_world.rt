@@ -1,3 +1,5 @@
+//! A shard between its chunks, as those who drive it see it.
+
 ghost use Rattle.std.specs.Prelude.{◌≡◌, IfOk};
 ghost use Rattle.std.specs.FinMap as map;
 ghost use Rattle.nr_columns.specs.Entries.{pairs_of};

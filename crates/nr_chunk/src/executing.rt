@@ -30,7 +30,8 @@ pub(crate) fn spend(work: &mut Work, gas: u64)
 /// Notes what a receipt did, and puts what it made to what goes out.
 fn note(work: &mut Work, executed: Executed) -> Result<(), AllocError>
     requires { work.old.burnt + executed.outcome.burnt < 2 ^ 128 }
-    ensures noted { OnOk result (working_of work.new ≡ with_executed (working_of work.old) work.old.state.world executed) }
+    ensures noted { OnOk result (working_of work.new
+        ≡ with_executed (working_of work.old) work.old.state.world executed) }
     ensures state { work.new.state ≡ work.old.state }
 {
     spend(work, executed.outcome.gas);
@@ -51,7 +52,8 @@ pub(crate) fn run<C: Caller<ChunkStore>>(
     requires ready { IsReady work.old }
     requires action { is_act receipt.body ≡ true }
     requires can { CanServe chain.now.config (working_of work.old) (receipt ∷ []) }
-    ensures run { OnOk result (working_of work.new ≡ run chain.now.config (C.meaning chain.now.caller) (working_of work.old) receipt receipt.body inputs) }
+    ensures run { OnOk result (working_of work.new ≡ run chain.now.config (C.meaning chain.now.caller)
+        (working_of work.old) receipt receipt.body inputs) }
     ensures ready { OnOk result (IsReady work.new) }
 {
     chain.promise();
@@ -76,7 +78,8 @@ pub(crate) fn clash<C: Caller<ChunkStore>>(
 ) -> Result<(), AllocError>
     requires ready { IsReady work.old }
     requires can { CanServe chain.now.config (working_of work.old) (receipt ∷ []) }
-    ensures clashed { OnOk result (working_of work.new ≡ clashed chain.now.config (working_of work.old) receipt receipt.body) }
+    ensures clashed { OnOk result (working_of work.new
+        ≡ clashed chain.now.config (working_of work.old) receipt receipt.body) }
     ensures ready { OnOk result (IsReady work.new) }
 {
     if let Body::Datum(_) = &receipt.body {

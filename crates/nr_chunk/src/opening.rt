@@ -1,7 +1,8 @@
 //! Opening a chunk: its transactions, the receipts for their own signers, and the delayed queue.
 
 ghost use Rattle.std.specs.Prelude.{◌≡◌, ◌≢◌, ◌+◌, ◌<◌, ◌^◌, [], true, IfOk, OnOk, fold, length};
-ghost use Rattle.nr_chunk.specs.Chunk.{begun, with_line, put_aside, is_local, with_converted, convert_next, convert_all, open_chunk};
+ghost use Rattle.nr_chunk.specs.Chunk.{begun, with_line, put_aside, is_local, with_converted, convert_next};
+ghost use Rattle.nr_chunk.specs.Chunk.{convert_all, open_chunk};
 ghost use Rattle.nr_chunk.specs.Refused.{refused};
 ghost use Rattle.nr_chunk.specs.Serving.{CanServe};
 ghost use Rattle.nr_chunk.specs.Works.{kept_of, working_of, IsReady};
@@ -46,7 +47,8 @@ fn put_aside(
     receipt: Receipt,
 ) -> Result<(), AllocError>
     requires { work.old.local ≡ length local.old.items }
-    ensures aside { OnOk result (record { working = working_of work.new; local = local.new.items } ≡ put_aside is_local (working_of work.old) local.old.items receipt) }
+    ensures aside { OnOk result (record { working = working_of work.new; local = local.new.items }
+        ≡ put_aside is_local (working_of work.old) local.old.items receipt) }
     ensures count { OnOk result (work.new.local ≡ length local.new.items) }
     ensures state { work.new.state ≡ work.old.state }
 {
@@ -82,7 +84,9 @@ fn note_converted(
     requires hash { hash ≡ transaction_hash tx.now }
     requires count { work.old.local ≡ length local.old.items }
     requires burnt { work.old.burnt + made.burnt < 2 ^ 128 }
-    ensures noted { OnOk result (record { working = working_of work.new; local = local.new.items } ≡ put_aside (is_local tx.now) (with_converted (working_of work.old) tx.now work.old.state.world made) local.old.items made.receipt) }
+    ensures noted { OnOk result (record { working = working_of work.new; local = local.new.items }
+        ≡ put_aside (is_local tx.now) (with_converted (working_of work.old) tx.now work.old.state.world made)
+        local.old.items made.receipt) }
     ensures count { OnOk result (work.new.local ≡ length local.new.items) }
     ensures state { work.new.state ≡ work.old.state }
 {
@@ -104,7 +108,8 @@ fn convert_next<C: Caller<ChunkStore>>(
     requires ready { IsReady work.old }
     requires count { work.old.local ≡ length local.old.items }
     requires can { CanServe chain.now.config (working_of work.old) local.old.items }
-    ensures converted { OnOk result (record { working = working_of work.new; local = local.new.items } ≡ convert_next chain.now.config (record { working = working_of work.old; local = local.old.items }) tx.now) }
+    ensures converted { OnOk result (record { working = working_of work.new; local = local.new.items }
+        ≡ convert_next chain.now.config (record { working = working_of work.old; local = local.old.items }) tx.now) }
     ensures count { OnOk result (work.new.local ≡ length local.new.items) }
     ensures ready { OnOk result (IsReady work.new) }
 {
@@ -135,7 +140,8 @@ fn convert_all<C: Caller<ChunkStore>>(
     requires fresh { work.old.local ≡ 0 }
     requires can { CanServe chain.now.config (working_of work.old) [] }
     requires price { work.old.place.price < 2 ^ 64 }
-    ensures converted { IfOk result (λ local. record { working = working_of work.new; local = local.items } ≡ convert_all chain.now.config (working_of work.old) txs.now) }
+    ensures converted { IfOk result (λ local. record { working = working_of work.new; local = local.items }
+        ≡ convert_all chain.now.config (working_of work.old) txs.now) }
     ensures can { IfOk result (λ local. CanServe chain.now.config (working_of work.new) local.items) }
     ensures ready { OnOk result (IsReady work.new) }
 {

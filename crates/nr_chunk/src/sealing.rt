@@ -58,7 +58,8 @@ pub(crate) fn seal(alloc: Global, layout: &Layout, work: Work) -> Result<Sealed,
     requires whole { work.state.whole ≡ true }
     ensures result { IfOk result (λ sealed. sealed.result ≡ result_of layout.now (working_of work)) }
     ensures state { IfOk result (λ sealed. sealed.state ≡ work.state) }
-    ensures lists { IfOk result (λ sealed. sealed.lists ≡ parts layout.now (length layout.now + 1) work.outgoing.items) }
+    ensures lists { IfOk result (λ sealed. sealed.lists
+        ≡ parts layout.now (length layout.now + 1) work.outgoing.items) }
 {
     let mut state = work.state;
     let root = root_of(&mut state)?;

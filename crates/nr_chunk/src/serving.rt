@@ -1,7 +1,8 @@
 //! Receipts that a chunk serves: offered to the state while there is gas, and else delayed.
 
 ghost use Rattle.std.specs.Prelude.{◌≡◌, ◌∷◌, [], IfOk, OnOk, fold, slice_get};
-ghost use Rattle.nr_chunk.specs.Chunk.{offered_to, told, late, has_gas, serve, serve_all, serve_queue, serve_delayed, without_front};
+ghost use Rattle.nr_chunk.specs.Chunk.{offered_to, told, late, has_gas, serve, serve_all, serve_queue, serve_delayed};
+ghost use Rattle.nr_chunk.specs.Chunk.{without_front};
 ghost use Rattle.nr_chunk.specs.Serving.{CanServe, datum_of};
 ghost use Rattle.nr_chunk.specs.Works.{working_of, IsReady};
 ghost use Rattle.nr_join.specs.Offering.{offer};
@@ -40,7 +41,8 @@ fn put_off(alloc: Global, work: &mut Work, receipt: Receipt) -> Result<(), Alloc
 
 /// Tells of a datum that sets a receipt free.
 fn tell_datum(work: &mut Work, datum: Option<Hash32>) -> Result<(), AllocError>
-    ensures told { (r : Receipts) → datum ≡ datum_of r r.body → OnOk result (working_of work.new ≡ told (working_of work.old) r r.body) }
+    ensures told { (r : Receipts) → datum ≡ datum_of r r.body
+        → OnOk result (working_of work.new ≡ told (working_of work.old) r r.body) }
     ensures state { work.new.state ≡ work.old.state }
 {
     if let Some(id) = datum {
@@ -68,7 +70,8 @@ fn offer_to<C: Caller<ChunkStore>>(
 ) -> Result<(), AllocError>
     requires ready { IsReady work.old }
     requires can { CanServe chain.now.config (working_of work.old) (receipt ∷ []) }
-    ensures offered { OnOk result (working_of work.new ≡ offered_to chain.now.config (C.meaning chain.now.caller) (working_of work.old) receipt (offer work.old.state.world receipt)) }
+    ensures offered { OnOk result (working_of work.new ≡ offered_to chain.now.config (C.meaning chain.now.caller)
+        (working_of work.old) receipt (offer work.old.state.world receipt)) }
     ensures ready { OnOk result (IsReady work.new) }
 {
     chain.promise();
@@ -94,7 +97,8 @@ fn serve<C: Caller<ChunkStore>>(
 ) -> Result<(), AllocError>
     requires ready { IsReady work.old }
     requires can { CanServe chain.now.config (working_of work.old) (receipt ∷ []) }
-    ensures served { OnOk result (working_of work.new ≡ serve chain.now.config (C.meaning chain.now.caller) (working_of work.old) receipt) }
+    ensures served { OnOk result (working_of work.new ≡ serve chain.now.config (C.meaning chain.now.caller)
+        (working_of work.old) receipt) }
     ensures ready { OnOk result (IsReady work.new) }
 {
     if has_gas(work, chain) {
@@ -113,7 +117,8 @@ pub(crate) fn serve_all<C: Caller<ChunkStore>>(
 ) -> Result<(), AllocError>
     requires ready { IsReady work.old }
     requires can { CanServe chain.now.config (working_of work.old) list }
-    ensures served { OnOk result (working_of work.new ≡ serve_all chain.now.config (C.meaning chain.now.caller) (working_of work.old) list) }
+    ensures served { OnOk result (working_of work.new ≡ serve_all chain.now.config (C.meaning chain.now.caller)
+        (working_of work.old) list) }
     ensures can { OnOk result (CanServe chain.now.config (working_of work.new) []) }
     ensures ready { OnOk result (IsReady work.new) }
 {
@@ -128,7 +133,8 @@ pub(crate) fn serve_all<C: Caller<ChunkStore>>(
 fn take_front(alloc: Global, work: &mut Work) -> Result<Option<Receipt>, AllocError>
     requires ready { IsReady work.old }
     ensures found { IfOk result (λ found. found ≡ slice_get work.old.state.world.delayed 0) }
-    ensures taken { OnOk result (working_of work.new ≡ without_front (working_of work.old) work.old.state.world.delayed) }
+    ensures taken { OnOk result (working_of work.new
+        ≡ without_front (working_of work.old) work.old.state.world.delayed) }
     ensures ready { OnOk result (IsReady work.new) }
 {
     let front = next_delayed(alloc, &mut work.state)?;
@@ -143,7 +149,8 @@ pub(crate) fn serve_delayed<C: Caller<ChunkStore>>(
 ) -> Result<(), AllocError>
     requires ready { IsReady work.old }
     requires can { CanServe chain.now.config (working_of work.old) [] }
-    ensures served { OnOk result (working_of work.new ≡ serve_delayed chain.now.config (C.meaning chain.now.caller) (working_of work.old)) }
+    ensures served { OnOk result (working_of work.new ≡ serve_delayed chain.now.config (C.meaning chain.now.caller)
+        (working_of work.old)) }
     ensures ready { OnOk result (IsReady work.new) }
 {
     chain.promise();

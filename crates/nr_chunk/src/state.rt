@@ -1,3 +1,5 @@
+//! The one place that names the store of a shard's state.
+
 use nr_state::ShardState;
 use nr_trieupdate::TrieStore;
 

@@ -1,3 +1,5 @@
+//! A chunk at work: its parts.
+
 use crate::state::State;
 use nr_ids::ShardId;
 use nr_records::{ChunkLine, Receipt};

@@ -60,7 +60,11 @@ impl Host for Meter {
 
     ghost state = { λ m. m.gas };
 
-    ghost meaning = { record { gas = λ s. s; with_gas = λ s n. n; call = λ s f args. record { store = s; answer = Fails 20 } } };
+    ghost meaning = { record {
+      gas = λ s. s;
+      with_gas = λ s n. n;
+      call = λ s f args. record { store = s; answer = Fails 20 };
+    } };
 
     ghost keeps = { λ _ _. Unit {0} };
 
@@ -83,7 +87,12 @@ impl Host for Meter {
         Err(HostStop::Fault { kind: 20 })
     }
 
-    ghost law = { record { gas_is = λ s n h. refl; no_more_gas = λ s f args. omega arith; result = λ s f args. tt; size = λ s f args. refl } };
+    ghost law = { record {
+      gas_is = λ s n h. refl;
+      no_more_gas = λ s f args. omega arith;
+      result = λ s f args. tt;
+      size = λ s f args. refl;
+    } };
 
     ghost keeps_here = { λ _. tt };
 

@@ -23,7 +23,9 @@ abbrev pair : Coded (List ℕ × List ℕ)
 pair = coded× text text
 
 abbrev pub First : Type 0
-First = FinMap bytes_cmp Account × (FinMap key_cmp AccessKey × (FinMap bytes_cmp (List ℕ) × (FinMap pair_cmp (List ℕ) × FinMap pair_cmp (Option (List ℕ)))))
+First =
+    FinMap bytes_cmp Account × (FinMap key_cmp AccessKey
+    × (FinMap bytes_cmp (List ℕ) × (FinMap pair_cmp (List ℕ) × FinMap pair_cmp (Option (List ℕ)))))
 
 abbrev pub first : Coded First
 first =
@@ -37,7 +39,9 @@ abbrev pub second_receipts : Coded (FinMap pair_cmp Receipt)
 second_receipts = code pair receipt.the_row.coded
 
 abbrev Second : Type 0
-Second = FinMap pair_cmp Hash32 × (FinMap pair_cmp ℕ × (FinMap pair_cmp Receipt × (Option (ℕ × ℕ) × FinMap nat_cmp Receipt)))
+Second =
+    FinMap pair_cmp Hash32 × (FinMap pair_cmp ℕ
+    × (FinMap pair_cmp Receipt × (Option (ℕ × ℕ) × FinMap nat_cmp Receipt)))
 
 abbrev second : Coded Second
 second =
@@ -47,7 +51,10 @@ second =
     (coded× (coded_option (coded× coded_ℕ coded_ℕ)) (code coded_ℕ receipt.the_row.coded))))
 
 abbrev taken_apart : Columns → First × Second
-taken_apart k = ((k.accounts, (k.keys, (k.code, (k.data_of, k.received)))), (k.awaited, (k.missing, (k.postponed, (k.queue, k.delayed)))))
+taken_apart k = (
+  (k.accounts, (k.keys, (k.code, (k.data_of, k.received)))),
+  (k.awaited, (k.missing, (k.postponed, (k.queue, k.delayed)))),
+)
 
 abbrev put_together : First × Second → Columns
 put_together p =

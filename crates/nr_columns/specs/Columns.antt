@@ -1,4 +1,5 @@
--- The columns of the state trie: one finite map for each kind of entry, and the trie entries that they stand for. After the Nomicon, Data Structures, Merkle Proofs and Trie; the columns are this project's.
+-- The columns of the state trie: one finite map for each kind of entry, and the trie entries that they stand for.
+-- After the Nomicon, Data Structures, Merkle Proofs and Trie; the columns are this project's.
 use Rattle.std.specs.Prelude.{ℕ, List, ◌++◌, Option, Some, None}
 use Rattle.std.specs.FinMap.{FinMap, empty, insert, entries}
 use Rattle.std.specs.Ordering.{nat_cmp}
@@ -13,7 +14,8 @@ use Rattle.nr_records.specs.declared.account.Account.{Account}
 use Rattle.nr_records.specs.declared.access_key.AccessKey.{AccessKey}
 use Rattle.nr_records.specs.declared.receipt.Receipt.{Receipt}
 use Rattle.nr_triedef.specs.Root.{Contents}
-use Rattle.nr_columns.specs.Keys.{account_key, code_key, access_key_key, received_key, awaited_key, missing_key, postponed_key, queue_key, delayed_key, datum_key}
+use Rattle.nr_columns.specs.Keys.{account_key, code_key, access_key_key, received_key, awaited_key, missing_key}
+use Rattle.nr_columns.specs.Keys.{postponed_key, queue_key, delayed_key, datum_key}
 use Rattle.nr_columns.specs.Orders.{bytes_cmp, pair_cmp, key_cmp}
 use Rattle.nr_columns.specs.Tables.{laid}
 

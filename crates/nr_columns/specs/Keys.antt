@@ -1,4 +1,5 @@
--- The keys of the state trie: a byte for the column, and then whose entry it is. After the Nomicon, Data Structures, Merkle Proofs and Trie; the bytes are this project's.
+-- The keys of the state trie: a byte for the column, and then whose entry it is. After the Nomicon, Data Structures,
+-- Merkle Proofs and Trie; the bytes are this project's.
 use Rattle.std.specs.Prelude.{ℕ, List, [], ◌∷◌, ◌++◌}
 use Rattle.nr_bytes.specs.Numbers.{little}
 use Rattle.nr_ids.specs.declared.key.PublicKey.{PublicKey}
@@ -50,4 +51,6 @@ owner_prefix column id = column_key column id []
 
 -- what the keys of all that an account owns begin with, but for the account and its code, which have one key each
 abbrev pub owner_prefixes : List ℕ → List (List ℕ)
-owner_prefixes id = (2 ∷ (id ++ 2 ∷ [])) ∷ owner_prefix 3 id ∷ owner_prefix 4 id ∷ owner_prefix 5 id ∷ owner_prefix 6 id ∷ owner_prefix 9 id ∷ []
+owner_prefixes id =
+    (2 ∷ (id ++ 2 ∷ [])) ∷ owner_prefix 3 id ∷ owner_prefix 4 id ∷ owner_prefix 5 id ∷ owner_prefix 6 id
+    ∷ owner_prefix 9 id ∷ []

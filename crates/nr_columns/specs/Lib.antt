@@ -1,3 +1,4 @@
+-- Definitions that the contracts cite.
 pub mod Orders
 pub mod Keys
 pub mod Tables

@@ -1,4 +1,5 @@
--- Finite maps in a store's contents, each entry under a key of bytes: how they are laid into the contents, and how they are read out. This project's own.
+-- Finite maps in a store's contents, each entry under a key of bytes: how they are laid into the contents, and how
+-- they are read out. This project's own.
 use Rattle.std.specs.Prelude.{ℕ, cond, List, [], ◌∷◌, Option, Some, None, Result, Ok, Err}
 use Rattle.std.specs.FinMap.{FinMap, empty, insert, remove, entries}
 use Rattle.std.specs.Ordering.{eq_by_cmp}

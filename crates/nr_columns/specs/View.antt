@@ -1,5 +1,6 @@
 -- The columns that a store's contents stand for, and what a store of columns shows. This project's own.
-use Rattle.std.specs.Prelude.{◌≡◌, ℕ, ◌==◌, cond, List, [], ◌∷◌, Option, Some, None, map, Ok, not, option_map, option_and_then}
+use Rattle.std.specs.Prelude.{◌≡◌, ℕ, ◌==◌, cond, List, [], ◌∷◌, Option, Some, None, map, Ok, not, option_map}
+use Rattle.std.specs.Prelude.{option_and_then}
 use Rattle.std.specs.FinMap.{FinMap, get, retain_keys}
 use Rattle.std.specs.List.{AllByRecursion}
 use Rattle.std.specs.Ordering.{nat_cmp}
@@ -56,12 +57,24 @@ key_of_rest bs = option_and_then with_key (at_first 2 bs)
 -- by id
 abbrev pub text_table : ℕ → {X : Type 0} → (X → List ℕ) → (List ℕ → Option X) → Table (List ℕ) X
 text_table column spell read =
-    record { cmp = bytes_cmp; key = λ id. column ∷ id; unkey = in_column column (λ bs. Some bs); spell = spell; read = read }
+    record {
+      cmp = bytes_cmp;
+      key = λ id. column ∷ id;
+      unkey = in_column column (λ bs. Some bs);
+      spell = spell;
+      read = read;
+    }
 
 -- by id and the rest behind a comma
 abbrev pub pair_table : ℕ → {X : Type 0} → (X → List ℕ) → (List ℕ → Option X) → Table (List ℕ × List ℕ) X
 pair_table column spell read =
-    record { cmp = pair_cmp; key = λ k. column_key column k.0 k.1; unkey = in_column column (at_first 44); spell = spell; read = read }
+    record {
+      cmp = pair_cmp;
+      key = λ k. column_key column k.0 k.1;
+      unkey = in_column column (at_first 44);
+      spell = spell;
+      read = read;
+    }
 
 -- bytes that spell themselves
 abbrev pub same_bytes : List ℕ → Option (List ℕ)
@@ -143,7 +156,8 @@ columns_in c =
 abbrev pub IsLaid : Contents → Type 0
 IsLaid c = laid_columns (columns_in c) ≡ c
 
--- ---- what a store of columns shows: the columns, those of each standing checkpoint (the newest first), and how many more checkpoints it can make
+-- ---- what a store of columns shows: the columns, those of each standing checkpoint (the newest first), and how many
+-- more checkpoints it can make
 pub record ColumnsView : Type 0 where
   pub columns : Columns
   pub marks : List Columns

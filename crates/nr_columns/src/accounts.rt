@@ -28,7 +28,8 @@ impl<S: Store> Columns<S> {
 
     /// Writes an account.
     pub fn set_account(&mut self, id: &AccountId, account: &Account) -> Result<(), AllocError>
-        ensures ok { OnOk result (self.new ≡ with_columns self.old (record self.old.columns { accounts = map.insert self.old.columns.accounts id.now account.now })) }
+        ensures ok { OnOk result (self.new ≡ with_columns self.old
+            (record self.old.columns { accounts = map.insert self.old.columns.accounts id.now account.now })) }
         ensures fits { OnOk result (IsId id.now × IsAccount account.now) }
         ensures err { OnErr result (self.new ≡ self.old) }
     {
@@ -40,7 +41,8 @@ impl<S: Store> Columns<S> {
     /// Takes an account out; `false` where it wasn't there.
     pub fn remove_account(&mut self, id: &AccountId) -> Result<bool, AllocError>
         ensures found { IfOk result (λ found. found ≡ is_some (map.get self.old.columns.accounts id.now)) }
-        ensures ok { OnOk result (self.new ≡ with_columns self.old (record self.old.columns { accounts = map.remove self.old.columns.accounts id.now })) }
+        ensures ok { OnOk result (self.new ≡ with_columns self.old
+            (record self.old.columns { accounts = map.remove self.old.columns.accounts id.now })) }
         ensures err { OnErr result (self.new ≡ self.old) }
     {
         let key = keys::account_key(self.alloc, id)?;
@@ -67,7 +69,8 @@ impl<S: Store> Columns<S> {
         key: &PublicKey,
         access: &AccessKey,
     ) -> Result<(), AllocError>
-        ensures ok { OnOk result (self.new ≡ with_columns self.old (record self.old.columns { keys = map.insert self.old.columns.keys (id.now, key.now) access.now })) }
+        ensures ok { OnOk result (self.new ≡ with_columns self.old
+            (record self.old.columns { keys = map.insert self.old.columns.keys (id.now, key.now) access.now })) }
         ensures fits { OnOk result (IsId id.now × (IsKey key.now × IsAccessKey access.now)) }
         ensures err { OnErr result (self.new ≡ self.old) }
     {
@@ -79,7 +82,8 @@ impl<S: Store> Columns<S> {
     /// Takes an access key out; `false` where it wasn't there.
     pub fn remove_access_key(&mut self, id: &AccountId, key: &PublicKey) -> Result<bool, AllocError>
         ensures found { IfOk result (λ found. found ≡ is_some (map.get self.old.columns.keys (id.now, key.now))) }
-        ensures ok { OnOk result (self.new ≡ with_columns self.old (record self.old.columns { keys = map.remove self.old.columns.keys (id.now, key.now) })) }
+        ensures ok { OnOk result (self.new ≡ with_columns self.old
+            (record self.old.columns { keys = map.remove self.old.columns.keys (id.now, key.now) })) }
         ensures err { OnErr result (self.new ≡ self.old) }
     {
         let slot = keys::owner_key(self.alloc, id, key)?;
@@ -89,7 +93,8 @@ impl<S: Store> Columns<S> {
 
     /// Takes all access keys of an owner out.
     pub fn remove_access_keys(&mut self, id: &AccountId) -> Result<(), AllocError>
-        ensures ok { OnOk result (self.new ≡ with_columns self.old (record self.old.columns { keys = without_owner self.old.columns.keys id.now })) }
+        ensures ok { OnOk result (self.new ≡ with_columns self.old
+            (record self.old.columns { keys = without_owner self.old.columns.keys id.now })) }
         ensures marks { self.new.marks ≡ self.old.marks }
     {
         let front = keys::front(self.alloc, keys::ACCESS, id, keys::ACCESS)?;

@@ -24,7 +24,8 @@ impl<S: Store> Columns<S> {
 
     /// Writes an account's code.
     pub fn set_code(&mut self, id: &AccountId, code: &[u8]) -> Result<(), AllocError>
-        ensures ok { OnOk result (self.new ≡ with_columns self.old (record self.old.columns { code = map.insert self.old.columns.code id.now code.now })) }
+        ensures ok { OnOk result (self.new ≡ with_columns self.old
+            (record self.old.columns { code = map.insert self.old.columns.code id.now code.now })) }
         ensures fits { OnOk result (IsId id.now) }
         ensures err { OnErr result (self.new ≡ self.old) }
     {
@@ -36,7 +37,8 @@ impl<S: Store> Columns<S> {
     /// Takes an account's code out; `false` where it wasn't there.
     pub fn remove_code(&mut self, id: &AccountId) -> Result<bool, AllocError>
         ensures found { IfOk result (λ found. found ≡ is_some (map.get self.old.columns.code id.now)) }
-        ensures ok { OnOk result (self.new ≡ with_columns self.old (record self.old.columns { code = map.remove self.old.columns.code id.now })) }
+        ensures ok { OnOk result (self.new ≡ with_columns self.old
+            (record self.old.columns { code = map.remove self.old.columns.code id.now })) }
         ensures err { OnErr result (self.new ≡ self.old) }
     {
         let key = keys::code_key(self.alloc, id)?;
@@ -54,7 +56,8 @@ impl<S: Store> Columns<S> {
 
     /// Writes a datum of an account.
     pub fn set_datum(&mut self, id: &AccountId, key: &[u8], value: &[u8]) -> Result<(), AllocError>
-        ensures ok { OnOk result (self.new ≡ with_columns self.old (record self.old.columns { data_of = map.insert self.old.columns.data_of (id.now, key.now) value.now })) }
+        ensures ok { OnOk result (self.new ≡ with_columns self.old
+            (record self.old.columns { data_of = map.insert self.old.columns.data_of (id.now, key.now) value.now })) }
         ensures fits { OnOk result (IsId id.now) }
         ensures err { OnErr result (self.new ≡ self.old) }
     {
@@ -66,7 +69,8 @@ impl<S: Store> Columns<S> {
     /// Takes a datum out; `false` where it wasn't there.
     pub fn remove_datum(&mut self, id: &AccountId, key: &[u8]) -> Result<bool, AllocError>
         ensures found { IfOk result (λ found. found ≡ is_some (map.get self.old.columns.data_of (id.now, key.now))) }
-        ensures ok { OnOk result (self.new ≡ with_columns self.old (record self.old.columns { data_of = map.remove self.old.columns.data_of (id.now, key.now) })) }
+        ensures ok { OnOk result (self.new ≡ with_columns self.old
+            (record self.old.columns { data_of = map.remove self.old.columns.data_of (id.now, key.now) })) }
         ensures err { OnErr result (self.new ≡ self.old) }
     {
         let slot = keys::pair_key(self.alloc, keys::DATUM, id, key)?;
@@ -76,7 +80,8 @@ impl<S: Store> Columns<S> {
 
     /// Takes all data of an owner out.
     pub fn remove_data(&mut self, id: &AccountId) -> Result<(), AllocError>
-        ensures ok { OnOk result (self.new ≡ with_columns self.old (record self.old.columns { data_of = without_owner self.old.columns.data_of id.now })) }
+        ensures ok { OnOk result (self.new ≡ with_columns self.old
+            (record self.old.columns { data_of = without_owner self.old.columns.data_of id.now })) }
         ensures marks { self.new.marks ≡ self.old.marks }
     {
         let front = keys::front(self.alloc, keys::DATUM, id, b',')?;

@@ -1,3 +1,5 @@
+//! An entry of the state trie.
+
 use nr_bytes::Blob;
 
 /// An entry of the state trie: a key and its value, both of bytes.

@@ -37,7 +37,11 @@ impl<S: Store> Columns<S> {
         data_id: &Hash32,
         bytes: &Option<Blob>,
     ) -> Result<(), AllocError>
-        ensures ok { OnOk result (self.new ≡ with_columns self.old (record self.old.columns { received = map.insert self.old.columns.received (receiver.now, data_id.now.0) bytes.now })) }
+        ensures ok { OnOk result (self.new ≡ with_columns self.old
+            (record self.old.columns {
+              received = map.insert self.old.columns.received
+                  (receiver.now, data_id.now.0) bytes.now;
+            })) }
         ensures fits { OnOk result (IsId receiver.now × (IsHash data_id.now × IsOption IsCounted bytes.now)) }
         ensures err { OnErr result (self.new ≡ self.old) }
     {
@@ -52,8 +56,13 @@ impl<S: Store> Columns<S> {
         receiver: &AccountId,
         data_id: &Hash32,
     ) -> Result<bool, AllocError>
-        ensures found { IfOk result (λ found. found ≡ is_some (map.get self.old.columns.received (receiver.now, data_id.now.0))) }
-        ensures ok { OnOk result (self.new ≡ with_columns self.old (record self.old.columns { received = map.remove self.old.columns.received (receiver.now, data_id.now.0) })) }
+        ensures found { IfOk result (λ found. found
+            ≡ is_some (map.get self.old.columns.received (receiver.now, data_id.now.0))) }
+        ensures ok { OnOk result (self.new ≡ with_columns self.old
+            (record self.old.columns {
+              received = map.remove self.old.columns.received
+                  (receiver.now, data_id.now.0);
+            })) }
         ensures err { OnErr result (self.new ≡ self.old) }
     {
         let key = keys::pair_key(self.alloc, keys::RECEIVED, receiver, &data_id.0)?;
@@ -80,7 +89,11 @@ impl<S: Store> Columns<S> {
         data_id: &Hash32,
         receipt_id: &Hash32,
     ) -> Result<(), AllocError>
-        ensures ok { OnOk result (self.new ≡ with_columns self.old (record self.old.columns { awaited = map.insert self.old.columns.awaited (receiver.now, data_id.now.0) receipt_id.now })) }
+        ensures ok { OnOk result (self.new ≡ with_columns self.old
+            (record self.old.columns {
+              awaited = map.insert self.old.columns.awaited
+                  (receiver.now, data_id.now.0) receipt_id.now;
+            })) }
         ensures err { OnErr result (self.new ≡ self.old) }
     {
         let key = keys::pair_key(self.alloc, keys::AWAITED, receiver, &data_id.0)?;
@@ -94,8 +107,10 @@ impl<S: Store> Columns<S> {
         receiver: &AccountId,
         data_id: &Hash32,
     ) -> Result<bool, AllocError>
-        ensures found { IfOk result (λ found. found ≡ is_some (map.get self.old.columns.awaited (receiver.now, data_id.now.0))) }
-        ensures ok { OnOk result (self.new ≡ with_columns self.old (record self.old.columns { awaited = map.remove self.old.columns.awaited (receiver.now, data_id.now.0) })) }
+        ensures found { IfOk result (λ found. found
+            ≡ is_some (map.get self.old.columns.awaited (receiver.now, data_id.now.0))) }
+        ensures ok { OnOk result (self.new ≡ with_columns self.old
+            (record self.old.columns { awaited = map.remove self.old.columns.awaited (receiver.now, data_id.now.0) })) }
         ensures err { OnErr result (self.new ≡ self.old) }
     {
         let key = keys::pair_key(self.alloc, keys::AWAITED, receiver, &data_id.0)?;
@@ -122,7 +137,11 @@ impl<S: Store> Columns<S> {
         receipt_id: &Hash32,
         count: u32,
     ) -> Result<(), AllocError>
-        ensures ok { OnOk result (self.new ≡ with_columns self.old (record self.old.columns { missing = map.insert self.old.columns.missing (receiver.now, receipt_id.now.0) count })) }
+        ensures ok { OnOk result (self.new ≡ with_columns self.old
+            (record self.old.columns {
+              missing = map.insert self.old.columns.missing
+                  (receiver.now, receipt_id.now.0) count;
+            })) }
         ensures err { OnErr result (self.new ≡ self.old) }
     {
         let key = keys::pair_key(self.alloc, keys::MISSING, receiver, &receipt_id.0)?;
@@ -136,8 +155,13 @@ impl<S: Store> Columns<S> {
         receiver: &AccountId,
         receipt_id: &Hash32,
     ) -> Result<bool, AllocError>
-        ensures found { IfOk result (λ found. found ≡ is_some (map.get self.old.columns.missing (receiver.now, receipt_id.now.0))) }
-        ensures ok { OnOk result (self.new ≡ with_columns self.old (record self.old.columns { missing = map.remove self.old.columns.missing (receiver.now, receipt_id.now.0) })) }
+        ensures found { IfOk result (λ found. found
+            ≡ is_some (map.get self.old.columns.missing (receiver.now, receipt_id.now.0))) }
+        ensures ok { OnOk result (self.new ≡ with_columns self.old
+            (record self.old.columns {
+              missing = map.remove self.old.columns.missing
+                  (receiver.now, receipt_id.now.0);
+            })) }
         ensures err { OnErr result (self.new ≡ self.old) }
     {
         let key = keys::pair_key(self.alloc, keys::MISSING, receiver, &receipt_id.0)?;

@@ -4,7 +4,8 @@ ghost use Rattle.std.specs.Prelude.{◌≡◌, ◌∷◌, ◌++◌, IfOk, OnOk, 
 ghost use Rattle.nr_bytes.specs.Numbers.{little, number};
 ghost use Rattle.nr_ids.specs.Grammar.{id_fault};
 ghost use Rattle.nr_ids.specs.Keys.{key_bytes, IsKey};
-ghost use Rattle.nr_columns.specs.Keys.{account_key, code_key, access_key_key, datum_key, column_key, delayed_key, owner_prefixes};
+ghost use Rattle.nr_columns.specs.Keys.{account_key, code_key, access_key_key, datum_key, column_key, delayed_key};
+ghost use Rattle.nr_columns.specs.Keys.{owner_prefixes};
 ghost use Rattle.nr_columns.specs.View.{at_first, key_of_rest};
 
 use nr_bytes::{Blob, List, Writer};

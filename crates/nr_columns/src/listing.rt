@@ -22,7 +22,9 @@ fn records_at<S: Store, T: Spelled>(
     store: &S,
     keys: &[Blob],
 ) -> Result<Vec<T>, AllocError>
-    ensures { IfOk result (λ found. found.items ≡ flat_map (λ key. option_to_list (option_and_then (λ bytes. read_of (all_of T.reading bytes)) (map.get (S.contents store.now) key))) keys.now) }
+    ensures { IfOk result (λ found. found.items
+        ≡ flat_map (λ key. option_to_list (option_and_then (λ bytes. read_of (all_of T.reading bytes))
+        (map.get (S.contents store.now) key))) keys.now) }
 {
     let mut found = Vec::new(alloc);
     for key in keys {

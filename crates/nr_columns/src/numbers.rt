@@ -94,7 +94,8 @@ pub(crate) fn put_queue<S: Store>(
     served: u64,
     next: u64,
 ) -> Result<(), AllocError>
-    ensures ok { OnOk result (S.contents store.new ≡ map.insert (S.contents store.old) key.now (queue_bytes (served, next))) }
+    ensures ok { OnOk result (S.contents store.new
+        ≡ map.insert (S.contents store.old) key.now (queue_bytes (served, next))) }
     ensures back { queue_of (queue_bytes (served, next)) ≡ Some (served, next) }
     ensures err { OnErr result (S.contents store.new ≡ S.contents store.old) }
     ensures marks { S.marks store.new ≡ S.marks store.old }

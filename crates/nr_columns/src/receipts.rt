@@ -36,7 +36,11 @@ impl<S: Store> Columns<S> {
         receipt_id: &Hash32,
         receipt: &Receipt,
     ) -> Result<(), AllocError>
-        ensures ok { OnOk result (self.new ≡ with_columns self.old (record self.old.columns { postponed = map.insert self.old.columns.postponed (receiver.now, receipt_id.now.0) receipt.now })) }
+        ensures ok { OnOk result (self.new ≡ with_columns self.old
+            (record self.old.columns {
+              postponed = map.insert self.old.columns.postponed
+                  (receiver.now, receipt_id.now.0) receipt.now;
+            })) }
         ensures fits { OnOk result (IsId receiver.now × (IsHash receipt_id.now × IsReceipt receipt.now)) }
         ensures err { OnErr result (self.new ≡ self.old) }
     {
@@ -51,8 +55,13 @@ impl<S: Store> Columns<S> {
         receiver: &AccountId,
         receipt_id: &Hash32,
     ) -> Result<bool, AllocError>
-        ensures found { IfOk result (λ found. found ≡ is_some (map.get self.old.columns.postponed (receiver.now, receipt_id.now.0))) }
-        ensures ok { OnOk result (self.new ≡ with_columns self.old (record self.old.columns { postponed = map.remove self.old.columns.postponed (receiver.now, receipt_id.now.0) })) }
+        ensures found { IfOk result (λ found. found
+            ≡ is_some (map.get self.old.columns.postponed (receiver.now, receipt_id.now.0))) }
+        ensures ok { OnOk result (self.new ≡ with_columns self.old
+            (record self.old.columns {
+              postponed = map.remove self.old.columns.postponed
+                  (receiver.now, receipt_id.now.0);
+            })) }
         ensures err { OnErr result (self.new ≡ self.old) }
     {
         let key = keys::pair_key(self.alloc, keys::POSTPONED, receiver, &receipt_id.0)?;
@@ -70,7 +79,8 @@ impl<S: Store> Columns<S> {
 
     /// Writes how many delayed receipts were served, and the number that the next one gets.
     pub fn set_queue(&mut self, served: u64, next: u64) -> Result<(), AllocError>
-        ensures ok { OnOk result (self.new ≡ with_columns self.old (record self.old.columns { queue = Some (served, next) })) }
+        ensures ok { OnOk result (self.new ≡ with_columns self.old
+            (record self.old.columns { queue = Some (served, next) })) }
         ensures err { OnErr result (self.new ≡ self.old) }
     {
         put_queue(self.alloc, &mut self.store, &[keys::DELAYED], served, next)?;
@@ -87,7 +97,8 @@ impl<S: Store> Columns<S> {
 
     /// Writes a delayed receipt under its number.
     pub fn set_delayed(&mut self, number: u64, receipt: &Receipt) -> Result<(), AllocError>
-        ensures ok { OnOk result (self.new ≡ with_columns self.old (record self.old.columns { delayed = map.insert self.old.columns.delayed number receipt.now })) }
+        ensures ok { OnOk result (self.new ≡ with_columns self.old
+            (record self.old.columns { delayed = map.insert self.old.columns.delayed number receipt.now })) }
         ensures fits { OnOk result (IsReceipt receipt.now) }
         ensures err { OnErr result (self.new ≡ self.old) }
     {
@@ -99,7 +110,8 @@ impl<S: Store> Columns<S> {
     /// Takes a delayed receipt out; `false` where it wasn't there.
     pub fn remove_delayed(&mut self, number: u64) -> Result<bool, AllocError>
         ensures found { IfOk result (λ found. found ≡ is_some (map.get self.old.columns.delayed number)) }
-        ensures ok { OnOk result (self.new ≡ with_columns self.old (record self.old.columns { delayed = map.remove self.old.columns.delayed number })) }
+        ensures ok { OnOk result (self.new ≡ with_columns self.old
+            (record self.old.columns { delayed = map.remove self.old.columns.delayed number })) }
         ensures err { OnErr result (self.new ≡ self.old) }
     {
         let key = keys::delayed_key(self.alloc, number)?;

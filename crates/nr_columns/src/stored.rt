@@ -26,7 +26,8 @@ pub(crate) fn stored<S: Store, T: Spelled>(
     store: &S,
     key: &[u8],
 ) -> Result<Option<T>, AllocError>
-    ensures { IfOk result (λ found. found ≡ option_and_then (λ bytes. read_of (all_of T.reading bytes)) (map.get (S.contents store.now) key.now)) }
+    ensures { IfOk result (λ found. found ≡ option_and_then (λ bytes. read_of (all_of T.reading bytes))
+        (map.get (S.contents store.now) key.now)) }
 {
     match store.get(key) {
         Some(bytes) => read(alloc, bytes),

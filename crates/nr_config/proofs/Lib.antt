@@ -1,3 +1,4 @@
+-- Lemmas behind the answers.
 pub mod Valid
 pub mod Built
 pub mod Bounds

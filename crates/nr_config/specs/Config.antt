@@ -1,4 +1,5 @@
--- A configuration: 75 numbers, which count from 1. Fees after the Nomicon, Runtime Fees; names, order and values are this project's.
+-- A configuration: 75 numbers, which count from 1. Fees after the Nomicon, Runtime Fees; names, order and values are
+-- this project's.
 use Rattle.std.specs.Prelude.{◌≡◌, ℕ, ◌-◌, ◌≤◌, List, length, map, slice_index}
 use Rattle.nr_config.specs.Table.{Row, table}
 

@@ -1,3 +1,4 @@
+-- Definitions that the contracts cite.
 pub mod Table
 pub mod Config
 pub mod Rows

@@ -1,5 +1,7 @@
--- The configuration that a JSON text is (RFC 8259, as the crate `serde_json` reads it), or why it is none. This project's own.
-use Rattle.std.specs.Prelude.{ℕ, ◌+◌, List, [], ◌∷◌, is_some, Option, Some, None, option_and_then, Result, Ok, Err, nat_lt, ◌||◌, if◌then◌else◌}
+-- The configuration that a JSON text is (RFC 8259, as the crate `serde_json` reads it), or why it is none. This
+-- project's own.
+use Rattle.std.specs.Prelude.{ℕ, ◌+◌, List, [], ◌∷◌, is_some, Option, Some, None, option_and_then, Result, Ok, Err}
+use Rattle.std.specs.Prelude.{nat_lt, ◌||◌, if◌then◌else◌}
 use Rattle.std.specs.Str.{is_utf8}
 use Rattle.serde_json.specs.Data.{Data}
 use Rattle.serde_json.specs.Find.{get, as_object, as_number, as_u64}

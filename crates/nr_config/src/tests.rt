@@ -1,3 +1,5 @@
+//! Configurations that are read, and the first fault of those that are not.
+
 use crate::entries::*;
 use crate::table::rows;
 use crate::{Config, ConfigFault};

@@ -1,3 +1,5 @@
+//! What a program answers where a configuration's file is refused.
+
 ghost use Rattle.std.specs.Prelude.{◌≡◌, true};
 
 /// What a program refuses a command with, a configuration's file among others.

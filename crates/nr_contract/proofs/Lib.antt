@@ -1,3 +1,4 @@
+-- Lemmas behind the answers.
 pub mod Judging
 pub mod Making
 pub mod Counting

@@ -1,3 +1,4 @@
+-- Definitions that the contracts cite.
 pub mod Runs
 pub mod Verdicts
 pub mod Loading

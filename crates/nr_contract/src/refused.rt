@@ -1,3 +1,5 @@
+//! Why the machine of a call wasn't made.
+
 /// Why the machine of a call wasn't made.
 #[derive(Clone, Copy, Debug, PartialEq, Eq)]
 pub(crate) enum Refused {

@@ -1,3 +1,4 @@
+-- Lemmas behind the laws.
 mod Verdict
 mod Decoding
 mod Ending

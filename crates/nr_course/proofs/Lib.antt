@@ -1,3 +1,4 @@
+-- Lemmas behind the answers.
 pub mod Files
 pub mod Ends
 pub mod Sums

@@ -1,3 +1,4 @@
+-- Definitions that the contracts cite.
 pub mod Course
 pub mod Totals
 pub mod Texts

@@ -125,8 +125,8 @@ fn tokens_of<C: Caller<ChunkStore>>(chain: &ChainRun<C>, tally: &Tally) -> u128
 ///
 /// # Errors
 ///
-/// Where memory runs out. A sum that doesn't fit its number counts as that, and so do the counts of a report. All is let
-/// go.
+/// Where memory runs out. A sum that doesn't fit its number counts as that, and so do the counts of a report. All is
+/// let go.
 pub fn cross<C: Caller<ChunkStore> + Drop>(
     alloc: Global,
     outcome: Outcome<C>,

@@ -1,4 +1,5 @@
-//! What holds of a run of one chain or of two legs. Each function here does nothing when it runs: its contract is the law.
+//! What holds of a run of one chain or of two legs. Each function here does nothing when it runs: its contract is the
+//! law.
 
 ghost use Rattle.std.specs.Prelude.{◌≡◌, ◌+◌, ◌^◌, ◌<◌, ◌≤◌, List, Some, length};
 ghost use Rattle.std.specs.List.{AllByRecursion};

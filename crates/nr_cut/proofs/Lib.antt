@@ -1,3 +1,4 @@
+-- Lemmas behind the answers.
 pub mod Maps
 pub mod Worlds
 pub mod Cuts

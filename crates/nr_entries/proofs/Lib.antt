@@ -1,3 +1,4 @@
+-- Lemmas behind the answers.
 pub mod ColumnSums
 pub mod Columns
 pub mod Contents

@@ -1,3 +1,4 @@
+-- Definitions that the contracts cite.
 pub mod Counting
 pub mod Order
 pub mod Told

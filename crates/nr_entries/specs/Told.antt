@@ -1,5 +1,7 @@
--- Which entries are those of a column, each spelled as that column spells it, with names that fit. After the Nomicon, Data Structures, Merkle Proofs and Trie; the columns are this project's.
-use Rattle.std.specs.Prelude.{ℕ, ◌==◌, ◌&&◌, Bool, true, false, cond, List, [], ◌∷◌, length, Option, Some, None, is_none, is_some}
+-- Which entries are those of a column, each spelled as that column spells it, with names that fit. After the Nomicon,
+-- Data Structures, Merkle Proofs and Trie; the columns are this project's.
+use Rattle.std.specs.Prelude.{ℕ, ◌==◌, ◌&&◌, Bool, true, false, cond, List, [], ◌∷◌, length, Option, Some, None}
+use Rattle.std.specs.Prelude.{is_none, is_some}
 use Rattle.std.specs.List.{AllByRecursion, list_all}
 use Rattle.std.specs.Str.{bytes_eq}
 use Rattle.nr_bytes.specs.Numbers.{IsBytes}
@@ -7,7 +9,8 @@ use Rattle.nr_ids.specs.Grammar.{id_fault}
 use Rattle.nr_ids.specs.declared.key.PublicKey.{PublicKey}
 use Rattle.nr_ids.specs.declared.key.PublicKey.TheVariants.{Ed25519, Secp256k1}
 use Rattle.nr_records.specs.declared.receipt.Receipt.{Receipt}
-use Rattle.nr_columns.specs.View.{at_first, key_of_rest, queue_of, accounts_table, keys_table, received_table, awaited_table, missing_table, postponed_table, delayed_table}
+use Rattle.nr_columns.specs.View.{at_first, key_of_rest, queue_of, accounts_table, keys_table, received_table}
+use Rattle.nr_columns.specs.View.{awaited_table, missing_table, postponed_table, delayed_table}
 use Rattle.nr_columns.specs.declared.entry.Entry.{Entry}
 
 -- ---- names

@@ -67,7 +67,9 @@ fn add_bytes(
     owner: &[u8],
     bytes: u128,
 ) -> Result<(), AllocError>
-    ensures { OnOk result ((q : List ℕ) → count_at (tree.get bytes_cmp counts.new) q ≡ cond (bytes_eq owner.now q) (count_at (tree.get bytes_cmp counts.old) q + bytes) (count_at (tree.get bytes_cmp counts.old) q)) }
+    ensures { OnOk result ((q : List ℕ) → count_at (tree.get bytes_cmp counts.new) q
+        ≡ cond (bytes_eq owner.now q) (count_at (tree.get bytes_cmp counts.old) q + bytes)
+        (count_at (tree.get bytes_cmp counts.old) q)) }
 {
     let name = name_of(alloc, owner)?;
     let before = counts.get(&name).copied().unwrap_or(0);
@@ -83,7 +85,8 @@ fn add_entry(
     extra: u64,
     entry: &Entry,
 ) -> Result<(), AllocError>
-    ensures { OnOk result ((q : List ℕ) → count_at (tree.get bytes_cmp counts.new) q ≡ entry_bytes extra q entry.now + count_at (tree.get bytes_cmp counts.old) q) }
+    ensures { OnOk result ((q : List ℕ) → count_at (tree.get bytes_cmp counts.new) q
+        ≡ entry_bytes extra q entry.now + count_at (tree.get bytes_cmp counts.old) q) }
 {
     let Some((owner, key)) = owned_part(entry.key.inner()) else {
         return Ok(());
@@ -103,7 +106,8 @@ pub fn owned_bytes(
     extra: u64,
     entries: &[Entry],
 ) -> Result<BTreeMap<Blob, u128>, AllocError>
-    ensures { IfOk result (λ counts. (q : List ℕ) → count_at (tree.get bytes_cmp counts) q ≡ owned_bytes extra entries.now q) }
+    ensures { IfOk result (λ counts. (q : List ℕ) → count_at (tree.get bytes_cmp counts) q
+        ≡ owned_bytes extra entries.now q) }
 {
     let mut counts = BTreeMap::new(alloc);
     let mut left = entries.len();

@@ -148,7 +148,10 @@ module _ {P L : Type 0} (plan : P → Plan L) where
         (i, lti, refl, refl),
       )
 
-  pub gives_as : (run : P) (slots id : ℕ) (me : Me (Option L) (Note P)) (i d n k : ℕ) (x : Option L) (others : List (ℕ × Option L)) → me.0.run ≡ run → d ≡ me.0.shard → n ≡ (link me.0 i).given → k ≡ taken_word (plan run) i d → i < (plan run).shards → me.1 ≡ (place (plan run) i d n, x) ∷ others → n < chunks_to (plan run) i (link me.0 i).claimed
+  pub gives_as : (run : P) (slots id : ℕ) (me : Me (Option L) (Note P)) (i d n k : ℕ) (x : Option L)
+      (others : List (ℕ × Option L)) → me.0.run ≡ run → d ≡ me.0.shard → n ≡ (link me.0 i).given
+      → k ≡ taken_word (plan run) i d → i < (plan run).shards → me.1 ≡ (place (plan run) i d n, x) ∷ others
+      → n < chunks_to (plan run) i (link me.0 i).claimed
       → Allows (ExchangeRule run (plan run)) slots id me k (λ n. (n + 1) % 2 ^ 64) (GivesBack plan (step slots k 1 0 none) me)
   gives_as run slots id me i d n k x others same own is word lti carried claimed =
       subst (λ (y : P × ℕ). Allows (ExchangeRule y.0 (plan y.0)) slots id me y.1 (λ n. (n + 1) % 2 ^ 64) (GivesBack plan (step slots y.1 1 0 none) me)) (λ j. (same j, (ap (λ (y : P × ℕ). taken_word (plan y.0) i y.1) (λ j. (same j, sym own j)) ∙ sym word) j))

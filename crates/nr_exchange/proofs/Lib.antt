@@ -1,3 +1,4 @@
+-- Lemmas behind the answers.
 pub mod Noted
 pub mod Lists
 pub mod Counts

@@ -1,3 +1,4 @@
+-- Definitions that the contracts cite.
 pub mod Plan
 pub mod SerialPlan
 pub mod Laws

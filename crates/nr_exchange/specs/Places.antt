@@ -1,4 +1,5 @@
--- Where lists lie on their way: a ring of eight places for each source and destination. The words of the exchange are a published word for each shard and a taken word for each source and destination. This project's own.
+-- Where lists lie on their way: a ring of eight places for each source and destination. The words of the exchange are
+-- a published word for each shard and a taken word for each source and destination. This project's own.
 use Rattle.std.specs.Prelude.{◌≡◌, ℕ, zero, suc, ◌+◌, ◌-◌, ◌*◌, ◌%◌, ◌<◌, ◌≤◌, true, List, [], ◌∷◌, Option}
 use mathlib.Core.Option.{some}
 use mathlib.Core.Option as maybe
@@ -41,6 +42,10 @@ module _ {L : Type 0} (p : Plan L) where
   -- what is at home
   pub record ArePlaced {P : Type 0} (homes : List (maybe.Option (Option L))) (views : List (Note P)) : Type 0 where
     -- each list that was published and not claimed
-    pub lists : (s h d : ℕ) → s < p.shards → d < p.shards → p.present s h ≡ true → (link_of views d s).claimed < h → h ≤ number views s → get_elem? homes (place s d (chunks_to p s (h - 1))) ≡ some (some (list_of p s h d))
-    -- and each place for a later list that the ring has room for, but for those of the next one that its publisher has out
-    pub free : (s d n : ℕ) → s < p.shards → d < p.shards → chunks_to p s (number views s) ≤ n → n < (link_of views d s).given + 8 → (n ≡ chunks_to p s (number views s) → out views s ≤ d) → (x : Option L) × (get_elem? homes (place s d n) ≡ some (some x))
+    pub lists : (s h d : ℕ) → s < p.shards → d < p.shards → p.present s h ≡ true → (link_of views d s).claimed < h
+        → h ≤ number views s → get_elem? homes (place s d (chunks_to p s (h - 1))) ≡ some (some (list_of p s h d))
+    -- and each place for a later list that the ring has room for, but for those of the next one that its publisher
+    -- has out
+    pub free : (s d n : ℕ) → s < p.shards → d < p.shards → chunks_to p s (number views s) ≤ n
+        → n < (link_of views d s).given + 8 → (n ≡ chunks_to p s (number views s) → out views s ≤ d) → (x : Option L)
+        × (get_elem? homes (place s d n) ≡ some (some x))

@@ -1,5 +1,7 @@
--- The serial run as an exchange sees it: which chunks are there, and the lists that each one seals. After the Nomicon, Chain Specification (Chunks and cross-shard receipts).
-use Rattle.std.specs.Prelude.{◌≡◌, ℕ, zero, suc, ◌+◌, ◌<◌, ◌≤◌, Bool, true, false, cond, List, [], Option, Some, None, slice_get}
+-- The serial run as an exchange sees it: which chunks are there, and the lists that each one seals. After the
+-- Nomicon, Chain Specification (Chunks and cross-shard receipts).
+use Rattle.std.specs.Prelude.{◌≡◌, ℕ, zero, suc, ◌+◌, ◌<◌, ◌≤◌, Bool, true, false, cond, List, [], Option, Some, None}
+use Rattle.std.specs.Prelude.{slice_get}
 use Rattle.nr_overlap.specs.Rules.{Rules, Sealing}
 use Rattle.nr_overlap.specs.Serial.{sealing_at}
 
@@ -17,7 +19,8 @@ lists_in (Some z) = z.lists
 
 -- what the serial run sends
 abbrev pub plan_of : {W K L R : Type 0} → Rules W K L R → Plan L
-plan_of r = record { shards = r.shards; heights = r.heights; present = r.present; lists = λ s h. lists_in (sealing_at r s h) }
+plan_of r =
+    record { shards = r.shards; heights = r.heights; present = r.present; lists = λ s h. lists_in (sealing_at r s h) }
 
 -- the list of a source and a height for a shard
 abbrev pub list_of : {L : Type 0} → Plan L → ℕ → ℕ → ℕ → Option L

@@ -38,7 +38,8 @@ module _ {P : Type 0} where
 
   -- the answer of a take that loaded n. The place of a list that was found is given back
   abbrev pub Answers : {L : Type 0} → Plan L → ℕ → ℕ → Note P → ℕ → Result (Parcel L) NotYet → Note P → Type 0
-  Answers p s h v n (Ok (Whole l)) w = (h ≤ n % 2 ^ 32) × (list_of p s h v.shard ≡ Some l) × (w ≡ gave_back (claims v s n h) s)
+  Answers p s h v n (Ok (Whole l)) w =
+      (h ≤ n % 2 ^ 32) × (list_of p s h v.shard ≡ Some l) × (w ≡ gave_back (claims v s n h) s)
   Answers p s h v n (Ok (Abandoned k)) w = (k ≡ n % 2 ^ 32) × (n % 2 ^ 32 < h) × (2 ^ 32 ≤ n) × (w ≡ looked v s n)
   Answers p s h v n (Err e) w = (e.published ≡ n % 2 ^ 32) × (n % 2 ^ 32 < h) × (n < 2 ^ 32) × (w ≡ looked v s n)
 
@@ -90,8 +91,11 @@ module _ {P : Type 0} where
 -- ---- what these answers come to
 -- a try to take a list, whatever it answers, loads the word of its source once
 abbrev pub TriesLook : Type 0 → Type 0 → Type 0
-TriesLook P L = (p : Plan L) (s h : ℕ) (v w : Note P) (answer : Result (Parcel L) NotYet) → s < length v.links → Takes p s h v answer w → IsLooked (link v s) (link w s)
+TriesLook P L =
+    (p : Plan L) (s h : ℕ) (v w : Note P) (answer : Result (Parcel L) NotYet) → s < length v.links
+    → Takes p s h v answer w → IsLooked (link v s) (link w s)
 
 -- and so does a look for a mark
 abbrev pub MarksLook : Type 0 → Type 0
-MarksLook P = (s : ℕ) (v w : Note P) (answer : Bool) → s < length v.links → Marks s v answer w → IsLooked (link v s) (link w s)
+MarksLook P =
+    (s : ℕ) (v w : Note P) (answer : Bool) → s < length v.links → Marks s v answer w → IsLooked (link v s) (link w s)

@@ -25,7 +25,8 @@ module _ {P L : Type 0} (run : P) (p : Plan L) where
     pub mark_shown : l.marked ≡ true → abandoned views s ≡ true
     pub given_claimed : l.given ≤ chunks_to p s l.claimed
 
-  -- the ring from s to d: what s knows as taken was given back, no more than 8 lists are published beyond, and fewer where s holds the place for the next one
+  -- the ring from s to d: what s knows as taken was given back, no more than 8 lists are published beyond, and fewer
+  -- where s holds the place for the next one
   pub record IsRing (views : List (Note P)) (s d : ℕ) : Type 0 where
     pub known : (room_of views s d).taken ≤ (link_of views d s).given
     pub ahead : chunks_to p s (number views s) ≤ (link_of views d s).given + 8
@@ -40,10 +41,12 @@ module _ {P L : Type 0} (run : P) (p : Plan L) where
     pub seats : length s.views ≤ p.shards
     pub made : (v : Note P) → get_elem? s.views 0 ≡ some v → v.made ≡ length s.views
     pub notes : (i : ℕ) (v : Note P) → get_elem? s.views i ≡ some v → IsNote i v
-    -- each published word is the shard's number with its mark, as its row notes them; a shard with no port has 0 and none
+    -- each published word is the shard's number with its mark, as its row notes them; a shard with no port has 0 and
+    -- none
     pub shown : (i : ℕ) → i < p.shards → slice_index s.words i ≡ number s.views i + mark (abandoned s.views i)
     -- each taken word is what the row of its destination notes as given back
-    pub taken : (i d : ℕ) → i < p.shards → d < p.shards → slice_index s.words (taken_word p i d) ≡ (link_of s.views d i).given
+    pub taken : (i d : ℕ) → i < p.shards → d < p.shards → slice_index s.words (taken_word p i d)
+        ≡ (link_of s.views d i).given
     -- what each port knows of each shard is so
     pub links : (d i : ℕ) → IsLink s.views (link_of s.views d i) i
     pub rings : (i d : ℕ) → i < p.shards → d < p.shards → IsRing s.views i d

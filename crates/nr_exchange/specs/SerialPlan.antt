@@ -1,4 +1,5 @@
--- The plan of a serial run, by the rules of its phases. After the Nomicon, Chain Specification (Chunks and cross-shard receipts).
+-- The plan of a serial run, by the rules of its phases. After the Nomicon, Chain Specification (Chunks and
+-- cross-shard receipts).
 use Rattle.nr_overlap.specs.Rules.{Rules}
 use Rattle.nr_exchange.specs.declared.planned.Serial.{Serial}
 use Rattle.nr_exchange.specs.Plan.{Plan, plan_of}

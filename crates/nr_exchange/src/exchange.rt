@@ -40,7 +40,8 @@ impl<P: Planned> Model for Exchange<P> {
 
     ghost view = { λ e. record { name = e.table.shared.table_id; run = e.table.shared.key; seats = map (λ p. p.seat) e.ports.value.items } };
 
-    ghost invariant = { λ e. IsSized (P.plan e.table.shared.key) e.table.shared.table_id e.shards × P.is_run e.table.shared.key };
+    ghost invariant = { λ e. IsSized (P.plan e.table.shared.key) e.table.shared.table_id e.shards
+        × P.is_run e.table.shared.key };
 }
 
 /// An exchange for a run, and the ports of its shards in order of number. None of them has published, taken or
@@ -79,7 +80,8 @@ fn split_all<P: Planned>(
     exchange: &Exchange<P>,
     seat: Seat<Option<P::Parcel>, Note<P>>,
 ) -> Result<Vec<Port<P>>, AllocError>
-    requires seat { (seat.table_id ≡ exchange.now.name) × (seat.me ≡ (fresh exchange.now.run (P.plan exchange.now.run).shards 0 1, [])) }
+    requires seat { (seat.table_id ≡ exchange.now.name)
+        × (seat.me ≡ (fresh exchange.now.run (P.plan exchange.now.run).shards 0 1, [])) }
     requires some { 0 < (P.plan exchange.now.run).shards }
     ensures { let n = (P.plan exchange.now.run).shards in IfOk result (λ ports. AreSplit exchange.now.name exchange.now.run n n ports.items) }
 {
@@ -131,7 +133,8 @@ impl<P: Planned> Exchange<P> {
     /// The words and the places of an exchange that no thread shares any more. They are those of a state that keeps
     /// the exchange rule.
     pub fn close(self) -> Closed<Option<P::Parcel>, Global>
-        ensures rule { Final (ExchangeRule self.run (P.plan self.run)) (slots_items result.words) (slots_items result.slots) }
+        ensures rule { Final (ExchangeRule self.run (P.plan self.run)) (slots_items result.words)
+            (slots_items result.slots) }
         ensures full { IsFull result.words × IsFull result.slots }
         ensures words { slots_len result.words ≡ words (P.plan self.run) }
         ensures places { slots_len result.slots ≡ places (P.plan self.run) }

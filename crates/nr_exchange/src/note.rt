@@ -1,3 +1,5 @@
+//! What a port knows: the row of its shard in the exchange rule.
+
 // What the view of a port notes. No value of these types is made.
 use std::collections::LinkedList;
 

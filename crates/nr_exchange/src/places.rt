@@ -102,9 +102,11 @@ impl<P: Planned> Exchange<P> {
         requires linked { length seat.old.me.0.links ≡ (P.plan self.now.run).shards }
         requires before { before ≡ (link seat.old.me.0 source).given }
         requires claimed { before < chunks_to (P.plan self.now.run) source (link seat.old.me.0 source).claimed }
-        requires front { (list : P.Parcel) × (seat.old.me.1 ≡ (place (P.plan self.now.run) source dest before, Some list) ∷ rest seat.old.me.1) }
+        requires front { (list : P.Parcel) × (seat.old.me.1
+            ≡ (place (P.plan self.now.run) source dest before, Some list) ∷ rest seat.old.me.1) }
         ensures same { (seat.new.table_id ≡ seat.old.table_id) × (seat.new.id ≡ seat.old.id) }
-        ensures list { seat.old.me.1 ≡ (place (P.plan self.now.run) source dest before, Some result) ∷ rest seat.old.me.1 }
+        ensures list { seat.old.me.1 ≡ (place (P.plan self.now.run) source dest before, Some result)
+            ∷ rest seat.old.me.1 }
         ensures me { seat.new.me ≡ (gave_back seat.old.me.0 source, rest seat.old.me.1) }
     {
         let words = &self.table.shared;
@@ -157,11 +159,16 @@ impl<P: Planned> Exchange<P> {
     )
         requires name { seat.old.table_id ≡ self.now.name }
         requires inside { shard < (P.plan self.now.run).shards }
-        requires places { map (λ x. x.0) seat.old.me.1 ≡ spaces (P.plan self.now.run) shard published (P.plan self.now.run).shards }
+        requires places { map (λ x. x.0) seat.old.me.1 ≡ spaces (P.plan self.now.run) shard published
+            (P.plan self.now.run).shards }
         requires lists { lists ≡ (P.plan self.now.run).lists shard height }
         requires all { length lists ≡ (P.plan self.now.run).shards }
         ensures same { (seat.new.table_id ≡ seat.old.table_id) × (seat.new.id ≡ seat.old.id) }
-        ensures me { seat.new.me ≡ (seat.old.me.0, carry (P.plan self.now.run) shard published height (P.plan self.now.run).shards) }
+        ensures me { seat.new.me ≡ (
+          seat.old.me.0,
+          carry (P.plan self.now.run) shard published height
+              (P.plan self.now.run).shards,
+        ) }
     {
         let _height = height;
         let mut rest = lists.into_inner();

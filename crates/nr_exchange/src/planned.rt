@@ -28,7 +28,8 @@ pub trait Planned {
         ensures { result ≡ (plan self.now).heights };
 
     /// A chunk sends a list to each shard.
-    ghost one_each: { (run : Self) → is_run run → (s h : ℕ) → 0 < h → (plan run).present s h ≡ true → length ((plan run).lists s h) ≡ (plan run).shards };
+    ghost one_each: { (run : Self) → is_run run → (s h : ℕ) → 0 < h → (plan run).present s h ≡ true
+        → length ((plan run).lists s h) ≡ (plan run).shards };
 }
 
 /// The serial run of phases: its chunks send what they seal.

@@ -1,4 +1,5 @@
--- A run of two shards and ten blocks, of which the first has no chunk of shard 1. A chunk sends to each shard its own name and that shard's. These tests' own.
+-- A run of two shards and ten blocks, of which the first has no chunk of shard 1. A chunk sends to each shard its own
+-- name and that shard's. These tests' own.
 use Rattle.std.specs.Prelude.{ℕ, ◌+◌, [], ◌∷◌, nat_lt}
 use Rattle.nr_overlap.specs.Rules.{Rules}
 use Rattle.nr_exchange_tests.specs.declared.answer.Answer.{Answer}

@@ -1,3 +1,5 @@
+//! What a shard is answered, and what a test of the ring gives.
+
 use crate::pair::Sent;
 
 /// An answer to a shard that asks for a list.

@@ -1,3 +1,5 @@
+//! A run of two shards for the tests.
+
 use nr_bytes::List;
 use nr_ids::{Height, ShardId};
 use nr_overlap::Phases;

@@ -1,3 +1,5 @@
+//! Asking, publishing, giving up, and a link without room.
+
 ghost use Rattle.std.specs.Prelude.{◌≡◌, ◌+◌, ◌<◌, ◌≤◌, true, IfOk, IfSome};
 ghost use Rattle.std.specs.Mem.Slots.{slots_len, IsFull};
 ghost use Rattle.nr_exchange.specs.Plan.{plan_of};

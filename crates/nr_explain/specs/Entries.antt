@@ -1,5 +1,6 @@
 -- What is said of an entry of a configuration: its name and its bounds. This project's own.
-use Rattle.std.specs.Prelude.{ℕ, ◌-◌, ◌^◌, List, [], ◌++◌, map, Option, Some, None, option_and_then, cond, codes, decimal, nat_lt, slice_get}
+use Rattle.std.specs.Prelude.{ℕ, ◌-◌, ◌^◌, List, [], ◌++◌, map, Option, Some, None, option_and_then, cond, codes}
+use Rattle.std.specs.Prelude.{decimal, nat_lt, slice_get}
 use Rattle.nr_config.specs.Table.{Row, table}
 use Rattle.nr_explain.specs.Words.{number_below}
 
@@ -25,4 +26,5 @@ entry_of word = option_and_then nth_entry (number_below (2 ^ 64) word)
 -- what is said of an entry behind its number, as `, regular_op_cost (1 to 1000000000),`
 abbrev pub entry_told : Option Bounds → List ℕ
 entry_told None = []
-entry_told (Some b) = codes ", " ++ b.name ++ codes " (" ++ decimal b.least ++ codes " to " ++ decimal b.greatest ++ codes "),"
+entry_told (Some b) =
+    codes ", " ++ b.name ++ codes " (" ++ decimal b.least ++ codes " to " ++ decimal b.greatest ++ codes "),"

@@ -1,3 +1,4 @@
+-- Definitions that the contracts cite.
 pub mod Words
 pub mod Entries
 pub mod Forms

@@ -1,7 +1,8 @@
 -- The lines that programs write, and the JSON object that stands for each (RFC 8259). This project's own.
 use Rattle.std.specs.Prelude.{◌≡◌, ℕ, Bool, true, false, List, [], ◌∷◌, ◌++◌, cond, Option, Some, None, codes}
 use Rattle.nr_explain.specs.Words.{pieces, is_dash}
-use Rattle.nr_explain.specs.Forms.{Kind, Word, Figure, Number, Amount, Hash, Bytes, Entry, Name, Field, Form, form_of, word, figure, number, amount, hash, bytes}
+use Rattle.nr_explain.specs.Forms.{Kind, Word, Figure, Number, Amount, Hash, Bytes, Entry, Name, Field, Form, form_of}
+use Rattle.nr_explain.specs.Forms.{word, figure, number, amount, hash, bytes}
 
 -- ---- the forms, with a member's name for each word
 abbrev pub line : List ℕ → Field
@@ -50,12 +51,15 @@ zero_second = figure (codes "0") (codes "second")
 
 unfoldable pub lines : List Form
 lines =
-    (line (codes "chunk") ∷ number (codes "height") ∷ number (codes "shard") ∷ hash (codes "state_root") ∷ gas_and_burnt)
+    (line (codes "chunk") ∷ number (codes "height") ∷ number (codes "shard") ∷ hash (codes "state_root")
+    ∷ gas_and_burnt)
     ∷ (line (codes "tx") ∷ hash (codes "transaction_hash") ∷ status (codes "ok") ∷ hash (codes "receipt_id") ∷ [])
-    ∷ (line (codes "tx") ∷ hash (codes "transaction_hash") ∷ status (codes "refused") ∷ number (codes "number") ∷ amount (codes "first") ∷ amount (codes "second") ∷ [])
+    ∷ (line (codes "tx") ∷ hash (codes "transaction_hash") ∷ status (codes "refused") ∷ number (codes "number")
+    ∷ amount (codes "first") ∷ amount (codes "second") ∷ [])
     ∷ run (codes "value") (bytes (codes "value") ∷ gas_and_burnt)
     ∷ run (codes "promise") (hash (codes "promised_receipt_id") ∷ gas_and_burnt)
-    ∷ run (codes "failure") (number (codes "action_index") ∷ number (codes "kind") ∷ number (codes "part") ∷ gas_and_burnt)
+    ∷ run (codes "failure") (number (codes "action_index") ∷ number (codes "kind") ∷ number (codes "part")
+    ∷ gas_and_burnt)
     ∷ run (codes "clash") (figure (codes "0") (codes "gas") ∷ amount (codes "burnt") ∷ [])
     ∷ (line (codes "log") ∷ bytes (codes "bytes") ∷ [])
     ∷ receipt (codes "post")
@@ -67,7 +71,9 @@ lines =
     ∷ total (codes "accounts")
     ∷ total (codes "receipts")
     ∷ total (codes "burnt")
-    ∷ (line (codes "total") ∷ word (codes "places") (codes "total") ∷ number (codes "routed") ∷ number (codes "executed") ∷ number (codes "postponed") ∷ number (codes "delayed") ∷ number (codes "in_flight") ∷ [])
+    ∷ (line (codes "total") ∷ word (codes "places") (codes "total") ∷ number (codes "routed")
+    ∷ number (codes "executed") ∷ number (codes "postponed") ∷ number (codes "delayed")
+    ∷ number (codes "in_flight") ∷ [])
     ∷ (line (codes "gen") ∷ number (codes "number") ∷ number (codes "shards") ∷ number (codes "blocks") ∷ [])
     ∷ (line (codes "chunks") ∷ number (codes "count") ∷ [])
     ∷ (line (codes "digest") ∷ hash (codes "report_hash") ∷ [])
@@ -79,7 +85,8 @@ lines =
     ∷ refused_step (codes "5") first second
     ∷ refused_step (codes "6") zero_first zero_second
     ∷ refused_step (codes "7") first zero_second
-    ∷ (line (codes "roots") ∷ number (codes "height") ∷ number (codes "shard") ∷ hash (codes "outcome_root") ∷ hash (codes "receipt_root") ∷ [])
+    ∷ (line (codes "roots") ∷ number (codes "height") ∷ number (codes "shard") ∷ hash (codes "outcome_root")
+    ∷ hash (codes "receipt_root") ∷ [])
     ∷ proof (codes "outcome")
     ∷ proof (codes "receipt")
     ∷ (line (codes "item") ∷ bytes (codes "bytes") ∷ [])

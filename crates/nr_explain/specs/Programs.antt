@@ -5,8 +5,10 @@ use Rattle.std.specs.Option.{option_or}
 use Rattle.std.specs.Str.{bytes_eq}
 use Rattle.nr_explain.specs.Words.{pieces}
 use Rattle.nr_explain.specs.Forms.{Form, form_of}
-use Rattle.nr_explain.specs.LineSentences.{steps, refusals, failures, bad_codes, traps, faults, modules, invalid_modules, module_traps, listings}
-use Rattle.nr_explain.specs.Sentences.{programs, items, configurations, geneses, chains, schedules, proofs, gathered_chunks, state_parts, sentence_by}
+use Rattle.nr_explain.specs.LineSentences.{steps, refusals, failures, bad_codes, traps, faults, modules}
+use Rattle.nr_explain.specs.LineSentences.{invalid_modules, module_traps, listings}
+use Rattle.nr_explain.specs.Sentences.{programs, items, configurations, geneses, chains, schedules, proofs}
+use Rattle.nr_explain.specs.Sentences.{gathered_chunks, state_parts, sentence_by}
 use Rattle.nr_explain.specs.Written.{reported, answers}
 use Rattle.nr_explain.specs.declared.program.Program.{Program}
 use Rattle.nr_explain.specs.declared.program.Program.TheVariants.{Any, Serial, Replay, Audit, Module, Files}

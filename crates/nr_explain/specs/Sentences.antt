@@ -1,7 +1,9 @@
--- One English sentence for a line by its form, and the forms of what programs tell on standard error: a status and its numbers. This project's own.
+-- One English sentence for a line by its form, and the forms of what programs tell on standard error: a status and
+-- its numbers. This project's own.
 use Rattle.std.specs.Prelude.{ℕ, List, [], ◌∷◌, ◌++◌, Option, Some, None, codes}
 use Rattle.nr_explain.specs.Entries.{entry_of, entry_told}
-use Rattle.nr_explain.specs.Forms.{Kind, Word, Figure, Number, Amount, Hash, Bytes, Entry, Name, Field, Form, figure, number, entry}
+use Rattle.nr_explain.specs.Forms.{Kind, Word, Figure, Number, Amount, Hash, Bytes, Entry, Name, Field, Form, figure}
+use Rattle.nr_explain.specs.Forms.{number, entry}
 
 -- ---- the forms, with what is said behind each number
 -- a number of which nothing is said
@@ -32,7 +34,7 @@ gathered kind text a = one_number (codes "12") (codes "The gathered chunk is ref
 abbrev pub parts : List ℕ → List ℕ → Field → Form
 parts kind text a = one_number (codes "13") (codes "The state parts are refused: ") kind text a
 
--- an entry, a place, a height, a line or a part, and what is wrong with it
+-- a place in bytes at which a field can't be read
 abbrev pub unread : Field
 unread = number (codes " (from 0) can't be read.")
 
@@ -47,7 +49,8 @@ programs =
 unfoldable pub items : List Form
 items =
     (figure (codes "11") (codes "There is no such chunk, or it has no item of the kind.") ∷ zero_told ∷ [])
-    ∷ (figure (codes "11") (codes "There is no item at that place: the chunk has only ") ∷ number (codes " of the kind.") ∷ [])
+    ∷ (figure (codes "11") (codes "There is no item at that place: the chunk has only ")
+    ∷ number (codes " of the kind.") ∷ [])
     ∷ []
 
 unfoldable pub configurations : List Form
@@ -56,7 +59,9 @@ configurations =
     ∷ configuration (codes "1") (codes "its text is no JSON object.") zero_told
     ∷ configuration (codes "2") (codes "entry ") (entry (codes " is missing."))
     ∷ configuration (codes "3") (codes "entry ") (entry (codes " is no whole number from 0 to 18446744073709551615."))
-    ∷ configuration (codes "4") (codes "entry ") (figure (codes "11") (codes "11, reward_numerator (0 to 1000000), is out of bounds, or above entry 12, reward_denominator."))
+    ∷ configuration (codes "4") (codes "entry ")
+    (figure (codes "11")
+    (codes "11, reward_numerator (0 to 1000000), is out of bounds, or above entry 12, reward_denominator."))
     ∷ configuration (codes "4") (codes "entry ") (entry (codes " is out of its bounds."))
     ∷ []
 
@@ -64,11 +69,17 @@ unfoldable pub geneses : List Form
 geneses =
     genesis (codes "0") (codes "its file is longer than 67108864 bytes.") zero_told zero_told zero_told
     ∷ genesis (codes "1") (codes "the field at byte ") unread zero_told zero_told
-    ∷ genesis (codes "2") (codes "entry ") (number (codes " (from 0) has the trie key of an earlier one.")) zero_told zero_told
-    ∷ genesis (codes "3") (codes "entry ") (number (codes " (from 0) belongs to no account of the file, or to `system`.")) zero_told zero_told
-    ∷ genesis (codes "4") (codes "entry ") (number (codes " (from 0) states a storage usage of ")) (number (codes " bytes, but ")) (number (codes " are counted."))
-    ∷ genesis (codes "5") (codes "its amounts and locked amounts are together above 2^127.") zero_told zero_told zero_told
-    ∷ genesis (codes "6") (codes "entry ") (number (codes " (from 0) states a code hash that is not the SHA-256 of its code, or zeros without code.")) zero_told zero_told
+    ∷ genesis (codes "2") (codes "entry ") (number (codes " (from 0) has the trie key of an earlier one.")) zero_told
+    zero_told
+    ∷ genesis (codes "3") (codes "entry ") (number
+    (codes " (from 0) belongs to no account of the file, or to `system`.")) zero_told zero_told
+    ∷ genesis (codes "4") (codes "entry ") (number (codes " (from 0) states a storage usage of "))
+    (number (codes " bytes, but ")) (number (codes " are counted."))
+    ∷ genesis (codes "5") (codes "its amounts and locked amounts are together above 2^127.") zero_told zero_told
+    zero_told
+    ∷ genesis (codes "6") (codes "entry ") (number
+    (codes " (from 0) states a code hash that is not the SHA-256 of its code, or zeros without code.")) zero_told
+    zero_told
     ∷ []
 
 unfoldable pub chains : List Form
@@ -79,7 +90,8 @@ chains =
     ∷ blocks (codes "3") (codes "a block has the height ") (number (codes ", which is not its number, counted from 1."))
     ∷ blocks (codes "4") (codes "there are more than 100,000.") zero_told
     ∷ blocks (codes "5") (codes "the action at byte ") (number (codes " (from 0) is one of staking."))
-    ∷ blocks (codes "6") (codes "they change their shards at height ") (number (codes ", but there or just before a block or a chunk is missing."))
+    ∷ blocks (codes "6") (codes "they change their shards at height ")
+    (number (codes ", but there or just before a block or a chunk is missing."))
     ∷ []
 
 unfoldable pub schedules : List Form

@@ -1,5 +1,6 @@
 -- What the words of a line may be. This project's own.
-use Rattle.std.specs.Prelude.{ℕ, ◌%◌, ◌&&◌, ◌||◌, ◌==◌, List, [], ◌∷◌, length, Bool, true, false, cond, not, Option, Some, None, nat_lt, nat_le, codes}
+use Rattle.std.specs.Prelude.{ℕ, ◌%◌, ◌&&◌, ◌||◌, ◌==◌, List, [], ◌∷◌, length, Bool, true, false, cond, not, Option}
+use Rattle.std.specs.Prelude.{Some, None, nat_lt, nat_le, codes}
 use Rattle.std.specs.List.{list_all, slice_split}
 use Rattle.std.specs.Str.{bytes_eq}
 use Rattle.std.specs.Str.Parse.{digits_value}
@@ -27,7 +28,8 @@ is_numeral word = has_no_leading_zero word && list_all is_digit word
 
 -- the number that a word spells, where it is below the limit
 abbrev pub number_below : ℕ → List ℕ → Option ℕ
-number_below limit word = cond (is_numeral word && nat_lt (digits_value 10 word) limit) (Some (digits_value 10 word)) None
+number_below limit word =
+    cond (is_numeral word && nat_lt (digits_value 10 word) limit) (Some (digits_value 10 word)) None
 
 -- 32 bytes in hexadecimal
 abbrev pub is_hash : List ℕ → Bool

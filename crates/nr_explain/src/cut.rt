@@ -11,7 +11,8 @@ fn place_of(bytes: &[u8], separator: u8) -> Option<usize>
 
 /// What stands before the first separator and behind it, where there is one.
 pub(crate) fn cut(bytes: &[u8], separator: u8) -> Option<(&[u8], &[u8])>
-    ensures pieces { MatchOption result (pieces separator bytes.now ≡ bytes.now ∷ []) (λ parts. pieces separator bytes.now ≡ parts.0.now ∷ pieces separator parts.1.now) }
+    ensures pieces { MatchOption result (pieces separator bytes.now ≡ bytes.now ∷ [])
+        (λ parts. pieces separator bytes.now ≡ parts.0.now ∷ pieces separator parts.1.now) }
     ensures shorter { IfSome result (λ parts. length parts.1.now < length bytes.now) }
 {
     match place_of(bytes, separator) {

@@ -76,7 +76,8 @@ fn fits(form: &[Field], line: &[u8]) -> bool
 
 /// The first form that the line fits.
 pub(crate) fn form_of(forms: &[&'static [Field]], line: &[u8]) -> Option<&'static [Field]>
-    ensures { option_map (λ f. form_in f.now) result ≡ form_of (map (λ f. form_in f.now) forms.now) (pieces 32 line.now) }
+    ensures { option_map (λ f. form_in f.now) result ≡ form_of (map (λ f. form_in f.now) forms.now)
+        (pieces 32 line.now) }
 {
     for form in forms {
         if fits(form, line) {

@@ -2,7 +2,8 @@
 
 ghost use Rattle.std.specs.Prelude.{◌≡◌, map};
 ghost use Rattle.nr_explain.specs.Coded.{form_in};
-ghost use Rattle.nr_explain.specs.LineSentences.{steps, refusals, failures, bad_codes, traps, faults, modules, invalid_modules, module_traps, listings};
+ghost use Rattle.nr_explain.specs.LineSentences.{steps, refusals, failures, bad_codes, traps, faults, modules};
+ghost use Rattle.nr_explain.specs.LineSentences.{invalid_modules, module_traps, listings};
 
 use crate::form::{Field, Kind, fields};
 

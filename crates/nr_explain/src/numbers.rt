@@ -2,7 +2,8 @@
 
 ghost use Rattle.std.specs.Prelude.{◌≡◌, ◌^◌};
 ghost use Rattle.std.specs.List.{list_all};
-ghost use Rattle.nr_explain.specs.Words.{is_digit, is_hex_digit, has_no_leading_zero, is_numeral, number_below, is_hash, is_name_byte, is_name, is_dash, are_bytes};
+ghost use Rattle.nr_explain.specs.Words.{is_digit, is_hex_digit, has_no_leading_zero, is_numeral, number_below};
+ghost use Rattle.nr_explain.specs.Words.{is_hash, is_name_byte, is_name, is_dash, are_bytes};
 
 use std::str;
 

@@ -4,7 +4,8 @@ ghost use Rattle.std.specs.Prelude.{◌≡◌, option_map};
 ghost use Rattle.std.specs.Option.{option_or};
 ghost use Rattle.nr_explain.specs.Words.{pieces};
 ghost use Rattle.nr_explain.specs.Coded.{form_in};
-ghost use Rattle.nr_explain.specs.Programs.{common_form, chain_form, file_form, report_form, module_form, serial_form, program_of, form_by};
+ghost use Rattle.nr_explain.specs.Programs.{common_form, chain_form, file_form, report_form, module_form, serial_form};
+ghost use Rattle.nr_explain.specs.Programs.{program_of, form_by};
 
 use crate::form::{Field, form_of};
 use crate::line_sentences::{
@@ -54,7 +55,8 @@ fn either(
     first: Option<&'static [Field]>,
     second: Option<&'static [Field]>,
 ) -> Option<&'static [Field]>
-    ensures { option_map (λ f. form_in f.now) result ≡ option_or (option_map (λ f. form_in f.now) first.entry) (option_map (λ f. form_in f.now) second.entry) }
+    ensures { option_map (λ f. form_in f.now) result ≡ option_or (option_map (λ f. form_in f.now) first.entry)
+        (option_map (λ f. form_in f.now) second.entry) }
 {
     match first {
         Some(form) => Some(form),

@@ -2,7 +2,8 @@
 
 ghost use Rattle.std.specs.Prelude.{◌≡◌, ◌++◌, map, option_map, IfOk, OnOk};
 ghost use Rattle.nr_explain.specs.Words.{pieces};
-ghost use Rattle.nr_explain.specs.Sentences.{programs, items, configurations, geneses, chains, schedules, proofs, gathered_chunks, state_parts, said, phrase, sentence, sentence_by};
+ghost use Rattle.nr_explain.specs.Sentences.{programs, items, configurations, geneses, chains, schedules, proofs};
+ghost use Rattle.nr_explain.specs.Sentences.{gathered_chunks, state_parts, said, phrase, sentence, sentence_by};
 ghost use Rattle.nr_explain.specs.Coded.{kind_of, field_of, form_in};
 
 use crate::cut::cut;
@@ -357,7 +358,8 @@ pub(crate) fn sentence_by(
     form: Option<&'static [Field]>,
     line: &[u8],
 ) -> Result<Option<Blob>, AllocError>
-    ensures { IfOk result (λ told. told ≡ sentence_by (option_map (λ f. form_in f.now) form.entry) (pieces 32 line.now)) }
+    ensures { IfOk result (λ told. told ≡ sentence_by (option_map (λ f. form_in f.now) form.entry)
+        (pieces 32 line.now)) }
 {
     match form {
         None => Ok(None),

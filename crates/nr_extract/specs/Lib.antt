@@ -1,3 +1,4 @@
+-- Definitions that the contracts cite.
 pub mod Reaching
 pub mod Chunk
 pub mod Shown

@@ -14,7 +14,8 @@ fn add_signers(
     accounts: &mut Vec<AccountId>,
     transactions: &[Transaction],
 ) -> Result<(), AllocError>
-    ensures { OnOk result (accounts.new.items ≡ accounts.old.items ++ map (λ (tx : AnyTransaction). tx.signer) transactions.now) }
+    ensures { OnOk result (accounts.new.items
+        ≡ accounts.old.items ++ map (λ (tx : AnyTransaction). tx.signer) transactions.now) }
 {
     for transaction in transactions {
         accounts.push(transaction.signer.duplicate(alloc)?)?;
@@ -27,7 +28,8 @@ fn add_receivers(
     accounts: &mut Vec<AccountId>,
     receipts: &[Receipt],
 ) -> Result<(), AllocError>
-    ensures { OnOk result (accounts.new.items ≡ accounts.old.items ++ map (λ (r : AnyReceipt). r.receiver) receipts.now) }
+    ensures { OnOk result (accounts.new.items
+        ≡ accounts.old.items ++ map (λ (r : AnyReceipt). r.receiver) receipts.now) }
 {
     for receipt in receipts {
         accounts.push(receipt.receiver.duplicate(alloc)?)?;

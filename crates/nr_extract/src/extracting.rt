@@ -83,7 +83,9 @@ fn texts_of(
     taken: &[Receipt],
     hashes: &mut Hashes,
 ) -> Result<List<Blob>, AllocError>
-    ensures texts { IfOk result (λ texts. texts ≡ gathered (searched_of (touched world.now.world transactions.now taken.now)) (paths (map.entries (flat world.now.world)))) }
+    ensures texts { IfOk result (λ texts. texts
+        ≡ gathered (searched_of (touched world.now.world transactions.now taken.now))
+        (paths (map.entries (flat world.now.world)))) }
     ensures root { IfOk result (λ texts. root_in texts ≡ (root_of (flat world.now.world)).hash) }
     ensures shown { IfOk result (λ _. IsShown world.now.world) }
 {

@@ -63,7 +63,8 @@ fn add_each_due<C: Caller<ChunkStore>>(
     requires inside { shard.0 < (rules_of (chain_in core.now.phases)).shards }
     requires places { core.now.positions ≡ replicate (rules_of (chain_in core.now.phases)).shards (end_at below) }
     requires dues { dues.now ≡ due_after (rules_of (chain_in core.now.phases)) shard.0 below }
-    ensures { OnOk result (taken.new.items ≡ taken.old.items ++ flat_map (due_to (chain_in core.now.phases) shard.0) dues.now) }
+    ensures { OnOk result (taken.new.items ≡ taken.old.items ++ flat_map (due_to (chain_in core.now.phases) shard.0)
+        dues.now) }
 {
     for due in dues {
         add_due(alloc, core, shard, below, *due, taken)?;

@@ -1,16 +1,26 @@
--- What actions cost, and what receipts hold. After the Nomicon, Runtime Fees and Economics (Gas); the fees, what they count and the bounds are this project's.
-use Rattle.std.specs.Prelude.{ℕ, ◌+◌, ◌*◌, ◌^◌, ◌<◌, ◌≤◌, ◌≡◌, ◌⊎◌, Bool, cond, List, length, sum_by, Option, Some, None}
+-- What actions cost, and what receipts hold. After the Nomicon, Runtime Fees and Economics (Gas); the fees, what they
+-- count and the bounds are this project's.
+use Rattle.std.specs.Prelude.{ℕ, ◌+◌, ◌*◌, ◌^◌, ◌<◌, ◌≤◌, ◌≡◌, ◌⊎◌, Bool, cond, List, length, sum_by, Option, Some}
+use Rattle.std.specs.Prelude.{None}
 use Rattle.nr_config.specs.Config.{Config, entry}
 pub use Rattle.nr_fees.specs.Table.{number, column}
 pub use Rattle.nr_fees.specs.declared.table.Fee.{Fee}
-pub use Rattle.nr_fees.specs.declared.table.Fee.TheVariants.{ActionReceipt as action_receipt, DataBase as data_base, DataByte as data_byte, CreateAccount as create_account, DeployBase as deploy_base, DeployByte as deploy_byte, CallBase as call_base, CallByte as call_byte, Transfer as transfer, AddFullKey as add_full_key, AddCallKeyBase as add_call_key_base, AddCallKeyByte as add_call_key_byte, DeleteKey as delete_key, DeleteAccount as delete_account}
+pub use Rattle.nr_fees.specs.declared.table.Fee.TheVariants.{ActionReceipt as action_receipt, DataBase as data_base}
+pub use Rattle.nr_fees.specs.declared.table.Fee.TheVariants.{DataByte as data_byte, CreateAccount as create_account}
+pub use Rattle.nr_fees.specs.declared.table.Fee.TheVariants.{DeployBase as deploy_base, DeployByte as deploy_byte}
+pub use Rattle.nr_fees.specs.declared.table.Fee.TheVariants.{CallBase as call_base, CallByte as call_byte}
+pub use Rattle.nr_fees.specs.declared.table.Fee.TheVariants.{Transfer as transfer, AddFullKey as add_full_key}
+pub use Rattle.nr_fees.specs.declared.table.Fee.TheVariants.{AddCallKeyBase as add_call_key_base}
+pub use Rattle.nr_fees.specs.declared.table.Fee.TheVariants.{AddCallKeyByte as add_call_key_byte}
+pub use Rattle.nr_fees.specs.declared.table.Fee.TheVariants.{DeleteKey as delete_key, DeleteAccount as delete_account}
 pub use Rattle.nr_fees.specs.declared.table.Payment.{Payment}
 pub use Rattle.nr_fees.specs.declared.table.Payment.TheVariants.{SendLocal, SendRemote, Execute}
 use Rattle.nr_ids.specs.Grammar.{is_system}
 use Rattle.nr_records.specs.declared.access_key.Permission.{Permission}
 use Rattle.nr_records.specs.declared.access_key.Permission.TheVariants.{Call, Full}
 use Rattle.nr_records.specs.declared.action.Action.{Action}
-use Rattle.nr_records.specs.declared.action.Action.TheVariants.{CreateAccount, DeployContract, FunctionCall, Transfer, AddKey, DeleteKey, DeleteAccount}
+use Rattle.nr_records.specs.declared.action.Action.TheVariants.{CreateAccount, DeployContract, FunctionCall, Transfer}
+use Rattle.nr_records.specs.declared.action.Action.TheVariants.{AddKey, DeleteKey, DeleteAccount}
 use Rattle.nr_records.specs.declared.receipt.Receipt.{Receipt}
 use Rattle.nr_records.specs.declared.receipt.ActionReceipt.{ActionReceipt}
 use Rattle.nr_records.specs.declared.receipt.Body.{Body}
@@ -21,7 +31,8 @@ abbrev pub FitsIn : ℕ → Option ℕ → ℕ → Type 0
 FitsIn bits (Some n) sum = (n ≡ sum) × (sum < 2 ^ bits)
 FitsIn bits None sum = 2 ^ bits ≤ sum
 
--- the fees stand in order, three entries each: for sending to the sender itself, for sending to another account, and for executing
+-- the fees stand in order, three entries each: for sending to the sender itself, for sending to another account, and
+-- for executing
 abbrev pub fee : Config → Payment → Fee → ℕ
 fee c p f = entry c (34 + 3 * number f + column p)
 
@@ -113,7 +124,8 @@ body_gas c refund (Datum d) = 0
 abbrev pub gas_of : Config → Receipt → ℕ
 gas_of c r = body_gas c (is_system r.predecessor) r.body
 
--- what a call answers that counts tokens: the tokens, or none exactly where the gas price, the prepaid gas or the tokens pass their bound
+-- what a call answers that counts tokens: the tokens, or none exactly where the gas price, the prepaid gas or the
+-- tokens pass their bound
 abbrev pub CountsTokens : Option ℕ → ℕ → ℕ → ℕ → Type 0
 CountsTokens (Some n) price gas tokens = (n ≡ tokens) × (price < 2 ^ 64) × (gas < 2 ^ 64) × (tokens < 2 ^ 128)
 CountsTokens None price gas tokens = (2 ^ 64 ≤ price) ⊎ ((2 ^ 64 ≤ gas) ⊎ (2 ^ 128 ≤ tokens))

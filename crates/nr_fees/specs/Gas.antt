@@ -1,4 +1,5 @@
--- What burning and promising gas do to a counter. Burnt gas and gas for further receipts are after the Nomicon, Economics (Gas); the counter is this project's.
+-- What burning and promising gas do to a counter. Burnt gas and gas for further receipts are after the Nomicon,
+-- Economics (Gas); the counter is this project's.
 use Rattle.std.specs.Prelude.{ℕ, ◌+◌, ◌-◌, ◌≡◌, ◌<◌, ◌≤◌, Result, Ok, Err}
 use Rattle.nr_fees.specs.declared.gas.GasCounter.{GasCounter}
 

@@ -1,7 +1,10 @@
--- The table of the fees: which number each has, and in which column a payment stands. After the Nomicon, Runtime Fees; names, order and columns are this project's.
+-- The table of the fees: which number each has, and in which column a payment stands. After the Nomicon, Runtime
+-- Fees; names, order and columns are this project's.
 use Rattle.std.specs.Prelude.{ℕ}
 use Rattle.nr_fees.specs.declared.table.Fee.{Fee}
-use Rattle.nr_fees.specs.declared.table.Fee.TheVariants.{ActionReceipt, DataBase, DataByte, CreateAccount, DeployBase, DeployByte, CallBase, CallByte, Transfer, AddFullKey, AddCallKeyBase, AddCallKeyByte, DeleteKey, DeleteAccount}
+use Rattle.nr_fees.specs.declared.table.Fee.TheVariants.{ActionReceipt, DataBase, DataByte, CreateAccount, DeployBase}
+use Rattle.nr_fees.specs.declared.table.Fee.TheVariants.{DeployByte, CallBase, CallByte, Transfer, AddFullKey}
+use Rattle.nr_fees.specs.declared.table.Fee.TheVariants.{AddCallKeyBase, AddCallKeyByte, DeleteKey, DeleteAccount}
 use Rattle.nr_fees.specs.declared.table.Payment.{Payment}
 use Rattle.nr_fees.specs.declared.table.Payment.TheVariants.{SendLocal, SendRemote, Execute}
 

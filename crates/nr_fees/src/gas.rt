@@ -1,3 +1,5 @@
+//! The gas counter: gas burnt and promised, within a limit.
+
 ghost use Rattle.std.specs.Prelude.{◌≡◌, ◌+◌, ◌-◌, ◌≤◌, SomeIff};
 
 use nr_wasmtypes::Exceeded;

@@ -1,7 +1,8 @@
 //! What a list of actions costs and carries.
 
 ghost use Rattle.std.specs.Prelude.{◌≡◌, sum_by};
-ghost use Rattle.nr_fees.specs.Fees.{FitsIn, attached, deposit_of, action_fee, receipt_gas, send_gas, exec_gas, attached_gas, deposits, prepaid_gas};
+ghost use Rattle.nr_fees.specs.Fees.{FitsIn, attached, deposit_of, action_fee, receipt_gas, send_gas, exec_gas};
+ghost use Rattle.nr_fees.specs.Fees.{attached_gas, deposits, prepaid_gas};
 
 use crate::pricing::{action_fee, fee_of};
 use crate::table::{Fee, Payment};

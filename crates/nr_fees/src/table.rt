@@ -1,3 +1,5 @@
+//! The fees, and what each is paid for.
+
 ghost use Rattle.std.specs.Prelude.{◌≡◌, ◌<◌};
 ghost use Rattle.nr_fees.specs.Table.{number, column};
 

@@ -15,7 +15,8 @@ use Rattle.nr_files.specs.declared.fault.Fault.TheVariants as fault
 use Rattle.nr_files.specs.declared.output.Output.{Output as CodeOutput}
 use Rattle.nr_files.specs.declared.output.Output.TheVariants as code
 use Rattle.nr_files.specs.declared.status.Status.{Status}
-use Rattle.nr_files.specs.declared.status.Status.TheVariants.{Done, Usage, NoSentence, Config, TooLong, Faulty, ReadFault, WriteFault, NoMemory}
+use Rattle.nr_files.specs.declared.status.Status.TheVariants.{Done, Usage, NoSentence, Config, TooLong, Faulty}
+use Rattle.nr_files.specs.declared.status.Status.TheVariants.{ReadFault, WriteFault, NoMemory}
 
 -- ---- answers to bytes that are there
 abbrev pub output_in : CodeOutput → Output
@@ -60,14 +61,22 @@ stop_status Unread = ReadFault
 stop_status Memory = NoMemory
 stop_status (Refused status) = status
 
--- The answer is right for the plan and the files, only files of the plan were asked for, in their order, and the sink took what belongs to it: what stands for the output, a front of it, or nothing.
-abbrev pub Serves : Status → Plan Output Status → (List ℕ → Option (List ℕ)) → List (List ℕ) → List (List ℕ) → Option (List ℕ) → Option (List ℕ) → Type 0
-Serves Done plan held asked asks took takes = (o : Output) × (bytes : List ℕ) × Comes held asked asks plan (Answer o) × IsWritten o bytes × Grew took takes bytes
-Serves WriteFault plan held asked asks took takes = (o : Output) × (bytes : List ℕ) × Comes held asked asks plan (Answer o) × IsWritten o bytes × GrewInPart took takes bytes
+-- The answer is right for the plan and the files, only files of the plan were asked for, in their order, and the sink
+-- took what belongs to it: what stands for the output, a front of it, or nothing.
+abbrev pub Serves : Status → Plan Output Status → (List ℕ → Option (List ℕ)) → List (List ℕ) → List (List ℕ)
+    → Option (List ℕ) → Option (List ℕ) → Type 0
+Serves Done plan held asked asks took takes =
+    (o : Output) × (bytes : List ℕ) × Comes held asked asks plan (Answer o) × IsWritten o bytes
+    × Grew took takes bytes
+Serves WriteFault plan held asked asks took takes =
+    (o : Output) × (bytes : List ℕ) × Comes held asked asks plan (Answer o) × IsWritten o bytes
+    × GrewInPart took takes bytes
 Serves ReadFault plan held asked asks took takes = Breaks held asked asks plan × (takes ≡ took)
 Serves NoMemory plan held asked asks took takes = Stops held asked asks plan × (takes ≡ took)
 Serves Usage plan held asked asks took takes = Comes held asked asks plan (Refuse Usage) × (takes ≡ took)
 Serves NoSentence plan held asked asks took takes = Comes held asked asks plan (Refuse NoSentence) × (takes ≡ took)
-Serves (Config kind entry) plan held asked asks took takes = Comes held asked asks plan (Refuse (Config kind entry)) × (takes ≡ took)
+Serves (Config kind entry) plan held asked asks took takes =
+    Comes held asked asks plan (Refuse (Config kind entry)) × (takes ≡ took)
 Serves TooLong plan held asked asks took takes = Comes held asked asks plan (Refuse TooLong) × (takes ≡ took)
-Serves (Faulty line) plan held asked asks took takes = Comes held asked asks plan (Refuse (Faulty line)) × (takes ≡ took)
+Serves (Faulty line) plan held asked asks took takes =
+    Comes held asked asks plan (Refuse (Faulty line)) × (takes ≡ took)

@@ -1,4 +1,6 @@
--- The words of the command line: `genesis CONFIG JSON`, `blocks JSON`, `hex FILE`, `show` with `genesis CONFIG FILE`, `blocks FILE`, `report FILE`, `part FILE`, `proof FILE` or `gathered FILE`, `explain WORDS..`, `help` or `version`. The commands are this project's own.
+-- The words of the command line: `genesis CONFIG JSON`, `blocks JSON`, `hex FILE`, `show` with `genesis CONFIG FILE`,
+-- `blocks FILE`, `report FILE`, `part FILE`, `proof FILE` or `gathered FILE`, `explain WORDS..`, `help` or `version`.
+-- The commands are this project's own.
 use Rattle.std.specs.Prelude.{ℕ, List, [], ◌∷◌, cond, Option, Some, None, codes, option_and_then}
 use Rattle.std.specs.Str.{bytes_eq}
 use Rattle.nr_words.specs.Forms.{Value, Text, read}
@@ -8,7 +10,8 @@ use Rattle.nr_files.specs.declared.command.Asked.{Asked as LentAsked}
 use Rattle.nr_files.specs.declared.command.Asked.TheVariants as lent
 use Rattle.nr_files.specs.declared.command.Request.{Request as LentRequest}
 use Rattle.nr_files.specs.declared.command.Work.{Work}
-use Rattle.nr_files.specs.declared.command.Work.TheVariants.{MakeBlocks, MakeGenesis, MakeHex, ShowBlocks, ShowGenesis, ShowReport, ShowPart, ShowProof, ShowGathered}
+use Rattle.nr_files.specs.declared.command.Work.TheVariants.{MakeBlocks, MakeGenesis, MakeHex, ShowBlocks, ShowGenesis}
+use Rattle.nr_files.specs.declared.command.Work.TheVariants.{ShowReport, ShowPart, ShowProof, ShowGathered}
 
 -- what is done, under which configuration, and with which file
 pub record Request : Type 0 where

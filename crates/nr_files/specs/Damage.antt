@@ -1,5 +1,7 @@
--- What is wrong with the bytes of a file that can't be read, in words: which file it is instead, where it ends too early or goes on, or what its first faulty field isn't. This project's own.
-use Rattle.std.specs.Prelude.{ℕ, zero, suc, ◌-◌, ◌==◌, List, [], ◌++◌, Bool, cond, length, take, Option, Some, None, unwrap_or, Result, Ok, Err, is_ok, nat_lt, slice_get, codes, decimal}
+-- What is wrong with the bytes of a file that can't be read, in words: which file it is instead, where it ends too
+-- early or goes on, or what its first faulty field isn't. This project's own.
+use Rattle.std.specs.Prelude.{ℕ, zero, suc, ◌-◌, ◌==◌, List, [], ◌++◌, Bool, cond, length, take, Option, Some, None}
+use Rattle.std.specs.Prelude.{unwrap_or, Result, Ok, Err, is_ok, nat_lt, slice_get, codes, decimal}
 use Rattle.std.specs.List.{starts_with}
 use Rattle.nr_blocks.specs.Files.{genesis_at}
 use Rattle.nr_blocks.specs.GenesisFiles.{entry_at}
@@ -11,7 +13,8 @@ use Rattle.nr_layout.specs.Reading.{layout_at}
 use Rattle.nr_parts.specs.Files.{part_in}
 use Rattle.nr_records.specs.Reading.{Read, all_of, nat_at, raw_at}
 use Rattle.nr_records.specs.declared.fault.RecordFault.{RecordFault}
-use Rattle.nr_records.specs.declared.fault.RecordFault.TheVariants.{Short, BadByte, BadUtf8, BadOrdinal, BadAccountId, Stake, TooManyBoundaries, BoundaryOrder, Memory}
+use Rattle.nr_records.specs.declared.fault.RecordFault.TheVariants.{Short, BadByte, BadUtf8, BadOrdinal, BadAccountId}
+use Rattle.nr_records.specs.declared.fault.RecordFault.TheVariants.{Stake, TooManyBoundaries, BoundaryOrder, Memory}
 use Rattle.nr_files.specs.Versions.{blocks_read}
 
 -- ---- which file begins so
@@ -22,7 +25,8 @@ begun bytes =
     (cond (starts_with ◌==◌ bytes (codes "NRB2")) (Some (codes "the file begins with NRB2: it is a blocks file"))
     (cond (starts_with ◌==◌ bytes (codes "NRB3")) (Some (codes "the file begins with NRB3: it is a blocks file"))
     (cond (starts_with ◌==◌ bytes (codes "NRP1")) (Some (codes "the file begins with NRP1: it is a part of a state"))
-    (cond (starts_with ◌==◌ bytes (codes "NRS1")) (Some (codes "the file begins with NRS1: it is a gathered chunk")) None)))))
+    (cond (starts_with ◌==◌ bytes (codes "NRS1")) (Some (codes "the file begins with NRS1: it is a gathered chunk"))
+    None)))))
 
 -- a line, unless the file begins as one of another kind
 abbrev pub or_begun : List ℕ → List ℕ → List ℕ
@@ -63,7 +67,8 @@ ordinal_line first kinds bytes at = cond (at == 0) (or_begun bytes first) (kind_
 abbrev pub byte_line : Bool → List ℕ → ℕ → ℕ → List ℕ
 byte_line whole bytes at byte = cond whole (rest_line at (length bytes - at)) (flag_line at byte)
 
--- ---- records: the line of another word at the front, what may stand at a wrong ordinal, and whether the bytes before the fault are a whole file
+-- ---- records: the line of another word at the front, what may stand at a wrong ordinal, and whether the bytes
+-- before the fault are a whole file
 unfoldable pub field_line : List ℕ → List ℕ → Bool → List ℕ → RecordFault → List ℕ
 field_line first kinds whole bytes (Short at) = ended_line at
 field_line first kinds whole bytes (BadByte at byte) = byte_line whole bytes at byte

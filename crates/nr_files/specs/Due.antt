@@ -1,4 +1,5 @@
--- What a file asks for: the bytes or the JSON value that are written for it, or the line that says why not. Borsh 1.0 and RFC 8259; the lines are this project's own.
+-- What a file asks for: the bytes or the JSON value that are written for it, or the line that says why not. Borsh 1.0
+-- and RFC 8259; the lines are this project's own.
 use Rattle.std.specs.Prelude.{◌≡◌, ℕ, ◌≤◌, List, true, false, cond, Option, Some, None, Result, Ok, Err, IsUtf8}
 use Rattle.std.specs.Str.{is_utf8}
 use Rattle.json.specs.Layout.{pretty}
@@ -19,7 +20,8 @@ use Rattle.nr_gathered.specs.Files.{gathered_in}
 use Rattle.nr_outproof.specs.Texts.{proof_read}
 use Rattle.nr_parts.specs.Files.{part_in}
 use Rattle.nr_files.specs.declared.command.Work.{Work}
-use Rattle.nr_files.specs.declared.command.Work.TheVariants.{MakeBlocks, MakeGenesis, MakeHex, ShowBlocks, ShowGenesis, ShowReport, ShowPart, ShowProof, ShowGathered}
+use Rattle.nr_files.specs.declared.command.Work.TheVariants.{MakeBlocks, MakeGenesis, MakeHex, ShowBlocks, ShowGenesis}
+use Rattle.nr_files.specs.declared.command.Work.TheVariants.{ShowReport, ShowPart, ShowProof, ShowGathered}
 use Rattle.nr_files.specs.Filling.{filled, stated}
 use Rattle.nr_files.specs.Damage.{blocks_line}
 use Rattle.nr_files.specs.Lines.{fault_line, gathered_line, genesis_line, no_json, part_line, proof_line, report_line}
@@ -33,7 +35,8 @@ pub data Output : Type 0 where
   Bytes : List ℕ → Output
   Json : Data → Output
 
--- a text of the value, laid out over lines, with its members in order, that is read as the value
+-- a text of the value, laid out over lines, with its members in order; it is read as the value, where this nests no
+-- deeper than the reader goes
 pub record IsTextOf (d : Data) (text : List ℕ) : Type 0 where
   pub utf8 : IsUtf8 text
   pub layout : text ≡ pretty (tokens text)

@@ -16,7 +16,13 @@ use Rattle.nr_json.specs.declared.genesis.StatedGenesis.{StatedGenesis}
 
 -- an entry with zeros for what was left out: what it says of usage and code doesn't depend on them
 abbrev pub plain : StatedEntry → GenesisEntry
-plain (Account id a) = kind.Account id (record { amount = a.amount; locked = a.locked; code_hash = unwrap_or a.code_hash zero_hash; storage_usage = unwrap_or a.storage_usage 0 })
+plain (Account id a) =
+    kind.Account id (record {
+      amount = a.amount;
+      locked = a.locked;
+      code_hash = unwrap_or a.code_hash zero_hash;
+      storage_usage = unwrap_or a.storage_usage 0;
+    })
 plain (Code id code) = kind.Code id code
 plain (Key id public_key access_key) = kind.Key id public_key access_key
 plain (Datum id key value) = kind.Datum id key value
@@ -49,7 +55,13 @@ filled c g = record { layout = g.boundaries; entries = filled_entries c g.entrie
 
 -- ---- a genesis that stands, as it is stated
 abbrev pub stated_entry : GenesisEntry → StatedEntry
-stated_entry (kind.Account id a) = Account id (record { amount = a.amount; locked = a.locked; code_hash = Some a.code_hash; storage_usage = Some a.storage_usage })
+stated_entry (kind.Account id a) =
+    Account id (record {
+      amount = a.amount;
+      locked = a.locked;
+      code_hash = Some a.code_hash;
+      storage_usage = Some a.storage_usage;
+    })
 stated_entry (kind.Code id code) = Code id code
 stated_entry (kind.Key id public_key access_key) = Key id public_key access_key
 stated_entry (kind.Datum id key value) = Datum id key value

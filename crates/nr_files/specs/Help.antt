@@ -1,4 +1,5 @@
--- The tables of the program's forms, of those behind the word `show` too, and what `help` and `version` write. This project's own.
+-- The tables of the program's forms, of those behind the word `show` too, and what `help` and `version` write. This
+-- project's own.
 use Rattle.std.specs.Prelude.{ℕ, List, [], ◌∷◌, ◌++◌, codes}
 use Rattle.std.specs.List.{flat_map}
 use Rattle.nr_words.specs.Command.{form}
@@ -8,11 +9,14 @@ abbrev pub one_file : List Place
 one_file = file (codes "FILE") ∷ []
 
 abbrev pub made_forms : List Form
-made_forms = form (codes "genesis") (file (codes "CONFIG") ∷ file (codes "JSON") ∷ []) ∷ form (codes "blocks") (file (codes "JSON") ∷ []) ∷ form (codes "hex") one_file ∷ []
+made_forms =
+    form (codes "genesis") (file (codes "CONFIG") ∷ file (codes "JSON") ∷ []) ∷ form (codes "blocks")
+    (file (codes "JSON") ∷ []) ∷ form (codes "hex") one_file ∷ []
 
 abbrev pub shown_forms : List Form
 shown_forms =
-    form (codes "genesis") (file (codes "CONFIG") ∷ one_file) ∷ form (codes "blocks") one_file ∷ form (codes "report") one_file
+    form (codes "genesis") (file (codes "CONFIG") ∷ one_file) ∷ form (codes "blocks") one_file
+    ∷ form (codes "report") one_file
     ∷ form (codes "part") one_file ∷ form (codes "proof") one_file ∷ form (codes "gathered") one_file ∷ []
 
 -- the words of a form behind the program's name, and behind more of its words, parted by single spaces

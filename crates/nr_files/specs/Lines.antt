@@ -1,4 +1,5 @@
--- Why a file is refused, in words: the path of the member as `jq` writes it and what is wrong, the number of a line, or what is wrong with the bytes. This project's own.
+-- Why a file is refused, in words: the path of the member as `jq` writes it and what is wrong, the number of a line,
+-- or what is wrong with the bytes. This project's own.
 use Rattle.std.specs.Prelude.{ℕ, List, [], ◌∷◌, ◌++◌, Bool, cond, codes, decimal}
 use Rattle.nr_explain.specs.declared.report.ReportFault.{ReportFault}
 use Rattle.nr_explain.specs.declared.report.ReportFault.TheVariants as report
@@ -67,7 +68,8 @@ abbrev pub entry_line : ℕ → List ℕ → List ℕ
 entry_line index words = codes ".entries[" ++ decimal index ++ 93 ∷ words
 
 abbrev pub usage_words : ℕ → ℕ → List ℕ
-usage_words stated counted = codes ".storage_usage is " ++ (decimal stated ++ (codes ", but " ++ (decimal counted ++ codes " is counted")))
+usage_words stated counted =
+    codes ".storage_usage is " ++ (decimal stated ++ (codes ", but " ++ (decimal counted ++ codes " is counted")))
 
 -- of the fields of a genesis that was made of a JSON value only the boundaries can be unreadable
 abbrev pub boundaries_line : List ℕ

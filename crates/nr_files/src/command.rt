@@ -2,7 +2,8 @@
 
 ghost use Rattle.std.specs.Prelude.{◌≡◌, IfOk, map, option_map};
 ghost use Rattle.nr_words.specs.Words.{found_in, table_in, texts, value_in};
-ghost use Rattle.nr_files.specs.Command.{alone, asked_in, behind, by_form, made_of, meant, of_sentence, of_words, shown_of, verb_of, with_config, without_config};
+ghost use Rattle.nr_files.specs.Command.{alone, asked_in, behind, by_form, made_of, meant, of_sentence, of_words};
+ghost use Rattle.nr_files.specs.Command.{shown_of, verb_of, with_config, without_config};
 ghost use Rattle.nr_files.specs.Help.{made_forms, shown_forms};
 ghost use Rattle.nr_words.specs.Forms.{read};
 

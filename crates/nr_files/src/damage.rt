@@ -1,9 +1,13 @@
 //! What is wrong with the bytes of a file, in words.
 
-ghost use Rattle.std.specs.Prelude.{◌≡◌, ◌-◌, ◌<◌, ◌++◌, [], IfOk, Some, codes, cond, decimal, is_ok, length, option_map, slice_get, string_bytes, take};
+ghost use Rattle.std.specs.Prelude.{◌≡◌, ◌-◌, ◌<◌, ◌++◌, [], IfOk, Some, codes, cond, decimal, is_ok, length};
+ghost use Rattle.std.specs.Prelude.{option_map, slice_get, string_bytes, take};
 ghost use Rattle.nr_blocks.specs.GenesisFiles.{entry_at};
 ghost use Rattle.nr_bytes.specs.Answers.{GivesRead};
-ghost use Rattle.nr_files.specs.Damage.{begun, blocks_line, byte_line, entries_in, entry_place, entry_rest, field_line, flag_line, gathered_damage, genesis_damage, genesis_field, genesis_kinds, is_blocks, is_gathered, is_genesis, is_part, kind_line, or_begun, ordinal_line, part_damage, place_line, place_of, placed, rest_line, stop_of, word_line};
+ghost use Rattle.nr_files.specs.Damage.{begun, blocks_line, byte_line, entries_in, entry_place, entry_rest, field_line};
+ghost use Rattle.nr_files.specs.Damage.{flag_line, gathered_damage, genesis_damage, genesis_field, genesis_kinds};
+ghost use Rattle.nr_files.specs.Damage.{is_blocks, is_gathered, is_genesis, is_part, kind_line, or_begun, ordinal_line};
+ghost use Rattle.nr_files.specs.Damage.{part_damage, place_line, place_of, placed, rest_line, stop_of, word_line};
 ghost use Rattle.nr_records.specs.declared.fault.RecordFault.TheVariants.{Memory};
 
 use crate::versions::blocks_read;
@@ -115,7 +119,8 @@ fn counted_text(alloc: Global, count: usize, words: &str) -> Result<String, Allo
 }
 
 fn more_text(alloc: Global, at: usize, count: usize) -> Result<String, AllocError>
-    ensures { IfOk result (λ text. string_bytes text ≡ decimal count ++ placed (codes " bytes stand after the last field, at byte ") at []) }
+    ensures { IfOk result (λ text. string_bytes text
+        ≡ decimal count ++ placed (codes " bytes stand after the last field, at byte ") at []) }
 {
     let place = placed_text(alloc, " bytes stand after the last field, at byte ", at, "")?;
     counted_text(alloc, count, place.as_str())

@@ -1,3 +1,5 @@
+//! Why a file is refused, or that memory ran out.
+
 use nr_bytes::Text;
 
 /// Why a file is refused.

@@ -14,10 +14,12 @@ ghost use Rattle.nr_files.specs.declared.command.Work.TheVariants.{MakeBlocks, M
 #[tactic(auto, using(crate::proofs::RoundTrip::blocks_trip, crate::proofs::RoundTrip::genesis_trip))]
 pub fn round_trips()
     // What `show blocks` writes of a file, `blocks` makes into the same bytes.
-    ensures blocks { (c : Config) (bytes text : List ℕ) (o : Output) → IsBytes bytes → of_bytes ShowBlocks c bytes ≡ Ok o
+    ensures blocks { (c : Config) (bytes text : List ℕ) (o : Output) → IsBytes bytes → of_bytes ShowBlocks c bytes
+        ≡ Ok o
         → IsWritten o text → of_bytes MakeBlocks c text ≡ Ok (Bytes bytes) }
     // What `show genesis` writes of a file, `genesis` makes into the same bytes, under the same configuration.
-    ensures genesis { (c : Config) (bytes text : List ℕ) (o : Output) → IsBytes bytes → of_bytes ShowGenesis c bytes ≡ Ok o
+    ensures genesis { (c : Config) (bytes text : List ℕ) (o : Output) → IsBytes bytes → of_bytes ShowGenesis c bytes
+        ≡ Ok o
         → IsWritten o text → of_bytes MakeGenesis c text ≡ Ok (Bytes bytes) }
 {}
 

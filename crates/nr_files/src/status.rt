@@ -1,3 +1,5 @@
+//! How a call of `near_files` ends.
+
 use nr_bytes::Text;
 use nr_configfile::ConfigRefusal;
 

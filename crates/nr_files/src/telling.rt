@@ -3,7 +3,8 @@
 ghost use Rattle.std.specs.Prelude.{◌≡◌, IfOk, string_bytes};
 ghost use Rattle.nr_files.specs.Answers.{Tells, TellsText};
 ghost use Rattle.nr_files.specs.Damage.{blocks_line};
-ghost use Rattle.nr_files.specs.Lines.{subject, fault_line, gathered_line, entry_line, genesis_line, part_line, proof_line, report_line, usage_words};
+ghost use Rattle.nr_files.specs.Lines.{subject, fault_line, gathered_line, entry_line, genesis_line, part_line};
+ghost use Rattle.nr_files.specs.Lines.{proof_line, report_line, usage_words};
 ghost use Rattle.nr_files.specs.declared.fault.Fault.TheVariants.{Memory};
 ghost use Rattle.nr_json.specs.declared.fault.JsonFault.TheVariants as json;
 ghost use Rattle.nr_records.specs.declared.fault.RecordFault.TheVariants as record_faults;

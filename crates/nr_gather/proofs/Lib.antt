@@ -1,3 +1,4 @@
+-- Lemmas behind the answers.
 mod Orders
 mod Levels
 mod Sweeps

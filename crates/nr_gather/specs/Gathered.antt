@@ -22,7 +22,8 @@ own_text searched place [] = []
 own_text searched place (p ∷ []) = found_text searched (place ++ p.0) (Some p.1)
 own_text searched place (p ∷ q ∷ ps) = found_text searched place (value_here (p ∷ q ∷ ps))
 
--- what stands below the top node of several paths with this front: the trie behind the front, or that under each nibble, each at its place
+-- what stands below the top node of several paths with this front: the trie behind the front, or that under each
+-- nibble, each at its place
 abbrev pub tries_behind : List ℕ → List ℕ → Paths → List (List ℕ × Paths)
 tries_behind place [] ps = map (λ n. (place ++ n ∷ [], under n ps)) sixteen
 tries_behind place (x ∷ xs) ps = (place ++ x ∷ xs, cut ps) ∷ []
@@ -32,17 +33,21 @@ tries_below place [] = []
 tries_below place (p ∷ []) = []
 tries_below place (p ∷ q ∷ ps) = tries_behind place (front (p ∷ q ∷ ps)) (p ∷ q ∷ ps)
 
--- the texts of the trie at a place, of paths with fewer nibbles than the depth: its top node, and where this is looked at for itself its value, if it is searched, and the tries below it
+-- the texts of the trie at a place, of paths with fewer nibbles than the depth: its top node, and where this is
+-- looked at for itself its value, if it is searched, and the tries below it
 unfoldable pub looked_texts : ℕ → List Searched → List ℕ → Paths → List (List ℕ)
 looked_texts depth searched place [] = []
 looked_texts zero searched place (p ∷ ps) = []
 looked_texts (suc depth) searched place (p ∷ ps) =
-    node_text (top_of (p ∷ ps)) ∷ cond (looks searched place) (own_text searched place (p ∷ ps) ++ flat_map (λ (t : List ℕ × Paths). looked_texts depth searched t.0 t.1) (tries_below place (p ∷ ps))) []
+    node_text (top_of (p ∷ ps)) ∷ cond (looks searched place)
+    (own_text searched place (p ∷ ps) ++ flat_map (λ (t : List ℕ × Paths). looked_texts depth searched t.0 t.1)
+    (tries_below place (p ∷ ps))) []
 
 -- each text whose hash none before it has, where the texts before them are held
 abbrev pub once : Contents → List (List ℕ) → List (List ℕ)
 once held [] = []
-once held (text ∷ texts) = cond (is_some (get held (digest text).0)) (once held texts) (text ∷ once (with_text held text) texts)
+once held (text ∷ texts) =
+    cond (is_some (get held (digest text).0)) (once held texts) (text ∷ once (with_text held text) texts)
 
 -- the texts at which a walk over the trie of these paths looks, depth first, each once
 unfoldable pub gathered : List Searched → Paths → List (List ℕ)

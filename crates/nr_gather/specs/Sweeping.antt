@@ -1,5 +1,7 @@
--- The texts that are looked at, by the list of all nodes of a trie, depth first, and of its paths in their order. This project's own.
-use Rattle.std.specs.Prelude.{ℕ, zero, suc, ◌+◌, Bool, true, false, cond, List, [], ◌∷◌, ◌++◌, drop, count_by, Some, is_some}
+-- The texts that are looked at, by the list of all nodes of a trie, depth first, and of its paths in their order.
+-- This project's own.
+use Rattle.std.specs.Prelude.{ℕ, zero, suc, ◌+◌, Bool, true, false, cond, List, [], ◌∷◌, ◌++◌, drop, count_by, Some}
+use Rattle.std.specs.Prelude.{is_some}
 use Rattle.nr_triedef.specs.Node.{node_text}
 use Rattle.nr_triedef.specs.Root.{Paths}
 use Rattle.nr_triedef.specs.declared.node.Node.{Node}
@@ -34,10 +36,12 @@ value_text searched node ps = cond (has_value node) (first_text searched ps) []
 abbrev pub paths_behind : Node → Paths → Paths
 paths_behind node ps = cond (has_value node) (drop 1 ps) ps
 
--- the texts that are looked at among these nodes, of which so many tries come first that are passed by, and then those of the spots
+-- the texts that are looked at among these nodes, of which so many tries come first that are passed by, and then
+-- those of the spots
 abbrev pub swept : List Searched → ℕ → List Spot → List Node → Paths → List (List ℕ)
 swept searched passed spots [] ps = []
-swept searched (suc passed) spots (node ∷ nodes) ps = swept searched (passed + count_of node) spots nodes (paths_behind node ps)
+swept searched (suc passed) spots (node ∷ nodes) ps =
+    swept searched (passed + count_of node) spots nodes (paths_behind node ps)
 swept searched zero [] (node ∷ nodes) ps = []
 swept searched zero (spot ∷ spots) (node ∷ nodes) ps =
     node_text node ∷ cond (looks searched spot.place)

@@ -28,7 +28,8 @@ fn add_text(
     text: Blob,
     hashes: &mut Hashes,
 ) -> Result<(), AllocError>
-    ensures { OnOk result ((more : Items (Items ℕ)) → list.new.items ++ once held.new.contents more ≡ list.old.items ++ once held.old.contents (text ∷ more)) }
+    ensures { OnOk result ((more : Items (Items ℕ)) → list.new.items ++ once held.new.contents more
+        ≡ list.old.items ++ once held.old.contents (text ∷ more)) }
 {
     let hash = hashes.hash(text.inner())?;
     if held.get(&hash.0).is_some() {
@@ -141,7 +142,8 @@ pub fn gather(
     // The root of the trie by them.
     ensures root { IfOk result (λ texts. root_in texts ≡ (root_of_entries (pairs_of entries.now)).hash) }
     // Where the map of the entries agrees with them, the walk over them has no fault.
-    ensures walks { IfOk result (λ texts. (m : Contents) → map.entries m ≡ pairs_of entries.now → IsOf (texts_of texts) (root_of m).hash m
+    ensures walks { IfOk result (λ texts. (m : Contents) → map.entries m ≡ pairs_of entries.now
+        → IsOf (texts_of texts) (root_of m).hash m
         → (gains : Items Gain) × (walk_of (texts_of texts) searched.now (root_of m).hash ≡ Ok gains)) }
 {
     let texts = texts_of_all(alloc, entries.inner(), searched, hashes)?;

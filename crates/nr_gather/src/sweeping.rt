@@ -60,7 +60,8 @@ fn add_value(
     entries: &[Entry],
     node: &Node,
 ) -> Result<(), AllocError>
-    ensures { OnOk result (texts.new.items ≡ texts.old.items ++ value_text sought.now node.now (paths (pairs_of entries.now))) }
+    ensures { OnOk result (texts.new.items ≡ texts.old.items ++ value_text sought.now node.now
+        (paths (pairs_of entries.now))) }
 {
     if !has_value(node) {
         return Ok(());
@@ -87,7 +88,11 @@ fn look(
     requires { IsNode node.now }
     ensures few { IfOk result (λ passed. passed ≤ 16) }
     ensures same { sought.new ≡ sought.old }
-    ensures value { IfOk result (λ passed. (more : Items Nodes) → texts.new.items ++ swept sought.old passed waiting.new more (paths_behind node.now (paths (pairs_of entries.now))) ≡ texts.old.items ++ swept sought.old 0 (spot.now ∷ waiting.old) (node.now ∷ more) (paths (pairs_of entries.now))) }
+    ensures value { IfOk result (λ passed. (more : Items Nodes)
+        → texts.new.items ++ swept sought.old passed waiting.new more
+        (paths_behind node.now (paths (pairs_of entries.now)))
+        ≡ texts.old.items ++ swept sought.old 0 (spot.now ∷ waiting.old) (node.now ∷ more)
+        (paths (pairs_of entries.now))) }
 {
     texts.push(node_text(alloc, node)?)?;
     let place = spot.place.inner();

@@ -1,4 +1,5 @@
--- The file of a gathered chunk: a word, and then fields by Borsh 1.0 (structs, integers, options, dynamic arrays). The word and the order of the fields are this project's own.
+-- The file of a gathered chunk: a word, and then fields by Borsh 1.0 (structs, integers, options, dynamic arrays).
+-- The word and the order of the fields are this project's own.
 use Rattle.std.specs.Prelude.{ℕ, ◌<◌, ◌^◌, List, ◌++◌, Option, Result, Ok, Err, codes}
 use Rattle.std.specs.Str.{bytes_eq}
 use Rattle.nr_bytes.specs.Numbers.{little}
@@ -38,7 +39,8 @@ gathered_bytes g = magic ++ (hash_bytes g.prior_root ++ (layout_bytes g.layout +
 
 -- numbers, counts and lengths fit their fields, and the boundaries are a layout's
 abbrev pub FitsPlace : Gathered → Type 0
-FitsPlace g = (g.height.0 < 256 ^ 8) × ((g.timestamp < 256 ^ 8) × (IsOption (Below (256 ^ 8)) g.price × (g.shard.0 < 256 ^ 4)))
+FitsPlace g =
+    (g.height.0 < 256 ^ 8) × ((g.timestamp < 256 ^ 8) × (IsOption (Below (256 ^ 8)) g.price × (g.shard.0 < 256 ^ 4)))
 
 abbrev pub FitLists : Gathered → Type 0
 FitLists g = FitsList IsTransaction g.transactions × (FitsList IsReceipt g.taken × FitsList IsCounted g.texts)

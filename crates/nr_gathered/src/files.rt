@@ -95,7 +95,8 @@ pub fn read_gathered(alloc: Global, bytes: &[u8]) -> Result<Gathered, GatheredFa
     // What is read fits its fields, and the bytes are its file.
     ensures found { IfOk result (λ gathered. FitsGathered gathered × (bytes.now ≡ gathered_bytes gathered)) }
     // The file of what fits its fields is read as that.
-    ensures only { (gathered : AnyGathered) → FitsGathered gathered → bytes.now ≡ gathered_bytes gathered → Gives Memory result (Ok gathered) }
+    ensures only { (gathered : AnyGathered) → FitsGathered gathered → bytes.now ≡ gathered_bytes gathered
+        → Gives Memory result (Ok gathered) }
 {
     gathered_in(alloc, bytes)
 }

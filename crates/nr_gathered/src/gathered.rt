@@ -1,3 +1,5 @@
+//! What one chunk is run again from.
+
 use nr_bytes::{Blob, List};
 use nr_ids::{Hash32, Height, ShardId};
 use nr_layout::Layout;

@@ -8,6 +8,8 @@ ghost use Rattle.nr_gathered.specs.declared.gathered.Gathered.{Gathered as AnyGa
 /// Does nothing. What fits its fields is read back from its file, and what is read of bytes fits
 /// its fields and has these bytes as its file.
 pub fn gathered_laws()
-    ensures back { (gathered : AnyGathered) → FitsGathered gathered → gathered_in (gathered_bytes gathered) ≡ Ok gathered }
-    ensures only { (bytes : Items ℕ) (gathered : AnyGathered) → IsBytes bytes → gathered_in bytes ≡ Ok gathered → FitsGathered gathered × (bytes ≡ gathered_bytes gathered) }
+    ensures back { (gathered : AnyGathered) → FitsGathered gathered → gathered_in (gathered_bytes gathered)
+        ≡ Ok gathered }
+    ensures only { (bytes : Items ℕ) (gathered : AnyGathered) → IsBytes bytes → gathered_in bytes ≡ Ok gathered
+        → FitsGathered gathered × (bytes ≡ gathered_bytes gathered) }
 {}

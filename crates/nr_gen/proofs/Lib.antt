@@ -1,3 +1,4 @@
+-- Lemmas behind the answers.
 pub mod Lists
 pub mod Modules
 pub mod Below

@@ -1,5 +1,6 @@
 -- The blocks of a generated chain, of which each draw stands behind the one before it. This project's own.
-use Rattle.std.specs.Prelude.{ℕ, ◌+◌, ◌*◌, ◌^◌, ◌==◌, List, [], ◌∷◌, Option, Some, None, nat_lt, if◌then◌else◌, replicate, slice_index, slice_set, codes}
+use Rattle.std.specs.Prelude.{ℕ, ◌+◌, ◌*◌, ◌^◌, ◌==◌, List, [], ◌∷◌, Option, Some, None, nat_lt, if◌then◌else◌}
+use Rattle.std.specs.Prelude.{replicate, slice_index, slice_set, codes}
 use Rattle.nr_records.specs.declared.action.Action.{Action}
 use Rattle.nr_records.specs.declared.action.Action.TheVariants.{FunctionCall, Transfer}
 use Rattle.nr_records.specs.declared.transaction.Transaction.{Transaction}
@@ -30,15 +31,20 @@ transfer_of shard nonce user target x =
 
 -- the own contract is told the target's
 unfoldable pub call_of : ℕ → ℕ → ℕ → ℕ → Transaction
-call_of shard nonce user target = signed_by shard user nonce (contract_id shard) (FunctionCall (codes "send") (contract_id target) 2000000 0)
+call_of shard nonce user target =
+    signed_by shard user nonce (contract_id shard) (FunctionCall (codes "send") (contract_id target) 2000000 0)
 
 -- of the users six pay and two call
 unfoldable pub transaction_of : ℕ → ℕ → ℕ → ℕ → ℕ → Transaction × ℕ
 transaction_of shards shard nonce user x =
     let target = draw shards x in
-    if nat_lt user 6 then transfer_of shard nonce user target.0 target.1 else (call_of shard nonce user target.0, target.1)
+    if nat_lt user 6 then transfer_of shard nonce user target.0 target.1 else (
+      call_of shard nonce user target.0,
+      target.1,
+    )
 
--- ---- chunks and blocks: the state is the number from which is drawn, and the last nonce that the users of each shard signed with
+-- ---- chunks and blocks: the state is the number from which is drawn, and the last nonce that the users of each
+-- shard signed with
 abbrev pub State : Type 0
 State = ℕ × List ℕ
 

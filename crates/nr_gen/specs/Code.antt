@@ -1,5 +1,7 @@
--- The contract of a generated chain, as the bytes of a module (WebAssembly 1.0, Binary Format). What it does is this project's own.
-use Rattle.std.specs.Prelude.{ℕ, zero, suc, ◌+◌, ◌/◌, ◌%◌, List, [], ◌∷◌, ◌++◌, length, replicate, nat_lt, if◌then◌else◌, codes}
+-- The contract of a generated chain, as the bytes of a module (WebAssembly 1.0, Binary Format). What it does is this
+-- project's own.
+use Rattle.std.specs.Prelude.{ℕ, zero, suc, ◌+◌, ◌/◌, ◌%◌, List, [], ◌∷◌, ◌++◌, length, replicate, nat_lt}
+use Rattle.std.specs.Prelude.{if◌then◌else◌, codes}
 use Rattle.std.specs.List.{flat_map}
 use Rattle.nr_gen.specs.Turns.{joined_below}
 
@@ -40,7 +42,8 @@ function_type params results = 96 ∷ counted (replicate params 126) ++ counted 
 
 unfoldable pub type_section : List ℕ
 type_section =
-    section 1 (vector (function_type 0 0 ∷ function_type 1 0 ∷ function_type 2 0 ∷ function_type 1 1 ∷ function_type 2 1 ∷ function_type 3 1 ∷ function_type 5 1 ∷ function_type 8 1 ∷ function_type 9 1 ∷ []))
+    section 1 (vector (function_type 0 0 ∷ function_type 1 0 ∷ function_type 2 0 ∷ function_type 1 1
+    ∷ function_type 2 1 ∷ function_type 3 1 ∷ function_type 5 1 ∷ function_type 8 1 ∷ function_type 9 1 ∷ []))
 
 -- a function of the host, with the number of its type
 abbrev pub import_of : List ℕ → ℕ → List ℕ
@@ -74,7 +77,8 @@ abbrev pub export_of : List ℕ → ℕ → List ℕ
 export_of name function = counted name ++ 0 ∷ unsigned function
 
 unfoldable pub export_section : List ℕ
-export_section = section 7 (vector (export_of (codes "send") 9 ∷ export_of (codes "recv") 10 ∷ export_of (codes "done") 11 ∷ []))
+export_section =
+    section 7 (vector (export_of (codes "send") 9 ∷ export_of (codes "recv") 10 ∷ export_of (codes "done") 11 ∷ []))
 
 -- ---- instructions (Binary Format, Instructions)
 abbrev pub unreachable : List ℕ
@@ -157,7 +161,9 @@ recv_body =
 
 -- It traps where the other contract failed.
 unfoldable pub done_body : List ℕ
-done_body = body (i64_consts (0 ∷ 4 ∷ []) ++ call 4 ++ i64_consts (1 ∷ []) ++ i64_ne ++ if_without_result ++ unreachable ++ end)
+done_body =
+    body (i64_consts (0 ∷ 4 ∷ []) ++ call 4 ++ i64_consts (1 ∷ []) ++ i64_ne ++ if_without_result ++ unreachable
+    ++ end)
 
 -- Filler j adds 20 numbers, from 64 + j on, to its argument.
 abbrev pub addition : ℕ → ℕ → List ℕ
@@ -179,7 +185,9 @@ data_section = section 11 (vector ((unsigned 0 ++ i32_const 0 ++ end ++ counted 
 
 -- ---- the module: its magic word and version, and its sections
 unfoldable pub front : List ℕ
-front = (0 ∷ codes "asm") ++ (1 ∷ 0 ∷ 0 ∷ 0 ∷ []) ++ type_section ++ import_section ++ function_section ++ memory_section ++ export_section
+front =
+    (0 ∷ codes "asm") ++ (1 ∷ 0 ∷ 0 ∷ 0 ∷ []) ++ type_section ++ import_section ++ function_section ++ memory_section
+    ++ export_section
 
 unfoldable pub contract_code : List ℕ
 contract_code = front ++ code_section ++ data_section

@@ -1,4 +1,5 @@
--- Numbers that are drawn one after another: a linear congruential sequence (Knuth, The Art of Computer Programming, 3.2.1) of 64 bits. The multiplier and the increment are those of Knuth's MMIX.
+-- Numbers that are drawn one after another: a linear congruential sequence (Knuth, The Art of Computer Programming,
+-- 3.2.1) of 64 bits. The multiplier and the increment are those of Knuth's MMIX.
 use Rattle.std.specs.Prelude.{ℕ, ◌+◌, ◌*◌, ◌/◌, ◌%◌, ◌^◌}
 
 -- the number behind x

@@ -1,3 +1,4 @@
+-- Definitions that the contracts cite.
 pub mod Turns
 pub mod Draws
 pub mod Names

@@ -1,7 +1,8 @@
 //! The blocks of a generated chain.
 
 ghost use Rattle.std.specs.Prelude.{◌≡◌, ◌<◌, ◌≤◌, length, IfOk};
-ghost use Rattle.nr_gen.specs.Chain.{block_of, call_of, chunk_of, generated_blocks, signed_by, transaction_of, transfer_of};
+ghost use Rattle.nr_gen.specs.Chain.{block_of, call_of, chunk_of, generated_blocks, signed_by, transaction_of};
+ghost use Rattle.nr_gen.specs.Chain.{transfer_of};
 ghost use Rattle.nr_gen.specs.Turns.{in_turn};
 
 use crate::draws::draw;
@@ -39,7 +40,8 @@ fn signed(
 ) -> Result<Transaction, AllocError>
     requires shard { signer.shard < 16 }
     requires user { signer.user < 8 }
-    ensures { IfOk result (λ transaction. transaction ≡ signed_by signer.shard signer.user signer.nonce receiver action) }
+    ensures { IfOk result (λ transaction. transaction
+        ≡ signed_by signer.shard signer.user signer.nonce receiver action) }
 {
     let mut actions = Vec::new(alloc);
     actions.push(action)?;
@@ -64,7 +66,8 @@ fn transfer(
     requires shard { signer.shard < 16 }
     requires user { signer.user < 8 }
     requires target { target < 16 }
-    ensures { IfOk result (λ transaction. (transaction, number.new) ≡ transfer_of signer.shard signer.nonce signer.user target number.old) }
+    ensures { IfOk result (λ transaction. (transaction, number.new)
+        ≡ transfer_of signer.shard signer.nonce signer.user target number.old) }
 {
     let friend = draw(number, u64::from(USERS)) as u32;
     let amount = draw(number, 1000);
@@ -104,7 +107,8 @@ fn transaction(
     requires few { shards ≤ 16 }
     requires shard { signer.shard < 16 }
     requires user { signer.user < 8 }
-    ensures { IfOk result (λ transaction. (transaction, number.new) ≡ transaction_of shards signer.shard signer.nonce signer.user number.old) }
+    ensures { IfOk result (λ transaction. (transaction, number.new)
+        ≡ transaction_of shards signer.shard signer.nonce signer.user number.old) }
 {
     let target = draw(number, u64::from(shards)) as u32;
     if signer.user < PAYING {
@@ -148,7 +152,8 @@ fn chunk(
     requires few { shards ≤ 16 }
     requires shard { shard < shards }
     requires nonces { length nonces.old.items ≡ shards }
-    ensures made { IfOk result (λ chunk. (chunk, (number.new, nonces.new.items)) ≡ chunk_of shards shard (number.old, nonces.old.items)) }
+    ensures made { IfOk result (λ chunk. (chunk, (number.new, nonces.new.items))
+        ≡ chunk_of shards shard (number.old, nonces.old.items)) }
     ensures nonces { length nonces.new.items ≡ shards }
 {
     if draw(number, 16) == 0 {
@@ -169,7 +174,8 @@ fn chunks(
 ) -> Result<List<Option<List<Transaction>>>, AllocError>
     requires few { shards ≤ 16 }
     requires nonces { length nonces.old.items ≡ shards }
-    ensures made { IfOk result (λ list. (list, (number.new, nonces.new.items)) ≡ in_turn shards (chunk_of shards) (number.old, nonces.old.items)) }
+    ensures made { IfOk result (λ list. (list, (number.new, nonces.new.items))
+        ≡ in_turn shards (chunk_of shards) (number.old, nonces.old.items)) }
     ensures nonces { length nonces.new.items ≡ shards }
 {
     let mut list = Vec::new(alloc);
@@ -192,7 +198,8 @@ fn block(
     requires few { shards ≤ 16 }
     requires below { below < 256 }
     requires nonces { length nonces.old.items ≡ shards }
-    ensures made { IfOk result (λ block. (block, (number.new, nonces.new.items)) ≡ block_of shards below (number.old, nonces.old.items)) }
+    ensures made { IfOk result (λ block. (block, (number.new, nonces.new.items))
+        ≡ block_of shards below (number.old, nonces.old.items)) }
     ensures nonces { length nonces.new.items ≡ shards }
 {
     let height = below + 1;

@@ -1,7 +1,8 @@
 //! The contract of a generated chain, as the bytes of a WebAssembly module.
 
 ghost use Rattle.std.specs.Prelude.{◌≡◌, ◌<◌, ◌≤◌, ◌++◌, IfOk, OnOk, replicate};
-ghost use Rattle.nr_gen.specs.Code.{code_section, contract_code, filler_body, front, function_section, i64_add, i64_const};
+ghost use Rattle.nr_gen.specs.Code.{code_section, contract_code, filler_body, front, function_section, i64_add};
+ghost use Rattle.nr_gen.specs.Code.{i64_const};
 ghost use Rattle.nr_gen.specs.Turns.{joined_below};
 
 use nr_bytes::Blob;

@@ -1,3 +1,5 @@
+//! Chains that three numbers determine.
+
 ghost use Rattle.std.specs.Prelude.{◌≡◌, ◌≤◌, IfOk};
 ghost use Rattle.std.specs.List.{AllByRecursion};
 ghost use Rattle.nr_config.specs.Config.{Config, generated};

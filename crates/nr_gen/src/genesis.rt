@@ -3,7 +3,8 @@
 ghost use Rattle.std.specs.Prelude.{◌≡◌, ◌<◌, ◌≤◌, ◌++◌, IfOk, OnOk};
 ghost use Rattle.nr_triedef.specs.Node.{digest};
 ghost use Rattle.nr_gen.specs.Code.{contract_code};
-ghost use Rattle.nr_gen.specs.Founding.{contract_entries, first_account, founding_entries, generated_genesis, shard_entries, user_entries};
+ghost use Rattle.nr_gen.specs.Founding.{contract_entries, first_account, founding_entries, generated_genesis};
+ghost use Rattle.nr_gen.specs.Founding.{shard_entries, user_entries};
 ghost use Rattle.nr_gen.specs.Names.{boundaries};
 ghost use Rattle.nr_gen.specs.Turns.{joined_below};
 

@@ -1,5 +1,7 @@
--- NEAR Nomicon, "Registers API" and "Memory": the registers of a call, and the byte arguments of bindings. The limits are this project's.
-use Rattle.std.specs.Prelude.{ℕ, ◌≡◌, Bool, false, true, ◌&&◌, ◌||◌, ◌==◌, nat_le, nat_lt, if◌then◌else◌, List, [], length, sum_by, Option, Some, None, is_some, unwrap_or, Result, Ok, Err}
+-- NEAR Nomicon, "Registers API" and "Memory": the registers of a call, and the byte arguments of bindings. The limits
+-- are this project's.
+use Rattle.std.specs.Prelude.{ℕ, ◌≡◌, Bool, false, true, ◌&&◌, ◌||◌, ◌==◌, nat_le, nat_lt, if◌then◌else◌, List, []}
+use Rattle.std.specs.Prelude.{length, sum_by, Option, Some, None, is_some, unwrap_or, Result, Ok, Err}
 use Rattle.std.specs.BTreeMap.{is_at, insert_entry}
 use Rattle.std.specs.Map.{lookup, values_of}
 use Rattle.std.specs.Option.{option_map, ok_or}
@@ -17,7 +19,12 @@ pub record RegisterView : Type 0 where
 
 -- how many registers there may be, how many bytes one may have, and how many all of them
 abbrev pub limits_of : Config → Limits
-limits_of c = record { registers = max_registers c; register_bytes = max_register_bytes c; all_bytes = max_all_register_bytes c }
+limits_of c =
+    record {
+      registers = max_registers c;
+      register_bytes = max_register_bytes c;
+      all_bytes = max_all_register_bytes c;
+    }
 
 abbrev pub no_registers : Config → RegisterView
 no_registers c = record { held = []; limits = limits_of c }
@@ -25,7 +32,8 @@ no_registers c = record { held = []; limits = limits_of c }
 abbrev pub register : RegisterView → ℕ → Option (List ℕ)
 register r id = lookup (is_at (nat_cmp id)) r.held
 
--- 2 ^ 64 - 1: the length of a register that isn't there, and as the length of an argument the sign that it is a register
+-- 2 ^ 64 - 1: the length of a register that isn't there, and as the length of an argument the sign that it is a
+-- register
 abbrev pub no_length : ℕ
 no_length = 18446744073709551615
 
@@ -45,7 +53,9 @@ abbrev pub has_place : RegisterView → ℕ → Bool
 has_place r id = is_some (register r id) || nat_lt (length r.held) r.limits.registers
 
 abbrev pub can_set : RegisterView → ℕ → List ℕ → Bool
-can_set r id bytes = nat_le (length bytes) r.limits.register_bytes && has_place r id && nat_le (all_bytes (held_with r id bytes)) r.limits.all_bytes
+can_set r id bytes =
+    nat_le (length bytes) r.limits.register_bytes && has_place r id
+    && nat_le (all_bytes (held_with r id bytes)) r.limits.all_bytes
 
 -- the registers with bytes in one, where the limits allow it
 unfoldable pub set_register : RegisterView → ℕ → List ℕ → Option RegisterView
@@ -68,7 +78,8 @@ abbrev pub argument_size : RegisterView → ℕ → ℕ → Result ℕ GuestFaul
 argument_size r len ptr = if is_register len then ok_or (option_map length (register r ptr)) BadRegister else Ok len
 
 abbrev pub argument : RegisterView → List ℕ → ℕ → ℕ → Result (List ℕ) GuestFault
-argument r memory len ptr = if is_register len then ok_or (register r ptr) BadRegister else ok_or (range_in memory ptr len) OutOfBounds
+argument r memory len ptr =
+    if is_register len then ok_or (register r ptr) BadRegister else ok_or (range_in memory ptr len) OutOfBounds
 
 -- ---- what a part of the code answers: what all registers hold then, where the limits allow a write
 abbrev pub size_at : RegisterView → ℕ → ℕ

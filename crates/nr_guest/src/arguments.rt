@@ -37,7 +37,8 @@ pub fn argument<'a>(
     len: u64,
     ptr: u64,
 ) -> Result<&'a [u8], GuestFault>
-    ensures { MatchResult result (λ part. argument registers.now memory.now.bytes len ptr ≡ Ok part.now) (λ e. argument registers.now memory.now.bytes len ptr ≡ Err e) }
+    ensures { MatchResult result (λ part. argument registers.now memory.now.bytes len ptr ≡ Ok part.now)
+        (λ e. argument registers.now memory.now.bytes len ptr ≡ Err e) }
 {
     if len == u64::MAX {
         return match registers.get(ptr) {

@@ -1,3 +1,5 @@
+//! What is wrong with a register or a range.
+
 ghost use Rattle.std.specs.Prelude.{◌≡◌};
 ghost use Rattle.nr_guest.specs.declared.fault.GuestFault.TheVariants.{Memory};
 

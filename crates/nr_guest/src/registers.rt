@@ -2,7 +2,8 @@
 
 ghost use Rattle.std.specs.Prelude.{◌≡◌};
 ghost use Rattle.std.specs.Option.{option_copied};
-ghost use Rattle.nr_guest.specs.Guest.{no_registers, limits_of, register, register_length, set_register, Sets, size_at, has_place, held_with, all_bytes, HasRoom};
+ghost use Rattle.nr_guest.specs.Guest.{no_registers, limits_of, register, register_length, set_register, Sets, size_at};
+ghost use Rattle.nr_guest.specs.Guest.{has_place, held_with, all_bytes, HasRoom};
 
 use crate::fault::GuestFault;
 use nr_bytes::Blob;

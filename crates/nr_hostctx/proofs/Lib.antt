@@ -1,3 +1,4 @@
+-- Lemmas behind the answers.
 pub mod Answering
 pub mod Guests
 pub mod Indices

@@ -1,3 +1,4 @@
+-- Definitions that the contracts cite.
 pub mod Ready
 pub mod State
 pub mod Faults

@@ -75,7 +75,8 @@ impl<'a, S: Store> Callee<'a, S> {
 
     /// A datum of the account.
     pub(crate) fn datum(&self, key: &[u8]) -> Result<Option<&[u8]>, AllocError>
-        ensures { IfOk result (λ found. option_copied found ≡ get self.now.state.now.world.data_of (self.now.context.now.current, key.now)) }
+        ensures { IfOk result (λ found. option_copied found
+            ≡ get self.now.state.now.world.data_of (self.now.context.now.current, key.now)) }
     {
         self.state.datum(&self.context.current, key)
     }
@@ -83,7 +84,9 @@ impl<'a, S: Store> Callee<'a, S> {
     /// Writes a datum of the account. After want of memory it can't be changed again.
     #[tactic(auto, using(crate::proofs::Standing::with_datum))]
     pub(crate) fn set_datum(&mut self, key: &[u8], value: &[u8]) -> Result<(), AllocError>
-        ensures does { OnOk result (self.new.state.now ≡ with_world self.old.state.now (change.set_datum self.old.config.now self.old.state.now.world self.old.context.now.current key.now value.now)) }
+        ensures does { OnOk result (self.new.state.now
+            ≡ with_world self.old.state.now (change.set_datum self.old.config.now self.old.state.now.world
+            self.old.context.now.current key.now value.now)) }
         ensures context { self.new.context.now ≡ self.old.context.now }
         ensures config { self.new.config.now ≡ self.old.config.now }
         ensures holds { self.new.state.ghost_name ≡ self.old.state.ghost_name }
@@ -100,7 +103,9 @@ impl<'a, S: Store> Callee<'a, S> {
     /// Takes a datum of the account out. After want of memory it can't be changed again.
     #[tactic(auto, using(crate::proofs::Standing::without_datum))]
     pub(crate) fn remove_datum(&mut self, key: &[u8]) -> Result<(), AllocError>
-        ensures does { OnOk result (self.new.state.now ≡ with_world self.old.state.now (change.removed_datum self.old.config.now self.old.state.now.world self.old.context.now.current key.now)) }
+        ensures does { OnOk result (self.new.state.now
+            ≡ with_world self.old.state.now (change.removed_datum self.old.config.now self.old.state.now.world
+            self.old.context.now.current key.now)) }
         ensures context { self.new.context.now ≡ self.old.context.now }
         ensures config { self.new.config.now ≡ self.old.config.now }
         ensures holds { self.new.state.ghost_name ≡ self.old.state.ghost_name }
@@ -116,7 +121,9 @@ impl<'a, S: Store> Callee<'a, S> {
 
     #[tactic(auto, using(crate::proofs::Standing::with_itself))]
     fn set_account(&mut self, account: &Account) -> Result<(), AllocError>
-        ensures does { OnOk result (self.new.state.now ≡ with_world self.old.state.now (with_account self.old.state.now.world self.old.context.now.current account.now)) }
+        ensures does { OnOk result (self.new.state.now
+            ≡ with_world self.old.state.now (with_account self.old.state.now.world self.old.context.now.current
+            account.now)) }
         ensures context { self.new.context.now ≡ self.old.context.now }
         ensures config { self.new.config.now ≡ self.old.config.now }
         ensures holds { self.new.state.ghost_name ≡ self.old.state.ghost_name }

@@ -40,8 +40,10 @@ impl<'a, S: Store> HostContext<'a, S> {
     #[tactic(auto, using(crate::proofs::Spending::burns_all, crate::proofs::Spending::promises_none))]
     pub(crate) fn exceed(&mut self) -> HostStop
         ensures stop { result ≡ Gas }
-        ensures burns { (n : ℕ) → 2 ^ 64 ≤ n → act.Leads self.old self.new (act.burn n (state_of self.old)) (act.Stops (state_of self.new) Gas) }
-        ensures promises { (n : ℕ) → 2 ^ 64 ≤ n → act.Leads self.old self.new (act.promise n (state_of self.old)) (act.Stops (state_of self.new) Gas) }
+        ensures burns { (n : ℕ) → 2 ^ 64 ≤ n → act.Leads self.old self.new (act.burn n (state_of self.old))
+            (act.Stops (state_of self.new) Gas) }
+        ensures promises { (n : ℕ) → 2 ^ 64 ≤ n → act.Leads self.old self.new (act.promise n (state_of self.old))
+            (act.Stops (state_of self.new) Gas) }
         ensures keeps { Keeps self.old self.new }
     {
         let limit = self.counter.limit;

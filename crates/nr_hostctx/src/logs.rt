@@ -117,7 +117,8 @@ impl<'a, S: Store> HostContext<'a, S> {
 
     #[tactic(auto, unfolding(crate::specs::Logs::set_value))]
     fn set_value(&mut self, value: Blob)
-        ensures does { act.Leads self.old self.new (row.set_value value (state_of self.old)) (act.Goes (state_of self.new) tt) }
+        ensures does { act.Leads self.old self.new (row.set_value value (state_of self.old))
+            (act.Goes (state_of self.new) tt) }
         ensures keeps { Keeps self.old self.new }
     {
         self.returned = Returned::Value(value);

@@ -267,7 +267,8 @@ impl<'a, S: Store> HostContext<'a, S> {
         amount_ptr: u64,
         gas: u64,
     ) -> Result<u64, HostStop>
-        ensures does { Does result self.old self.new (row.promise_create alen aptr mlen mptr args_len args_ptr amount_ptr gas) }
+        ensures does { Does result self.old self.new
+            (row.promise_create alen aptr mlen mptr args_len args_ptr amount_ptr gas) }
         ensures keeps { Keeps self.old self.new }
     {
         self.begin()?;
@@ -294,7 +295,8 @@ impl<'a, S: Store> HostContext<'a, S> {
         amount_ptr: u64,
         gas: u64,
     ) -> Result<u64, HostStop>
-        ensures does { Does result self.old self.new (row.promise_then after alen aptr mlen mptr args_len args_ptr amount_ptr gas) }
+        ensures does { Does result self.old self.new
+            (row.promise_then after alen aptr mlen mptr args_len args_ptr amount_ptr gas) }
         ensures keeps { Keeps self.old self.new }
     {
         self.begin()?;
@@ -320,7 +322,8 @@ impl<'a, S: Store> HostContext<'a, S> {
         amount_ptr: u64,
         gas: u64,
     ) -> Result<(), HostStop>
-        ensures does { Does result self.old self.new (row.promise_batch_action_function_call index mlen mptr args_len args_ptr amount_ptr gas) }
+        ensures does { Does result self.old self.new
+            (row.promise_batch_action_function_call index mlen mptr args_len args_ptr amount_ptr gas) }
         ensures keeps { Keeps self.old self.new }
     {
         self.begin()?;
@@ -406,7 +409,8 @@ impl<'a, S: Store> HostContext<'a, S> {
         kptr: u64,
         nonce: u64,
     ) -> Result<(), HostStop>
-        ensures does { Does result self.old self.new (row.promise_batch_action_add_key_with_full_access index klen kptr nonce) }
+        ensures does { Does result self.old self.new
+            (row.promise_batch_action_add_key_with_full_access index klen kptr nonce) }
         ensures keeps { Keeps self.old self.new }
     {
         self.begin()?;
@@ -438,7 +442,9 @@ impl<'a, S: Store> HostContext<'a, S> {
         mlen: u64,
         mptr: u64,
     ) -> Result<(), HostStop>
-        ensures does { Does result self.old self.new (row.promise_batch_action_add_key_with_function_call index klen kptr nonce allowance_ptr rlen rptr mlen mptr) }
+        ensures does { Does result self.old self.new
+            (row.promise_batch_action_add_key_with_function_call index klen kptr nonce allowance_ptr rlen rptr mlen
+            mptr) }
         ensures keeps { Keeps self.old self.new }
     {
         self.begin()?;

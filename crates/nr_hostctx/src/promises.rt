@@ -148,7 +148,9 @@ impl<'a, S: Store> HostContext<'a, S> {
     }
 
     fn result_at(&self, index: u64) -> Result<&'a Option<Blob>, HostStop>
-        ensures { MatchResult result (λ found. row.result_at index (state_of self.now) ≡ act.Goes (state_of self.now) found.now) (λ why. row.result_at index (state_of self.now) ≡ act.Stops (state_of self.now) why) }
+        ensures { MatchResult result (λ found. row.result_at index (state_of self.now)
+            ≡ act.Goes (state_of self.now) found.now) (λ why. row.result_at index (state_of self.now)
+            ≡ act.Stops (state_of self.now) why) }
     {
         match self.callee.context.inputs.inner().get(index as usize) {
             Some(found) => Ok(found),
@@ -181,7 +183,8 @@ impl<'a, S: Store> HostContext<'a, S> {
 
     #[tactic(auto, unfolding(crate::specs::Promises::set_promise))]
     fn set_promise(&mut self, id: Hash32)
-        ensures does { act.Leads self.old self.new (row.set_promise id (state_of self.old)) (act.Goes (state_of self.new) tt) }
+        ensures does { act.Leads self.old self.new (row.set_promise id (state_of self.old))
+            (act.Goes (state_of self.new) tt) }
         ensures keeps { Keeps self.old self.new }
     {
         self.returned = Returned::Promise(id);

@@ -1,3 +1,5 @@
+//! What contracts see of a host context.
+
 use nr_bytes::{Blob, List};
 use nr_config::Config;
 use nr_guest::Registers;

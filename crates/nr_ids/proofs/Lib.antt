@@ -1,3 +1,4 @@
+-- Lemmas behind the answers.
 pub mod Ids
 pub mod Keys
 pub mod Places

@@ -1,6 +1,8 @@
 -- Account ids (Nomicon, data structures, account id rules): which bytes are one, and the first
 -- fault of those that aren't; sub-accounts, top accounts, implicit accounts and the system account.
-use Rattle.std.specs.Prelude.{◌≡◌, ◌≢◌, ℕ, zero, suc, ◌+◌, ◌-◌, List, ◌∷◌, ◌++◌, length, drop, Bool, false, not, ◌&&◌, ◌||◌, ◌==◌, Option, Some, None, Result, Ok, Err, nat_lt, if◌then◌else◌, slice_index, codes}
+use Rattle.std.specs.Prelude.{◌≡◌, ◌≢◌, ℕ, zero, suc, ◌+◌, ◌-◌, List, ◌∷◌, ◌++◌, length, drop, Bool, false, not, ◌&&◌}
+use Rattle.std.specs.Prelude.{◌||◌, ◌==◌, Option, Some, None, Result, Ok, Err, nat_lt, if◌then◌else◌, slice_index}
+use Rattle.std.specs.Prelude.{codes}
 use Rattle.std.specs.Option.{option_or}
 use Rattle.std.specs.List.{position, position_or_len, list_any, list_all}
 use Rattle.std.specs.Cmp.Lexicographic.{pointwise}

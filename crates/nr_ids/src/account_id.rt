@@ -1,6 +1,10 @@
+//! Account ids: their grammar and their kinds.
+
 ghost use Rattle.std.specs.Prelude.{◌≡◌, IfOk, IsTrue, ◌↔◌, ◌<◌, ◌≤◌, length, not};
 ghost use Rattle.std.specs.List.{position, list_all};
-ghost use Rattle.nr_ids.specs.Grammar.{Judges, id_fault, is_id_byte, is_separator, is_dot, is_bad_separator, first_bad_separator, is_hex_digit, is_top, is_system, system, is_implicit, is_sub_of, IsSubOf};
+ghost use Rattle.nr_ids.specs.Grammar.{Judges, id_fault, is_id_byte, is_separator, is_dot, is_bad_separator};
+ghost use Rattle.nr_ids.specs.Grammar.{first_bad_separator, is_hex_digit, is_top, is_system, system, is_implicit};
+ghost use Rattle.nr_ids.specs.Grammar.{is_sub_of, IsSubOf};
 
 use crate::fault::IdFault;
 use std::alloc::{AllocError, Global};

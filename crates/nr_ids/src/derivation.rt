@@ -1,3 +1,5 @@
+//! Ids that are derived from a parent, a height and an ordinal.
+
 ghost use Rattle.std.specs.Prelude.{◌≡◌};
 ghost use Rattle.nr_ids.specs.Derive.{derived};
 

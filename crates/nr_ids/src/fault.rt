@@ -1,3 +1,5 @@
+//! Why bytes are no account id.
+
 /// Why bytes are no account id, or why none could be made of them.
 #[derive(Clone, Copy, Debug, PartialEq, Eq)]
 pub enum IdFault {

@@ -1,3 +1,5 @@
+//! Hashes of 32 bytes, and public keys of two schemes.
+
 /// A SHA-256 digest: 32 bytes, ordered from the first byte on.
 #[derive(Clone, Copy, Debug)]
 pub struct Hash32(pub [u8; 32]);

@@ -1,3 +1,5 @@
+//! Numbers of shards, and heights of blocks.
+
 /// The number of a shard.
 #[derive(Clone, Copy, Debug, PartialEq, Eq, PartialOrd, Ord)]
 pub struct ShardId(pub u32);

@@ -17,13 +17,15 @@ leaving r (Postponed id) = []
 leaving r (Stored id) = r ∷ []
 leaving r (Clash q held) = q ∷ []
 
--- a receipt that runs is one of actions, its gas price and its prepaid gas fit in 64 bits, and it gets as many data as it has inputs
+-- a receipt that runs is one of actions, its gas price and its prepaid gas fit in 64 bits, and it gets as many data
+-- as it has inputs
 pub record CanRun (c : Config) (r : Receipt) (found : List (Option (List ℕ))) : Type 0 where
   pub action : is_act r.body ≡ true
   pub bounded : IsBounded c r
   pub inputs : length found ≡ length (inputs_of r.body)
 
--- a receipt of actions runs, waits or clashes, a datum sets one free, is stored or clashes; what clashes is what was offered
+-- a receipt of actions runs, waits or clashes, a datum sets one free, is stored or clashes; what clashes is what was
+-- offered
 abbrev pub Fares : Config → Receipt → Offered → Type 0
 Fares c r (Run q inputs) = CanRun c q inputs
 Fares c r (Postponed id) = is_act r.body ≡ true

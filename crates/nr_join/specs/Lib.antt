@@ -1,3 +1,4 @@
+-- Definitions that the contracts cite.
 pub mod Offering
 pub mod Parts
 pub mod Keeping

@@ -1,5 +1,7 @@
--- What becomes of a receipt that is offered to a world: it runs, is postponed, is stored, or clashes with what is there. After the Nomicon, Runtime Specification, Receipts; the clashes are this project's.
-use Rattle.std.specs.Prelude.{◌≡◌, ℕ, Bool, cond, List, [], ◌∷◌, map, Option, Some, None, is_some, option_map, unwrap_or, Result, Ok, Err}
+-- What becomes of a receipt that is offered to a world: it runs, is postponed, is stored, or clashes with what is
+-- there. After the Nomicon, Runtime Specification, Receipts; the clashes are this project's.
+use Rattle.std.specs.Prelude.{◌≡◌, ℕ, Bool, cond, List, [], ◌∷◌, map, Option, Some, None, is_some, option_map}
+use Rattle.std.specs.Prelude.{unwrap_or, Result, Ok, Err}
 use Rattle.std.specs.FinMap.{get}
 use Rattle.std.specs.List.{list_any, find}
 use Rattle.std.specs.Option.{option_or}
@@ -46,11 +48,15 @@ first_awaited w receiver ids = find (λ id. is_some (awaited_by w receiver id)) 
 
 -- with what its inputs clash
 abbrev pub inputs_held : World → Receipt → Option Held
-inputs_held w r = option_or (option_map SameInput (first_repeated (inputs_of r.body))) (option_map Awaited (first_awaited w r.receiver (inputs_of r.body)))
+inputs_held w r =
+    option_or (option_map SameInput (first_repeated (inputs_of r.body)))
+    (option_map Awaited (first_awaited w r.receiver (inputs_of r.body)))
 
 -- it clashes where a postponed receipt has its receiver and id
 abbrev pub postpone : World → Receipt → World × Offered
-postpone w r = cond (is_some (get w.postponed (r.receiver, r.receipt_id.0))) (w, Clash r (SameId r.receipt_id)) (with_postponed w r, Postponed r.receipt_id)
+postpone w r =
+    cond (is_some (get w.postponed (r.receiver, r.receipt_id.0))) (w, Clash r (SameId r.receipt_id))
+    (with_postponed w r, Postponed r.receipt_id)
 
 abbrev pub unless_held : World → Receipt → Option Held → World × Offered
 unless_held w r (Some held) = (w, Clash r held)
@@ -59,10 +65,12 @@ unless_held w r None = cond (lacks_input w r) (postpone w r) (run w r)
 abbrev pub offer_actions : World → Receipt → World × Offered
 offer_actions w r = unless_held w r (inputs_held w r)
 
--- ---- a datum, which is in the world now: if it was the last one missing of a postponed receipt, that one is taken out and runs
+-- ---- a datum, which is in the world now: if it was the last one missing of a postponed receipt, that one is taken
+-- out and runs
 abbrev pub release : World → Receipt → Hash32 → Option Receipt → World × Offered
 release w r by None = (w, Stored r.receipt_id)
-release w r by (Some waiter) = cond (lacks_input w waiter) (w, Stored r.receipt_id) (run (without_postponed w r.receiver by) waiter)
+release w r by (Some waiter) =
+    cond (lacks_input w waiter) (w, Stored r.receipt_id) (run (without_postponed w r.receiver by) waiter)
 
 abbrev pub for_waiter : World → Receipt → Option Hash32 → World × Offered
 for_waiter w r None = (w, Stored r.receipt_id)
@@ -73,7 +81,9 @@ store w r id = for_waiter w r (awaited_by w r.receiver id)
 
 -- it clashes where it has been received and not yet used
 abbrev pub offer_datum : World → Receipt → DataReceipt → World × Offered
-offer_datum w r d = cond (is_some (get w.received (r.receiver, d.data_id.0))) (w, Clash r (Arrived d.data_id)) (store (with_received w r.receiver d.data_id d.bytes) r d.data_id)
+offer_datum w r d =
+    cond (is_some (get w.received (r.receiver, d.data_id.0))) (w, Clash r (Arrived d.data_id))
+    (store (with_received w r.receiver d.data_id d.bytes) r d.data_id)
 
 -- ---- the whole: the world after it, and what becomes of the receipt
 abbrev pub offer_body : World → Receipt → Body → World × Offered

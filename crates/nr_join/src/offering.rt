@@ -64,7 +64,8 @@ fn is_complete<S: Store>(
     receipt_id: &Hash32,
 ) -> Result<bool, AllocError>
     requires { state.now.whole ≡ true }
-    ensures { IfOk result (λ complete. complete ≡ is_complete state.now.world (get state.now.world.postponed (receiver.now, receipt_id.now.0))) }
+    ensures { IfOk result (λ complete. complete
+        ≡ is_complete state.now.world (get state.now.world.postponed (receiver.now, receipt_id.now.0))) }
 {
     match missing(alloc, state, receiver, receipt_id)? {
         Some(count) => Ok(count == 0),
@@ -80,7 +81,9 @@ fn release<S: Store>(
     waiter: &Hash32,
 ) -> Result<Offered, AllocError>
     requires whole { state.old.whole ≡ true }
-    ensures { Offers result state.old state.new (release state.old.world receipt.now waiter.now (get state.old.world.postponed (receipt.now.receiver, waiter.now.0))) }
+    ensures { Offers result state.old state.new
+        (release state.old.world receipt.now waiter.now
+        (get state.old.world.postponed (receipt.now.receiver, waiter.now.0))) }
 {
     if !is_complete(alloc, state, &receipt.receiver, waiter)? {
         return Ok(Offered::Stored(receipt.receipt_id));
@@ -100,7 +103,9 @@ fn store<S: Store>(
 ) -> Result<Offered, AllocError>
     requires whole { state.old.whole ≡ true }
     requires new { get state.old.world.received (receipt.now.receiver, datum.now.data_id.0) ≡ None }
-    ensures { Offers result state.old state.new (store (with_received state.old.world receipt.now.receiver datum.now.data_id datum.now.bytes) receipt.now datum.now.data_id) }
+    ensures { Offers result state.old state.new
+        (store (with_received state.old.world receipt.now.receiver datum.now.data_id datum.now.bytes) receipt.now
+        datum.now.data_id) }
 {
     add_received(
         alloc,

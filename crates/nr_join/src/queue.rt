@@ -10,12 +10,13 @@ use nr_state::queues::{add_delayed, take_delayed};
 use nr_triedef::Store;
 use std::alloc::{AllocError, Global};
 
-/// Puts a receipt at the end of the delayed queue. With it at most 2^63 receipts were ever delayed.
+/// Puts a receipt at the end of the delayed queue. With it at most 2^63 receipts were ever delayed, counted
+/// from the genesis or the last change of boundaries.
 ///
 /// # Errors
 ///
-/// Where memory runs out, or where more than 2^63 receipts would have been delayed since the first
-/// block. Of the state nothing is said then.
+/// Where memory runs out, or where more than 2^63 receipts would have been delayed since the genesis
+/// or the last change of boundaries. Of the state nothing is said then.
 pub fn delay<S: Store>(
     alloc: Global,
     state: &mut ShardState<S>,

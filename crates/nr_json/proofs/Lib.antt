@@ -1,3 +1,4 @@
+-- Lemmas behind the answers.
 pub mod Amounts
 pub mod Loops
 pub mod Only

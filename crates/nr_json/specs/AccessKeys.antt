@@ -17,7 +17,9 @@ use Rattle.nr_json.specs.declared.fault.Wrong.TheVariants.{NoPermission}
 -- ---- what a key for calls may do
 abbrev pub call_permission_members : CallPermission → Members
 call_permission_members c =
-    put (codes "method_names") (list_json string c.methods) (put (codes "receiver_id") (string c.receiver) (put (codes "allowance") (option_json amount_json c.allowance) no_members))
+    put (codes "method_names") (list_json string c.methods)
+    (put (codes "receiver_id") (string c.receiver)
+    (put (codes "allowance") (option_json amount_json c.allowance) no_members))
 
 abbrev pub call_permission_json : CallPermission → Data
 call_permission_json c = object (call_permission_members c)
@@ -55,7 +57,8 @@ permission_of d = permission_in (named d)
 
 -- ---- a key's record
 abbrev pub access_key_members : AccessKey → Members
-access_key_members k = put (codes "permission") (permission_json k.permission) (put (codes "nonce") (number_json k.nonce) no_members)
+access_key_members k =
+    put (codes "permission") (permission_json k.permission) (put (codes "nonce") (number_json k.nonce) no_members)
 
 abbrev pub access_key_json : AccessKey → Data
 access_key_json k = object (access_key_members k)

@@ -1,11 +1,13 @@
--- Actions as JSON values, with the names of NEAR's JSON (Nomicon, RuntimeSpec, Actions). Bytes in hexadecimal, and arguments as a text, are this project's own.
+-- Actions as JSON values, with the names of NEAR's JSON (Nomicon, RuntimeSpec, Actions). Bytes in hexadecimal, and
+-- arguments as a text, are this project's own.
 use Rattle.std.specs.Prelude.{ℕ, List, Option, Some, None, is_some, Ok, Err, cond, codes, if◌then◌else◌}
 use Rattle.std.specs.Str.{bytes_eq}
 use Rattle.nr_bytes.specs.Reading.{◌>>=◌}
 use Rattle.nr_ids.specs.declared.key.PublicKey.{PublicKey}
 use Rattle.nr_records.specs.declared.access_key.AccessKey.{AccessKey}
 use Rattle.nr_records.specs.declared.action.Action.{Action}
-use Rattle.nr_records.specs.declared.action.Action.TheVariants.{CreateAccount, DeployContract, FunctionCall, Transfer, AddKey, DeleteKey, DeleteAccount}
+use Rattle.nr_records.specs.declared.action.Action.TheVariants.{CreateAccount, DeployContract, FunctionCall, Transfer}
+use Rattle.nr_records.specs.declared.action.Action.TheVariants.{AddKey, DeleteKey, DeleteAccount}
 use Rattle.serde_json.specs.Data.{Data, string, object, Members, no_members, put}
 use Rattle.serde_json.specs.Find.{as_object}
 use Rattle.nr_json.specs.Faults.{Read, fault}
@@ -19,19 +21,26 @@ use Rattle.nr_json.specs.declared.fault.Wrong.TheVariants.{NoAction}
 -- ---- the members of each action
 abbrev pub call_members : List ℕ → List ℕ → ℕ → ℕ → Members
 call_members method args gas deposit =
-    put (codes "deposit") (amount_json deposit) (put (codes "gas") (number_json gas) (put (codes "args") (bytes_json args) (put (codes "method_name") (string method) no_members)))
+    put (codes "deposit") (amount_json deposit)
+    (put (codes "gas") (number_json gas) (put (codes "args") (bytes_json args)
+    (put (codes "method_name") (string method) no_members)))
 
 abbrev pub add_key_members : PublicKey → AccessKey → Members
-add_key_members public_key access_key = put (codes "access_key") (access_key_json access_key) (put (codes "public_key") (key_json public_key) no_members)
+add_key_members public_key access_key =
+    put (codes "access_key") (access_key_json access_key) (put (codes "public_key") (key_json public_key) no_members)
 
 abbrev pub action_json : Action → Data
 action_json CreateAccount = string (codes "CreateAccount")
 action_json (DeployContract code) = tagged_json (codes "DeployContract") (tagged_json (codes "code") (bytes_json code))
-action_json (FunctionCall method args gas deposit) = tagged_json (codes "FunctionCall") (object (call_members method args gas deposit))
+action_json (FunctionCall method args gas deposit) =
+    tagged_json (codes "FunctionCall") (object (call_members method args gas deposit))
 action_json (Transfer deposit) = tagged_json (codes "Transfer") (tagged_json (codes "deposit") (amount_json deposit))
-action_json (AddKey public_key access_key) = tagged_json (codes "AddKey") (object (add_key_members public_key access_key))
-action_json (DeleteKey public_key) = tagged_json (codes "DeleteKey") (tagged_json (codes "public_key") (key_json public_key))
-action_json (DeleteAccount beneficiary) = tagged_json (codes "DeleteAccount") (tagged_json (codes "beneficiary_id") (string beneficiary))
+action_json (AddKey public_key access_key) =
+    tagged_json (codes "AddKey") (object (add_key_members public_key access_key))
+action_json (DeleteKey public_key) =
+    tagged_json (codes "DeleteKey") (tagged_json (codes "public_key") (key_json public_key))
+action_json (DeleteAccount beneficiary) =
+    tagged_json (codes "DeleteAccount") (tagged_json (codes "beneficiary_id") (string beneficiary))
 
 unfoldable pub deploy_of : Data → Read Action
 deploy_of d = do

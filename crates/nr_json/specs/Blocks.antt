@@ -1,5 +1,7 @@
--- The blocks of a chain as a JSON value: for each shard its transactions, or null where its chunk is missing. This project's own.
-use Rattle.std.specs.Prelude.{ℕ, ◌==◌, List, [], ◌∷◌, Option, Some, None, option_and_then, Ok, Err, if◌then◌else◌, codes}
+-- The blocks of a chain as a JSON value: for each shard its transactions, or null where its chunk is missing. This
+-- project's own.
+use Rattle.std.specs.Prelude.{ℕ, ◌==◌, List, [], ◌∷◌, Option, Some, None, option_and_then, Ok, Err, if◌then◌else◌}
+use Rattle.std.specs.Prelude.{codes}
 use Rattle.nr_bytes.specs.Reading.{◌>>=◌}
 use Rattle.nr_blocks.specs.declared.block.Block.{Block}
 use Rattle.nr_blocks.specs.Judging.{Check, each}
@@ -28,7 +30,9 @@ chunk_of = option_of (list_of transaction_of)
 abbrev pub block_members : Block → Members
 block_members b =
     with_optional (codes "price") number_json b.price
-    (put (codes "chunks") (list_json chunk_json b.chunks) (put (codes "timestamp") (number_json b.timestamp) (put (codes "height") (number_json b.height.0) no_members)))
+    (put (codes "chunks") (list_json chunk_json b.chunks)
+    (put (codes "timestamp") (number_json b.timestamp)
+    (put (codes "height") (number_json b.height.0) no_members)))
 
 abbrev pub block_json : Block → Data
 block_json b = object (block_members b)
@@ -78,7 +82,9 @@ price_in Two None = Err (fault Missing)
 price_in Two (Some price) = Ok tt
 
 abbrev pub has_price : Version → Check Block JsonFault
-has_price version n b = within (member_step (codes "blocks")) (within (item_step n) (within (member_step (codes "price")) (price_in version b.price)))
+has_price version n b =
+    within (member_step (codes "blocks")) (within (item_step n)
+    (within (member_step (codes "price")) (price_in version b.price)))
 
 unfoldable pub file_in : Version → List Block → Read BlocksFile
 file_in version blocks = do
@@ -87,7 +93,9 @@ file_in version blocks = do
 
 -- ---- the file
 abbrev pub blocks_members : BlocksFile → Members
-blocks_members file = with_optional (codes "version") version_json (stated_version file.version) (put (codes "blocks") (list_json block_json file.blocks) no_members)
+blocks_members file =
+    with_optional (codes "version") version_json (stated_version file.version)
+    (put (codes "blocks") (list_json block_json file.blocks) no_members)
 
 abbrev pub blocks_json : BlocksFile → Data
 blocks_json file = object (blocks_members file)

@@ -1,5 +1,7 @@
--- The blocks of a chain, in a file of any version, as a JSON value: in the third one with other boundaries from a height on, if there are any. This project's own.
-use Rattle.std.specs.Prelude.{ℕ, ◌==◌, List, Bool, false, Option, Some, None, option_and_then, Ok, Err, if◌then◌else◌, codes}
+-- The blocks of a chain, in a file of any version, as a JSON value: in the third one with other boundaries from a
+-- height on, if there are any. This project's own.
+use Rattle.std.specs.Prelude.{ℕ, ◌==◌, List, Bool, false, Option, Some, None, option_and_then, Ok, Err, if◌then◌else◌}
+use Rattle.std.specs.Prelude.{codes}
 use Rattle.nr_bytes.specs.Reading.{◌>>=◌}
 use Rattle.nr_blocks.specs.Judging.{each, with_fault}
 use Rattle.nr_blocks.specs.declared.version.Version.TheVariants.{Two}
@@ -30,7 +32,8 @@ layout_of d = do
 
 -- ---- other boundaries from a height on
 abbrev pub reshard_members : Reshard → Members
-reshard_members r = put (codes "boundaries") (list_json string r.layout) (put (codes "height") (number_json r.height.0) no_members)
+reshard_members r =
+    put (codes "boundaries") (list_json string r.layout) (put (codes "height") (number_json r.height.0) no_members)
 
 abbrev pub reshard_json : Reshard → Data
 reshard_json r = object (reshard_members r)
@@ -43,7 +46,9 @@ reshard_of d = do
 
 -- ---- a file of the third version, in which each block has a price
 abbrev pub third_members : ChainFile → Members
-third_members f = with_optional (codes "reshard") reshard_json f.reshard (put (codes "version") (number_json 3) (put (codes "blocks") (list_json block_json f.blocks) no_members))
+third_members f =
+    with_optional (codes "reshard") reshard_json f.reshard
+    (put (codes "version") (number_json 3) (put (codes "blocks") (list_json block_json f.blocks) no_members))
 
 abbrev pub third_json : ChainFile → Data
 third_json f = object (third_members f)

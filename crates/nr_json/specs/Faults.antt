@@ -1,4 +1,5 @@
--- What reading a record from a JSON value (RFC 8259) gives: the record, or the first fault with the path of the member. This project's own.
+-- What reading a record from a JSON value (RFC 8259) gives: the record, or the first fault with the path of the
+-- member. This project's own.
 use Rattle.std.specs.Prelude.{ℕ, List, [], ◌∷◌, ◌++◌, Result, Ok, Err, decimal}
 use Rattle.nr_json.specs.declared.fault.JsonFault.{JsonFault}
 use Rattle.nr_json.specs.declared.fault.JsonFault.TheVariants.{At, Memory}

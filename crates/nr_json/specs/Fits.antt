@@ -1,4 +1,5 @@
--- Which records a JSON value can stand for: all that can be held. Hashes and keys have their lengths, bytes are bytes, amounts are below 2^128, ids are ids.
+-- Which records a JSON value can stand for: all that can be held. Hashes and keys have their lengths, bytes are
+-- bytes, amounts are below 2^128, ids are ids.
 use Rattle.std.specs.Prelude.{◌≡◌, ℕ, ◌^◌, ◌<◌, List, length}
 use Rattle.std.specs.List.{AllByRecursion}
 use Rattle.nr_bytes.specs.Numbers.{IsBytes}
@@ -11,7 +12,8 @@ use Rattle.nr_records.specs.Options.{IsOption}
 use Rattle.nr_records.specs.declared.access_key.Permission.{Permission}
 use Rattle.nr_records.specs.declared.access_key.Permission.TheVariants.{Call, Full}
 use Rattle.nr_records.specs.declared.action.Action.{Action}
-use Rattle.nr_records.specs.declared.action.Action.TheVariants.{CreateAccount, DeployContract, FunctionCall, Transfer, AddKey, DeleteKey, DeleteAccount}
+use Rattle.nr_records.specs.declared.action.Action.TheVariants.{CreateAccount, DeployContract, FunctionCall, Transfer}
+use Rattle.nr_records.specs.declared.action.Action.TheVariants.{AddKey, DeleteKey, DeleteAccount}
 use Rattle.nr_records.specs.declared.transaction.Transaction.{Transaction}
 
 -- so many bytes

@@ -1,4 +1,5 @@
--- The first state of a chain as a JSON value. An account's usage and code hash may be left out. This project's own; names of members as in NEAR's JSON.
+-- The first state of a chain as a JSON value. An account's usage and code hash may be left out. This project's own;
+-- names of members as in NEAR's JSON.
 use Rattle.std.specs.Prelude.{ℕ, List, Ok, Err, cond, codes}
 use Rattle.std.specs.Str.{bytes_eq}
 use Rattle.nr_bytes.specs.Reading.{◌>>=◌}
@@ -26,14 +27,18 @@ of_account kind id ms = with_kind kind (put (codes "account_id") (string id) ms)
 abbrev pub account_members : StatedAccount → Members
 account_members a =
     with_optional (codes "storage_usage") number_json a.storage_usage
-    (with_optional (codes "code_hash") hash_json a.code_hash (put (codes "locked") (amount_json a.locked) (put (codes "amount") (amount_json a.amount) no_members)))
+    (with_optional (codes "code_hash") hash_json a.code_hash
+    (put (codes "locked") (amount_json a.locked) (put (codes "amount") (amount_json a.amount) no_members)))
 
 abbrev pub entry_members : StatedEntry → Members
 entry_members (Account id a) = of_account (codes "account") id (account_members a)
 entry_members (Code id code) = of_account (codes "code") id (put (codes "code") (bytes_json code) no_members)
 entry_members (Key id public_key access_key) =
-    of_account (codes "key") id (put (codes "access_key") (access_key_json access_key) (put (codes "public_key") (key_json public_key) no_members))
-entry_members (Datum id key value) = of_account (codes "datum") id (put (codes "value") (bytes_json value) (put (codes "key") (bytes_json key) no_members))
+    of_account (codes "key") id (put (codes "access_key") (access_key_json access_key)
+    (put (codes "public_key") (key_json public_key) no_members))
+entry_members (Datum id key value) =
+    of_account (codes "datum") id (put (codes "value") (bytes_json value)
+    (put (codes "key") (bytes_json key) no_members))
 
 abbrev pub entry_json : StatedEntry → Data
 entry_json e = object (entry_members e)
@@ -77,7 +82,8 @@ entry_under kind d =
     cond (bytes_eq kind (codes "account")) (account_entry_of d)
     (cond (bytes_eq kind (codes "code")) (code_entry_of d)
     (cond (bytes_eq kind (codes "key")) (key_entry_of d)
-    (cond (bytes_eq kind (codes "datum")) (datum_entry_of d) (Err (under (member_step (codes "kind")) (fault NoKind))))))
+    (cond (bytes_eq kind (codes "datum")) (datum_entry_of d)
+    (Err (under (member_step (codes "kind")) (fault NoKind))))))
 
 unfoldable pub entry_of : Data → Read StatedEntry
 entry_of d = do
@@ -86,7 +92,9 @@ entry_of d = do
 
 -- ---- the file
 abbrev pub genesis_members : StatedGenesis → Members
-genesis_members g = put (codes "entries") (list_json entry_json g.entries) (put (codes "boundaries") (list_json string g.boundaries) no_members)
+genesis_members g =
+    put (codes "entries") (list_json entry_json g.entries)
+    (put (codes "boundaries") (list_json string g.boundaries) no_members)
 
 abbrev pub genesis_json : StatedGenesis → Data
 genesis_json g = object (genesis_members g)

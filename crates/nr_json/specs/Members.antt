@@ -24,7 +24,8 @@ found_or_none name reading (Some d) = do
 
 -- a member that may be left out
 abbrev pub optional_of : {X : Type 0} → List ℕ → (Data → Read X) → Data → Read (Option X)
-optional_of name reading d = if is_some (as_object d) then found_or_none name reading (get name d) else Err (fault NoObject)
+optional_of name reading d =
+    if is_some (as_object d) then found_or_none name reading (get name d) else Err (fault NoObject)
 
 -- the members with one more, where there is something
 abbrev pub with_optional : {X : Type 0} → List ℕ → (X → Data) → Option X → Members → Members

@@ -1,5 +1,7 @@
--- Numbers, amounts, texts and bytes as JSON values (RFC 8259). Amounts as in NEAR's JSON; bytes in hexadecimal are this project's own.
-use Rattle.std.specs.Prelude.{ℕ, ◌^◌, ◌&&◌, List, length, Bool, Option, Some, None, option_and_then, Result, Ok, Err, nat_lt, nat_le, if◌then◌else◌, decimal}
+-- Numbers, amounts, texts and bytes as JSON values (RFC 8259). Amounts as in NEAR's JSON; bytes in hexadecimal are
+-- this project's own.
+use Rattle.std.specs.Prelude.{ℕ, ◌^◌, ◌&&◌, List, length, Bool, Option, Some, None, option_and_then, Result, Ok, Err}
+use Rattle.std.specs.Prelude.{nat_lt, nat_le, if◌then◌else◌, decimal}
 use Rattle.std.specs.List.{list_all}
 use Rattle.std.specs.Str.Parse.{digits_value}
 use Rattle.hex.specs.Hex.{decode_of, encode_lower}
@@ -31,7 +33,8 @@ abbrev pub is_numeral : List ℕ → Bool
 is_numeral bytes = nat_lt 0 (length bytes) && list_all is_digit bytes
 
 abbrev pub amount_in : List ℕ → Option ℕ
-amount_in text = if is_numeral text && nat_lt (digits_value 10 text) (2 ^ 128) then Some (digits_value 10 text) else None
+amount_in text =
+    if is_numeral text && nat_lt (digits_value 10 text) (2 ^ 128) then Some (digits_value 10 text) else None
 
 abbrev pub amount_json : ℕ → Data
 amount_json n = string (decimal n)

@@ -1,4 +1,5 @@
--- Transactions as JSON values, with the names of NEAR's JSON (Nomicon, DataStructures, Transaction). That the hash of a block may be left out is this project's own.
+-- Transactions as JSON values, with the names of NEAR's JSON (Nomicon, DataStructures, Transaction). That the hash of
+-- a block may be left out is this project's own.
 use Rattle.std.specs.Prelude.{Ok, codes, unwrap_or}
 use Rattle.nr_bytes.specs.Reading.{◌>>=◌}
 use Rattle.nr_records.specs.declared.transaction.Transaction.{Transaction}
@@ -16,7 +17,8 @@ transaction_members t =
     put (codes "actions") (list_json action_json t.actions)
     (put (codes "block_hash") (hash_json t.block_hash)
     (put (codes "receiver_id") (string t.receiver)
-    (put (codes "nonce") (number_json t.nonce) (put (codes "public_key") (key_json t.public_key) (put (codes "signer_id") (string t.signer) no_members)))))
+    (put (codes "nonce") (number_json t.nonce)
+    (put (codes "public_key") (key_json t.public_key) (put (codes "signer_id") (string t.signer) no_members)))))
 
 abbrev pub transaction_json : Transaction → Data
 transaction_json t = object (transaction_members t)
@@ -30,4 +32,11 @@ transaction_of d = do
   receiver ← member_of (codes "receiver_id") id_of d
   block_hash ← optional_of (codes "block_hash") hash_of d
   actions ← member_of (codes "actions") (list_of action_of) d
-  Ok (record { signer = signer; public_key = public_key; nonce = nonce; receiver = receiver; block_hash = unwrap_or block_hash zero_hash; actions = actions })
+  Ok (record {
+    signer = signer;
+    public_key = public_key;
+    nonce = nonce;
+    receiver = receiver;
+    block_hash = unwrap_or block_hash zero_hash;
+    actions = actions;
+  })

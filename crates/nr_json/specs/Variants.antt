@@ -1,4 +1,5 @@
--- One of several forms by its name: the name alone as a text, or an object with one member of that name (RFC 8259). As in NEAR's JSON.
+-- One of several forms by its name: the name alone as a text, or an object with one member of that name (RFC 8259).
+-- As in NEAR's JSON.
 use Rattle.std.specs.Prelude.{ℕ, List, Option, Some, None}
 use Rattle.serde_json.specs.Data.{Data, null, boolean, number, string, array, object, Members, no_members, member, put}
 use Rattle.nr_json.specs.Faults.{Read, member_step, within}

@@ -3,7 +3,8 @@
 ghost use Rattle.std.specs.Prelude.{◌≡◌};
 ghost use Rattle.nr_bytes.specs.Answers.{Gives};
 ghost use Rattle.serde_json.specs.View.{view};
-ghost use Rattle.nr_json.specs.AccessKeys.{call_permission_json, call_permission_of, permission_json, call_of, permission_under, permission_of, access_key_json, access_key_of};
+ghost use Rattle.nr_json.specs.AccessKeys.{call_permission_json, call_permission_of, permission_json, call_of};
+ghost use Rattle.nr_json.specs.AccessKeys.{permission_under, permission_of, access_key_json, access_key_of};
 ghost use Rattle.nr_json.specs.declared.fault.JsonFault.TheVariants.{Memory};
 
 use crate::fault::{JsonFault, Wrong};

@@ -3,7 +3,9 @@
 ghost use Rattle.std.specs.Prelude.{◌≡◌};
 ghost use Rattle.nr_bytes.specs.Answers.{Gives};
 ghost use Rattle.nr_blocks.specs.Judging.{each};
-ghost use Rattle.nr_json.specs.Blocks.{block_json, block_of, version_json, version_numbered, version_of, stated_version, version_of_price, version_by, price_in, has_price, file_in, blocks_json, blocks_of};
+ghost use Rattle.nr_json.specs.Blocks.{block_json, block_of, version_json, version_numbered, version_of};
+ghost use Rattle.nr_json.specs.Blocks.{stated_version, version_of_price, version_by, price_in, has_price, file_in};
+ghost use Rattle.nr_json.specs.Blocks.{blocks_json, blocks_of};
 ghost use Rattle.nr_json.specs.declared.fault.JsonFault.TheVariants.{Memory};
 
 use crate::fault::{JsonFault, Wrong};

@@ -82,7 +82,8 @@ pub(crate) fn put<T: Form>(
     name: &str,
     field: &T,
 ) -> Result<(), AllocError>
-    ensures { OnOk result (members_view object.new.entries ≡ with_member name.now (T.json field.now) (members_view object.old.entries)) }
+    ensures { OnOk result (members_view object.new.entries
+        ≡ with_member name.now (T.json field.now) (members_view object.old.entries)) }
 {
     let value = field.to_json(alloc)?;
     serde_json::put(object, alloc, name, value)
@@ -95,7 +96,8 @@ pub(crate) fn put_optional<T: Form>(
     name: &str,
     field: &Option<T>,
 ) -> Result<(), AllocError>
-    ensures { OnOk result (members_view object.new.entries ≡ with_optional name.now T.json field.now (members_view object.old.entries)) }
+    ensures { OnOk result (members_view object.new.entries
+        ≡ with_optional name.now T.json field.now (members_view object.old.entries)) }
 {
     match field {
         None => Ok(()),

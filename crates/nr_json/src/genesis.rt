@@ -3,7 +3,8 @@
 ghost use Rattle.std.specs.Prelude.{◌≡◌, IfOk, OnOk};
 ghost use Rattle.nr_bytes.specs.Answers.{Gives};
 ghost use Rattle.serde_json.specs.View.{view, members_view};
-ghost use Rattle.nr_json.specs.Genesis.{with_kind, account_of, account_entry_of, code_entry_of, key_entry_of, datum_entry_of, entry_json, entry_under, entry_of, genesis_json, genesis_of};
+ghost use Rattle.nr_json.specs.Genesis.{with_kind, account_of, account_entry_of, code_entry_of, key_entry_of};
+ghost use Rattle.nr_json.specs.Genesis.{datum_entry_of, entry_json, entry_under, entry_of, genesis_json, genesis_of};
 ghost use Rattle.nr_json.specs.declared.fault.JsonFault.TheVariants.{Memory};
 ghost use Rattle.nr_json.specs.declared.genesis.StatedEntry.TheVariants as entry;
 

@@ -5,7 +5,8 @@ ghost use Rattle.std.specs.List.{list_all};
 ghost use Rattle.hex.specs.Hex.{decode_of};
 ghost use Rattle.nr_bytes.specs.Answers.{Gives};
 ghost use Rattle.serde_json.specs.Data.{string};
-ghost use Rattle.nr_json.specs.Plain.{number_json, number_of, is_digit, is_numeral, amount_in, amount_json, amount_of, text_of, or_fault, without_fault, bytes_json, bytes_of};
+ghost use Rattle.nr_json.specs.Plain.{number_json, number_of, is_digit, is_numeral, amount_in, amount_json, amount_of};
+ghost use Rattle.nr_json.specs.Plain.{text_of, or_fault, without_fault, bytes_json, bytes_of};
 ghost use Rattle.nr_json.specs.declared.fault.JsonFault.TheVariants.{Memory};
 ghost use Rattle.nr_json.specs.declared.fault.Wrong.TheVariants.{NoBytes};
 

@@ -1,3 +1,4 @@
+-- Lemmas behind the answers.
 pub mod Boundaries
 pub mod Counting
 pub mod Parts

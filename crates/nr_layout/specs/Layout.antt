@@ -1,5 +1,7 @@
--- Which shard an account lives in, by boundaries in rising order. After the Nomicon, Chain Specification (Sharding); the boundaries are this project's.
-use Rattle.std.specs.Prelude.{ℕ, ◌≤◌, ◌==◌, Bool, true, not, IsTrue, List, [], ◌∷◌, length, Option, None, Some, count_by, filter, map}
+-- Which shard an account lives in, by boundaries in rising order. After the Nomicon, Chain Specification (Sharding);
+-- the boundaries are this project's.
+use Rattle.std.specs.Prelude.{ℕ, ◌≤◌, ◌==◌, Bool, true, not, IsTrue, List, [], ◌∷◌, length, Option, None, Some}
+use Rattle.std.specs.Prelude.{count_by, filter, map}
 use Rattle.std.specs.List.{range_with_len}
 use Rattle.std.specs.Ordering.{nat_cmp, is_lt}
 use Rattle.std.specs.Cmp.Lexicographic.{slice_cmp}

@@ -1,5 +1,6 @@
 -- A layout has one spelling: what is read is spelled so, and what is spelled so is read.
-use Rattle.std.proofs.Common.{◌≡◌, ℕ, zero, suc, ◌+◌, ◌^◌, ◌<◌, ◌≤◌, Bool, true, false, cond, ltb, List, [], ◌∷◌, ◌++◌, length, Option, None, Some, Ok, Err, refl, sym, ap, subst, ◌∙◌, append_assoc, arith}
+use Rattle.std.proofs.Common.{◌≡◌, ℕ, zero, suc, ◌+◌, ◌^◌, ◌<◌, ◌≤◌, Bool, true, false, cond, ltb, List, [], ◌∷◌, ◌++◌}
+use Rattle.std.proofs.Common.{length, Option, None, Some, Ok, Err, refl, sym, ap, subst, ◌∙◌, append_assoc, arith}
 use Rattle.std.specs.List.{flat_map, AllByRecursion}
 use Rattle.std.proofs.lemmas.Bool.{ltb-false, le-ltb}
 use Rattle.std.proofs.lemmas.List.{length-append}
@@ -26,7 +27,8 @@ Rises last boundaries = IsRising last boundaries × AllByRecursion IsId boundari
 boundary_law : (last : Option (List ℕ)) → IsRead (boundary_at last) counted_bytes (Passes IsId (is_above last))
 boundary_law last = tested_law (is_above last) BoundaryOrder account_id_at counted_bytes IsId id_law
 
-boundaries_taken : (last : Option (List ℕ)) (n : ℕ) (s : Input) (p : List (List ℕ) × Input) → IsBytes s.left → boundaries_at last n s ≡ Ok p
+boundaries_taken : (last : Option (List ℕ)) (n : ℕ) (s : Input) (p : List (List ℕ) × Input) → IsBytes s.left
+    → boundaries_at last n s ≡ Ok p
     → (length p.0 ≡ n) × Rises last p.0 × Takes s (flat_map counted_bytes p.0) p.1
 unfolding boundaries_at
 boundaries_taken last zero s p fits e =
@@ -38,8 +40,13 @@ boundaries_taken last (suc n) s p fits e =
     let one = (boundary_law last).taken s x.0 fits x.1 in
     let two = boundaries_taken (Some x.0.0) n x.0.1 y.0 one.1.bytes y.1 in
     let made : List (List ℕ) × Input = (x.0.0 ∷ y.0.0, y.0.1) in
-    subst (λ (p : List (List ℕ) × Input). (length p.0 ≡ suc n) × Rises last p.0 × Takes s (flat_map counted_bytes p.0) p.1) (ok_is made p y.2)
-    (ap suc two.0, ((one.0.1, two.1.0), (one.0.0, two.1.1)), Takes-then s x.0.1 y.0.1 (counted_bytes x.0.0) (flat_map counted_bytes y.0.0) one.1 two.2)
+    subst (λ (p : List (List ℕ) × Input). (length p.0 ≡ suc n) × Rises last p.0
+    × Takes s (flat_map counted_bytes p.0) p.1) (ok_is made p y.2) (
+      ap suc two.0,
+      ((one.0.1, two.1.0), (one.0.0, two.1.1)),
+      Takes-then s x.0.1 y.0.1 (counted_bytes x.0.0)
+          (flat_map counted_bytes y.0.0) one.1 two.2,
+    )
 
 boundaries_again : (last : Option (List ℕ)) (bs : List (List ℕ)) (at : ℕ) (rest : List ℕ) → Rises last bs
     → boundaries_at last (length bs) (before (flat_map counted_bytes bs) at rest) ≡ Ok (bs, behind (flat_map counted_bytes bs) at rest)
@@ -52,11 +59,13 @@ boundaries_again last (b ∷ bs) at rest fits =
     let others = boundaries_again (Some b) bs (at + length (counted_bytes b)) rest (fits.0.1, fits.1.1) in
     ap (boundaries_at last (suc (length bs))) e ∙ rw (first, others) (ap (λ (t : Input). answer (b ∷ bs, t)) end)
 
-few : (b : Bool) (d : RecordFault) (r : Read (List (List ℕ))) (p : List (List ℕ) × Input) → cond b (Err d) r ≡ Ok p → (b ≡ false) × (r ≡ Ok p)
+few : (b : Bool) (d : RecordFault) (r : Read (List (List ℕ))) (p : List (List ℕ) × Input) → cond b (Err d) r ≡ Ok p
+    → (b ≡ false) × (r ≡ Ok p)
 few true d r p e = absurd cc
 few false d r p e = (refl, e)
 
-layout_taken : (s : Input) (p : List (List ℕ) × Input) → IsBytes s.left → layout_at s ≡ Ok p → FitsLayout p.0 × Takes s (layout_bytes p.0) p.1
+layout_taken : (s : Input) (p : List (List ℕ) × Input) → IsBytes s.left → layout_at s ≡ Ok p → FitsLayout p.0
+    × Takes s (layout_bytes p.0) p.1
 unfolding layout_at
 layout_taken s p fits e =
     let x = bind_ok (nat_at 4 s) (λ n. cond (ltb 15 n.0) (Err (TooManyBoundaries s.at)) (boundaries_at None n.0 n.1)) p e in
@@ -64,8 +73,11 @@ layout_taken s p fits e =
     let y = few (ltb 15 x.0.0) (TooManyBoundaries s.at) (boundaries_at None x.0.0 x.0.1) p x.2 in
     let two = boundaries_taken None x.0.0 x.0.1 p one.1.bytes y.1 in
     let low : x.0.0 ≤ 15 = ltb-false _ _ y.0 in
-    let count : little 4 x.0.0 ≡ little 4 (length p.0) = ap (little 4) (sym two.0) in
-    (((subst (λ n. n ≤ 15) (sym two.0) low, two.1.0), two.1.1), Takes-then s x.0.1 p.1 (little 4 (length p.0)) (flat_map counted_bytes p.0) (subst (λ (t : List ℕ). Takes s t x.0.1) count one.1) two.2)
+    let count : little 4 x.0.0 ≡ little 4 (length p.0) = ap (little 4) (sym two.0) in (
+      ((subst (λ n. n ≤ 15) (sym two.0) low, two.1.0), two.1.1),
+      Takes-then s x.0.1 p.1 (little 4 (length p.0))
+          (flat_map counted_bytes p.0) (subst (λ (t : List ℕ). Takes s t x.0.1) count one.1) two.2,
+    )
 
 layout_again : (bs : List (List ℕ)) (at : ℕ) (rest : List ℕ) → FitsLayout bs → layout_at (before (layout_bytes bs) at rest) ≡ Ok (bs, behind (layout_bytes bs) at rest)
 unfolding layout_at

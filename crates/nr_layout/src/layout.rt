@@ -1,3 +1,5 @@
+//! The boundaries between shards: reading them, the shard of an id, and routing.
+
 ghost use Rattle.std.specs.Prelude.{◌≡◌, ◌+◌, ◌≤◌, length, IfOk, OnErr};
 ghost use Rattle.nr_bytes.specs.Answers.{GivesRead};
 ghost use Rattle.nr_layout.specs.Layout.{shard_of, parts, IsLayout};

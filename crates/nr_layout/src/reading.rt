@@ -27,7 +27,8 @@ fn boundary_of(
     boundaries: &[AccountId],
     reader: &mut Reader<'_>,
 ) -> Result<AccountId, RecordFault>
-    ensures { GivesRead Memory result reader.new (boundary_at (slice_get boundaries.now (length boundaries.now - 1)) reader.old) }
+    ensures { GivesRead Memory result reader.new
+        (boundary_at (slice_get boundaries.now (length boundaries.now - 1)) reader.old) }
 {
     let at = reader.at();
     let id = AccountId::read(alloc, reader)?;

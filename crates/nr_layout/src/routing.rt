@@ -39,7 +39,8 @@ fn empty_lists(alloc: Global, count: usize) -> Result<Vec<List<Receipt>>, AllocE
 /// Appends a receipt to the list of its shard.
 fn send(lists: &mut Vec<List<Receipt>>, shard: usize, receipt: Receipt) -> Result<(), AllocError>
     requires { shard < length lists.old.items }
-    ensures { OnOk result (lists.new.items ≡ slice_set lists.old.items shard (slice_index_or lists.old.items shard [] ++ receipt ∷ [])) }
+    ensures { OnOk result (lists.new.items ≡ slice_set lists.old.items shard
+        (slice_index_or lists.old.items shard [] ++ receipt ∷ [])) }
 {
     lists[shard].vec_mut().push(receipt)?;
     Ok(())

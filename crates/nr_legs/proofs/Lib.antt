@@ -1,3 +1,4 @@
+-- Lemmas behind the answers.
 pub mod Ends
 pub mod Left
 pub mod Going

@@ -1,3 +1,4 @@
+-- Lemmas behind the laws.
 mod Numbers
 mod Lists
 mod Effects

@@ -44,6 +44,7 @@ HoldsConstants (Block ty body rest) = HoldsConstants body × HoldsConstants rest
 HoldsConstants (Loop ty body rest) = HoldsConstants body × HoldsConstants rest
 HoldsConstants (Choice ty one other rest) = HoldsConstants one × HoldsConstants other × HoldsConstants rest
 
+-- the same of a global's first value
 abbrev pub IsFirst : ConstExpr → Type 0
 IsFirst (constant.I32 n) = IsOf I32 n
 IsFirst (constant.I64 n) = IsOf I64 n
@@ -79,7 +80,7 @@ IsSeq p c (Frame values n own inner code) out =
 abbrev pub kind_of : Global → ValType
 kind_of g = g.kind
 
--- the globals are of their types, and the memory is no larger than any guest's
+-- the globals are of their types, and the memory is one that a guest may have: whole pages, within its bounds
 pub record IsTypedGuest (m : Module) (g : Guest) : Type 0 where
   pub globals : AreOf (map kind_of m.globals) g.globals
   pub memory : IsMemory g.memory

@@ -47,7 +47,8 @@ pub fn typing_laws<H: Host>()
     ensures run { (p : Program) (l : Limits) (s : H.State) (g : Guest) (f n k : ℕ) (c : State H.State)
         → Reaches (rules_of H.meaning p l) (runtime s g) f n c
         → run_by (rules_of H.meaning p l) (runtime s g) f (n + k) ≡ runs (rules_of H.meaning p l) k c }
-    // As long as the host's answers are of their types, a run that isn't over in so many steps is where they reach.
+    // As long as the host's answers are of their types, a run that isn't over in so many steps is where they reach. The
+    // premise is asked of a call that stands next even where the gas doesn't suffice for it.
     ensures each { (p : Program) (l : Limits) (s : H.State) (g : Guest) (f n : ℕ)
         → ((k : ℕ) (c : State H.State) → Reaches (rules_of H.meaning p l) (runtime s g) f k c
         → AnswersNext (rules_of H.meaning p l) (paid (rules_of H.meaning p l) c.store) c.locals c.seq)

@@ -1,3 +1,5 @@
+//! Decoding faults at the head of a module.
+
 use nr_config::Config;
 use nr_wasmbin::{DecodeFault, decode};
 use std::alloc::{AllocError, Global};

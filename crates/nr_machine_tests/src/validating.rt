@@ -1,3 +1,5 @@
+//! Modules that are valid, and the first breach of others.
+
 use nr_bytes::{List, Text};
 use nr_config::Config;
 use nr_wasmtypes::{

@@ -1,5 +1,6 @@
 -- Which answers of the top call are right for a plan, and what the sink then took. This project's own.
-use Rattle.std.specs.Prelude.{◌≡◌, ◌≢◌, ℕ, Bool, true, false, List, [], ◌∷◌, ◌++◌, length, Option, Result, Ok, Err, codes, string_bytes}
+use Rattle.std.specs.Prelude.{◌≡◌, ◌≢◌, ℕ, Bool, true, false, List, [], ◌∷◌, ◌++◌, length, Option, Result, Ok, Err}
+use Rattle.std.specs.Prelude.{codes, string_bytes}
 use Rattle.std.specs.declared.alloc.AllocError.{AllocError}
 use Rattle.nr_bytes.specs.Outside.{Grew}
 use Rattle.nr_config.specs.Config.{free, max_code}
@@ -17,7 +18,8 @@ use Rattle.nr_module.specs.Listing.{module_text}
 use Rattle.nr_module.specs.Plans.{Question, Due, Judge, Tell, Write}
 use Rattle.nr_module.specs.Verdicts.{IsVerdict}
 use Rattle.nr_module.specs.declared.status.Status.{Status}
-use Rattle.nr_module.specs.declared.status.Status.TheVariants.{Sound, Unfit, Faulty, Usage, Config, ReadFault, WriteFault}
+use Rattle.nr_module.specs.declared.status.Status.TheVariants.{Sound, Unfit, Faulty, Usage, Config, ReadFault}
+use Rattle.nr_module.specs.declared.status.Status.TheVariants.{WriteFault}
 use Rattle.nr_module.specs.declared.status.Status.TheVariants.{NoMemory}
 use Rattle.nr_module.specs.declared.telling.Line.{Line}
 use Rattle.nr_module.specs.declared.verdict.Rating.{Rating}
@@ -58,7 +60,8 @@ TellsDecoded size (Err fault) line r = (fault ≢ decode.Memory) × (line ≡ de
 abbrev pub TellsListing : List ℕ → List ℕ → Rating → Type 0
 TellsListing bytes line r = TellsDecoded (length bytes) (decoded (max_code free) bytes) line r
 
--- what tells an end of a plan: the line of a verdict on what the files give, the lines of a module, a text, or `long` for
+-- what tells an end of a plan: the line of a verdict on what the files give, the lines of a module, a text, or `long`
+-- for
 -- a file that is too long
 abbrev pub Tells : Plan Due Status → List ℕ → Rating → Type 0
 Tells (Answer (Judge q)) line r = TellsVerdict q line r

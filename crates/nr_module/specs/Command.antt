@@ -1,4 +1,5 @@
--- The words of the command line: `check CONFIG FILE`, `run CONFIG FILE METHOD GAS`, `list FILE`, `help` or `version`. The
+-- The words of the command line: `check CONFIG FILE`, `run CONFIG FILE METHOD GAS`, `list FILE`, `help` or `version`.
+-- The
 -- commands are this project's own.
 use Rattle.std.specs.Prelude.{ℕ, List, [], ◌∷◌, cond, Option, Some, None, codes, option_and_then}
 use Rattle.std.specs.Str.{bytes_eq}

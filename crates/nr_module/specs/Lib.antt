@@ -1,3 +1,4 @@
+-- Definitions that the contracts cite.
 pub mod Help
 pub mod Command
 pub mod Plans

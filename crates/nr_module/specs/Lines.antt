@@ -60,7 +60,8 @@ verdict_text (Done a) = answer_text a
 verdict_text (Undecoded fault) = decode_text fault
 verdict_text (Invalid fault) = valid_text fault
 
--- ---- how well it is: a valid module, of which a machine can be made or can't, a run that came to its end, or none of them
+-- ---- how well it is: a valid module, of which a machine can be made or can't, a run that came to its end, or none
+-- of them
 abbrev pub rated_answer : Answer → Rating
 rated_answer Good = rating.Sound
 rated_answer Unfit = rating.Unfit

@@ -1,7 +1,9 @@
 -- What the run of a method comes to, and what a check says of a valid module. Machines and their runs by WebAssembly
--- Core 1.0; the host, which only counts gas, the order of a run's steps and the answers are this project's own.
+-- Core 1.0; the host, which only counts the gas of instructions (loading the code costs none), the order of a run's
+-- steps and the answers are this project's own.
 use Rattle.std.specs.Prelude.{◌≡◌, ℕ, ◌-◌, Option, Some, None, Result, Ok, Err}
-use Rattle.nr_wasmexec.specs.Reduction.{Stop, Trap, GasExceeded, HostFault, Outcome, Done, Halted, NeverFits, Unfinished, run_by}
+use Rattle.nr_wasmexec.specs.Reduction.{Stop, Trap, GasExceeded, HostFault, Outcome, Done, Halted, NeverFits}
+use Rattle.nr_wasmexec.specs.Reduction.{Unfinished, run_by}
 use Rattle.nr_wasmexec.specs.Machine.{rules_of, runtime}
 use Rattle.nr_wasmexec.specs.Making.{MachineView}
 use Rattle.nr_wasmexec.specs.declared.making.MakeFault.{MakeFault}

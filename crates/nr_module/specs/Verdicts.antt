@@ -1,5 +1,5 @@
--- Which verdicts on the bytes of a file are right, and the answer of what is done with a
--- module. Modules by WebAssembly Core 1.0.
+-- Which verdicts on the bytes of a file are right, and the answer of what is done with a module. Modules by WebAssembly
+-- Core 1.0.
 use Rattle.std.specs.Prelude.{◌≡◌, ◌≢◌, Ok, Err}
 use Rattle.nr_config.specs.Config.{Config, max_code, max_pages}
 use Rattle.nr_wasmtypes.specs.declared.module.Module.{Module}

@@ -20,7 +20,8 @@ ghost use Rattle.nr_module.specs.declared.status.Status.{Status};
 /// runs.
 pub fn asked_law()
     ensures front { (held : List ℕ → Option (List ℕ)) (asked : Option Command) (names : List (List ℕ))
-        (q : Plan Due Status) → LeadsBy held names (plan asked) q → (rest : List (List ℕ)) × (files_of asked ≡ names ++ rest) }
+        (q : Plan Due Status) → LeadsBy held names (plan asked) q → (rest : List (List ℕ))
+        × (files_of asked ≡ names ++ rest) }
     ensures all { (held : List ℕ → Option (List ℕ)) (asked : Option Command) (names : List (List ℕ)) (due : Due)
         → LeadsBy held names (plan asked) (Answer due) → names ≡ files_of asked }
 {}

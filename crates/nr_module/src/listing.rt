@@ -4,7 +4,8 @@ ghost use Rattle.std.specs.Prelude.{◌≡◌, ◌<◌, ◌++◌, IfOk, OnOk, op
 ghost use Rattle.std.specs.List.{flat_map};
 ghost use Rattle.std.specs.Option.{option_copied};
 ghost use Rattle.nr_module.specs.Listing.{export_line, export_word, import_line, imported_count, is_bare, is_function};
-ghost use Rattle.nr_module.specs.Listing.{is_method, is_plain, limits_line, module_text, most_word, name_byte, name_word};
+ghost use Rattle.nr_module.specs.Listing.{is_method, is_plain, limits_line, module_text, most_word, name_byte};
+ghost use Rattle.nr_module.specs.Listing.{name_word};
 ghost use Rattle.nr_module.specs.Listing.{size_line};
 
 use crate::offer::{offer_of, offer_word};
@@ -66,7 +67,8 @@ fn print_imports(
     imports: &[Import],
     text: &mut String,
 ) -> Result<(), AllocError>
-    ensures { OnOk result (string_bytes text.new ≡ string_bytes text.old ++ flat_map (import_line types.now) imports.now) }
+    ensures { OnOk result (string_bytes text.new
+        ≡ string_bytes text.old ++ flat_map (import_line types.now) imports.now) }
 {
     for import in imports {
         print_import(alloc, types, import, text)?;
@@ -163,7 +165,8 @@ fn print_export(
 }
 
 fn print_exports(alloc: Global, module: &Module, text: &mut String) -> Result<(), AllocError>
-    ensures { OnOk result (string_bytes text.new ≡ string_bytes text.old ++ flat_map (export_line module.now) module.now.exports) }
+    ensures { OnOk result (string_bytes text.new
+        ≡ string_bytes text.old ++ flat_map (export_line module.now) module.now.exports) }
 {
     let imported = imported_count(module);
     for export in module.exports.inner() {

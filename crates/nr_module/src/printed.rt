@@ -1,7 +1,8 @@
 //! The line of a verdict.
 
 ghost use Rattle.std.specs.Prelude.{◌≡◌, IfOk, string_bytes};
-ghost use Rattle.nr_module.specs.Lines.{answer_text, burnt_line, decode_line, decode_text, stop_line, valid_line, valid_text, verdict_text};
+ghost use Rattle.nr_module.specs.Lines.{answer_text, burnt_line, decode_line, decode_text, stop_line, valid_line};
+ghost use Rattle.nr_module.specs.Lines.{valid_text, verdict_text};
 
 use crate::verdict::{Answer, Verdict};
 use nr_wasmbin::DecodeFault;

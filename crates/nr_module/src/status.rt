@@ -1,3 +1,5 @@
+//! How a call of `near_module` ends.
+
 use nr_configfile::ConfigRefusal;
 
 /// How a call ended.

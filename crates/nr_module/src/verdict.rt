@@ -1,3 +1,5 @@
+//! What is said of a module's bytes, and whether that is well.
+
 use nr_wasmbin::DecodeFault;
 use nr_wasmvalid::ValidFault;
 

@@ -1,3 +1,4 @@
+-- Definitions that the contracts cite.
 pub mod Rows
 pub mod Reports
 pub mod Texts

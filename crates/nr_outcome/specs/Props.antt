@@ -28,7 +28,8 @@ worlds_prop = Coded-set (coded_list kept_code)
 abbrev left_code : Coded (ShardId × Height × ShardId × List Receipt)
 left_code =
     code_by (ShardId × (Height × (ShardId × List Receipt)))
-    (coded× shard.the_row.coded (coded× height.the_row.coded (coded× shard.the_row.coded (coded_list receipt.the_row.coded))))
+    (coded× shard.the_row.coded (coded× height.the_row.coded
+    (coded× shard.the_row.coded (coded_list receipt.the_row.coded))))
     (λ q. (q.0, (q.1, (q.2, q.3)))) (λ p. (p.0, p.1.0, p.1.1.0, p.1.1.1)) (λ _. refl)
 
 pub left_prop : (a b : List (ShardId × Height × ShardId × List Receipt)) → IsProp (a ≡ b)

@@ -1,4 +1,5 @@
--- The text of chunks, and how many there are, by a table of their reports: that of a shard at a height, if there is one. This project's own.
+-- The text of chunks, and how many there are, by a table of their reports: that of a shard at a height, if there is
+-- one. This project's own.
 use Rattle.std.specs.Prelude.{ℕ, zero, suc, ◌+◌, ◌-◌, List, [], ◌++◌, Option, Some, None}
 use Rattle.nr_overlap.specs.Balance.{sum_below}
 use Rattle.nr_records.specs.declared.chunk_result.ChunkResult.{ChunkResult}

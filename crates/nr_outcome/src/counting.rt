@@ -32,7 +32,8 @@ fn count_height(reports: &Reports, height: Height) -> u64
 impl Reports {
     /// How many chunks there are: `None` exactly where the number doesn't fit.
     pub fn chunk_count(&self) -> Option<u64>
-        ensures { let count = count_to self.now.shards (report_in self.now) self.now.heights in SomeIff result (count < 2 ^ 64) count }
+        ensures { let count = count_to self.now.shards (report_in self.now) self.now.heights
+            in SomeIff result (count < 2 ^ 64) count }
     {
         let mut count: u64 = 0;
         for below in 0..self.heights {

@@ -129,14 +129,17 @@ impl<C: Caller<ChunkStore>> Outcome<C> {
     /// The report of a chunk. It is the serial run's, and `None` exactly where there is no such chunk. Heights count
     /// from 1, whatever lies below the first block.
     pub fn report(&self, shard: ShardId, height: Height) -> Option<&ChunkResult>
-        ensures { let r = rules_of (chain_in self.now.chain) in option_copied result ≡ report_at r (ending r) shard.0 height.0 }
+        ensures { let r = rules_of (chain_in self.now.chain) in option_copied result
+            ≡ report_at r (ending r) shard.0 height.0 }
     {
         self.reports.report(shard, height)
     }
 
     /// How many chunks there are: `None` exactly where the number doesn't fit.
     pub fn chunk_count(&self) -> Option<u64>
-        ensures { let r = rules_of (chain_in self.now.chain) in let count = count_to r.shards (report_at r (ending r)) r.heights in SomeIff result (count < 2 ^ 64) count }
+        ensures { let r = rules_of (chain_in self.now.chain)
+            in let count = count_to r.shards (report_at r (ending r)) r.heights
+            in SomeIff result (count < 2 ^ 64) count }
     {
         self.reports.chunk_count()
     }
@@ -148,7 +151,8 @@ impl<C: Caller<ChunkStore>> Outcome<C> {
     ///
     /// Where memory runs out.
     pub fn text(&self, alloc: Global, above: Height, to: Height) -> Result<Blob, AllocError>
-        ensures { let r = rules_of (chain_in self.now.chain) in IfOk result (λ text. text ≡ heights_text r.shards (report_at r (ending r)) above.0 to.0) }
+        ensures { let r = rules_of (chain_in self.now.chain)
+            in IfOk result (λ text. text ≡ heights_text r.shards (report_at r (ending r)) above.0 to.0) }
     {
         self.reports.text(alloc, above, to)
     }
@@ -176,7 +180,8 @@ impl<C: Caller<ChunkStore>> Outcome<C> {
     ///
     /// As of [`tally`](Outcome::tally).
     pub fn totals(&self, alloc: Global) -> Result<Totals, AllocError>
-        ensures { let x = chain_in self.now.chain in IfOk result (λ totals. totals ≡ totals_at x (ending (rules_of x))) }
+        ensures { let x = chain_in self.now.chain
+            in IfOk result (λ totals. totals ≡ totals_at x (ending (rules_of x))) }
     {
         let tally = self.tally(alloc)?;
         let places = tally.places;
@@ -195,7 +200,8 @@ impl<C: Caller<ChunkStore>> Outcome<C> {
     ///
     /// As of [`tally`](Outcome::tally).
     pub fn totals_text(&self, alloc: Global) -> Result<Blob, AllocError>
-        ensures { let x = chain_in self.now.chain in IfOk result (λ text. text ≡ totals_text (totals_at x (ending (rules_of x)))) }
+        ensures { let x = chain_in self.now.chain
+            in IfOk result (λ text. text ≡ totals_text (totals_at x (ending (rules_of x)))) }
     {
         let totals = self.totals(alloc)?;
         let mut text = Blob::of(Vec::new(alloc));

@@ -33,7 +33,10 @@ above way a path b others (side ∷ sides) top (one ∷ rest) other (two ∷ oth
   second_way = λ text on. apart.second_way text (inr on);
 }
 
-pub apart_above : (way : List Side) (a : Hash32) (path : List Hash32) (b : Hash32) (others : List Hash32) (sides : List Side) (top : Hash32) (rest : List Hash32) (other : Hash32) (other_rest : List Hash32) (d : Side) (e f : Hash32) (more : List Side) (up : Hash32) (more_rest : List Hash32) (other_up : Hash32) (more_other : List Hash32)
+pub apart_above : (way : List Side) (a : Hash32) (path : List Hash32) (b : Hash32) (others : List Hash32)
+    (sides : List Side) (top : Hash32) (rest : List Hash32) (other : Hash32) (other_rest : List Hash32) (d : Side)
+    (e f : Hash32) (more : List Side) (up : Hash32) (more_rest : List Hash32) (other_up : Hash32)
+    (more_other : List Hash32)
     → Apart way a path b others sides top rest other other_rest → 1 ≤ length sides
     → more ≡ drop 1 sides → more_rest ≡ drop 1 rest → more_other ≡ drop 1 other_rest
     → up ≡ joined (get_or sides 0 d) top (get_or rest 0 e) → other_up ≡ joined (get_or sides 0 d) other (get_or other_rest 0 f) → up ≢ other_up

@@ -1,3 +1,4 @@
+-- Lemmas behind the answers.
 pub mod Tops
 pub mod Ways
 pub mod Paths

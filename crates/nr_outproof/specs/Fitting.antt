@@ -6,7 +6,8 @@ use Rattle.nr_records.specs.declared.chunk_result.RunStatus.{RunStatus}
 use Rattle.nr_records.specs.declared.chunk_result.RunStatus.TheVariants.{Value, Promise, Failure, Clash}
 use Rattle.nr_records.specs.declared.chunk_result.Outcome.{Outcome}
 use Rattle.nr_records.specs.declared.chunk_result.ChunkLine.{ChunkLine}
-use Rattle.nr_records.specs.declared.chunk_result.ChunkLine.TheVariants.{TxOk, TxRefused, Run, Postponed, Received, Lost, Late, Sent}
+use Rattle.nr_records.specs.declared.chunk_result.ChunkLine.TheVariants.{TxOk, TxRefused, Run, Postponed, Received}
+use Rattle.nr_records.specs.declared.chunk_result.ChunkLine.TheVariants.{Lost, Late, Sent}
 use Rattle.nr_words.specs.declared.kind.ProofKind.{ProofKind}
 use Rattle.nr_outproof.specs.Items.{is_of}
 
@@ -17,11 +18,14 @@ FitsStatus (Failure index kind part) = (index < 256 ^ 4) × ((kind < 256 ^ 4) ×
 FitsStatus Clash = Unit {0}
 
 abbrev pub FitsRun : Outcome → Type 0
-FitsRun o = IsHash o.receipt_id × (FitsStatus o.status × ((o.gas < 256 ^ 8) × ((o.burnt < 256 ^ 16) × FitsList IsCounted o.logs)))
+FitsRun o =
+    IsHash o.receipt_id × (FitsStatus o.status
+    × ((o.gas < 256 ^ 8) × ((o.burnt < 256 ^ 16) × FitsList IsCounted o.logs)))
 
 abbrev pub FitsLine : ChunkLine → Type 0
 FitsLine (TxOk hash id) = IsHash hash × IsHash id
-FitsLine (TxRefused hash number first second) = IsHash hash × ((number < 256 ^ 4) × ((first < 256 ^ 16) × (second < 256 ^ 16)))
+FitsLine (TxRefused hash number first second) =
+    IsHash hash × ((number < 256 ^ 4) × ((first < 256 ^ 16) × (second < 256 ^ 16)))
 FitsLine (Run o) = FitsRun o
 FitsLine (Postponed id) = IsHash id
 FitsLine (Received id) = IsHash id

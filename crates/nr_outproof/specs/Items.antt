@@ -9,7 +9,8 @@ use Rattle.nr_records.specs.declared.chunk_result.RunStatus.{RunStatus}
 use Rattle.nr_records.specs.declared.chunk_result.RunStatus.TheVariants.{Value, Promise, Failure, Clash}
 use Rattle.nr_records.specs.declared.chunk_result.Outcome.{Outcome}
 use Rattle.nr_records.specs.declared.chunk_result.ChunkLine.{ChunkLine}
-use Rattle.nr_records.specs.declared.chunk_result.ChunkLine.TheVariants.{TxOk, TxRefused, Run, Postponed, Received, Lost, Late, Sent}
+use Rattle.nr_records.specs.declared.chunk_result.ChunkLine.TheVariants.{TxOk, TxRefused, Run, Postponed, Received}
+use Rattle.nr_records.specs.declared.chunk_result.ChunkLine.TheVariants.{Lost, Late, Sent}
 use Rattle.nr_records.specs.declared.chunk_result.ChunkResult.{ChunkResult}
 use Rattle.nr_words.specs.declared.kind.ProofKind.{ProofKind}
 use Rattle.nr_words.specs.declared.kind.ProofKind.TheVariants.{Outcome as OfOutcome, Receipt as OfReceipt}
@@ -22,12 +23,15 @@ status_bytes (Failure index kind part) = 2 ∷ (little 4 index ++ (little 4 kind
 status_bytes Clash = 3 ∷ []
 
 abbrev pub run_bytes : Outcome → List ℕ
-run_bytes o = hash_bytes o.receipt_id ++ (status_bytes o.status ++ (little 8 o.gas ++ (little 16 o.burnt ++ list counted_bytes o.logs)))
+run_bytes o =
+    hash_bytes o.receipt_id ++ (status_bytes o.status
+    ++ (little 8 o.gas ++ (little 16 o.burnt ++ list counted_bytes o.logs)))
 
 -- the bytes of a line; all but those of receipts that left begin with an ordinal
 unfoldable pub line_item : ChunkLine → List ℕ
 line_item (TxOk hash id) = 0 ∷ (hash_bytes hash ++ hash_bytes id)
-line_item (TxRefused hash number first second) = 1 ∷ (hash_bytes hash ++ (little 4 number ++ (little 16 first ++ little 16 second)))
+line_item (TxRefused hash number first second) =
+    1 ∷ (hash_bytes hash ++ (little 4 number ++ (little 16 first ++ little 16 second)))
 line_item (Run o) = 2 ∷ run_bytes o
 line_item (Postponed id) = 3 ∷ hash_bytes id
 line_item (Received id) = 4 ∷ hash_bytes id

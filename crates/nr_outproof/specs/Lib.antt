@@ -1,3 +1,4 @@
+-- Definitions that the contracts cite.
 pub mod Items
 pub mod Fitting
 pub mod Tree

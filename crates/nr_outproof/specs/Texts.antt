@@ -1,5 +1,7 @@
--- The text of a proof: a line of what it states, one of the item, and one of each top beside the way. This project's own.
-use Rattle.std.specs.Prelude.{◌≡◌, ◌<◌, ◌^◌, ℕ, ◌+◌, ◌==◌, List, [], ◌∷◌, ◌++◌, length, Bool, cond, Option, Some, None, Result, Ok, Err, codes, decimal}
+-- The text of a proof: a line of what it states, one of the item, and one of each top beside the way. This project's
+-- own.
+use Rattle.std.specs.Prelude.{◌≡◌, ◌<◌, ◌^◌, ℕ, ◌+◌, ◌==◌, List, [], ◌∷◌, ◌++◌, length, Bool, cond, Option, Some, None}
+use Rattle.std.specs.Prelude.{Result, Ok, Err, codes, decimal}
 use Rattle.std.specs.List.{AllByRecursion, flat_map, list_all, slice_split}
 use Rattle.std.specs.Result.{result_ok}
 use Rattle.std.specs.Str.{bytes_eq}
@@ -19,7 +21,9 @@ use Rattle.nr_outproof.specs.declared.fault.ProofFault.TheVariants.{Form}
 
 -- ---- the text of a proof
 abbrev pub head_line : Proof → List ℕ
-head_line p = line (codes "proof" ∷ kind_word p.kind ∷ decimal p.height.0 ∷ decimal p.shard.0 ∷ decimal p.place ∷ decimal p.count ∷ [])
+head_line p =
+    line (codes "proof" ∷ kind_word p.kind ∷ decimal p.height.0 ∷ decimal p.shard.0 ∷ decimal p.place
+    ∷ decimal p.count ∷ [])
 
 abbrev pub item_line : List ℕ → List ℕ
 item_line item = line (codes "item" ∷ bytes_word item ∷ [])
@@ -45,7 +49,9 @@ abbrev pub pieces : ℕ → List ℕ → List (List ℕ)
 pieces separator bytes = slice_split (λ b. b == separator) bytes
 
 abbrev pub kind_in : List ℕ → Option ProofKind
-kind_in word = cond (bytes_eq word (kind_word Outcome)) (Some Outcome) (cond (bytes_eq word (kind_word Receipt)) (Some Receipt) None)
+kind_in word =
+    cond (bytes_eq word (kind_word Outcome)) (Some Outcome)
+    (cond (bytes_eq word (kind_word Receipt)) (Some Receipt) None)
 
 -- bytes in lower-case hexadecimal
 unfoldable pub hex_in : List ℕ → Option (List ℕ)
@@ -94,10 +100,13 @@ head_by (Some k) None shard place count = None
 head_by (Some k) (Some h) None place count = None
 head_by (Some k) (Some h) (Some s) None count = None
 head_by (Some k) (Some h) (Some s) (Some p) None = None
-head_by (Some k) (Some h) (Some s) (Some p) (Some c) = Some (record { kind = k; height = h; shard = s; place = p; count = c })
+head_by (Some k) (Some h) (Some s) (Some p) (Some c) =
+    Some (record { kind = k; height = h; shard = s; place = p; count = c })
 
 abbrev pub head_of : List ℕ → List ℕ → List ℕ → List ℕ → List ℕ → List ℕ → Option Head
-head_of verb k h s p c = cond (bytes_eq verb (codes "proof")) (head_by (kind_in k) (number_64 h) (number_32 s) (number_64 p) (number_64 c)) None
+head_of verb k h s p c =
+    cond (bytes_eq verb (codes "proof")) (head_by (kind_in k) (number_64 h) (number_32 s) (number_64 p) (number_64 c))
+    None
 
 unfoldable pub head_in : List (List ℕ) → Option Head
 head_in [] = None
@@ -127,7 +136,16 @@ path_from n (piece ∷ next ∷ more) = with_hash n (hash_in piece) (path_from (
 
 abbrev pub with_path : Head → List ℕ → Result (List Hash32) ProofFault → Result Proof ProofFault
 with_path h item (Err fault) = Err fault
-with_path h item (Ok path) = Ok (record { kind = h.kind; height = record { 0 = h.height }; shard = record { 0 = h.shard }; place = h.place; count = h.count; item = item; path = path })
+with_path h item (Ok path) =
+    Ok (record {
+      kind = h.kind;
+      height = record { 0 = h.height };
+      shard = record { 0 = h.shard };
+      place = h.place;
+      count = h.count;
+      item = item;
+      path = path;
+    })
 
 abbrev pub with_item : Head → Option (List ℕ) → List (List ℕ) → Result Proof ProofFault
 with_item h None rest = Err (Form 2)

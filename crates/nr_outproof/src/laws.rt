@@ -17,7 +17,8 @@ pub fn tree_laws()
     ensures one { (item : List ℕ) → top_of (leaf_tops (item ∷ [])) ≡ leaf_top item }
     // The top of more is that of the first items and of the rest, cut at the greatest power of two below their number.
     ensures more { (items : List (List ℕ)) (h : ℕ) → 2 ^ h < length items → length items ≤ 2 * 2 ^ h
-        → top_of (leaf_tops items) ≡ pair_top (top_of (leaf_tops (take (2 ^ h) items))) (top_of (leaf_tops (drop (2 ^ h) items))) }
+        → top_of (leaf_tops items) ≡ pair_top (top_of (leaf_tops (take (2 ^ h) items)))
+        (top_of (leaf_tops (drop (2 ^ h) items))) }
 {}
 
 /// What holds of every item. It does nothing when it runs.

@@ -1,3 +1,5 @@
+//! The proof that a chunk has an item at a place.
+
 use nr_bytes::{Blob, List};
 use nr_ids::{Hash32, Height, ShardId};
 use nr_words::ProofKind;

@@ -1,11 +1,13 @@
 //! The reading of a proof's text.
 
-ghost use Rattle.std.specs.Prelude.{◌≡◌, ◌<◌, ◌==◌, ◌∷◌, [], IfOk, IfSome, MatchOption, cond, length, position, Some, None};
+ghost use Rattle.std.specs.Prelude.{◌≡◌, ◌<◌, ◌==◌, ◌∷◌, [], IfOk, IfSome, MatchOption, cond, length, position, Some};
+ghost use Rattle.std.specs.Prelude.{None};
 ghost use Rattle.std.specs.List.{list_all};
 ghost use Rattle.std.specs.Option.{option_copied};
 ghost use Rattle.std.specs.Str.{bytes_eq};
 ghost use Rattle.nr_bytes.specs.Answers.{Gives, GivesAs};
-ghost use Rattle.nr_outproof.specs.Texts.{bytes_in, hash_in, hash_of, head_by, head_in, head_of, hex_in, item_in, kind_in, behind_head, path_from, pieces, proof_read, word_behind};
+ghost use Rattle.nr_outproof.specs.Texts.{bytes_in, hash_in, hash_of, head_by, head_in, head_of, hex_in, item_in};
+ghost use Rattle.nr_outproof.specs.Texts.{kind_in, behind_head, path_from, pieces, proof_read, word_behind};
 ghost use Rattle.nr_words.specs.Forms.{is_hex_digit};
 ghost use Rattle.nr_outproof.specs.declared.fault.ProofFault.TheVariants.{Memory};
 
@@ -35,7 +37,8 @@ fn place_of(bytes: &[u8], separator: u8) -> Option<usize>
 
 /// What stands before the first separator and behind it, where there is one.
 fn cut(bytes: &[u8], separator: u8) -> Option<(&[u8], &[u8])>
-    ensures pieces { MatchOption result (pieces separator bytes.now ≡ bytes.now ∷ []) (λ parts. pieces separator bytes.now ≡ parts.0.now ∷ pieces separator parts.1.now) }
+    ensures pieces { MatchOption result (pieces separator bytes.now ≡ bytes.now ∷ [])
+        (λ parts. pieces separator bytes.now ≡ parts.0.now ∷ pieces separator parts.1.now) }
     ensures shorter { IfSome result (λ parts. length parts.1.now < length bytes.now) }
 {
     match place_of(bytes, separator) {

@@ -1,3 +1,5 @@
+//! Roots and proofs by the values of an independent program.
+
 use crate::chunks::{late, mixed};
 use crate::judging::{Passed, path_length, texts, tried};
 use crate::texts::{OUTCOMES, RECEIPTS};

@@ -1,3 +1,5 @@
+//! Proofs that are bent, and texts that are none.
+
 use crate::chunks::late;
 use crate::judging::{faulty_line, is_accepted};
 use crate::texts::SECOND;

@@ -1,3 +1,4 @@
+-- Lemmas behind the answers.
 pub mod Basics
 pub mod Cells
 pub mod DueLemmas

@@ -70,6 +70,9 @@ module _ {W K L R : Type 0} (r : Rules W K L R) where
     | inr e ↦ outside x s h is (ge_of s r.shards e)
   ] ∙ ap (λ t. report_at r t s h) same
 
-  pub flight_shown : (x : Shards W K L R) (s h d : ℕ) (v : Vec (Option (Box (Row L R))) Global) (row : List (Option (Box (Row L R)))) (o : Option L) (ps : List Position) → IsSerial r x → s < r.shards → d < r.shards → v ≡ get_or x.rows.items s v → row ≡ v.items → o ≡ row_slot (row_entry row h) d → x.positions.items ≡ ps → o ≡ flight_at r ps s h d
+  pub flight_shown : (x : Shards W K L R) (s h d : ℕ) (v : Vec (Option (Box (Row L R))) Global)
+      (row : List (Option (Box (Row L R)))) (o : Option L) (ps : List Position) → IsSerial r x → s < r.shards
+      → d < r.shards → v ≡ get_or x.rows.items s v → row ≡ v.items → o ≡ row_slot (row_entry row h) d
+      → x.positions.items ≡ ps → o ≡ flight_at r ps s h d
   flight_shown x s h d v row o ps is l m v_at row_is o_is same = o_is ∙ ap (λ t. row_slot (row_entry t h) d) (row_is ∙ sym (row_read x.rows.items s v (slice_get_read x.rows.items (length x.rows.items) s v refl (omega (arith, l, is.kept.rows)) v_at)))
       ∙ is.lists s h d l m ∙ ap (λ t. flight_at r t s h d) same

@@ -1,4 +1,5 @@
--- Amounts that chunks keep, as tokens or the count of a receipt, and their sums at any moment of a run. After the Nomicon, Economics and Runtime Specification (Receipts); the sums are this project's.
+-- Amounts that chunks keep, as tokens or the count of a receipt, and their sums at any moment of a run. After the
+-- Nomicon, Economics and Runtime Specification (Receipts); the sums are this project's.
 use Rattle.std.specs.Prelude.{◌≡◌, ℕ, zero, suc, ◌+◌, List, Option, Some, None, length, sum_by}
 use Rattle.nr_overlap.specs.Rules.{Rules, Sealing}
 use Rattle.nr_overlap.specs.Serial.{EachChunk, EachTaken, due_after, world_after, work, last_work}
@@ -6,8 +7,10 @@ use Rattle.nr_overlap.specs.Positions.{at}
 use Rattle.nr_overlap.specs.Moment.{world_at, working_at, report_at, flight_at}
 use Rattle.nr_overlap.specs.declared.position.Position.{Position}
 
--- How much of it worlds, working states, lists and reports hold, and how much of it was made in a chunk so far and in the whole.
--- A working state is that of a shard after a height with so many lists taken, a report that of a shard at a height: so an
+-- How much of it worlds, working states, lists and reports hold, and how much of it was made in a chunk so far and in
+-- the whole.
+-- A working state is that of a shard after a height with so many lists taken, a report that of a shard at a height:
+-- so an
 -- amount may count what no value keeps, as the receipts that a chunk executed.
 pub record Amount (W K L R : Type 0) : Type 0 where
   pub world : W → ℕ
@@ -32,7 +35,8 @@ module _ {W K L R : Type 0} (r : Rules W K L R) (m : Amount W K L R) where
 -- in each chunk of the serial run what is held grows by what is made
 pub record IsKeptBy {W K L R : Type 0} (r : Rules W K L R) (m : Amount W K L R) : Type 0 where
   pub opens : EachChunk r (λ s h. held_at r m s h 0 ≡ m.world (world_after r s h) + made_at r m s h 0)
-  pub takes : EachTaken r (λ s h n list. held_at r m s h (n + 1) + made_at r m s h n ≡ held_at r m s h n + m.list list + made_at r m s h (n + 1))
+  pub takes : EachTaken r (λ s h n list. held_at r m s h (n + 1) + made_at r m s h n
+      ≡ held_at r m s h n + m.list list + made_at r m s h (n + 1))
   pub seals : EachChunk r (λ s h. let n = length (due_after r s h) in let z = r.seals (last_work r s h) in
       left_by r m s (h + 1) z + made_at r m s h n ≡ held_at r m s h n + m.made s (h + 1) z.report)
 
@@ -52,10 +56,12 @@ module _ {W K L R : Type 0} (r : Rules W K L R) (m : Amount W K L R) where
 
   -- in the chunk that a shard sealed at a height, and in its lists that were not taken
   abbrev pub sealed_by : List Position → ℕ → ℕ → ℕ
-  sealed_by ps s h = if_some (m.report s h) (report_at r ps s h) + sum_below r.shards (λ d. if_some m.list (flight_at r ps s h d))
+  sealed_by ps s h =
+      if_some (m.report s h) (report_at r ps s h) + sum_below r.shards (λ d. if_some m.list (flight_at r ps s h d))
 
   abbrev pub held_in_all : List Position → ℕ
-  held_in_all ps = sum_below r.shards (held_by ps) + sum_below r.shards (λ s. sum_below (r.heights + 1) (sealed_by ps s))
+  held_in_all ps =
+      sum_below r.shards (held_by ps) + sum_below r.shards (λ s. sum_below (r.heights + 1) (sealed_by ps s))
 
   abbrev pub making : List Position → ℕ → ℕ
   making ps s = if_some (m.made_so_far s (at ps s).number (at ps s).taken) (working_at r s (at ps s))

@@ -1,4 +1,5 @@
--- What contracts see of a core: its phases, where each shard stands, and whether want of memory was met. This project's own.
+-- What contracts see of a core: its phases, where each shard stands, and whether want of memory was met. This
+-- project's own.
 use Rattle.std.specs.Prelude.{◌≡◌, ℕ, zero, suc, Bool, List, refl}
 use Rattle.std.specs.Coded.{Coded, code_by, coded×, coded_ℕ, coded_bool, coded_list}
 use Rattle.nr_overlap.specs.Positions.{stage_number}
@@ -27,7 +28,8 @@ stage_code = code_by ℕ coded_ℕ stage_number stage_of stage_back
 abbrev pub position_code : Coded Position
 position_code =
     code_by (ℕ × (ℕ × ℕ)) (coded× coded_ℕ (coded× coded_ℕ coded_ℕ)) (λ p. (p.number, (stage_number p.stage, p.taken)))
-    (λ q. record { number = q.0; stage = stage_of q.1.0; taken = q.1.1 }) (λ p i. record { number = p.number; stage = stage_back p.stage i; taken = p.taken })
+    (λ q. record { number = q.0; stage = stage_of q.1.0; taken = q.1.1 })
+    (λ p i. record { number = p.number; stage = stage_back p.stage i; taken = p.taken })
 
 abbrev pub core_code : {P : Type 0} → Coded P → Coded (CoreView P)
 core_code {P} p =

@@ -1,4 +1,5 @@
--- A cut of a run as plain values: what each shard holds, and the lists that were sealed and not taken. Steps come from the rules alone; nothing here is the serial run's. This project's own.
+-- A cut of a run as plain values: what each shard holds, and the lists that were sealed and not taken. Steps come
+-- from the rules alone; nothing here is the serial run's. This project's own.
 use Rattle.std.specs.Prelude.{◌≡◌, ℕ, ◌+◌, ◌==◌, cond, List, [], ◌∷◌, Option, Some, None, length, slice_get, option_map}
 use Rattle.nr_overlap.specs.Rules.{Rules, Sealing}
 use Rattle.nr_overlap.specs.Inside.{AreInside}
@@ -49,7 +50,8 @@ module _ {W K L R : Type 0} (r : Rules W K L R) where
   list_for None d = None
   list_for (Some z) d = slice_get z.lists d
 
-  -- what a step makes of the values: an opened chunk is of the world that stands there, a list that is taken is the one that stands there and is gone then
+  -- what a step makes of the values: an opened chunk is of the world that stands there, a list that is taken is the
+  -- one that stands there and is gone then
   abbrev pub stepped : Cut W K L R → Event → Cut W K L R
   stepped c (OpenChunk s) =
       record {
@@ -78,7 +80,13 @@ module _ {W K L R : Type 0} (r : Rules W K L R) where
         list = put c.list s.0 (put (c.list s.0) height (list_for sealed));
       }
   stepped c (PublishLists s) =
-      record { positions = moved c.positions (PublishLists s); world = c.world; working = c.working; report = c.report; list = c.list }
+      record {
+        positions = moved c.positions (PublishLists s);
+        world = c.world;
+        working = c.working;
+        report = c.report;
+        list = c.list;
+      }
 
   -- a step that isn't enabled changes nothing
   abbrev pub stepped_if : Option Why → Cut W K L R → Event → Cut W K L R
@@ -100,4 +108,6 @@ module _ {W K L R : Type 0} (r : Rules W K L R) where
 
   -- so it is wherever steps lead, where each seal gives a list for each shard
   abbrev pub CutsAreSerial : Type 0
-  CutsAreSerial = ((k : K) → length (r.seals k).lists ≡ r.shards) → (es : List Event) → AreInside r.shards es → IsSerialCut (cut_of first_cut es) (run_of r (opening r) es)
+  CutsAreSerial =
+      ((k : K) → length (r.seals k).lists ≡ r.shards) → (es : List Event) → AreInside r.shards es
+      → IsSerialCut (cut_of first_cut es) (run_of r (opening r) es)

@@ -1,5 +1,6 @@
 -- What the shards of a core hold, and that it is the serial run's at their positions. This project's own.
-use Rattle.std.specs.Prelude.{◌≡◌, ℕ, ◌+◌, ◌<◌, ◌≤◌, true, List, [], Option, Some, None, Result, Ok, Err, Vec, slice_get, length, unwrap_or, map}
+use Rattle.std.specs.Prelude.{◌≡◌, ℕ, ◌+◌, ◌<◌, ◌≤◌, true, List, [], Option, Some, None, Result, Ok, Err, Vec}
+use Rattle.std.specs.Prelude.{slice_get, length, unwrap_or, map}
 use Rattle.std.specs.declared.alloc.Global.{Global}
 use Rattle.std.specs.declared.alloc.AllocError.{AllocError}
 use Rattle.std.specs.Option.{option_map}
@@ -90,7 +91,8 @@ module _ {W K L R : Type 0} (r : Rules W K L R) where
     pub kept : IsKept x
     pub values : (s : ℕ) (v : Held W K) → slice_get x.held.items s ≡ Some v → IsHeld s (at x.positions.items s) v
     pub due : (s : ℕ) → s < r.shards → (at x.positions.items s).stage ≡ Opened → dues_at x.dues.items s ≡ due_after r s (at x.positions.items s).number
-    pub lists : (s h d : ℕ) → s < r.shards → d < r.shards → row_slot (entry x.rows.items s h) d ≡ flight_at r x.positions.items s h d
+    pub lists : (s h d : ℕ) → s < r.shards → d < r.shards → row_slot (entry x.rows.items s h) d
+        ≡ flight_at r x.positions.items s h d
 
 -- ---- what the phases make of what one shard holds
 module _ {W K L R : Type 0} (r : Rules W K L R) where
@@ -143,6 +145,7 @@ Seals can (Working k) = can k
 Seals can Nothing = ⊥
 
 -- what a step that is enabled leaves
-abbrev pub Happens : {W K L R : Type 0} → Rules W K L R → Event → Shards W K L R → Result (Unit {0}) AllocError → Shards W K L R → Type 0
+abbrev pub Happens : {W K L R : Type 0} → Rules W K L R → Event → Shards W K L R → Result (Unit {0}) AllocError
+    → Shards W K L R → Type 0
 Happens r e old (Ok done) new = IsSerial r new × (new.positions.items ≡ moved old.positions.items e)
 Happens r e old (Err fault) new = IsKept r new × (new.positions.items ≡ old.positions.items)

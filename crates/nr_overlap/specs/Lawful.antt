@@ -1,4 +1,5 @@
--- What the phases of a chunk promise: a list for each shard, and that in the serial run each call may be made. This project's own.
+-- What the phases of a chunk promise: a list for each shard, and that in the serial run each call may be made. This
+-- project's own.
 use Rattle.std.specs.Prelude.{◌≡◌, ℕ, ◌+◌, length}
 use Rattle.nr_overlap.specs.Rules.{Rules}
 use Rattle.nr_overlap.specs.Serial.{EachChunk, EachTaken, world_after, work, last_work}

@@ -1,3 +1,4 @@
+-- Definitions that the contracts cite.
 pub mod Rules
 pub mod Serial
 pub mod Lawful

@@ -1,4 +1,6 @@
--- What stands at a moment of a run, while shards are at different heights and stages: as the serial run has it, by their positions. After the Nomicon, Chain Specification (Chunks and cross-shard receipts); the stages are this project's.
+-- What stands at a moment of a run, while shards are at different heights and stages: as the serial run has it, by
+-- their positions. After the Nomicon, Chain Specification (Chunks and cross-shard receipts); the stages are this
+-- project's.
 use Rattle.std.specs.Prelude.{ℕ, ◌+◌, ◌||◌, nat_lt, nat_le, Bool, cond, List, Option, Some, None, take, option_map}
 use Rattle.std.specs.List.{list_any}
 use Rattle.nr_overlap.specs.Rules.{Rules, Sealing}

@@ -1,5 +1,7 @@
--- Which steps are enabled, why others are not, and where a step leads: by positions alone. After the Nomicon, Chain Specification (Chunks and cross-shard receipts); the single steps are this project's.
-use Rattle.std.specs.Prelude.{ℕ, ◌+◌, ◌==◌, ◌&&◌, ◌||◌, not, nat_lt, nat_le, Bool, cond, List, Option, Some, None, slice_get, slice_set}
+-- Which steps are enabled, why others are not, and where a step leads: by positions alone. After the Nomicon, Chain
+-- Specification (Chunks and cross-shard receipts); the single steps are this project's.
+use Rattle.std.specs.Prelude.{ℕ, ◌+◌, ◌==◌, ◌&&◌, ◌||◌, not, nat_lt, nat_le, Bool, cond, List, Option, Some, None}
+use Rattle.std.specs.Prelude.{slice_get, slice_set}
 use Rattle.nr_overlap.specs.Rules.{Rules}
 use Rattle.nr_overlap.specs.Serial.{due_after}
 use Rattle.nr_overlap.specs.Inside.{actor}
@@ -22,7 +24,8 @@ is_pair h s pair = (pair.0 == h) && (pair.1 == s)
 -- a list that is the next due one has to be published
 abbrev pub wrong_list : Option (ℕ × ℕ) → ℕ → ℕ → Position → Option Why
 wrong_list None h s q = Some (named None)
-wrong_list (Some pair) h s q = cond (is_pair h s pair) (cond (nat_lt q.number h) (Some (why.Published q.number)) None) (Some (named (Some pair)))
+wrong_list (Some pair) h s q =
+    cond (is_pair h s pair) (cond (nat_lt q.number h) (Some (why.Published q.number)) None) (Some (named (Some pair)))
 
 -- no list is left
 abbrev pub left_over : Option (ℕ × ℕ) → Option Why

@@ -1,5 +1,7 @@
--- What a run comes to that is over, by shard: the serial run's last worlds, its reports, and the lists that no chunk takes. After the Nomicon, Chain Specification (Chunks and cross-shard receipts); the order is this project's own.
-use Rattle.std.specs.Prelude.{◌≡◌, ℕ, ◌+◌, ◌<◌, ◌≤◌, ◌==◌, nat_lt, not, cond, List, Option, None, Some, length, map, position, slice_get}
+-- What a run comes to that is over, by shard: the serial run's last worlds, its reports, and the lists that no chunk
+-- takes. After the Nomicon, Chain Specification (Chunks and cross-shard receipts); the order is this project's own.
+use Rattle.std.specs.Prelude.{◌≡◌, ℕ, ◌+◌, ◌<◌, ◌≤◌, ◌==◌, nat_lt, not, cond, List, Option, None, Some, length, map}
+use Rattle.std.specs.Prelude.{position, slice_get}
 use Rattle.std.specs.Option.{option_map, option_to_list}
 use Rattle.std.specs.List.{flat_map}
 use Rattle.std.specs.Global.{Box, Vec}

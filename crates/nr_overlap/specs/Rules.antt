@@ -1,4 +1,5 @@
--- The phases of a chunk as plain functions. W are worlds, K working states, L lists and R reports; shards and heights are numbers, heights from 1. After the Nomicon, Runtime Specification (Applying a chunk).
+-- The phases of a chunk as plain functions. W are worlds, K working states, L lists and R reports; shards and heights
+-- are numbers, heights from 1. After the Nomicon, Runtime Specification (Applying a chunk).
 use Rattle.std.specs.Prelude.{ℕ, Bool, List}
 
 -- what a seal gives: the world, the report, and a list for each shard

@@ -1,5 +1,8 @@
--- Where a list of events leads, by positions alone, and what a step, a list of events and the run to the end answer and leave. After the Nomicon, Chain Specification (Chunks and cross-shard receipts); the single steps are this project's.
-use Rattle.std.specs.Prelude.{◌≡◌, ℕ, ◌<◌, true, false, List, [], ◌∷◌, Option, Some, None, Result, Ok, Err, length, replicate, take}
+-- Where a list of events leads, by positions alone, and what a step, a list of events and the run to the end answer
+-- and leave. After the Nomicon, Chain Specification (Chunks and cross-shard receipts); the single steps are this
+-- project's.
+use Rattle.std.specs.Prelude.{◌≡◌, ℕ, ◌<◌, true, false, List, [], ◌∷◌, Option, Some, None, Result, Ok, Err, length}
+use Rattle.std.specs.Prelude.{replicate, take}
 use Rattle.std.specs.declared.alloc.AllocError.{AllocError}
 use Rattle.nr_overlap.specs.Rules.{Rules}
 use Rattle.nr_overlap.specs.Positions.{start, end_at}
@@ -45,11 +48,13 @@ module _ {W K L R : Type 0} (r : Rules W K L R) where
   run_of ps [] = ps
   run_of ps (e ∷ es) = run_of (tried ps e) es
 
-  -- what a step answers and leaves; a core that is whole meets want of memory at a step that is enabled
+  -- what a step answers and leaves; a core that is whole meets want of memory only at a step that is enabled
   abbrev pub Steps : {P : Type 0} → CoreView P → Event → Result (Unit {0}) StepFault → CoreView P → Type 0
-  Steps old e (Ok _) new = (old.lost ≡ false) × (refusal r old.positions e ≡ None) × (new ≡ whole_at old (moved old.positions e))
+  Steps old e (Ok _) new =
+      (old.lost ≡ false) × (refusal r old.positions e ≡ None) × (new ≡ whole_at old (moved old.positions e))
   Steps old e (Err (NotEnabled why)) new = (old.lost ≡ false) × (refusal r old.positions e ≡ Some why) × (new ≡ old)
-  Steps old e (Err Memory) new = (old.lost ≡ false → refusal r old.positions e ≡ None) × (new ≡ lost_at old old.positions)
+  Steps old e (Err Memory) new =
+      (old.lost ≡ false → refusal r old.positions e ≡ None) × (new ≡ lost_at old old.positions)
 
   -- what an event that is tried leaves, whether it was enabled or not
   abbrev pub Tries : {P : Type 0} → CoreView P → Event → Result (Unit {0}) AllocError → CoreView P → Type 0

@@ -1,5 +1,7 @@
--- The serial run: block after block, each chunk that is there is opened, takes the lists that are due, and is sealed. After the Nomicon, Chain Specification (Chunks and cross-shard receipts).
-use Rattle.std.specs.Prelude.{◌≡◌, ◌<◌, true, length, ℕ, zero, suc, ◌+◌, ◌-◌, ◌==◌, max, cond, List, filter, fold, map, take, Option, Some, None, slice_get}
+-- The serial run: block after block, each chunk that is there is opened, takes the lists that are due, and is sealed.
+-- After the Nomicon, Chain Specification (Chunks and cross-shard receipts).
+use Rattle.std.specs.Prelude.{◌≡◌, ◌<◌, true, length, ℕ, zero, suc, ◌+◌, ◌-◌, ◌==◌, max, cond, List, filter, fold, map}
+use Rattle.std.specs.Prelude.{take, Option, Some, None, slice_get}
 use Rattle.std.specs.List.{flat_map, range_with_len}
 use Rattle.nr_overlap.specs.Rules.{Rules, Sealing}
 
@@ -9,7 +11,8 @@ pub record Past (W L R : Type 0) : Type 0 where
   pub sealed : ℕ → ℕ → Option (Sealing W L R)
 
 module _ {W K L R : Type 0} (r : Rules W K L R) where
-  -- ---- which lists a chunk takes: those of all chunks from the shard's last present height on, by height and then source
+  -- ---- which lists a chunk takes: those of all chunks from the shard's last present height on, by height and then
+  -- source
   abbrev pub last_present : ℕ → ℕ → ℕ
   last_present shard zero = 0
   last_present shard (suc h) = cond (r.present shard (h + 1)) (h + 1) (last_present shard h)
@@ -52,7 +55,8 @@ module _ {W K L R : Type 0} (r : Rules W K L R) where
   worked past h shard dues = fold (take_due past shard) (r.opens shard (h + 1) (past.world shard)) dues
 
   abbrev pub if_present : Past W L R → ℕ → ℕ → Option (Sealing W L R)
-  if_present past h shard = cond (r.present shard (h + 1)) (Some (r.seals (worked past h shard (due_after shard h)))) None
+  if_present past h shard =
+      cond (r.present shard (h + 1)) (Some (r.seals (worked past h shard (due_after shard h)))) None
 
   -- ---- one block after another
   abbrev pub world_or : Option (Sealing W L R) → W → W
@@ -92,5 +96,7 @@ module _ {W K L R : Type 0} (r : Rules W K L R) where
   EachChunk P = (shard h : ℕ) → shard < r.shards → h < r.heights → r.present shard (h + 1) ≡ true → P shard h
 
   abbrev pub EachTaken : (ℕ → ℕ → ℕ → L → Type 0) → Type 0
-  EachTaken P = (shard h n : ℕ) (pair : ℕ × ℕ) (list : L) → shard < r.shards → h < r.heights → r.present shard (h + 1) ≡ true
-      → slice_get (due_after shard h) n ≡ Some pair → list_to (sealing_at pair.1 pair.0) shard ≡ Some list → P shard h n list
+  EachTaken P =
+      (shard h n : ℕ) (pair : ℕ × ℕ) (list : L) → shard < r.shards → h < r.heights → r.present shard (h + 1) ≡ true
+      → slice_get (due_after shard h) n ≡ Some pair → list_to (sealing_at pair.1 pair.0) shard ≡ Some list
+      → P shard h n list

@@ -3,7 +3,8 @@
 ghost use Rattle.std.specs.Prelude.{◌≡◌, ◌+◌, ◌<◌, ◌≤◌, ◌++◌, ℕ, None, Some, IfOk, IsSome, OnOk, length};
 ghost use Rattle.std.specs.Option.{option_to_list};
 ghost use Rattle.nr_overlap.specs.Held.{cell, held_world, row_entry, row_report, row_slot};
-ghost use Rattle.nr_overlap.specs.Outcome.{HoldsLast, HoldsRows, IsLastRow, last_worlds, left_by_height, left_by_source, left_list, lists_left, reports_by_shard, reports_to, sent};
+ghost use Rattle.nr_overlap.specs.Outcome.{HoldsLast, HoldsRows, IsLastRow, last_worlds, left_by_height};
+ghost use Rattle.nr_overlap.specs.Outcome.{left_by_source, left_list, lists_left, reports_by_shard, reports_to, sent};
 
 use crate::phases::Phases;
 use crate::shards::{Held, Row};
@@ -50,7 +51,8 @@ fn add_lists<P: Phases>(
     lists: Vec<Option<P::Parcel>>,
     all: &mut Vec<Sent<P::Parcel>>,
 ) -> Result<(), AllocError>
-    requires { (d : ℕ) → d < (P.rules phases.now).shards → cell lists.items d ≡ left_list (P.rules phases.now) source height d }
+    requires { (d : ℕ) → d < (P.rules phases.now).shards → cell lists.items d
+        ≡ left_list (P.rules phases.now) source height d }
     ensures { OnOk result (all.new.items ≡ all.old.items ++ left_by_height (P.rules phases.now) source height) }
 {
     let mut lists = lists;
@@ -70,7 +72,8 @@ fn add_entry<P: Phases>(
     reports: &mut Vec<P::Report>,
     all: &mut Vec<Sent<P::Parcel>>,
 ) -> Result<(), AllocError>
-    requires lists { (d : ℕ) → d < (P.rules phases.now).shards → row_slot entry d ≡ left_list (P.rules phases.now) source height d }
+    requires lists { (d : ℕ) → d < (P.rules phases.now).shards → row_slot entry d
+        ≡ left_list (P.rules phases.now) source height d }
     ensures report { OnOk result (reports.new.items ≡ reports.old.items ++ option_to_list (row_report entry)) }
     ensures added { OnOk result (all.new.items ≡ all.old.items ++ left_by_height (P.rules phases.now) source height) }
 {
@@ -107,7 +110,8 @@ fn close_row<P: Phases>(
     all: &mut Vec<Sent<P::Parcel>>,
 ) -> Result<List<P::Report>, AllocError>
     requires row { IsLastRow (P.rules phases.now) source row.items }
-    ensures reports { IfOk result (λ reports. reports ≡ reports_to (P.rules phases.now) source (P.rules phases.now).heights) }
+    ensures reports { IfOk result (λ reports. reports
+        ≡ reports_to (P.rules phases.now) source (P.rules phases.now).heights) }
     ensures left { OnOk result (all.new.items ≡ all.old.items ++ left_by_source (P.rules phases.now) source) }
 {
     let mut row = row;

@@ -1,3 +1,5 @@
+//! The steps of a shard, and why one is not enabled.
+
 ghost use Rattle.std.specs.Prelude.{◌≡◌, ◌<◌, ◌↔◌, IsTrue};
 ghost use Rattle.nr_overlap.specs.Inside.{actor, IsInside};
 

@@ -1,3 +1,5 @@
+//! The core: shards at different heights and stages, by single steps.
+
 ghost use Rattle.std.specs.Prelude.{◌≡◌, ◌<◌, false, IfOk, None};
 ghost use Rattle.std.specs.Option.{option_copied};
 ghost use Rattle.nr_overlap.specs.Moment.{world_at, working_at, report_at, flight_at};
@@ -47,7 +49,8 @@ impl<P: Phases> Model for Core<P> {
 
     ghost view = { λ c. record { phases = c.phases; positions = c.shards.positions.items; lost = c.lost } };
 
-    ghost invariant = { λ c. (IsKept (P.rules c.phases) c.shards) × (P.is_run c.phases) × (c.lost ≡ false → IsSerial (P.rules c.phases) c.shards) };
+    ghost invariant = { λ c. (IsKept (P.rules c.phases) c.shards) × (P.is_run c.phases)
+        × (c.lost ≡ false → IsSerial (P.rules c.phases) c.shards) };
 }
 
 /// A core whose run is over, taken apart: all that the serial run comes to.
@@ -184,13 +187,14 @@ impl<P: Phases> Core<P> {
         report_in_rows(&self.shards.rows, shard.0 as usize, height.0 as usize)
     }
 
-    /// The list of a source's chunk to a shard. It is the serial run's, and `None` exactly where that chunk has not been
-    /// sealed or the list was taken.
+    /// The list of a source's chunk to a shard. It is the serial run's, and `None` exactly where that chunk has not
+    /// been sealed or the list was taken.
     pub fn flight(&self, source: ShardId, height: Height, dest: ShardId) -> Option<&P::Parcel>
         requires source { source.0 < (P.rules self.now.phases).shards }
         requires dest { dest.0 < (P.rules self.now.phases).shards }
         requires whole { self.now.lost ≡ false }
-        ensures { option_copied result ≡ flight_at (P.rules self.now.phases) self.now.positions source.0 height.0 dest.0 }
+        ensures { option_copied result ≡ flight_at (P.rules self.now.phases) self.now.positions source.0 height.0
+            dest.0 }
     {
         let row = &self.shards.rows[source.0 as usize];
         slot_of(row, height.0 as usize, dest.0 as usize)
@@ -231,9 +235,9 @@ impl<P: Phases> Core<P> {
     }
 
     /// A step that is enabled and leads on to the end: that of the first shard among those with the least published
-    /// number. At stage 0 it is Open where the next chunk is there and else Publish, at stage 1 the Take of the next due
-    /// list or else Seal, at stage 2 Publish. `None` exactly where every shard has published all heights. It takes no
-    /// memory.
+    /// number. At stage 0 it is Open where the next chunk is there and else Publish, at stage 1 the Take of the next
+    /// due list or else Seal, at stage 2 Publish. `None` exactly where every shard has published all heights. It
+    /// takes no memory.
     pub fn next_event(&self) -> Option<Event>
         requires { self.now.lost ≡ false }
         ensures { IsNextOf (P.rules self.now.phases) self.now.positions result }

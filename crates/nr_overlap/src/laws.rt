@@ -20,9 +20,9 @@ pub fn reached_law<P: Phases>(phases: &P)
     ensures led { ReachedAreLed (P.rules phases.now) }
 {}
 
-/// Which event comes next is a function of positions: wherever steps can lead, it gives what `Core::next_event` answers,
-/// an enabled event or none exactly at the end, and one such event after another leads to the end. It does nothing when
-/// it runs.
+/// Which event comes next is a function of positions: wherever steps can lead, it gives what `Core::next_event`
+/// answers, an enabled event or none exactly at the end, and one such event after another leads to the end. It does
+/// nothing when it runs.
 pub fn next_law<P: Phases>(phases: &P)
     ensures next { NextIsNext (P.rules phases.now) }
 {}

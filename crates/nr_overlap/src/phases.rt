@@ -1,3 +1,5 @@
+//! The phases of a chunk as a trait.
+
 ghost use Rattle.std.specs.Prelude.{◌≡◌, ℕ, ◌<◌, IfOk, OnOk};
 ghost use Rattle.nr_overlap.specs.Rules.{Rules};
 ghost use Rattle.nr_overlap.specs.Lawful.{AreLawful};
@@ -108,5 +110,6 @@ pub trait Phases {
         ensures lists { IfOk result (λ sealed. sealed.2 ≡ ((rules self.now).seals working).lists) };
 
     /// A seal gives a list for each shard, and in the serial run each phase may be called.
-    ghost laws: { (phases : Self) → is_run phases → AreLawful (rules phases) (can_open phases) (can_take phases) (can_seal phases) };
+    ghost laws: { (phases : Self) → is_run phases → AreLawful (rules phases) (can_open phases) (can_take phases)
+        (can_seal phases) };
 }

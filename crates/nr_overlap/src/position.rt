@@ -1,3 +1,5 @@
+//! Where a shard stands: heights published, stage, lists taken.
+
 ghost use Rattle.std.specs.Prelude.{◌≡◌};
 ghost use Rattle.nr_overlap.specs.Positions.{stage_number};
 

@@ -3,7 +3,8 @@
 ghost use Rattle.std.specs.Prelude.{◌≡◌, ◌<◌, ◌+◌, ◌≤◌, length, slice_get, Option, Some, None};
 ghost use Rattle.nr_overlap.specs.Held.{IsSerial, dues_at};
 ghost use Rattle.nr_overlap.specs.Inside.{IsInside, actor};
-ghost use Rattle.nr_overlap.specs.Moves.{refusal, fits, list_refusal, list_refusal_by, wrong_list, left_over, named, next_due};
+ghost use Rattle.nr_overlap.specs.Moves.{refusal, fits, list_refusal, list_refusal_by, wrong_list, left_over, named};
+ghost use Rattle.nr_overlap.specs.Moves.{next_due};
 ghost use Rattle.nr_overlap.specs.Positions.{at};
 
 use crate::event::{Event, Why};

@@ -1,3 +1,5 @@
+//! Lists of events, and the run of block after block.
+
 ghost use Rattle.std.specs.Prelude.{◌≡◌, false, OnOk};
 ghost use Rattle.nr_overlap.specs.Inside.{AreInside, IsInside};
 ghost use Rattle.nr_overlap.specs.Run.{Tries, TriesAll, Finishes};

@@ -1,7 +1,9 @@
 //! The steps of a shard, each where it is enabled.
 
-ghost use Rattle.std.specs.Prelude.{◌≡◌, ◌<◌, ◌+◌, ◌≤◌, ◌++◌, ◌∷◌, [], ℕ, IfOk, OnOk, OnErr, length, map, List, Option, Some, None, slice_get, slice_set};
-ghost use Rattle.nr_overlap.specs.Held.{IsSerial, IsKept, IsHeld, Happens, Opens, Takes, Seals, opened_held, took_held, sealed_held, IsRowFrom, cell, row_of, row_entry, row_slot, row_report, IsRowOf};
+ghost use Rattle.std.specs.Prelude.{◌≡◌, ◌<◌, ◌+◌, ◌≤◌, ◌++◌, ◌∷◌, [], ℕ, IfOk, OnOk, OnErr, length, map, List, Option};
+ghost use Rattle.std.specs.Prelude.{Some, None, slice_get, slice_set};
+ghost use Rattle.nr_overlap.specs.Held.{IsSerial, IsKept, IsHeld, Happens, Opens, Takes, Seals, opened_held, took_held};
+ghost use Rattle.nr_overlap.specs.Held.{sealed_held, IsRowFrom, cell, row_of, row_entry, row_slot, row_report, IsRowOf};
 ghost use Rattle.nr_overlap.specs.declared.event.Event.TheVariants.{OpenChunk, TakeList, SealChunk, PublishLists};
 ghost use Rattle.nr_overlap.specs.Inside.{IsInside, actor};
 ghost use Rattle.nr_overlap.specs.Moves.{refusal, moved};
@@ -152,7 +154,8 @@ fn take_slot<L: Drop, R: Drop>(
     requires { height < length row.old.items }
     ensures list { result ≡ row_slot (row_entry row.old.items height) dest }
     ensures gone { row_slot (row_entry row.new.items height) dest ≡ None }
-    ensures others { (h d : ℕ) → (h ≡ height → d ≡ dest → ⊥) → row_slot (row_entry row.new.items h) d ≡ row_slot (row_entry row.old.items h) d }
+    ensures others { (h d : ℕ) → (h ≡ height → d ≡ dest → ⊥) → row_slot (row_entry row.new.items h) d
+        ≡ row_slot (row_entry row.old.items h) d }
     ensures reports { (h : ℕ) → row_report (row_entry row.new.items h) ≡ row_report (row_entry row.old.items h) }
     ensures long { length row.new.items ≡ length row.old.items }
 {

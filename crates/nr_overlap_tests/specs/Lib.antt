@@ -1,3 +1,4 @@
+-- Definitions that the contracts cite.
 pub mod Small
 pub mod Amounts
 pub mod SmallLaws

@@ -1,4 +1,5 @@
--- What a chunk of a roll does: it sends its name to each shard, and tells the names that it took, in order. These tests' own.
+-- What a chunk of a roll does: it sends its name to each shard, and tells the names that it took, in order. These
+-- tests' own.
 use Rattle.std.specs.Prelude.{ℕ, zero, suc, Bool, false, List, [], ◌∷◌, ◌++◌, slice_get, length, unwrap_or, replicate}
 use Rattle.std.specs.Option.{option_map}
 use Rattle.nr_overlap.specs.Rules.{Rules}

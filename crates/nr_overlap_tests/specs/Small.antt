@@ -1,5 +1,7 @@
--- What a small chunk does: it sends amounts of what its shard has; of each list that comes the first receipt is paid, and the others wait. These tests' own.
-use Rattle.std.specs.Prelude.{ℕ, zero, suc, ◌+◌, ◌-◌, ◌%◌, ◌^◌, ◌==◌, nat_le, cond, List, [], ◌∷◌, ◌++◌, map, filter, fold, sum_by, Option, None, slice_get, length, unwrap_or, is_some}
+-- What a small chunk does: it sends amounts of what its shard has; of each list that comes the first receipt is paid,
+-- and the others wait. These tests' own.
+use Rattle.std.specs.Prelude.{ℕ, zero, suc, ◌+◌, ◌-◌, ◌%◌, ◌^◌, ◌==◌, nat_le, cond, List, [], ◌∷◌, ◌++◌, map, filter}
+use Rattle.std.specs.Prelude.{fold, sum_by, Option, None, slice_get, length, unwrap_or, is_some}
 use Rattle.std.specs.Option.{option_and_then}
 use Rattle.std.specs.List.{range_with_len}
 use Rattle.nr_overlap.specs.Rules.{Rules, Sealing}
@@ -24,7 +26,13 @@ lists_to shards n receipts = map (λ dest. out_to shards dest receipts) (range_w
 
 -- an amount is sent where there is as much
 abbrev pub spend : Work → ℕ → Work
-spend k r = cond (nat_le r k.balance) (record { balance = k.balance - r; waiting = k.waiting; done = k.done; outgoing = k.outgoing ++ r ∷ [] }) k
+spend k r =
+    cond (nat_le r k.balance) (record {
+      balance = k.balance - r;
+      waiting = k.waiting;
+      done = k.done;
+      outgoing = k.outgoing ++ r ∷ [];
+    }) k
 
 abbrev pub begun : Place → Work
 begun w = record { balance = w.balance; waiting = w.waiting; done = []; outgoing = [] }
@@ -35,7 +43,8 @@ opened amounts w = fold spend (begun w) amounts
 -- the first receipt is paid, and the others wait
 abbrev pub took : Work → List ℕ → Work
 took k [] = k
-took k (r ∷ rs) = record { balance = k.balance + r; waiting = k.waiting ++ rs; done = k.done ++ r ∷ []; outgoing = k.outgoing }
+took k (r ∷ rs) =
+    record { balance = k.balance + r; waiting = k.waiting ++ rs; done = k.done ++ r ∷ []; outgoing = k.outgoing }
 
 abbrev pub sealing : ℕ → Work → Sealing Place (List ℕ) Did
 sealing shards k = record {

@@ -1,3 +1,5 @@
+//! A chain whose chunks send their names.
+
 /// A chain whose chunks send their names: for each block whether it has a chunk of each shard.
 #[derive(Drop)]
 pub struct Roll {

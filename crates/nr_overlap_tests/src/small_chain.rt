@@ -1,3 +1,5 @@
+//! A chain of amounts for the tests.
+
 ghost use Rattle.std.specs.Prelude.{◌≤◌};
 
 use crate::bag::Bag;

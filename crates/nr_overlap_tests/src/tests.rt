@@ -1,3 +1,5 @@
+//! Steps in many orders: answers, what stands, and sums.
+
 ghost use Rattle.std.specs.Prelude.{◌≡◌, ◌<◌, IfOk, false};
 
 use crate::bag::Bag;

@@ -147,7 +147,10 @@ unfolding forest_of root_of_entries
 map_top es = top_of (trie (depth (paths es)) (paths es)) (forest (depth (paths es)) [] (paths es) bare) (tops_forest (depth (paths es)) [] (paths es) bare) (usage_forest (depth (paths es)) [] (paths es) bare)
 
 -- ---- the walk from the root
-walked_own : (texts : Contents) (count number : ℕ) (s : Summary) (top : Stood) (below : Forest) (claims : List Claim) → 0 < count → IsTop s top → IsGrown (tree top below bare) → AllHeld texts (tree top below bare) → walked texts s.hash count number ≡ Ok claims → claims ≡ map claim_told (entries_in (share_of s.usage count number) 0 (tree top below bare))
+walked_own : (texts : Contents) (count number : ℕ) (s : Summary) (top : Stood) (below : Forest) (claims : List Claim)
+    → 0 < count → IsTop s top → IsGrown (tree top below bare) → AllHeld texts (tree top below bare)
+    → walked texts s.hash count number ≡ Ok claims
+    → claims ≡ map claim_told (entries_in (share_of s.usage count number) 0 (tree top below bare))
 unfolding walked
 walked_own texts count number s top below claims some is grown held e =
     let a = bind_ok (looked_at texts (spot [] s.hash)) (λ node. walk_below texts (share_of (usage_of node) count number) node) claims e in

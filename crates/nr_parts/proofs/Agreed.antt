@@ -130,7 +130,11 @@ walked_fine texts m count number s top below given is grown nodes there few =
           ∙ ap (λ r. r >>= λ claims. Ok (option_list (claim_at share 0 [] top.node) ++ claims)) walk,
     )
 
-forest_fine : (texts : Contents) (m : Contents) (count number : ℕ) (s : Summary) (g : Forest) → IsOf texts s.hash m → is_zeros s.hash ≡ false → TopOf s g → IsGrown g → AllNodes (paths (entries m)) g → AllByRecursion (IsThere texts) (looked_from_root (share_of s.usage count number) g) → length (looked_from_root (share_of s.usage count number) g) ≤ most_nodes → HasClaims (walked texts s.hash count number)
+forest_fine : (texts : Contents) (m : Contents) (count number : ℕ) (s : Summary) (g : Forest) → IsOf texts s.hash m
+    → is_zeros s.hash ≡ false → TopOf s g → IsGrown g → AllNodes (paths (entries m)) g
+    → AllByRecursion (IsThere texts) (looked_from_root (share_of s.usage count number) g)
+    → length (looked_from_root (share_of s.usage count number) g) ≤ most_nodes
+    → HasClaims (walked texts s.hash count number)
 forest_fine texts m count number s bare given zeros top grown nodes there few = absurd (false≢true (sym zeros ∙ zeros_again s.hash top))
 forest_fine texts m count number s (tree t below beside) given zeros top grown nodes there few = walked_fine texts m count number s t below given top.0 (grown.0, grown.1, tt) (nodes.0, nodes.1, tt) there few
 

@@ -71,7 +71,11 @@ nodes_few (suc depth) (p ∷ q ∷ ps) stands walk =
     ∙ length-append (entry_list (entry_here [] (value_here rest))) (flat_map (λ m. told ([] ++ m ∷ []) (under m rest)) sixteen)
     ∙ (λ i. value_count [] (value_here rest) i + length_flat (λ m. told ([] ++ m ∷ []) (under m rest)) sixteen i) in
     let nodes : length (nodes_at (suc depth) all) ≡ length (head_nodes (front all) (branch (value_here rest) (map (λ n. trie depth (under n rest)) sixteen))) + sum_of (λ n. length (nodes_at depth (under n rest))) sixteen =
-    length-append (head_nodes (front all) (branch (value_here rest) (map (λ n. trie depth (under n rest)) sixteen))) (flat_map (λ n. nodes_at depth (under n rest)) sixteen) ∙ ap (λ k. length (head_nodes (front all) (branch (value_here rest) (map (λ n. trie depth (under n rest)) sixteen))) + k) (length_flat (λ n. nodes_at depth (under n rest)) sixteen) in
+    length-append (head_nodes (front all) (branch (value_here rest) (map (λ n. trie depth (under n rest)) sixteen)))
+    (flat_map (λ n. nodes_at depth (under n rest)) sixteen) ∙ ap
+    (λ k. length (head_nodes (front all) (branch (value_here rest)
+    (map (λ n. trie depth (under n rest)) sixteen))) + k)
+    (length_flat (λ n. nodes_at depth (under n rest)) sixteen) in
     total_few _ _ _ _ _ _ _ _ _ nodes (few_heads (front all) (branch (value_here rest) (map (λ n. trie depth (under n rest)) sixteen))) rows (length_behind (length (front all)) all) parts linked (counted_rows depth rest sixteen)
   where
     rows_few : (rest : Paths) → ((n : ℕ) → length (nodes_at depth (under n rest)) + 2 * there (under n rest) ≤ 3 * length (under n rest)) → (ns : List ℕ) → sum_of (λ n. length (nodes_at depth (under n rest))) ns + 2 * sum_of (λ n. there (under n rest)) ns ≤ 3 * sum_of (λ n. length (told ([] ++ n ∷ []) (under n rest))) ns

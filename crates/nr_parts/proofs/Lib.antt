@@ -1,3 +1,4 @@
+-- Lemmas behind the answers.
 mod Accepted
 mod Agreed
 mod Counted

@@ -37,7 +37,10 @@ abbrev pub AllNodes : Paths → Forest → Type 0
 AllNodes top bare = Unit {0}
 AllNodes top (tree s below beside) = IsNodeOf top s × AllNodes top below × AllNodes top beside
 
-fronted_nodes : (top : Paths) (place shared : List ℕ) (all : Paths) (s : Stood) (children beside : Forest) → front all ≡ shared → IsBelow top all → 2 ≤ length all → behind_all place top ≡ all → s.node ≡ branch_of (cut all) → IsNodeOf top s → AllNodes top children → AllNodes top beside → AllNodes top (fronted place shared (summary s.node) s children beside)
+fronted_nodes : (top : Paths) (place shared : List ℕ) (all : Paths) (s : Stood) (children beside : Forest)
+    → front all ≡ shared → IsBelow top all → 2 ≤ length all → behind_all place top ≡ all
+    → s.node ≡ branch_of (cut all) → IsNodeOf top s → AllNodes top children → AllNodes top beside
+    → AllNodes top (fronted place shared (summary s.node) s children beside)
 fronted_nodes top place [] all s children beside e below many exact node here a b = (here, a, b)
 fronted_nodes top place (x ∷ xs) all s children beside e below many exact node here a b = (
   record {

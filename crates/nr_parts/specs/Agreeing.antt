@@ -26,16 +26,20 @@ IsPartOfEach root part = (m : Contents) → AgreesWithPart part root m → part.
 
 -- the entries are those of each map that is such a one for all of the parts
 abbrev pub AreAllOfEach : Hash32 → List Part → List Entry → Type 0
-AreAllOfEach root parts all = (m : Contents) → AllByRecursion (λ (p : Part). AgreesWithPart p root m) parts → pairs_of all ≡ entries m
+AreAllOfEach root parts all =
+    (m : Contents) → AllByRecursion (λ (p : Part). AgreesWithPart p root m) parts → pairs_of all ≡ entries m
 
 -- the part of this number that is cut out of the map is accepted, if the map agrees with its texts
 abbrev pub IsCutAccepted : Contents → ℕ → ℕ → Type 0
 IsCutAccepted m count number =
-    1 ≤ count → count ≤ 10000 → number < count → IsOf (texts_of (part_cut (entries m) count number).texts) (root_of m).hash m → checked (root_of m).hash (part_cut (entries m) count number) ≡ Ok tt
+    1 ≤ count → count ≤ 10000 → number < count
+    → IsOf (texts_of (part_cut (entries m) count number).texts) (root_of m).hash m
+    → checked (root_of m).hash (part_cut (entries m) count number) ≡ Ok tt
 
 -- a part of these entries is accepted, if the map of the entries agrees with its texts
 abbrev pub IsAcceptedOf : List Entry → Part → Type 0
-IsAcceptedOf es part = (m : Contents) → pairs_of es ≡ entries m → IsOf (texts_of part.texts) part.root m → checked part.root part ≡ Ok tt
+IsAcceptedOf es part =
+    (m : Contents) → pairs_of es ≡ entries m → IsOf (texts_of part.texts) part.root m → checked part.root part ≡ Ok tt
 
 -- all parts of so many of the map, one after the other
 abbrev pub all_cut : Contents → ℕ → List Part
@@ -44,4 +48,6 @@ all_cut m count = map (λ number. part_cut (entries m) count number) (range_with
 -- they are joined to the entries that were cut, if the map agrees with the texts of each
 abbrev pub AreCutsJoined : Contents → ℕ → Type 0
 AreCutsJoined m count =
-    1 ≤ count → count ≤ 10000 → AllByRecursion (λ (p : Part). IsOf (texts_of p.texts) (root_of m).hash m) (all_cut m count) → (es : List Entry) → pairs_of es ≡ entries m → joined_or_fault (root_of m).hash (all_cut m count) ≡ Ok es
+    1 ≤ count → count ≤ 10000 → AllByRecursion (λ (p : Part). IsOf (texts_of p.texts) (root_of m).hash m)
+    (all_cut m count) → (es : List Entry) → pairs_of es ≡ entries m
+    → joined_or_fault (root_of m).hash (all_cut m count) ≡ Ok es

@@ -1,5 +1,6 @@
 -- Which parts are refused, and by which fault. This project's own.
-use Rattle.std.specs.Prelude.{ℕ, suc, ◌==◌, ◌&&◌, Bool, cond, nat_le, nat_lt, List, [], ◌∷◌, length, replicate, Option, Some, None, Result, Ok, Err}
+use Rattle.std.specs.Prelude.{ℕ, suc, ◌==◌, ◌&&◌, Bool, cond, nat_le, nat_lt, List, [], ◌∷◌, length, replicate, Option}
+use Rattle.std.specs.Prelude.{Some, None, Result, Ok, Err}
 use Rattle.std.specs.Str.{bytes_eq}
 use Rattle.nr_bytes.specs.Reading.{◌>>=◌}
 use Rattle.nr_ids.specs.declared.key.Hash32.{Hash32}
@@ -12,7 +13,8 @@ use Rattle.nr_parts.specs.Walking.{walked}
 use Rattle.nr_parts.specs.declared.walking.Claim.{Claim}
 use Rattle.nr_parts.specs.declared.part.Part.{Part}
 use Rattle.nr_parts.specs.declared.fault.PartFault.{PartFault}
-use Rattle.nr_parts.specs.declared.fault.PartFault.TheVariants.{Numbers, Root, Missing, BadText, Entries, TooMany, Memory}
+use Rattle.nr_parts.specs.declared.fault.PartFault.TheVariants.{Numbers, Root, Missing, BadText, Entries, TooMany}
+use Rattle.nr_parts.specs.declared.fault.PartFault.TheVariants.{Memory}
 
 abbrev pub memory_fault : PartFault
 memory_fault = Memory

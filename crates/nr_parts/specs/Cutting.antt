@@ -31,12 +31,22 @@ looked_from_root share (tree top below beside) = top ∷ looked share (usage_of 
 -- each text whose hash isn't among those that were there
 abbrev pub once : Contents → List (List ℕ) → List (List ℕ)
 once seen [] = []
-once seen (text ∷ texts) = cond (is_some (get seen (sha256 text))) (once seen texts) (text ∷ once (insert seen (sha256 text) []) texts)
+once seen (text ∷ texts) =
+    cond (is_some (get seen (sha256 text))) (once seen texts) (text ∷ once (insert seen (sha256 text) []) texts)
 
 -- depth first, each once
 unfoldable pub part_texts : List (List ℕ × List ℕ) → ℕ → ℕ → List (List ℕ)
-part_texts es count number = once empty (map (λ (s : Stood). node_text s.node) (looked_from_root (share_of (root_of_entries es).usage count number) (forest_of es)))
+part_texts es count number =
+    once empty (map (λ (s : Stood). node_text s.node)
+    (looked_from_root (share_of (root_of_entries es).usage count number) (forest_of es)))
 
 -- the part of these entries
 abbrev pub part_cut : List (List ℕ × List ℕ) → ℕ → ℕ → Part
-part_cut es count number = record { root = (root_of_entries es).hash; count = count; number = number; entries = part_of_entries es count number; texts = part_texts es count number }
+part_cut es count number =
+    record {
+      root = (root_of_entries es).hash;
+      count = count;
+      number = number;
+      entries = part_of_entries es count number;
+      texts = part_texts es count number;
+    }

@@ -68,11 +68,15 @@ entry_bytes e = counted_bytes e.key ++ counted_bytes e.value
 
 -- the file of a part
 abbrev pub part_bytes : Part → List ℕ
-part_bytes p = magic ++ p.root.0 ++ little 4 p.count ++ little 4 p.number ++ list entry_bytes p.entries ++ list counted_bytes p.texts
+part_bytes p =
+    magic ++ p.root.0 ++ little 4 p.count ++ little 4 p.number ++ list entry_bytes p.entries
+    ++ list counted_bytes p.texts
 
 -- ---- the parts that have a file: a list, a key, a value and a text are counted in four bytes
 abbrev pub IsEntry : Entry → Type 0
 IsEntry e = IsCounted e.key × IsCounted e.value
 
 abbrev pub IsFiled : Part → Type 0
-IsFiled p = IsHash p.root × ((p.count < 256 ^ 4) × ((p.number < 256 ^ 4) × (FitsList IsEntry p.entries × FitsList IsCounted p.texts)))
+IsFiled p =
+    IsHash p.root × ((p.count < 256 ^ 4) × ((p.number < 256 ^ 4)
+    × (FitsList IsEntry p.entries × FitsList IsCounted p.texts)))

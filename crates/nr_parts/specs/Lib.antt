@@ -1,3 +1,4 @@
+-- Definitions that the contracts cite.
 pub mod Agreeing
 pub mod Checking
 pub mod Cutting

@@ -1,5 +1,7 @@
--- A state in parts: where each node of a trie stands by memory usage, and which entries belong to a part. This project's own.
-use Rattle.std.specs.Prelude.{◌≡◌, ◌<◌, ◌≤◌, ℕ, true, ◌+◌, ◌-◌, ◌*◌, ◌/◌, ◌==◌, Bool, cond, List, [], ◌∷◌, ◌++◌, Option, Some, None, max, min, nat_lt}
+-- A state in parts: where each node of a trie stands by memory usage, and which entries belong to a part. This
+-- project's own.
+use Rattle.std.specs.Prelude.{◌≡◌, ◌<◌, ◌≤◌, ℕ, true, ◌+◌, ◌-◌, ◌*◌, ◌/◌, ◌==◌, Bool, cond, List, [], ◌∷◌, ◌++◌, Option}
+use Rattle.std.specs.Prelude.{Some, None, max, min, nat_lt}
 use Rattle.std.specs.List.{flat_map}
 use Rattle.std.specs.FinMap.{entries}
 use Rattle.nr_triedef.specs.Node.{usage_of}

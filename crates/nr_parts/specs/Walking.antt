@@ -1,5 +1,7 @@
--- The walk over the texts of a part: which nodes are looked at, in which order, and what each claims. This project's own.
-use Rattle.std.specs.Prelude.{ℕ, zero, suc, ◌+◌, ◌-◌, ◌^◌, cond, List, [], ◌∷◌, ◌++◌, length, Option, Some, None, Result, Ok, Err}
+-- The walk over the texts of a part: which nodes are looked at, in which order, and what each claims. This project's
+-- own.
+use Rattle.std.specs.Prelude.{ℕ, zero, suc, ◌+◌, ◌-◌, ◌^◌, cond, List, [], ◌∷◌, ◌++◌, length, Option, Some, None}
+use Rattle.std.specs.Prelude.{Result, Ok, Err}
 use Rattle.nr_bytes.specs.Reading.{◌>>=◌}
 use Rattle.nr_ids.specs.declared.key.Hash32.{Hash32}
 use Rattle.nr_triedef.specs.Node.{usage_of}
@@ -44,7 +46,8 @@ visited texts share at spot = do
 abbrev pub most_nodes : ℕ
 most_nodes = 2 ^ 28
 
--- what the nodes claim, the first of these with all that is looked at below it before the others; at most n are looked at
+-- what the nodes claim, the first of these with all that is looked at below it before the others; at most n are
+-- looked at
 unfoldable pub walk_from : Contents → Share → ℕ → ℕ → List Spot → Result (List Claim) WalkFault
 walk_from texts share n at [] = Ok []
 walk_from texts share zero at (spot ∷ spots) = Err TooMany

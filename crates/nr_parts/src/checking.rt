@@ -4,7 +4,8 @@ ghost use Rattle.std.specs.Prelude.{◌≡◌, IfOk};
 ghost use Rattle.nr_bytes.specs.Answers.{Gives};
 ghost use Rattle.nr_walk.specs.Texts.{memory_fault as walk_memory};
 ghost use Rattle.nr_parts.specs.Agreeing.{IsPartOfEach};
-ghost use Rattle.nr_parts.specs.Checking.{memory_fault, is_claimed, first_other, same_hash, is_zeros, claims_of, compared, is_numbered, checked};
+ghost use Rattle.nr_parts.specs.Checking.{memory_fault, is_claimed, first_other, same_hash, is_zeros, claims_of};
+ghost use Rattle.nr_parts.specs.Checking.{compared, is_numbered, checked};
 
 use crate::fault::PartFault;
 use crate::part::Part;

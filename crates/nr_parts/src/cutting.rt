@@ -1,6 +1,7 @@
 //! Cutting a part out of a state.
 
-ghost use Rattle.std.specs.Prelude.{◌≡◌, ◌≤◌, ◌<◌, ◌++◌, ◌∷◌, ◌^◌, [], cond, is_some, length, map, take, reverse, Some, IfOk, OnOk};
+ghost use Rattle.std.specs.Prelude.{◌≡◌, ◌≤◌, ◌<◌, ◌++◌, ◌∷◌, ◌^◌, [], cond, is_some, length, map, take, reverse, Some};
+ghost use Rattle.std.specs.Prelude.{IfOk, OnOk};
 ghost use Rattle.std.specs.List.{AllByRecursion};
 ghost use Rattle.std.specs.FinMap as map_of;
 ghost use Rattle.sha2.specs.Sha256.{sha256};
@@ -110,7 +111,9 @@ fn pass(
     node: &Node,
 ) -> Result<usize, AllocError>
     requires { at < 2 ^ 95 }
-    ensures { IfOk result (λ next. (more : Items Nodes) → own.new.items ++ swept_entries share (at + own_usage node.now) more (drop next entries.now) ≡ own.old.items ++ swept_entries share at (node.now ∷ more) (drop index entries.now)) }
+    ensures { IfOk result (λ next. (more : Items Nodes)
+        → own.new.items ++ swept_entries share (at + own_usage node.now) more (drop next entries.now)
+        ≡ own.old.items ++ swept_entries share at (node.now ∷ more) (drop index entries.now)) }
 {
     if !has_value(node) {
         return Ok(index);
@@ -143,8 +146,11 @@ fn own_entries(
 
 // Adds a text, unless it is among them.
 fn add_text(seen: &mut PlainStore, texts: &mut Vec<Blob>, text: Blob) -> Result<(), AllocError>
-    ensures texts { OnOk result (texts.new.items ≡ texts.old.items ++ cond (is_some (map_of.get seen.old.contents (sha256 text))) [] (text ∷ [])) }
-    ensures seen { OnOk result (seen.new.contents ≡ cond (is_some (map_of.get seen.old.contents (sha256 text))) seen.old.contents (map_of.insert seen.old.contents (sha256 text) [])) }
+    ensures texts { OnOk result (texts.new.items
+        ≡ texts.old.items ++ cond (is_some (map_of.get seen.old.contents (sha256 text))) [] (text ∷ [])) }
+    ensures seen { OnOk result (seen.new.contents
+        ≡ cond (is_some (map_of.get seen.old.contents (sha256 text))) seen.old.contents
+        (map_of.insert seen.old.contents (sha256 text) [])) }
 {
     let hash = value_hash(text.inner());
     if seen.get(&hash.0).is_some() {
@@ -181,7 +187,10 @@ fn look(
     requires form { IsNode node.now }
     requires count { 0 < share.count }
     requires low { at < 2 ^ 95 }
-    ensures { IfOk result (λ next. (more : Items Nodes) → texts.new.items ++ once seen.new.contents (map node_text (swept_nodes share (at + own_usage node.now) next more)) ≡ texts.old.items ++ once seen.old.contents (map node_text (swept_nodes share at end (node.now ∷ more)))) }
+    ensures { IfOk result (λ next. (more : Items Nodes)
+        → texts.new.items ++ once seen.new.contents
+        (map node_text (swept_nodes share (at + own_usage node.now) next more))
+        ≡ texts.old.items ++ once seen.old.contents (map node_text (swept_nodes share at end (node.now ∷ more)))) }
 {
     if at < end {
         return Ok(end);

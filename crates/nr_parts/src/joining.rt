@@ -6,7 +6,8 @@ ghost use Rattle.nr_bytes.specs.Answers.{Gives};
 ghost use Rattle.nr_triedef.specs.Root.{root_of};
 ghost use Rattle.nr_parts.specs.Agreeing.{AreAllOfEach};
 ghost use Rattle.nr_parts.specs.Checking.{memory_fault, checked};
-ghost use Rattle.nr_parts.specs.Joining.{is_placed, first_astray, each_checked, is_accepted, first_refused, joined, set_all, whole_hash, joined_or_fault};
+ghost use Rattle.nr_parts.specs.Joining.{is_placed, first_astray, each_checked, is_accepted, first_refused, joined};
+ghost use Rattle.nr_parts.specs.Joining.{set_all, whole_hash, joined_or_fault};
 
 use crate::checking::{check_part, same_hash};
 use crate::fault::PartFault;
@@ -153,7 +154,8 @@ pub fn first_refused(
 ) -> Result<Option<usize>, AllocError>
     ensures value { IfOk result (λ at. at ≡ first_refused root.now 0 parts.now) }
     // The first fault of the parts is that of the part at the position.
-    ensures fault { IfOk result (λ found. (at : ℕ) → found ≡ Some at → each_checked root.now parts.now ≡ each_checked root.now (take 1 (drop at parts.now))) }
+    ensures fault { IfOk result (λ found. (at : ℕ) → found ≡ Some at → each_checked root.now parts.now
+        ≡ each_checked root.now (take 1 (drop at parts.now))) }
 {
     refused_at(alloc, root, parts.inner())
 }

@@ -22,7 +22,9 @@ pub fn accepted_parts()
 
 /// Does nothing. The parts of all numbers, one after the other, are the entries that were cut.
 pub fn parts_in_turn()
-    ensures { (entries : Items Entries) (count : ℕ) → InOrder entries → AllByRecursion (λ (e : Entries). IsBytes e.key) entries → 0 < count → flat_map (λ number. part_of_entries (pairs_of entries) count number) (range_with_len 0 count) ≡ entries }
+    ensures { (entries : Items Entries) (count : ℕ) → InOrder entries
+        → AllByRecursion (λ (e : Entries). IsBytes e.key) entries → 0 < count
+        → flat_map (λ number. part_of_entries (pairs_of entries) count number) (range_with_len 0 count) ≡ entries }
 {}
 
 /// Does nothing. The part that is cut out of a map that a store can hold is accepted, if the map
@@ -39,6 +41,8 @@ pub fn cut_parts_join()
 
 /// Does nothing. Offsets meet the part's exactly where one of them is one of the part's.
 pub fn meeting_offsets()
-    ensures some { (share : Shares) (at usage : ℕ) → 0 < share.whole → 0 < share.count → meets share at usage ≡ true → Meets share at usage }
-    ensures only { (share : Shares) (at usage : ℕ) → 0 < share.whole → 0 < share.count → Meets share at usage → meets share at usage ≡ true }
+    ensures some { (share : Shares) (at usage : ℕ) → 0 < share.whole → 0 < share.count → meets share at usage ≡ true
+        → Meets share at usage }
+    ensures only { (share : Shares) (at usage : ℕ) → 0 < share.whole → 0 < share.count → Meets share at usage
+        → meets share at usage ≡ true }
 {}

@@ -1,3 +1,5 @@
+//! A part of a shard's state.
+
 use nr_bytes::{Blob, List};
 use nr_columns::Entry;
 use nr_ids::Hash32;

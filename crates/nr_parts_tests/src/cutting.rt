@@ -1,3 +1,5 @@
+//! Parts that are cut, accepted, read back and joined, by the values of an independent program.
+
 use crate::judging::{is_read_back, told};
 use crate::states::{files_of, forty, part_of, parts_of, three};
 use crate::table::{FILES, FIRST, FORTY, ROOT, SECOND, SHARES};

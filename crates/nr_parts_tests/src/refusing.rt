@@ -1,3 +1,5 @@
+//! Each fault of a file and of a part.
+
 use crate::judging::{judged, unread};
 use crate::table::{CUT, FIRST, JUDGED, ROOT, SECOND};
 use nr_ids::Hash32;

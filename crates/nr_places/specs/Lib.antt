@@ -1,3 +1,4 @@
+-- Definitions that the contracts cite.
 pub mod Places
 pub mod Moments
 pub mod Totals

@@ -1,4 +1,5 @@
--- The receipts of a run at any moment, by their place: those that were routed, and of these the executed, postponed and delayed ones and those in flight. After the Nomicon, Runtime Specification (Receipts).
+-- The receipts of a run at any moment, by their place: those that were routed, and of these the executed, postponed
+-- and delayed ones and those in flight. After the Nomicon, Runtime Specification (Receipts).
 use Rattle.std.specs.Prelude.{ℕ, zero, suc, ◌+◌, List, [], ◌++◌, Option, Some, None, unwrap_or}
 use Rattle.std.specs.FinMap.{values}
 use Rattle.nr_chunk.specs.Chain.{Chain, rules_of}
@@ -33,7 +34,8 @@ carried_in None = []
 carried_in (Some w) = w.carried
 
 module _ (x : Chain) where
-  -- by the chunk after a height: the receipts for its own shard's signers when they are converted, and those that go out when it is sealed
+  -- by the chunk after a height: the receipts for its own shard's signers when they are converted, and those that go
+  -- out when it is sealed
   abbrev pub routed_at : ℕ → ℕ → List Receipt
   routed_at s h = (converted_at x s h).local
 

@@ -1,5 +1,7 @@
--- Where the receipts of a run are: executed, postponed, delayed or in flight. After the Nomicon, Runtime Specification (Receipts); the amounts are this project's.
-use Rattle.std.specs.Prelude.{◌≡◌, ℕ, zero, suc, ◌+◌, ◌-◌, true, false, cond, List, [], ◌∷◌, ◌++◌, Option, Some, None, length, slice_get, sum_by, unwrap_or}
+-- Where the receipts of a run are: executed, postponed, delayed or in flight. After the Nomicon, Runtime
+-- Specification (Receipts); the amounts are this project's.
+use Rattle.std.specs.Prelude.{◌≡◌, ℕ, zero, suc, ◌+◌, ◌-◌, true, false, cond, List, [], ◌∷◌, ◌++◌, Option, Some, None}
+use Rattle.std.specs.Prelude.{length, slice_get, sum_by, unwrap_or}
 use Rattle.nr_chunk.specs.Chain.{Chain, rules_of, chunk_at, opened_first, place_at}
 use Rattle.nr_chunk.specs.Chunk.{Opening, begun, has_gas, serve, served_local, convert_all, without_front}
 use Rattle.nr_chunk.specs.Serving.{CanServe}
@@ -33,11 +35,14 @@ module _ (x : Chain) where
   -- one that a datum sets free passes from the postponed ones to these, in the same turn as the datum
   pub record Frees (k : Working) (datum freed : Receipt) : Type 0 where
     pub executed : executes k datum ≡ datum ∷ freed ∷ []
-    pub postponed : (f : Receipt → ℕ) → postponed_sum f (serve x.config x.call k datum).world + f freed ≡ postponed_sum f k.world
+    pub postponed : (f : Receipt → ℕ) → postponed_sum f (serve x.config x.call k datum).world + f freed
+        ≡ postponed_sum f k.world
 
   -- so it is wherever a chunk that has gas left serves such a datum
   abbrev pub FreesPostponed : Type 0
-  FreesPostponed = (k : Working) (datum freed : Receipt) (inputs : List (Option (List ℕ))) (after : World) → CanServe x.config k (datum ∷ []) → has_gas x.config k ≡ true → is_act datum.body ≡ false
+  FreesPostponed =
+      (k : Working) (datum freed : Receipt) (inputs : List (Option (List ℕ))) (after : World)
+      → CanServe x.config k (datum ∷ []) → has_gas x.config k ≡ true → is_act datum.body ≡ false
       → offer k.world datum ≡ (after, Run freed inputs) → Frees k datum freed
 
   abbrev pub executes_all : Working → List Receipt → List Receipt
@@ -47,7 +52,9 @@ module _ (x : Chain) where
   -- where the delayed queue is served
   abbrev pub executes_queue : List Receipt → Working → List Receipt
   executes_queue [] k = []
-  executes_queue (r ∷ rest) k = cond (has_gas x.config k) (executes (without_front k (r ∷ rest)) r ++ executes_queue rest (serve x.config x.call (without_front k (r ∷ rest)) r)) []
+  executes_queue (r ∷ rest) k =
+      cond (has_gas x.config k) (executes (without_front k (r ∷ rest)) r ++ executes_queue rest
+      (serve x.config x.call (without_front k (r ∷ rest)) r)) []
 
   -- in the opening: local receipts, and then the queue
   abbrev pub executes_delayed : Working → List Receipt
@@ -58,7 +65,9 @@ module _ (x : Chain) where
 
   -- what the chunk after a height makes of its transactions
   abbrev pub converted_at : ℕ → ℕ → Opening
-  converted_at s h = convert_all x.config (begun (world_after (rules_of x) s h) (record { 0 = s }) (place_at x (h + 1))) (unwrap_or (chunk_at x s (h + 1)) [])
+  converted_at s h =
+      convert_all x.config (begun (world_after (rules_of x) s h) (record { 0 = s }) (place_at x (h + 1)))
+      (unwrap_or (chunk_at x s (h + 1)) [])
 
   -- by the chunk after a height, of the next list that is due
   abbrev pub executes_list : Working → Option (List Receipt) → List Receipt
@@ -67,7 +76,8 @@ module _ (x : Chain) where
 
   abbrev pub executes_due : ℕ → ℕ → ℕ → Option (ℕ × ℕ) → List Receipt
   executes_due s h n None = []
-  executes_due s h n (Some due) = executes_list (work (rules_of x) s h n) (list_to (rules_of x) (sealing_at (rules_of x) due.1 due.0) s)
+  executes_due s h n (Some due) =
+      executes_list (work (rules_of x) s h n) (list_to (rules_of x) (sealing_at (rules_of x) due.1 due.0) s)
 
   -- and of what its shard carries
   abbrev pub executes_carried : ℕ → ℕ → Kept → List Receipt
@@ -82,7 +92,8 @@ module _ (x : Chain) where
   abbrev pub executed_in : ℕ → ℕ → List Receipt
   executed_in s h = executed_at s h (length (due_after (rules_of x) s h))
 
-  -- ---- the places: postponed, delayed, executed, in flight. One is made where it is routed: a local one when it is converted, others when their chunk is sealed.
+  -- ---- the places: postponed, delayed, executed, in flight. One is made where it is routed: a local one when it is
+  -- converted, others when their chunk is sealed.
   abbrev pub places : (Receipt → ℕ) → Amount Kept Working (List Receipt) ChunkResult
   places f = record {
     world = λ w. waiting f w.world + sum_by f w.carried;

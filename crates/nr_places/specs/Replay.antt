@@ -1,4 +1,5 @@
--- What holds at each moment of a replay, at whatever heights and stages its shards stand. After the Nomicon, Chain Specification and Economics; the moments are this project's.
+-- What holds at each moment of a replay, at whatever heights and stages its shards stand. After the Nomicon, Chain
+-- Specification and Economics; the moments are this project's.
 use Rattle.std.specs.Prelude.{◌≡◌, ℕ, ◌+◌, List, length, Some, slice_index, sum_by}
 use Rattle.std.specs.Option.{option_map}
 use Rattle.nr_chunk.specs.Chain.{Chain, rules_of}
@@ -24,21 +25,28 @@ PlacesAddUp first n = first + slice_index n 0 ≡ slice_index n 1 + slice_index 
 
 pub record Holds (x : Chain) (ps : List Position) : Type 0 where
   -- what accounts have, what receipts hold that aren't executed and what was burnt is together what the start had
-  pub tokens : (tally_at x ps).accounts + (tally_at x ps).receipts + (tally_at x ps).burnt ≡ start_tokens x.config x.start
-  -- each receipt that waited or was carried at the start, or was routed, is in one place: whatever receipts have, as the
+  pub tokens : (tally_at x ps).accounts + (tally_at x ps).receipts + (tally_at x ps).burnt
+      ≡ start_tokens x.config x.start
+  -- each receipt that waited or was carried at the start, or was routed, is in one place: whatever receipts have, as
+  -- the
   -- count of one of them, the four places have of it what the start had and what was routed
-  pub places : (f : Receipt → ℕ) → start_receipts f x.start + sum_by f (routed x ps) ≡ sum_by f (executed x ps) + sum_by f (postponed x ps) + sum_by f (delayed x ps) + sum_by f (flying x ps)
+  pub places : (f : Receipt → ℕ) → start_receipts f x.start + sum_by f (routed x ps)
+      ≡ sum_by f (executed x ps) + sum_by f (postponed x ps) + sum_by f (delayed x ps) + sum_by f (flying x ps)
   -- the counts of a tally are the lengths of these lists
-  pub counts : (tally_at x ps).places ≡ five (length (routed x ps)) (length (executed x ps)) (length (postponed x ps)) (length (delayed x ps)) (length (flying x ps))
+  pub counts : (tally_at x ps).places ≡ five (length (routed x ps)) (length (executed x ps)) (length (postponed x ps))
+      (length (delayed x ps)) (length (flying x ps))
   pub printed : PlacesAddUp (start_receipts (λ q. 1) x.start) (tally_at x ps).places
 
 -- of a cut, whose values its steps made by the phases alone
 pub record HoldsIn (x : Chain) (c : Cut Kept Working (List Receipt) ChunkResult) (ps : List Position) : Type 0 where
   -- its worlds, working states, reports and lists are the serial run's at these positions
   pub serial : IsSerialCut (rules_of x) c ps
-  -- each chunk that it sealed has the report of the serial run, and each list that it sealed and didn't take is the serial run's
-  pub chunks : (s h : ℕ) (y : ChunkResult) → c.report s h ≡ Some y → option_map (λ z. z.report) (sealing_at (rules_of x) s h) ≡ Some y
-  pub lists : (s h d : ℕ) (list : List Receipt) → c.list s h d ≡ Some list → list_to (rules_of x) (sealing_at (rules_of x) s h) d ≡ Some list
+  -- each chunk that it sealed has the report of the serial run, and each list that it sealed and didn't take is the
+  -- serial run's
+  pub chunks : (s h : ℕ) (y : ChunkResult) → c.report s h ≡ Some y
+      → option_map (λ z. z.report) (sealing_at (rules_of x) s h) ≡ Some y
+  pub lists : (s h d : ℕ) (list : List Receipt) → c.list s h d ≡ Some list
+      → list_to (rules_of x) (sealing_at (rules_of x) s h) d ≡ Some list
   pub sums : Holds x ps
 
 -- the cut that a list of events makes
@@ -47,11 +55,15 @@ cut_by x es = cut_of (rules_of x) (first_cut (rules_of x)) es
 
 -- wherever a list of events leads from the opening
 abbrev pub HoldsAlways : Chain → Type 0
-HoldsAlways x = (es : List Event) → AreInside (rules_of x).shards es → HoldsIn x (cut_by x es) (run_of (rules_of x) (opening (rules_of x)) es)
+HoldsAlways x =
+    (es : List Event) → AreInside (rules_of x).shards es
+    → HoldsIn x (cut_by x es) (run_of (rules_of x) (opening (rules_of x)) es)
 
 -- some events lead to these positions, and so it is there
 abbrev pub HoldsAt : Chain → List Position → Type 0
-HoldsAt x ps = (es : List Event) × AreInside (rules_of x).shards es × (run_of (rules_of x) (opening (rules_of x)) es ≡ ps) × HoldsIn x (cut_by x es) ps
+HoldsAt x ps =
+    (es : List Event) × AreInside (rules_of x).shards es × (run_of (rules_of x) (opening (rules_of x)) es ≡ ps)
+    × HoldsIn x (cut_by x es) ps
 
 -- at all positions that steps can reach
 abbrev pub HoldsWhereReached : Chain → Type 0

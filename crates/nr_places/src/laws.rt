@@ -21,10 +21,10 @@ pub fn places_laws()
 
 /// The replay theorem. Wherever a list of events leads from the opening, the worlds, working states, reports and lists
 /// that the steps made by the phases alone are those of the serial run: each chunk that is sealed has its report, and
-/// each list in flight is its list. Accounts, receipts and what was burnt add up to the tokens of the start; each receipt
-/// that the start had or that was routed is executed, postponed, delayed or in flight, in one place; and the tallies of
-/// what stands count these receipts. So it is at all positions that steps can reach, and at the end of the run. It does
-/// nothing when it runs.
+/// each list in flight is its list. Accounts, receipts and what was burnt add up to the tokens of the start; each
+/// receipt that the start had or that was routed is executed, postponed, delayed or in flight, in one place; and the
+/// tallies of what stands count these receipts. So it is at all positions that steps can reach, and at the end of the
+/// run. It does nothing when it runs.
 pub fn replay_law()
     ensures always { (x : Chain) → IsChain x → HoldsAlways x }
     ensures reached { (x : Chain) → IsChain x → HoldsWhereReached x }

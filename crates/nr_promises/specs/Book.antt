@@ -1,5 +1,8 @@
--- Promises that a contract makes, and the receipts that they stand for. After the Nomicon, Runtime Specification, Bindings Specification (Promises API) and Receipts; the ids, the limits and the order of the faults are this project's.
-use Rattle.std.specs.Prelude.{ℕ, zero, suc, ◌+◌, ◌<◌, ◌≤◌, ◌≡◌, cond, nat_lt, List, [], ◌∷◌, ◌++◌, length, Result, Ok, Err}
+-- Promises that a contract makes, and the receipts that they stand for. After the Nomicon, Runtime Specification,
+-- Bindings Specification (Promises API) and Receipts; the ids, the limits and the order of the faults are this
+-- project's.
+use Rattle.std.specs.Prelude.{ℕ, zero, suc, ◌+◌, ◌<◌, ◌≤◌, ◌≡◌, cond, nat_lt, List, [], ◌∷◌, ◌++◌, length, Result, Ok}
+use Rattle.std.specs.Prelude.{Err}
 use Rattle.std.specs.List.{slice_get, flat_map, list_all, AllByRecursion}
 use Rattle.std.specs.Option.{ok_or, option_map_or}
 use Rattle.nr_bytes.specs.Reading.{◌>>=◌}
@@ -11,7 +14,8 @@ use Rattle.nr_promises.specs.declared.contents.Origin.{Origin}
 use Rattle.nr_promises.specs.declared.contents.Promise.{Promise}
 use Rattle.nr_promises.specs.declared.contents.Promise.TheVariants.{Single, Joined}
 use Rattle.nr_promises.specs.declared.fault.PromiseFault.{PromiseFault}
-use Rattle.nr_promises.specs.declared.fault.PromiseFault.TheVariants.{BadIndex, Joint, TooMany, TooManyActions, TooManyInputs}
+use Rattle.nr_promises.specs.declared.fault.PromiseFault.TheVariants.{BadIndex, Joint, TooMany, TooManyActions}
+use Rattle.nr_promises.specs.declared.fault.PromiseFault.TheVariants.{TooManyInputs}
 use Rattle.nr_records.specs.declared.action.Action.{Action}
 use Rattle.nr_records.specs.declared.receipt.Body.{Body}
 use Rattle.nr_records.specs.declared.receipt.Body.TheVariants.{Act, Datum}
@@ -77,7 +81,15 @@ new_receipt o id receiver inputs =
       predecessor = o.current;
       receiver = receiver;
       receipt_id = id;
-      body = Act (record { signer = o.signer; signer_key = o.signer_key; gas_price = o.gas_price; outputs = []; inputs = inputs; actions = [] });
+      body =
+          Act (record {
+            signer = o.signer;
+            signer_key = o.signer_key;
+            gas_price = o.gas_price;
+            outputs = [];
+            inputs = inputs;
+            actions = [];
+          });
     }
 
 abbrev pub body_with_output : DataReceiver → Body → Body
@@ -111,7 +123,8 @@ changed f (x ∷ xs) (suc at) = x ∷ changed f xs at
 -- Each of the receipts at these places, one after the other, draws an id and gets an output under it. The new receipt
 -- waits for them all, and draws its own id behind them.
 abbrev pub made_after : Origin → List ℕ → List ℕ → List Hash32 → List Receipt → ℕ → List Receipt × ℕ
-made_after o receiver [] inputs made ordinal = (made ++ new_receipt o (drawn o ordinal) receiver inputs ∷ [], ordinal + 1)
+made_after o receiver [] inputs made ordinal =
+    (made ++ new_receipt o (drawn o ordinal) receiver inputs ∷ [], ordinal + 1)
 made_after o receiver (at ∷ rest) inputs made ordinal =
     made_after o receiver rest (inputs ++ drawn o ordinal ∷ [])
     (changed (with_output (record { data_id = drawn o ordinal; receiver = receiver })) made at) (ordinal + 1)

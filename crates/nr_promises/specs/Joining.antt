@@ -6,4 +6,6 @@ use Rattle.nr_promises.specs.declared.fault.PromiseFault.{PromiseFault}
 use Rattle.nr_promises.specs.declared.fault.PromiseFault.TheVariants.{TooManyInputs}
 
 abbrev pub gathered : List Promise → List ℕ → Result (List ℕ) PromiseFault
-gathered promises indices = cond (nat_lt most_inputs (length (all_places promises indices))) (Err TooManyInputs) (Ok (all_places promises indices))
+gathered promises indices =
+    cond (nat_lt most_inputs (length (all_places promises indices))) (Err TooManyInputs)
+    (Ok (all_places promises indices))

@@ -1,4 +1,5 @@
--- What the calls of a book keep of its receipts and add to them, as a call of a contract promises of its own. This project's own.
+-- What the calls of a book keep of its receipts and add to them, as a call of a contract promises of its own. This
+-- project's own.
 use Rattle.std.specs.Prelude.{◌≡◌, ℕ, ◌+◌, ◌≤◌, length}
 use Rattle.nr_config.specs.Config.{Config}
 use Rattle.nr_fees.specs.Fees.{fee, action_fee, attached}

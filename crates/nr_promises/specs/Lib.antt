@@ -1,3 +1,4 @@
+-- Definitions that the contracts cite.
 pub mod Book
 pub mod Making
 pub mod Joining

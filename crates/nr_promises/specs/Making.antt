@@ -1,4 +1,5 @@
--- What the parts of the code answer: an output that is taken back, and the receipts that a new promise waits for. This project's own.
+-- What the parts of the code answer: an output that is taken back, and the receipts that a new promise waits for.
+-- This project's own.
 use Rattle.std.specs.Prelude.{ℕ, ◌-◌, List, [], length, take, Option, Some, None}
 use Rattle.nr_promises.specs.Book.{places_at}
 use Rattle.nr_promises.specs.declared.contents.Promise.{Promise}

@@ -1,3 +1,5 @@
+//! Why a call on promises was refused.
+
 ghost use Rattle.std.specs.Prelude.{◌≡◌};
 ghost use Rattle.nr_promises.specs.declared.fault.PromiseFault.TheVariants.{Memory};
 

@@ -27,9 +27,11 @@ pub fn promise_laws()
         → IsBook b → act b index action ≡ Ok d → Adds c b d (action_gas c action) (deposit_of action) }
     // The prepaid gas of the receipts made is that of each receipt, and that of each action in them.
     ensures gas { (c : Config) (b : Book) → IsBook b
-        → made_gas c b.made ≡ length b.made * receipt_gas c + sum_by (action_gas c) (flat_map actions_of_receipt b.made) }
+        → made_gas c b.made ≡ length b.made * receipt_gas c + sum_by (action_gas c)
+        (flat_map actions_of_receipt b.made) }
     // The receipts made are action receipts of the account at the call's gas price.
-    ensures made { (x : CallContext) (b : Book) → IsBook b → b.origin.current ≡ x.current → b.origin.gas_price ≡ x.gas_price
+    ensures made { (x : CallContext) (b : Book) → IsBook b → b.origin.current ≡ x.current → b.origin.gas_price
+        ≡ x.gas_price
         → AllByRecursion (IsMade x) b.made }
     // What a promise of one receipt stands for is among the receipts made.
     ensures returned { (b : Book) (index : ℕ) (id : Hash32) → IsBook b → receipt_of b index ≡ Ok id

@@ -3,7 +3,8 @@
 ghost use Rattle.std.specs.Prelude.{◌≡◌, ◌++◌, ◌∷◌, [], ◌+◌, ◌<◌, length, vec_len, IfOk, OnOk, OnErr, IfSome};
 ghost use Rattle.std.specs.List.{AllByRecursion};
 ghost use Rattle.nr_bytes.specs.Answers.{GivesAs};
-ghost use Rattle.nr_promises.specs.Book.{new_receipt, drawn, changed, body_with_output, with_output, made_after, with_receipt, create, then, IsBook};
+ghost use Rattle.nr_promises.specs.Book.{new_receipt, drawn, changed, body_with_output, with_output, made_after};
+ghost use Rattle.nr_promises.specs.Book.{with_receipt, create, then, IsBook};
 ghost use Rattle.nr_promises.specs.Making.{body_without_output, without_output, waited};
 ghost use Rattle.nr_promises.specs.declared.fault.PromiseFault.TheVariants.{Memory};
 
@@ -87,7 +88,8 @@ fn connect(
     ordinal: u64,
 ) -> Result<u64, AllocError>
     requires { at < length made.old }
-    ensures made { OnOk result (made.new ≡ changed (with_output (record { data_id = drawn origin.now ordinal; receiver = receiver.now })) made.old at) }
+    ensures made { OnOk result (made.new ≡ changed
+        (with_output (record { data_id = drawn origin.now ordinal; receiver = receiver.now })) made.old at) }
     ensures inputs { OnOk result (inputs.new ≡ inputs.old ++ drawn origin.now ordinal ∷ []) }
     ensures next { IfOk result (λ next. next ≡ ordinal + 1) }
     ensures refused { OnErr result (made.new ≡ made.old) }
@@ -131,7 +133,8 @@ fn make(
     ordinal: u64,
 ) -> Result<u64, AllocError>
     requires { AllByRecursion (λ at. at < length made.old) waited.now }
-    ensures made { IfOk result (λ next. (made.new, next) ≡ made_after origin.now receiver waited.now inputs made.old ordinal) }
+    ensures made { IfOk result (λ next. (made.new, next)
+        ≡ made_after origin.now receiver waited.now inputs made.old ordinal) }
     ensures refused { OnErr result (made.new ≡ made.old) }
 {
     let Some((at, rest)) = waited.split_first() else {

@@ -2,7 +2,8 @@
 
 ghost use Rattle.std.specs.Prelude.{◌≡◌, length, Ok, Err, IfOk, OnErr, MatchResult};
 ghost use Rattle.nr_bytes.specs.Answers.{GivesAs};
-ghost use Rattle.nr_promises.specs.Book.{new_book, create, then, join, act, receipt_of, inputs_of, receiver_of, actions_of, IsBook};
+ghost use Rattle.nr_promises.specs.Book.{new_book, create, then, join, act, receipt_of, inputs_of, receiver_of};
+ghost use Rattle.nr_promises.specs.Book.{actions_of, IsBook};
 ghost use Rattle.nr_promises.specs.declared.fault.PromiseFault.TheVariants.{Memory};
 
 use crate::acting::{act, count_at};
@@ -175,7 +176,8 @@ impl PromiseBook {
     ///
     /// `BadIndex`, else `Joint`.
     pub fn receiver_of(&self, index: u64) -> Result<&AccountId, PromiseFault>
-        ensures { MatchResult result (λ id. receiver_of self.now index ≡ Ok id.now) (λ fault. receiver_of self.now index ≡ Err fault) }
+        ensures { MatchResult result (λ id. receiver_of self.now index ≡ Ok id.now)
+            (λ fault. receiver_of self.now index ≡ Err fault) }
     {
         let at = place_of(&self.book, index)?;
         Ok(&self.book.made.inner()[at].receiver)

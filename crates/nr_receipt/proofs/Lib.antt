@@ -1,3 +1,4 @@
+-- Lemmas behind the answers.
 pub mod Lists
 pub mod Handing
 pub mod Small

@@ -1,4 +1,6 @@
--- The receipts that an execution makes behind its actions, each under the next id: the result for those who wait for it, and refunds. After the Nomicon, Runtime Specification (Receipts, Refunds); the ids and their order are this project's.
+-- The receipts that an execution makes behind its actions, each under the next id: the result for those who wait for
+-- it, and refunds. After the Nomicon, Runtime Specification (Receipts, Refunds); the ids and their order are this
+-- project's.
 use Rattle.std.specs.Prelude.{ℕ, ◌+◌, ◌==◌, cond, List, [], ◌∷◌, ◌++◌, Option, Some, None, fold}
 use Rattle.std.specs.Str.{bytes_eq}
 use Rattle.nr_actions.specs.Actions.{with_refund}
@@ -46,13 +48,16 @@ with_outputs outputs (Datum d) = Datum d
 
 abbrev pub handed_on : List DataReceiver → Hash32 → List Receipt → List Receipt
 handed_on outputs id [] = []
-handed_on outputs id (r ∷ rest) = cond (bytes_eq r.receipt_id.0 id.0) (record r { body = with_outputs outputs r.body } ∷ rest) (r ∷ handed_on outputs id rest)
+handed_on outputs id (r ∷ rest) =
+    cond (bytes_eq r.receipt_id.0 id.0) (record r { body = with_outputs outputs r.body } ∷ rest)
+    (r ∷ handed_on outputs id rest)
 
 abbrev pub with_result : Returned → Frame → Frame
 with_result (Value bytes) f = with_data (Some bytes) f
 with_result (Promise id) f = record f { made = handed_on f.act.outputs id f.made }
 
--- ---- refunds: of the deposits to the predecessor, where that isn't the system, and of what is left of the gas to the signer. A refund of nothing isn't made.
+-- ---- refunds: of the deposits to the predecessor, where that isn't the system, and of what is left of the gas to
+-- the signer. A refund of nothing isn't made.
 abbrev pub deposits_back : Frame → ℕ
 deposits_back f = cond (is_system f.predecessor) 0 (deposits f.act.actions)
 
@@ -63,7 +68,8 @@ abbrev pub with_deposits_back : Frame → Frame
 with_deposits_back f = with_refund f f.predecessor (deposits_back f)
 
 abbrev pub with_gas_back : Frame → ℕ → Frame
-with_gas_back f amount = cond (amount == 0) f (with_drawn f (refund f.act.signer (next_id f) f.act.signer f.act.signer_key amount))
+with_gas_back f amount =
+    cond (amount == 0) f (with_drawn f (refund f.act.signer (next_id f) f.act.signer f.act.signer_key amount))
 
 -- where so much gas is burnt
 abbrev pub with_gas_refund : Config → ℕ → Frame → Frame

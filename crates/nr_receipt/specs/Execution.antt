@@ -1,4 +1,5 @@
--- How a receipt of actions is executed, and how one is settled that clashes. After the Nomicon, Runtime Specification (Receipts, Refunds, Runtime Fees) and Economics (Gas, Contract rewards); clashes are this project's.
+-- How a receipt of actions is executed, and how one is settled that clashes. After the Nomicon, Runtime Specification
+-- (Receipts, Refunds, Runtime Fees) and Economics (Gas, Contract rewards); clashes are this project's.
 use Rattle.std.specs.Prelude.{◌≡◌, ℕ, ◌+◌, ◌-◌, ◌*◌, List, [], length, Option, Result, Ok, Err}
 use Rattle.nr_actions.specs.declared.frame.Frame.{Frame}
 use Rattle.nr_config.specs.Config.{Config}
@@ -37,32 +38,39 @@ executed_as f status gas burnt =
       made = f.made;
     }
 
--- the reward is paid, and what is left of the gas goes back; the burnt gas is burnt at its price, but for the reward, and with it what is lost
+-- the reward is paid, and what is left of the gas goes back; the burnt gas is burnt at its price, but for the reward,
+-- and with it what is lost
 abbrev pub concluded : Config → World → Frame → RunStatus → ℕ → ℕ → Execution
 concluded c w f status gas lost =
     let reward = reward_of c f in
     record {
       world = with_reward w f.receiver reward;
-      executed = executed_as (with_gas_refund c gas f) status gas (gas * burning_price f - reward_paid w f.receiver reward + lost);
+      executed =
+          executed_as (with_gas_refund c gas f) status gas
+          (gas * burning_price f - reward_paid w f.receiver reward + lost);
     }
 
 -- on success the changes stay, and the result goes to those who wait for it
 abbrev pub succeeded : Config → World → Frame → Execution
-succeeded c w f = concluded c w (with_result f.returned f) (status_of f.returned) (burnt_gas c f (length f.act.actions)) 0
+succeeded c w f =
+    concluded c w (with_result f.returned f) (status_of f.returned) (burnt_gas c f (length f.act.actions)) 0
 
--- on failure the changes, the receipts made, the logs and the promised gas are dropped, and ids are drawn from the first one again
+-- on failure the changes, the receipts made, the logs and the promised gas are dropped, and ids are drawn from the
+-- first one again
 abbrev pub dropped : Frame → Frame
 dropped f = record f { next_ordinal = 0; made = []; logs = []; promised = 0 }
 
 abbrev pub failed : Config → World → ℕ → ℕ → ℕ → Frame → Execution
-failed c w index kind part f = concluded c w (given_up f) (status.Failure index kind part) (burnt_gas c f (index + 1)) (deposits_lost f)
+failed c w index kind part f =
+    concluded c w (given_up f) (status.Failure index kind part) (burnt_gas c f (index + 1)) (deposits_lost f)
 
 abbrev pub ended : Config → World → Ran → Execution
 ended c before (Done after f) = succeeded c after f
 ended c before (Broken index kind part f) = failed c before index kind part (dropped f)
 
 -- ---- the whole, by what calls mean
-unfoldable pub execute : Config → (World → CallContext → Called) → World → Receipt → ActionReceipt → List (Option (List ℕ)) → Place → Execution
+unfoldable pub execute : Config → (World → CallContext → Called) → World → Receipt → ActionReceipt
+    → List (Option (List ℕ)) → Place → Execution
 execute c call w r act inputs place = ended c w (run_actions c call w (first_frame r act inputs place))
 
 -- ---- a clash is a failure that burns no gas and changes no state

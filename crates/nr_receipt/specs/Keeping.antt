@@ -22,12 +22,19 @@ pub record IsExecuted (c : Config) (w : World) (r : Receipt) (e : Execution) : T
   -- the world stays valid
   pub valid : IsValidWorld c e.world
   -- what the world and the receipt held is in the world, in the receipts made, or burnt
-  pub tokens : world_tokens c w + receipt_tokens c r ≡ world_tokens c e.world + list_tokens c e.executed.made + e.executed.outcome.burnt
+  pub tokens : world_tokens c w + receipt_tokens c r ≡ world_tokens c e.world + list_tokens c e.executed.made
+      + e.executed.outcome.burnt
   -- what waits is the same
-  pub rest : e.world ≡ record w { accounts = e.world.accounts; keys = e.world.keys; code = e.world.code; data_of = e.world.data_of }
+  pub rest : e.world ≡ record w {
+    accounts = e.world.accounts;
+    keys = e.world.keys;
+    code = e.world.code;
+    data_of = e.world.data_of;
+  }
   -- no more gas is burnt than was paid for
   pub gas : e.executed.outcome.gas ≤ gas_of c r
-  -- the gas price, the prepaid gas and each attached gas of the receipts made fit in 64 bits, where each attached gas of this one does
+  -- the gas price, the prepaid gas and each attached gas of the receipts made fit in 64 bits, where each attached gas
+  -- of this one does
   pub bounded : HasSmallCalls r.body → AllByRecursion (IsBounded c) e.executed.made
   pub calls : HasSmallCalls r.body → AllByRecursion (λ q. HasSmallCalls q.body) e.executed.made
 

@@ -1,3 +1,4 @@
+-- Definitions that the contracts cite.
 pub mod Frames
 pub mod Running
 pub mod Rewards

@@ -18,7 +18,8 @@ use Rattle.nr_state.specs.View.{StateView}
 use Rattle.nr_state.specs.World.{World}
 use Rattle.nr_state.specs.declared.calls.Returned.TheVariants.{Value}
 
--- ---- what a receipt's first frame is, with the world that it meets: fresh, and with all that it holds within the bounds
+-- ---- what a receipt's first frame is, with the world that it meets: fresh, and with all that it holds within the
+-- bounds
 pub record IsReady (c : Config) (w : World) (f : Frame) : Type 0 where
   pub valid : IsValidWorld c w
   pub price : f.act.gas_price < 2 ^ 64
@@ -32,18 +33,21 @@ pub record IsReady (c : Config) (w : World) (f : Frame) : Type 0 where
 -- ---- the actions from an index on can be done: all that they bring and that their calls promise fits in the world
 pub record CanRun (c : Config) (index : ℕ) (w : World) (f : Frame) : Type 0 where
   pub valid : IsValidWorld c w
-  pub room : world_tokens c w + (deposits (drop index f.act.actions) + attached_gas (drop index f.act.actions) * price_of f) ≤ 2 ^ 127
+  pub room : world_tokens c w + (deposits (drop index f.act.actions) + attached_gas (drop index f.act.actions)
+      * price_of f) ≤ 2 ^ 127
   pub burnt : f.call_burnt + f.promised ≤ index * 2 ^ 64
 
 -- one action: as its definition says, or the failure with its index; where memory runs out nothing is said
 abbrev pub Steps : {A : Type 0} → Result A Stop → StateView → StateView → Frame → Frame → ℕ → Acted → Type 0
 Steps (Ok done) old new before after index acted = (acted ≡ Acts new.world after) × Stands old new
-Steps (Err (Failed i kind part)) old new before after index acted = (i ≡ index) × IsFailed kind part old new before after acted
+Steps (Err (Failed i kind part)) old new before after index acted =
+    (i ≡ index) × IsFailed kind part old new before after acted
 Steps (Err Memory) old new before after index acted = Unit {0}
 
 -- all actions: then comes the check of storage, or some action failed
 abbrev pub RunsAll : {A : Type 0} → Config → ℕ → Result A Stop → StateView → StateView → Frame → Ran → Type 0
-RunsAll c count (Ok done) old new after ran = (ran ≡ checked c new.world after) × Stands old new × (length after.act.actions ≡ count)
+RunsAll c count (Ok done) old new after ran =
+    (ran ≡ checked c new.world after) × Stands old new × (length after.act.actions ≡ count)
 RunsAll c count (Err (Failed index kind part)) old new after ran = (ran ≡ Broken index kind part after) × Stands old new
 RunsAll c count (Err Memory) old new after ran = Unit {0}
 
@@ -71,7 +75,8 @@ pub record IsMarked (old new : StateView) : Type 0 where
   pub config : new.config ≡ old.config
   pub whole : new.whole ≡ true
 
--- all actions with the check of storage: the changes are kept, or the world is as it was. What comes behind them can be done.
+-- all actions with the check of storage: the changes are kept, or the world is as it was. What comes behind them can
+-- be done.
 pub record IsTried (c : Config) (old new : StateView) (after : Frame) (come : Ran) : Type 0 where
   pub ran : come ≡ Done new.world after
   pub stands : Stands old new

@@ -1,4 +1,5 @@
--- The reward of an account whose code ran: a part of the gas that its calls burnt, in tokens. After the Nomicon, Economics (Contract rewards); the rounding is this project's.
+-- The reward of an account whose code ran: a part of the gas that its calls burnt, in tokens. After the Nomicon,
+-- Economics (Contract rewards); the rounding is this project's.
 use Rattle.std.specs.Prelude.{ℕ, ◌*◌, ◌/◌, ◌==◌, cond, List, Option, Some, None}
 use Rattle.std.specs.FinMap.{get}
 use Rattle.nr_actions.specs.Accounts.{with_deposit}

@@ -1,5 +1,7 @@
--- The actions of a receipt in order, up to the first failure, and the check of storage behind the last one. After the Nomicon, Runtime Specification, Receipts and Actions.
-use Rattle.std.specs.Prelude.{ℕ, ◌+◌, ◌*◌, ◌==◌, ◌&&◌, not, Bool, false, cond, List, [], ◌∷◌, length, Option, Some, None, nat_lt}
+-- The actions of a receipt in order, up to the first failure, and the check of storage behind the last one. After the
+-- Nomicon, Runtime Specification, Receipts and Actions.
+use Rattle.std.specs.Prelude.{ℕ, ◌+◌, ◌*◌, ◌==◌, ◌&&◌, not, Bool, false, cond, List, [], ◌∷◌, length, Option, Some}
+use Rattle.std.specs.Prelude.{None, nat_lt}
 use Rattle.std.specs.FinMap.{get}
 use Rattle.nr_actions.specs.Actions.{Acted, Acts, Fails, act}
 use Rattle.nr_actions.specs.Failures.{number}
@@ -13,12 +15,14 @@ use Rattle.nr_state.specs.Calls.{Called}
 use Rattle.nr_state.specs.World.{World, account_tokens}
 use Rattle.nr_state.specs.declared.calls.CallContext.{CallContext}
 
--- ---- what the actions come to: the world and the frame after all of them, or a failure by its index, number and part, with the frame that it came in
+-- ---- what the actions come to: the world and the frame after all of them, or a failure by its index, number and
+-- part, with the frame that it came in
 pub data Ran : Type 0 where
   Done : (after : World) (frame : Frame) → Ran
   Broken : (index : ℕ) (kind : ℕ) (part : ℕ) (frame : Frame) → Ran
 
--- ---- the check of storage, which no receipt of the system has: a receiver that stands must have enough for what it uses
+-- ---- the check of storage, which no receipt of the system has: a receiver that stands must have enough for what it
+-- uses
 abbrev pub lacks_balance : Config → Account → Bool
 lacks_balance c account = nat_lt (account_tokens account) (account.storage_usage * storage_price c)
 
@@ -47,7 +51,8 @@ is_last f index = index + 1 == length f.act.actions
 
 unfoldable pub run_from : Config → (World → CallContext → Called) → ℕ → List Action → World → Frame → Ran
 run_from c call index [] w f = checked c w f
-run_from c call index (a ∷ rest) w f = go_on (run_from c call (index + 1) rest) index f (act c call w f (is_last f index) a)
+run_from c call index (a ∷ rest) w f =
+    go_on (run_from c call (index + 1) rest) index f (act c call w f (is_last f index) a)
 
 abbrev pub run_actions : Config → (World → CallContext → Called) → World → Frame → Ran
 run_actions c call w f = run_from c call 0 f.act.actions w f

@@ -70,7 +70,8 @@ pub(crate) fn give_deposits_back(alloc: Global, frame: &mut Frame) -> Result<(),
 
 /// The refund of gas to the signer.
 fn gas_refund(alloc: Global, frame: &Frame, amount: u128) -> Result<Receipt, AllocError>
-    ensures { IfOk result (λ receipt. receipt ≡ refund frame.now.act.signer (next_id frame.now) frame.now.act.signer frame.now.act.signer_key amount) }
+    ensures { IfOk result (λ receipt. receipt
+        ≡ refund frame.now.act.signer (next_id frame.now) frame.now.act.signer frame.now.act.signer_key amount) }
 {
     let receiver = frame.act.signer.duplicate(alloc)?;
     let signer = frame.act.signer.duplicate(alloc)?;

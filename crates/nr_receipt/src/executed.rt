@@ -1,3 +1,5 @@
+//! What a receipt of actions did.
+
 use nr_bytes::List;
 use nr_records::{Outcome, Receipt};
 

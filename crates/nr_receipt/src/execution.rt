@@ -3,7 +3,8 @@
 ghost use Rattle.std.specs.Prelude.{◌≡◌, ◌+◌, ◌*◌, ◌-◌, ◌<◌, ◌≤◌, ◌^◌, true, IfOk, OnOk, length};
 ghost use Rattle.nr_fees.specs.Fees.{receipt_tokens};
 ghost use Rattle.nr_receipt.specs.Drawing.{with_gas_refund, deposits_lost};
-ghost use Rattle.nr_receipt.specs.Execution.{Executes, OfActions, executed_as, status_of, succeeded, failed, dropped, ended, execute};
+ghost use Rattle.nr_receipt.specs.Execution.{Executes, OfActions, executed_as, status_of, succeeded, failed, dropped};
+ghost use Rattle.nr_receipt.specs.Execution.{ended, execute};
 ghost use Rattle.nr_receipt.specs.Frames.{prepaid, burning_price, burnt_gas};
 ghost use Rattle.nr_receipt.specs.Parts.{CanConclude, IsMarked, IsReady, Tries};
 ghost use Rattle.nr_receipt.specs.Rewards.{reward_of, with_reward, reward_paid};
@@ -58,8 +59,11 @@ fn conclude<S: Store>(
 ) -> Result<u128, AllocError>
     requires whole { state.old.whole ≡ true }
     requires can { CanConclude config.now state.old.world frame.old gas lost }
-    ensures burnt { IfOk result (λ burnt. burnt ≡ gas * burning_price frame.old - reward_paid state.old.world frame.old.receiver (reward_of config.now frame.old) + lost) }
-    ensures world { OnOk result (state.new ≡ with_world state.old (with_reward state.old.world frame.old.receiver (reward_of config.now frame.old))) }
+    ensures burnt { IfOk result (λ burnt. burnt
+        ≡ gas * burning_price frame.old - reward_paid state.old.world frame.old.receiver
+        (reward_of config.now frame.old) + lost) }
+    ensures world { OnOk result (state.new ≡ with_world state.old
+        (with_reward state.old.world frame.old.receiver (reward_of config.now frame.old))) }
     ensures refunded { OnOk result (frame.new ≡ with_gas_refund config.now gas frame.old) }
 {
     let reward = reward_of(config, frame);
@@ -118,7 +122,8 @@ fn succeed<S: Store>(
     mut frame: Frame,
 ) -> Result<Executed, AllocError>
     requires whole { state.old.whole ≡ true }
-    requires can { CanConclude config.now state.old.world frame (burnt_gas config.now frame (length frame.act.actions)) 0 }
+    requires can { CanConclude config.now state.old.world frame
+        (burnt_gas config.now frame (length frame.act.actions)) 0 }
     ensures { Executes result state.old state.new (succeeded config.now state.old.world frame) }
 {
     let gas = burnt_gas(config, &frame, frame.act.actions.inner().len());
@@ -138,7 +143,8 @@ fn fail<S: Store>(
     part: u32,
 ) -> Result<Executed, AllocError>
     requires whole { state.old.whole ≡ true }
-    requires can { CanConclude config.now state.old.world frame (burnt_gas config.now frame (index + 1)) (deposits_lost frame) }
+    requires can { CanConclude config.now state.old.world frame (burnt_gas config.now frame (index + 1))
+        (deposits_lost frame) }
     ensures { Executes result state.old state.new (failed config.now state.old.world index kind part (dropped frame)) }
 {
     let gas = burnt_gas(config, &frame, index as usize + 1);
@@ -175,7 +181,8 @@ fn try_actions<S: Store, C: Caller<S>>(
     requires caller { C.config caller.now ≡ config.now }
     requires marks { length state.old.marks ≤ 5 }
     requires ready { IsReady config.now state.old.world frame.old }
-    ensures { Tries config.now result state.old state.new frame.new (run_actions config.now (C.meaning caller.now) state.old.world frame.old) }
+    ensures { Tries config.now result state.old state.new frame.new
+        (run_actions config.now (C.meaning caller.now) state.old.world frame.old) }
 {
     action_laws();
     let count = u32::try_from(frame.act.actions.inner().len()).or(Err(Stop::Memory))?;
@@ -206,7 +213,8 @@ fn execute_frame<S: Store, C: Caller<S>>(
     requires caller { C.config caller.now ≡ config.now }
     requires marks { length state.old.marks ≤ 5 }
     requires ready { IsReady config.now state.old.world frame }
-    ensures { Executes result state.old state.new (ended config.now state.old.world (run_actions config.now (C.meaning caller.now) state.old.world frame)) }
+    ensures { Executes result state.old state.new
+        (ended config.now state.old.world (run_actions config.now (C.meaning caller.now) state.old.world frame)) }
 {
     match try_actions(alloc, state, config, &mut frame, caller) {
         Ok(()) => succeed(alloc, state, config, frame),
@@ -241,7 +249,8 @@ pub fn execute<S: Store, C: Caller<S>>(
     requires valid { IsValidWorld config.now state.old.world }
     requires bounded { IsBounded config.now receipt }
     requires room { world_tokens config.now state.old.world + receipt_tokens config.now receipt ≤ 2 ^ 127 }
-    ensures { OfActions receipt.body (λ act. Executes result state.old state.new (execute config.now (C.meaning caller.now) state.old.world receipt act inputs place.now)) }
+    ensures { OfActions receipt.body (λ act. Executes result state.old state.new
+        (execute config.now (C.meaning caller.now) state.old.world receipt act inputs place.now)) }
 {
     let frame = first_frame(alloc, receipt, inputs, place)?;
     execute_frame(alloc, state, config, frame, caller)

@@ -23,13 +23,16 @@ use nr_state::laws::{token_laws, valid_world_laws};
 /// bounded. It does nothing when it runs.
 pub fn execution_laws()
     // Of a receipt within its bounds, on a valid world, where all tokens are within 2^127.
-    ensures executed { (c : Config) (call : World → CallContext → Called) (w : World) (r : Receipt) (act : ActionReceipt) (inputs : List (Option (List ℕ))) (place : Place)
-        → IsValidConfig c → IsCaller c call → IsValidWorld c w → r.body ≡ Act act → IsBounded c r → world_tokens c w + receipt_tokens c r ≤ 2 ^ 127
+    ensures executed { (c : Config) (call : World → CallContext → Called) (w : World) (r : Receipt)
+        (act : ActionReceipt) (inputs : List (Option (List ℕ))) (place : Place)
+        → IsValidConfig c → IsCaller c call → IsValidWorld c w → r.body ≡ Act act → IsBounded c r
+        → world_tokens c w + receipt_tokens c r ≤ 2 ^ 127
         → IsExecuted c w r (execute c call w r act inputs place) }
     ensures settled { (c : Config) (r : Receipt) (act : ActionReceipt) (place : Place)
         → r.body ≡ Act act → IsBounded c r → IsSettled c r (settle_clash c r act place) }
     // Of a receipt that isn't the system's, whose prepaid gas fits in 64 bits.
-    ensures small { (c : Config) (r : Receipt) → IsBounded c r → is_system r.predecessor ≡ false → HasSmallCalls r.body }
+    ensures small { (c : Config) (r : Receipt) → IsBounded c r → is_system r.predecessor ≡ false
+        → HasSmallCalls r.body }
 {
     action_laws();
     valid_world_laws();

@@ -2,7 +2,8 @@
 
 ghost use Rattle.std.specs.Prelude.{◌≡◌, ◌^◌, ◌<◌, None, IfOk, IfSome, OnOk, length, slice_get};
 ghost use Rattle.nr_fees.specs.Fees.{deposits};
-ghost use Rattle.nr_receipt.specs.Drawing.{datum_for, with_datum, with_data, with_outputs, handed_on, with_result, given_up};
+ghost use Rattle.nr_receipt.specs.Drawing.{datum_for, with_datum, with_data, with_outputs, handed_on, with_result};
+ghost use Rattle.nr_receipt.specs.Drawing.{given_up};
 
 use crate::drawing::{draw, give_deposits_back, next_id};
 use nr_actions::Frame;
@@ -40,7 +41,8 @@ fn give_datum(
     bytes: &Option<Blob>,
 ) -> Result<(), AllocError>
     requires { index < length frame.old.act.outputs }
-    ensures { IfSome (slice_get frame.old.act.outputs index) (λ to. OnOk result (frame.new ≡ with_datum bytes.now frame.old to)) }
+    ensures { IfSome (slice_get frame.old.act.outputs index)
+        (λ to. OnOk result (frame.new ≡ with_datum bytes.now frame.old to)) }
 {
     let receipt = datum_for(alloc, frame, bytes, &frame.act.outputs.inner()[index])?;
     draw(frame, receipt)?;

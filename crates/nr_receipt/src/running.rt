@@ -67,7 +67,8 @@ fn step<S: Store, C: Caller<S>>(
     requires marks { length state.old.marks ≤ 6 }
     requires index { index < length frame.old.act.actions }
     requires can { CanRun config.now index state.old.world frame.old }
-    ensures steps { IfSome (slice_get frame.old.act.actions index) (λ action. Steps result state.old state.new frame.old frame.new index
+    ensures steps { IfSome (slice_get frame.old.act.actions index)
+        (λ action. Steps result state.old state.new frame.old frame.new index
         (act config.now (C.meaning caller.now) state.old.world frame.old (is_last frame.old index) action)) }
     ensures can { OnOk result (CanRun config.now (index + 1) state.new.world frame.new) }
     ensures same { OnOk result (frame.new.act ≡ frame.old.act) }
@@ -97,7 +98,8 @@ fn run_all<S: Store, C: Caller<S>>(
     requires marks { length state.old.marks ≤ 6 }
     requires count { count ≡ length frame.old.act.actions }
     requires can { CanRun config.now 0 state.old.world frame.old }
-    ensures { RunsAll config.now count result state.old state.new frame.new (run_actions config.now (C.meaning caller.now) state.old.world frame.old) }
+    ensures { RunsAll config.now count result state.old state.new frame.new
+        (run_actions config.now (C.meaning caller.now) state.old.world frame.old) }
 {
     for index in 0..count {
         step(alloc, state, config, frame, index, caller)?;
@@ -122,7 +124,8 @@ fn receiver_lacks<S: Store>(
     config: &Config,
     frame: &Frame,
 ) -> Result<bool, AllocError>
-    ensures { IfOk result (λ lacks. lacks ≡ receiver_lacks config.now (get state.now.world.accounts frame.now.receiver)) }
+    ensures { IfOk result (λ lacks. lacks ≡ receiver_lacks config.now
+        (get state.now.world.accounts frame.now.receiver)) }
 {
     match state.account(&frame.receiver)? {
         Some(account) => Ok(lacks_balance(config, &account)),
@@ -161,7 +164,8 @@ pub(crate) fn run_actions<S: Store, C: Caller<S>>(
     requires marks { length state.old.marks ≤ 6 }
     requires count { count ≡ length frame.old.act.actions }
     requires can { CanRun config.now 0 state.old.world frame.old }
-    ensures { Runs result state.old state.new frame.new (run_actions config.now (C.meaning caller.now) state.old.world frame.old) }
+    ensures { Runs result state.old state.new frame.new
+        (run_actions config.now (C.meaning caller.now) state.old.world frame.old) }
 {
     run_all(alloc, state, config, frame, count, caller)?;
     if fails_storage(state, config, frame)? {

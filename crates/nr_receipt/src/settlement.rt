@@ -49,7 +49,8 @@ pub fn settle_clash<S: Store>(
     requires actions { is_act receipt.body ≡ true }
     requires bounded { IsBounded config.now receipt }
     requires tokens { receipt_tokens config.now receipt ≤ 2 ^ 127 }
-    ensures settled { IfOk result (λ done. OfActions receipt.body (λ act. done ≡ settle_clash config.now receipt act place.now)) }
+    ensures settled { IfOk result (λ done. OfActions receipt.body
+        (λ act. done ≡ settle_clash config.now receipt act place.now)) }
     ensures same { state.new ≡ state.old }
 {
     let inputs = List::of(Vec::new(alloc));

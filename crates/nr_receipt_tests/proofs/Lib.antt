@@ -1,1 +1,2 @@
+-- Lemmas behind the answers.
 pub mod Sounding

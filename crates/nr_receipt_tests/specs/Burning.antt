@@ -1,5 +1,7 @@
--- Calls that burn so much gas, or all that they have: one that fails, one that makes a receipt without actions and gives its result, and one that only returns. This project's own.
-use Rattle.std.specs.Prelude.{◌≡◌, ℕ, ◌+◌, ◌-◌, ◌≤◌, min, Bool, true, false, cond, List, [], ◌∷◌, Option, Some, None, ◌||◌, codes, nat_le, refl, Result, Ok, Err}
+-- Calls that burn so much gas, or all that they have: one that fails, one that makes a receipt without actions and
+-- gives its result, and one that only returns. This project's own.
+use Rattle.std.specs.Prelude.{◌≡◌, ℕ, ◌+◌, ◌-◌, ◌≤◌, min, Bool, true, false, cond, List, [], ◌∷◌, Option, Some, None}
+use Rattle.std.specs.Prelude.{◌||◌, codes, nat_le, refl, Result, Ok, Err}
 use Rattle.std.specs.Str.{bytes_eq}
 use Rattle.std.specs.FinMap.{get}
 use Rattle.std.proofs.Common.{ap, arith, subst}
@@ -32,7 +34,15 @@ asked x =
       predecessor = x.current;
       receiver = x.current;
       receipt_id = next_id x;
-      body = Act (record { signer = x.signer; signer_key = x.signer_key; gas_price = x.gas_price; outputs = []; inputs = []; actions = [] });
+      body =
+          Act (record {
+            signer = x.signer;
+            signer_key = x.signer_key;
+            gas_price = x.gas_price;
+            outputs = [];
+            inputs = [];
+            actions = [];
+          });
     }
 
 -- the gas that this receipt is promised
@@ -40,16 +50,34 @@ abbrev pub asked_gas : Config → ℕ
 asked_gas c = prepaid_gas c []
 
 abbrev pub returning : ℕ → CallContext → CallEnd
-returning burnt x = record { burnt = min burnt x.gas; promised = 0; returned = Value (codes "v"); made = []; next_ordinal = x.next_ordinal; logs = codes "x" ∷ [] }
+returning burnt x =
+    record {
+      burnt = min burnt x.gas;
+      promised = 0;
+      returned = Value (codes "v");
+      made = [];
+      next_ordinal = x.next_ordinal;
+      logs = codes "x" ∷ [];
+    }
 
 abbrev pub asking : Config → ℕ → CallContext → CallEnd
-asking c burnt x = record { burnt = min burnt (x.gas - asked_gas c); promised = asked_gas c; returned = Promise (next_id x); made = asked x ∷ []; next_ordinal = x.next_ordinal + 1; logs = [] }
+asking c burnt x =
+    record {
+      burnt = min burnt (x.gas - asked_gas c);
+      promised = asked_gas c;
+      returned = Promise (next_id x);
+      made = asked x ∷ [];
+      next_ordinal = x.next_ordinal + 1;
+      logs = [];
+    }
 
 abbrev pub asks : Config → ℕ → World → CallContext → Called
 asks c burnt w x = cond (nat_le (asked_gas c) x.gas) (Ended (asking c burnt x) w) (Stopped 17 0 x.gas)
 
 abbrev pub burns : Config → ℕ → World → CallContext → Called
-burns c burnt w x = cond (bytes_eq x.method (codes "trap")) (Stopped 15 1 (min burnt x.gas)) (cond (bytes_eq x.method (codes "ask")) (asks c burnt w x) (Ended (returning burnt x) w))
+burns c burnt w x =
+    cond (bytes_eq x.method (codes "trap")) (Stopped 15 1 (min burnt x.gas))
+    (cond (bytes_eq x.method (codes "ask")) (asks c burnt w x) (Ended (returning burnt x) w))
 
 -- ---- they keep what every caller promises
 stays : (o : Option Account) → GoesOn o o
@@ -57,7 +85,8 @@ stays None = tt
 stays (Some account) = refl
 
 changes_nothing : (id : List ℕ) (w : World) → ChangesOnly id w w
-changes_nothing id w = record { rest = refl; others = λ q h. refl; account = stays (get w.accounts id); data_of = λ k h. refl }
+changes_nothing id w =
+    record { rest = refl; others = λ q h. refl; account = stays (get w.accounts id); data_of = λ k h. refl }
 
 at_most : (m n : ℕ) → min m n ≤ n
 at_most m n = omega arith
@@ -102,7 +131,8 @@ abbrev burnt_of : Called → ℕ
 burnt_of (Ended end after) = 0
 burnt_of (Stopped kind part burnt) = burnt
 
-as_end : (c : Config) (w : World) (x : CallContext) (end other : CallEnd) (after v : World) → Ended other v ≡ Ended end after → IsEnd c w x other v → IsEnd c w x end after
+as_end : (c : Config) (w : World) (x : CallContext) (end other : CallEnd) (after v : World) → Ended other v
+    ≡ Ended end after → IsEnd c w x other v → IsEnd c w x end after
 as_end c w x end other after v e h =
     let first : IsEnd c w x end v = subst (λ (k : CallEnd). IsEnd c w x k v) (ap (λ q. end_of q other) e) h in
     subst (λ (u : World). IsEnd c w x end u) (ap (λ q. world_of q v) e) first
@@ -111,11 +141,15 @@ within : (m n : ℕ) → nat_le m n ≡ true → m ≤ n
 within m n e = grind (arith, nat_tests)
 
 module _ (c : Config) (burnt : ℕ) (w : World) (x : CallContext) where
-  asks_ended : (b : Bool) → nat_le (asked_gas c) x.gas ≡ b → (end : CallEnd) (after : World) → cond b (Ended (asking c burnt x) w) (Stopped 17 0 x.gas) ≡ Ended end after → IsEnd c w x end after
-  asks_ended true room end after e = as_end c w x end (asking c burnt x) after w e (asking_is_end c burnt w x (within (asked_gas c) x.gas room))
+  asks_ended : (b : Bool) → nat_le (asked_gas c) x.gas ≡ b → (end : CallEnd) (after : World)
+      → cond b (Ended (asking c burnt x) w) (Stopped 17 0 x.gas) ≡ Ended end after → IsEnd c w x end after
+  asks_ended true room end after e =
+      as_end c w x end (asking c burnt x) after w e (asking_is_end c burnt w x (within (asked_gas c) x.gas room))
   asks_ended false room end after e = absurd cc
 
-  call_ended : (trap ask : Bool) (end : CallEnd) (after : World) → cond trap (Stopped 15 1 (min burnt x.gas)) (cond ask (asks c burnt w x) (Ended (returning burnt x) w)) ≡ Ended end after → IsEnd c w x end after
+  call_ended : (trap ask : Bool) (end : CallEnd) (after : World)
+      → cond trap (Stopped 15 1 (min burnt x.gas)) (cond ask (asks c burnt w x) (Ended (returning burnt x) w))
+      ≡ Ended end after → IsEnd c w x end after
   call_ended true ask end after e = absurd cc
   call_ended false true end after e = asks_ended (nat_le (asked_gas c) x.gas) refl end after e
   call_ended false false end after e = as_end c w x end (returning burnt x) after w e (returning_is_end c burnt w x)
@@ -124,15 +158,24 @@ module _ (c : Config) (burnt : ℕ) (w : World) (x : CallContext) where
   asks_burns true = omega arith
   asks_burns false = omega arith
 
-  call_burns : (trap ask : Bool) → burnt_of (cond trap (Stopped 15 1 (min burnt x.gas)) (cond ask (asks c burnt w x) (Ended (returning burnt x) w))) ≤ x.gas
+  call_burns : (trap ask : Bool) → burnt_of
+      (cond trap (Stopped 15 1 (min burnt x.gas)) (cond ask (asks c burnt w x) (Ended (returning burnt x) w))) ≤ x.gas
   call_burns true ask = at_most burnt x.gas
   call_burns false true = asks_burns (nat_le (asked_gas c) x.gas)
   call_burns false false = omega arith
 
 pub burning_law : (c : Config) (burnt : ℕ) → IsCaller c (burns c burnt)
 burning_law c burnt = record {
-  ended = λ w x end after can e. call_ended c burnt w x (bytes_eq x.method (codes "trap")) (bytes_eq x.method (codes "ask")) end after e;
-  stopped = λ w x kind part b can e. omega (arith, ap burnt_of e, call_burns c burnt w x (bytes_eq x.method (codes "trap")) (bytes_eq x.method (codes "ask")));
+  ended =
+      λ w x end after can e. call_ended c burnt w x (bytes_eq x.method (codes "trap"))
+      (bytes_eq x.method (codes "ask")) end after e;
+  stopped =
+      λ w x kind part b can e. omega (
+        arith,
+        ap burnt_of e,
+        call_burns c burnt w x (bytes_eq x.method (codes "trap"))
+            (bytes_eq x.method (codes "ask")),
+      );
 }
 
 -- ---- they leave the world, and look at nothing of it
@@ -143,8 +186,11 @@ module _ (c : Config) (burnt : ℕ) (w v : World) (x : CallContext) where
   asks_there false = refl
 
   call_there : (trap ask : Bool)
-      → cond trap (Stopped 15 1 (min burnt x.gas)) (cond ask (asks c burnt (over (one_account x.current) w v) x) (Ended (returning burnt x) (over (one_account x.current) w v)))
-      ≡ over_called (one_account x.current) v (cond trap (Stopped 15 1 (min burnt x.gas)) (cond ask (asks c burnt w x) (Ended (returning burnt x) w)))
+      → cond trap (Stopped 15 1 (min burnt x.gas))
+      (cond ask (asks c burnt (over (one_account x.current) w v) x)
+      (Ended (returning burnt x) (over (one_account x.current) w v)))
+      ≡ over_called (one_account x.current) v (cond trap (Stopped 15 1 (min burnt x.gas))
+      (cond ask (asks c burnt w x) (Ended (returning burnt x) w)))
   call_there true ask = refl
   call_there false true = asks_there (nat_le (asked_gas c) x.gas)
   call_there false false = refl

@@ -1,3 +1,4 @@
+-- Lemmas behind the answers.
 pub mod Answering
 pub mod Chunks
 pub mod Firsts

@@ -1,3 +1,4 @@
+-- Definitions that the contracts cite.
 pub mod Bounds
 pub mod Laws
 pub mod Rechecking

@@ -1,5 +1,6 @@
 -- A chunk that is run again from texts of its state's trie alone: its report, or the first fault. This project's own.
-use Rattle.std.specs.Prelude.{ℕ, ◌+◌, ◌&&◌, Bool, true, false, List, [], length, map, nat_lt, unwrap_or, Result, Ok, Err}
+use Rattle.std.specs.Prelude.{ℕ, ◌+◌, ◌&&◌, Bool, true, false, List, [], length, map, nat_lt, unwrap_or, Result, Ok}
+use Rattle.std.specs.Prelude.{Err}
 use Rattle.std.specs.FinMap.{entries}
 use Rattle.nr_bytes.specs.Reading.{◌>>=◌}
 use Rattle.nr_chunk.specs.Locality.{run_chunk, touched}
@@ -29,7 +30,8 @@ use Rattle.nr_worlds.specs.declared.fault.WorldFault.{WorldFault}
 use Rattle.nr_worlds.specs.declared.fault.WorldFault.TheVariants as world
 use Rattle.nr_recheck.specs.Bounds.{are_within}
 use Rattle.nr_recheck.specs.declared.fault.RecheckFault.{RecheckFault}
-use Rattle.nr_recheck.specs.declared.fault.RecheckFault.TheVariants.{BadText, Bounds, Memory, Missing, NotWorld, Place as NoPlace, TooMany}
+use Rattle.nr_recheck.specs.declared.fault.RecheckFault.TheVariants.{BadText, Bounds, Memory, Missing, NotWorld}
+use Rattle.nr_recheck.specs.declared.fault.RecheckFault.TheVariants.{Place as NoPlace, TooMany}
 
 abbrev pub memory_fault : RecheckFault
 memory_fault = Memory
@@ -102,7 +104,8 @@ prepared c g = do
 abbrev pub before : Config → Gathered → World → Kept
 before c g w = record { config = c; world = w; carried = g.taken }
 
-abbrev pub sealed_on : Config → (World → CallContext → Called) → Gathered → World → Sealing Kept (List Receipt) ChunkResult
+abbrev pub sealed_on : Config → (World → CallContext → Called) → Gathered → World
+    → Sealing Kept (List Receipt) ChunkResult
 sealed_on c call g w =
     run_chunk c call g.layout (shards_in g) (before c g w) g.shard (place_of c g) g.transactions []
 

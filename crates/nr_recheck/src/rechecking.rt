@@ -60,8 +60,8 @@ fn prepare(
     Ok(found)
 }
 
-/// Runs a chunk again from the texts of nodes and values alone: the report of the chunk, as its run from the whole state
-/// gives it.
+/// Runs a chunk again from the texts of nodes and values alone: the report of the chunk, as its run from the whole
+/// state gives it.
 ///
 /// # Errors
 ///

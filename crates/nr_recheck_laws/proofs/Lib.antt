@@ -1,2 +1,3 @@
+-- Lemmas behind the laws.
 mod Grown
 mod Serially

@@ -1,3 +1,5 @@
+//! Records written, read back and copied.
+
 use nr_bytes::{Blob, List, Text};
 use nr_ids::{AccountId, Hash32, PublicKey};
 use nr_records::{

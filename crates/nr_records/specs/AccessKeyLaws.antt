@@ -14,7 +14,9 @@ use Rattle.nr_bytes.proofs.Fields.{nat_law, string_law}
 use Rattle.nr_bytes.proofs.Combined.{list_law, choice_law, IsArm}
 use Rattle.nr_bytes.proofs.Values.{pair_law, mapped_law, mapped_case}
 use Rattle.nr_records.specs.Fault.{record_fault}
-use Rattle.nr_records.specs.AccessKeys.{call_permission_bytes, IsCallPermission, CallFields, call_permission_of, call_permission_at, permission_bytes, IsPermission, permission_body, permission_at, access_key_bytes, IsAccessKey, access_key_of, access_key_at}
+use Rattle.nr_records.specs.AccessKeys.{call_permission_bytes, IsCallPermission, CallFields, call_permission_of}
+use Rattle.nr_records.specs.AccessKeys.{call_permission_at, permission_bytes, IsPermission, permission_body}
+use Rattle.nr_records.specs.AccessKeys.{permission_at, access_key_bytes, IsAccessKey, access_key_of, access_key_at}
 
 -- ---- what a key for calls may do
 
@@ -24,7 +26,8 @@ call_fields_of c = (c.allowance, (c.receiver, c.methods))
 pub call_permission_law : IsRead call_permission_at call_permission_bytes IsCallPermission
 unfolding call_permission_at
 call_permission_law = mapped_law call_permission_of call_fields_of (λ _. refl) (λ _. refl) _ _ _
-    (pair_law _ _ _ _ _ _ (option_law _ _ _ (nat_law record_fault 16)) (pair_law _ _ _ _ _ _ (string_law record_fault) (list_law record_fault _ _ _ (string_law record_fault))))
+    (pair_law _ _ _ _ _ _ (option_law _ _ _ (nat_law record_fault 16))
+    (pair_law _ _ _ _ _ _ (string_law record_fault) (list_law record_fault _ _ _ (string_law record_fault))))
 
 -- ---- what a key may do
 
@@ -55,7 +58,9 @@ spelled Full = refl
 
 pub permission_law : IsRead permission_at permission_bytes IsPermission
 unfolding permission_at
-permission_law = IsRead-spelled (choice permission_body) permission_bytes (tagged ordinal inner) IsPermission spelled (choice_law record_fault permission_body ordinal inner IsPermission low arms again)
+permission_law =
+    IsRead-spelled (choice permission_body) permission_bytes (tagged ordinal inner) IsPermission spelled
+    (choice_law record_fault permission_body ordinal inner IsPermission low arms again)
 
 -- ---- a key's record
 
@@ -64,4 +69,6 @@ key_fields_of k = (k.nonce, k.permission)
 
 pub access_key_law : IsRead access_key_at access_key_bytes IsAccessKey
 unfolding access_key_at
-access_key_law = mapped_law access_key_of key_fields_of (λ _. refl) (λ _. refl) _ _ _ (pair_law _ _ _ _ _ _ (nat_law record_fault 8) permission_law)
+access_key_law =
+    mapped_law access_key_of key_fields_of (λ _. refl) (λ _. refl) _ _ _
+    (pair_law _ _ _ _ _ _ (nat_law record_fault 8) permission_law)

@@ -16,7 +16,8 @@ use Rattle.nr_bytes.specs.Fields.{pair, mapped}
 -- ---- what a key for calls may do
 
 abbrev pub call_permission_bytes : CallPermission → List ℕ
-call_permission_bytes c = option_bytes (little 16) c.allowance ++ (counted_bytes c.receiver ++ list counted_bytes c.methods)
+call_permission_bytes c =
+    option_bytes (little 16) c.allowance ++ (counted_bytes c.receiver ++ list counted_bytes c.methods)
 
 abbrev pub IsCallPermission : CallPermission → Type 0
 IsCallPermission c = IsOption (Below (256 ^ 16)) c.allowance × (IsString c.receiver × FitsList IsString c.methods)

@@ -14,4 +14,5 @@ fields_of a = (a.amount, (a.locked, (a.code_hash, a.storage_usage)))
 pub account_law : IsRead account_at account_bytes IsAccount
 unfolding account_at
 account_law = mapped_law account_of fields_of (λ _. refl) (λ _. refl) _ _ _
-    (pair_law _ _ _ _ _ _ (nat_law record_fault 16) (pair_law _ _ _ _ _ _ (nat_law record_fault 16) (pair_law _ _ _ _ _ _ hash_law (nat_law record_fault 8))))
+    (pair_law _ _ _ _ _ _ (nat_law record_fault 16)
+    (pair_law _ _ _ _ _ _ (nat_law record_fault 16) (pair_law _ _ _ _ _ _ hash_law (nat_law record_fault 8))))

@@ -6,7 +6,8 @@ use Rattle.nr_bytes.specs.Writing.{counted_bytes}
 use Rattle.nr_ids.specs.declared.key.PublicKey.{PublicKey}
 use Rattle.nr_records.specs.declared.access_key.AccessKey.{AccessKey}
 use Rattle.nr_records.specs.declared.action.Action.{Action}
-use Rattle.nr_records.specs.declared.action.Action.TheVariants.{CreateAccount, DeployContract, FunctionCall, Transfer, AddKey, DeleteKey, DeleteAccount}
+use Rattle.nr_records.specs.declared.action.Action.TheVariants.{CreateAccount, DeployContract, FunctionCall, Transfer}
+use Rattle.nr_records.specs.declared.action.Action.TheVariants.{AddKey, DeleteKey, DeleteAccount}
 use Rattle.nr_records.specs.Reading.{nat_at, blob_at, account_id_at, choice}
 use Rattle.nr_records.specs.Ids.{IsId, key_at}
 use Rattle.nr_records.specs.IdLaws.{id_law, key_law}
@@ -20,7 +21,8 @@ use Rattle.nr_bytes.specs.Fields.{pair}
 use Rattle.nr_bytes.proofs.Values.{pair_law, mapped_case}
 use Rattle.nr_bytes.proofs.Combined.{choice_law, IsArm}
 use Rattle.nr_records.specs.Fault.{record_fault}
-use Rattle.nr_records.specs.Actions.{action_bytes, IsAction, CallFields, call_of, call_at, add_key_of, action_body, action_at}
+use Rattle.nr_records.specs.Actions.{action_bytes, IsAction, CallFields, call_of, call_at, add_key_of, action_body}
+use Rattle.nr_records.specs.Actions.{action_at}
 
 abbrev ordinal : Action → ℕ
 ordinal CreateAccount = 0
@@ -38,7 +40,10 @@ abbrev IsCall : CallFields → Type 0
 IsCall f = IsString f.0 × (IsCounted f.1.0 × ((f.1.1.0 < 256 ^ 8) × (f.1.1.1 < 256 ^ 16)))
 
 call_law : IsRead call_at call_bytes IsCall
-call_law = pair_law _ _ _ _ _ _ (string_law record_fault) (pair_law _ _ _ _ _ _ (blob_law record_fault) (pair_law _ _ _ _ _ _ (nat_law record_fault 8) (nat_law record_fault 16)))
+call_law =
+    pair_law _ _ _ _ _ _ (string_law record_fault)
+    (pair_law _ _ _ _ _ _ (blob_law record_fault)
+    (pair_law _ _ _ _ _ _ (nat_law record_fault 8) (nat_law record_fault 16)))
 
 abbrev add_key_bytes : PublicKey × AccessKey → List ℕ
 add_key_bytes f = key_bytes f.0 ++ access_key_bytes f.1
@@ -68,10 +73,12 @@ arms at (suc (suc zero)) s p fits e = mapped_case call_of call_at call_bytes IsC
 arms at (suc (suc (suc zero))) s p fits e = mapped_case (λ deposit. Transfer deposit) (nat_at 16) (little 16) (Below (256 ^ 16)) (nat_law record_fault 16) (ActionArm 3 s) s p fits (λ x t ok takes. record { ordinal = refl; fits = ok; takes = takes }) e
 arms at (suc (suc (suc (suc zero)))) s p fits e = absurd cc
 arms at (suc (suc (suc (suc (suc zero))))) s p fits e =
-    mapped_case add_key_of (pair key_at access_key_at) add_key_bytes IsAddKey add_key_law (ActionArm 5 s) s p fits (λ x t ok takes. record { ordinal = refl; fits = ok; takes = takes }) e
+    mapped_case add_key_of (pair key_at access_key_at) add_key_bytes IsAddKey add_key_law (ActionArm 5 s) s p fits
+    (λ x t ok takes. record { ordinal = refl; fits = ok; takes = takes }) e
 arms at (suc (suc (suc (suc (suc (suc zero)))))) s p fits e = mapped_case (λ public_key. DeleteKey public_key) key_at key_bytes IsKey key_law (ActionArm 6 s) s p fits (λ x t ok takes. record { ordinal = refl; fits = ok; takes = takes }) e
 arms at (suc (suc (suc (suc (suc (suc (suc zero))))))) s p fits e =
-    mapped_case (λ beneficiary. DeleteAccount beneficiary) account_id_at counted_bytes IsId id_law (ActionArm 7 s) s p fits (λ x t ok takes. record { ordinal = refl; fits = ok; takes = takes }) e
+    mapped_case (λ beneficiary. DeleteAccount beneficiary) account_id_at counted_bytes IsId id_law
+    (ActionArm 7 s) s p fits (λ x t ok takes. record { ordinal = refl; fits = ok; takes = takes }) e
 arms at (suc (suc (suc (suc (suc (suc (suc (suc b)))))))) s p fits e = absurd cc
 
 again : (at : ℕ) (v : Action) (here : ℕ) (rest : List ℕ) → IsAction v → action_body at (ordinal v) (before (inner v) here rest) ≡ Ok (v, behind (inner v) here rest)
@@ -103,4 +110,6 @@ spelled (DeleteAccount beneficiary) = refl
 
 pub action_law : IsRead action_at action_bytes IsAction
 unfolding action_at
-action_law = IsRead-spelled (choice action_body) action_bytes (tagged ordinal inner) IsAction spelled (choice_law record_fault action_body ordinal inner IsAction low arms again)
+action_law =
+    IsRead-spelled (choice action_body) action_bytes (tagged ordinal inner) IsAction spelled
+    (choice_law record_fault action_body ordinal inner IsAction low arms again)

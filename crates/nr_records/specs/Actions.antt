@@ -7,7 +7,8 @@ use Rattle.nr_bytes.specs.Writing.{counted_bytes}
 use Rattle.nr_ids.specs.declared.key.PublicKey.{PublicKey}
 use Rattle.nr_records.specs.declared.access_key.AccessKey.{AccessKey}
 use Rattle.nr_records.specs.declared.action.Action.{Action}
-use Rattle.nr_records.specs.declared.action.Action.TheVariants.{CreateAccount, DeployContract, FunctionCall, Transfer, AddKey, DeleteKey, DeleteAccount}
+use Rattle.nr_records.specs.declared.action.Action.TheVariants.{CreateAccount, DeployContract, FunctionCall, Transfer}
+use Rattle.nr_records.specs.declared.action.Action.TheVariants.{AddKey, DeleteKey, DeleteAccount}
 use Rattle.nr_records.specs.declared.fault.RecordFault.TheVariants.{BadOrdinal, Stake}
 use Rattle.nr_records.specs.Reading.{Read, nat_at, blob_at, string_at, account_id_at, choice}
 use Rattle.nr_records.specs.Ids.{IsId, key_at}
@@ -19,7 +20,8 @@ use Rattle.nr_bytes.specs.Fields.{pair, mapped}
 abbrev pub action_bytes : Action → List ℕ
 action_bytes CreateAccount = 0 ∷ []
 action_bytes (DeployContract code) = 1 ∷ counted_bytes code
-action_bytes (FunctionCall method args gas deposit) = 2 ∷ (counted_bytes method ++ (counted_bytes args ++ (little 8 gas ++ little 16 deposit)))
+action_bytes (FunctionCall method args gas deposit) =
+    2 ∷ (counted_bytes method ++ (counted_bytes args ++ (little 8 gas ++ little 16 deposit)))
 action_bytes (Transfer deposit) = 3 ∷ little 16 deposit
 action_bytes (AddKey public_key access_key) = 5 ∷ (key_bytes public_key ++ access_key_bytes access_key)
 action_bytes (DeleteKey public_key) = 6 ∷ key_bytes public_key
@@ -28,7 +30,8 @@ action_bytes (DeleteAccount beneficiary) = 7 ∷ counted_bytes beneficiary
 abbrev pub IsAction : Action → Type 0
 IsAction CreateAccount = Unit {0}
 IsAction (DeployContract code) = IsCounted code
-IsAction (FunctionCall method args gas deposit) = IsString method × (IsCounted args × ((gas < 256 ^ 8) × (deposit < 256 ^ 16)))
+IsAction (FunctionCall method args gas deposit) =
+    IsString method × (IsCounted args × ((gas < 256 ^ 8) × (deposit < 256 ^ 16)))
 IsAction (Transfer deposit) = deposit < 256 ^ 16
 IsAction (AddKey public_key access_key) = IsKey public_key × IsAccessKey access_key
 IsAction (DeleteKey public_key) = IsKey public_key

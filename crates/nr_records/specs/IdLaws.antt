@@ -31,7 +31,8 @@ id_is : (at : ℕ) (o : Option IdFault) (text : List ℕ × Input) → id_of at 
 id_is at None text = refl
 id_is at (Some fault) text = refl
 
-id_read_is : (s : Input) (r : Read (List ℕ)) → (r >>= λ text. id_of s.at (id_fault text.0) text) ≡ (r >>= λ a. cond (is_id a.0) (Ok a) (Err (BadAccountId s.at)))
+id_read_is : (s : Input) (r : Read (List ℕ)) → (r >>= λ text. id_of s.at (id_fault text.0) text)
+    ≡ (r >>= λ a. cond (is_id a.0) (Ok a) (Err (BadAccountId s.at)))
 id_read_is s (Ok text) = id_is s.at (id_fault text.0) text
 id_read_is s (Err e) = refl
 
@@ -44,14 +45,19 @@ is_text id e = ((omega (arith, short_id id e), is_utf8-from_IsUtf8 id (text_id i
 
 pub id_law : IsRead account_id_at counted_bytes IsId
 unfolding account_id_at
-id_law = IsRead-where account_id_at counted_bytes (Passes IsString is_id) IsId (λ id fits. none_is (id_fault id) fits.1) is_text
-    (IsRead-along account_id_at (tested is_id BadAccountId string_at) counted_bytes (Passes IsString is_id) (λ s. id_read_is s (string_at s))
+id_law =
+    IsRead-where account_id_at counted_bytes (Passes IsString is_id) IsId (λ id fits. none_is (id_fault id) fits.1)
+    is_text
+    (IsRead-along account_id_at (tested is_id BadAccountId string_at) counted_bytes (Passes IsString is_id)
+    (λ s. id_read_is s (string_at s))
     (tested_law is_id BadAccountId string_at counted_bytes IsString (string_law record_fault)))
 
 -- ---- hashes
 
 pub hash_law : IsRead hash_at hash_bytes IsHash
-hash_law = mapped_law hash_of_bytes hash_bytes (λ _. refl) (λ _. refl) (raw_at 32) (λ v. v) (HasLength 32) (raw_law record_fault 32)
+hash_law =
+    mapped_law hash_of_bytes hash_bytes (λ _. refl) (λ _. refl) (raw_at 32) (λ v. v) (HasLength 32)
+    (raw_law record_fault 32)
 
 -- ---- keys
 
@@ -82,4 +88,6 @@ spelled (Secp256k1 key) = refl
 
 pub key_law : IsRead key_at key_bytes IsKey
 unfolding key_at
-key_law = IsRead-spelled (choice key_body) key_bytes (tagged ordinal inner) IsKey spelled (choice_law record_fault key_body ordinal inner IsKey low arms again)
+key_law =
+    IsRead-spelled (choice key_body) key_bytes (tagged ordinal inner) IsKey spelled
+    (choice_law record_fault key_body ordinal inner IsKey low arms again)

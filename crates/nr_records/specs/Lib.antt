@@ -1,3 +1,4 @@
+-- Definitions that the contracts cite.
 pub mod Fault
 pub mod Reading
 pub mod Ids

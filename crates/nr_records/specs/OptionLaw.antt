@@ -24,7 +24,8 @@ arms {X} r a P law at zero s p fits e =
     let made : Option X × Input = (None, s) in
     subst (IsArm ordinal (inner a) (IsOption P) 0 s) (ok_is made p e) (record { ordinal = refl; fits = tt; takes = record { left = refl; at = omega arith; bytes = fits } })
 arms {X} r a P law at (suc zero) s p fits e =
-    mapped_case (λ (x : X). Some x) r a P law (IsArm ordinal (inner a) (IsOption P) 1 s) s p fits (λ x t ok takes. record { ordinal = refl; fits = ok; takes = takes }) e
+    mapped_case (λ (x : X). Some x) r a P law (IsArm ordinal (inner a) (IsOption P) 1 s) s p fits
+    (λ x t ok takes. record { ordinal = refl; fits = ok; takes = takes }) e
 arms r a P law at (suc (suc b)) s p fits e = absurd cc
 
 again : {X : Type 0} (r : Input → Read X) (a : X → List ℕ) (P : X → Type 0) → IsRead r a P → (at : ℕ) (v : Option X) (here : ℕ) (rest : List ℕ) → IsOption P v
@@ -42,7 +43,9 @@ spelled : {X : Type 0} (a : X → List ℕ) (v : Option X) → option_bytes a v 
 spelled a None = refl
 spelled a (Some x) = refl
 
-pub option_law : {X : Type 0} (r : Input → Read X) (a : X → List ℕ) (P : X → Type 0) → IsRead r a P → IsRead (option_at r) (option_bytes a) (IsOption P)
+pub option_law : {X : Type 0} (r : Input → Read X) (a : X → List ℕ) (P : X → Type 0) → IsRead r a P
+    → IsRead (option_at r) (option_bytes a) (IsOption P)
 unfolding option_at
-option_law r a P law = IsRead-spelled (choice (option_body r)) (option_bytes a) (tagged ordinal (inner a)) (IsOption P) (spelled a)
+option_law r a P law =
+    IsRead-spelled (choice (option_body r)) (option_bytes a) (tagged ordinal (inner a)) (IsOption P) (spelled a)
     (choice_law record_fault (option_body r) ordinal (inner a) (IsOption P) low (arms r a P law) (again r a P law))

@@ -19,7 +19,11 @@ use Rattle.nr_records.specs.Fault.{record_fault}
 use Rattle.nr_records.specs.OptionLaw.{option_law}
 use Rattle.nr_records.specs.IdLaws.{id_law, hash_law, key_law}
 use Rattle.nr_records.specs.ActionLaw.{action_law}
-use Rattle.nr_records.specs.Receipts.{data_receiver_bytes, IsDataReceiver, data_receiver_of, data_receiver_at, data_receipt_bytes, IsDataReceipt, data_receipt_of, data_receipt_at, action_receipt_bytes, IsActionReceipt, ActionFields, action_receipt_of, action_receipt_at, body_bytes, IsBody, body_body, body_at, receipt_bytes, IsReceipt, Fields, receipt_of, receipt_at}
+use Rattle.nr_records.specs.Receipts.{data_receiver_bytes, IsDataReceiver, data_receiver_of, data_receiver_at}
+use Rattle.nr_records.specs.Receipts.{data_receipt_bytes, IsDataReceipt, data_receipt_of, data_receipt_at}
+use Rattle.nr_records.specs.Receipts.{action_receipt_bytes, IsActionReceipt, ActionFields, action_receipt_of}
+use Rattle.nr_records.specs.Receipts.{action_receipt_at, body_bytes, IsBody, body_body, body_at, receipt_bytes}
+use Rattle.nr_records.specs.Receipts.{IsReceipt, Fields, receipt_of, receipt_at}
 
 -- ---- who gets the result of a receipt
 
@@ -28,7 +32,9 @@ data_receiver_fields d = (d.data_id, d.receiver)
 
 pub data_receiver_law : IsRead data_receiver_at data_receiver_bytes IsDataReceiver
 unfolding data_receiver_at
-data_receiver_law = mapped_law data_receiver_of data_receiver_fields (λ _. refl) (λ _. refl) _ _ _ (pair_law _ _ _ _ _ _ hash_law id_law)
+data_receiver_law =
+    mapped_law data_receiver_of data_receiver_fields (λ _. refl) (λ _. refl) _ _ _
+    (pair_law _ _ _ _ _ _ hash_law id_law)
 
 -- ---- a receipt of a datum
 
@@ -37,7 +43,9 @@ data_receipt_fields d = (d.data_id, d.bytes)
 
 pub data_receipt_law : IsRead data_receipt_at data_receipt_bytes IsDataReceipt
 unfolding data_receipt_at
-data_receipt_law = mapped_law data_receipt_of data_receipt_fields (λ _. refl) (λ _. refl) _ _ _ (pair_law _ _ _ _ _ _ hash_law (option_law _ _ _ (blob_law record_fault)))
+data_receipt_law =
+    mapped_law data_receipt_of data_receipt_fields (λ _. refl) (λ _. refl) _ _ _
+    (pair_law _ _ _ _ _ _ hash_law (option_law _ _ _ (blob_law record_fault)))
 
 -- ---- a receipt of actions
 
@@ -47,7 +55,9 @@ action_fields_of a = (a.signer, (a.signer_key, (a.gas_price, (a.outputs, (a.inpu
 pub action_receipt_law : IsRead action_receipt_at action_receipt_bytes IsActionReceipt
 unfolding action_receipt_at
 action_receipt_law = mapped_law action_receipt_of action_fields_of (λ _. refl) (λ _. refl) _ _ _
-    (pair_law _ _ _ _ _ _ id_law (pair_law _ _ _ _ _ _ key_law (pair_law _ _ _ _ _ _ (nat_law record_fault 16) (pair_law _ _ _ _ _ _ (list_law record_fault _ _ _ data_receiver_law)
+    (pair_law _ _ _ _ _ _ id_law (pair_law _ _ _ _ _ _ key_law
+    (pair_law _ _ _ _ _ _ (nat_law record_fault 16)
+    (pair_law _ _ _ _ _ _ (list_law record_fault _ _ _ data_receiver_law)
     (pair_law _ _ _ _ _ _ (list_law record_fault _ _ _ hash_law) (list_law record_fault _ _ _ action_law))))))
 
 -- ---- what a receipt is of
@@ -79,7 +89,9 @@ spelled (Datum d) = refl
 
 pub body_law : IsRead body_at body_bytes IsBody
 unfolding body_at
-body_law = IsRead-spelled (choice body_body) body_bytes (tagged ordinal inner) IsBody spelled (choice_law record_fault body_body ordinal inner IsBody low arms again)
+body_law =
+    IsRead-spelled (choice body_body) body_bytes (tagged ordinal inner) IsBody spelled
+    (choice_law record_fault body_body ordinal inner IsBody low arms again)
 
 -- ---- a receipt
 
@@ -88,4 +100,6 @@ fields_of r = (r.predecessor, (r.receiver, (r.receipt_id, r.body)))
 
 pub receipt_law : IsRead receipt_at receipt_bytes IsReceipt
 unfolding receipt_at
-receipt_law = mapped_law receipt_of fields_of (λ _. refl) (λ _. refl) _ _ _ (pair_law _ _ _ _ _ _ id_law (pair_law _ _ _ _ _ _ id_law (pair_law _ _ _ _ _ _ hash_law body_law)))
+receipt_law =
+    mapped_law receipt_of fields_of (λ _. refl) (λ _. refl) _ _ _
+    (pair_law _ _ _ _ _ _ id_law (pair_law _ _ _ _ _ _ id_law (pair_law _ _ _ _ _ _ hash_law body_law)))

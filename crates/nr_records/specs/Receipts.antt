@@ -53,19 +53,33 @@ data_receipt_at = mapped data_receipt_of (pair hash_at (option_at blob_at))
 
 abbrev pub action_receipt_bytes : ActionReceipt → List ℕ
 action_receipt_bytes a =
-    counted_bytes a.signer ++ (key_bytes a.signer_key ++ (little 16 a.gas_price ++ (list data_receiver_bytes a.outputs ++ (list hash_bytes a.inputs ++ list action_bytes a.actions))))
+    counted_bytes a.signer ++ (key_bytes a.signer_key
+    ++ (little 16 a.gas_price ++ (list data_receiver_bytes a.outputs
+    ++ (list hash_bytes a.inputs ++ list action_bytes a.actions))))
 
 abbrev pub IsActionReceipt : ActionReceipt → Type 0
-IsActionReceipt a = IsId a.signer × (IsKey a.signer_key × ((a.gas_price < 256 ^ 16) × (FitsList IsDataReceiver a.outputs × (FitsList IsHash a.inputs × FitsList IsAction a.actions))))
+IsActionReceipt a =
+    IsId a.signer × (IsKey a.signer_key × ((a.gas_price < 256 ^ 16)
+    × (FitsList IsDataReceiver a.outputs × (FitsList IsHash a.inputs × FitsList IsAction a.actions))))
 
 abbrev pub ActionFields : Type 0
 ActionFields = List ℕ × (PublicKey × (ℕ × (List DataReceiver × (List Hash32 × List Action))))
 
 abbrev pub action_receipt_of : ActionFields → ActionReceipt
-action_receipt_of f = record { signer = f.0; signer_key = f.1.0; gas_price = f.1.1.0; outputs = f.1.1.1.0; inputs = f.1.1.1.1.0; actions = f.1.1.1.1.1 }
+action_receipt_of f =
+    record {
+      signer = f.0;
+      signer_key = f.1.0;
+      gas_price = f.1.1.0;
+      outputs = f.1.1.1.0;
+      inputs = f.1.1.1.1.0;
+      actions = f.1.1.1.1.1;
+    }
 
 abbrev pub action_fields_at : Input → Read ActionFields
-action_fields_at = pair account_id_at (pair key_at (pair (nat_at 16) (pair (list_at data_receiver_at) (pair (list_at hash_at) (list_at action_at)))))
+action_fields_at =
+    pair account_id_at (pair key_at (pair (nat_at 16)
+    (pair (list_at data_receiver_at) (pair (list_at hash_at) (list_at action_at)))))
 
 unfoldable pub action_receipt_at : Input → Read ActionReceipt
 action_receipt_at = mapped action_receipt_of action_fields_at
@@ -92,7 +106,8 @@ body_at = choice body_body
 -- ---- a receipt
 
 abbrev pub receipt_bytes : Receipt → List ℕ
-receipt_bytes r = counted_bytes r.predecessor ++ (counted_bytes r.receiver ++ (hash_bytes r.receipt_id ++ body_bytes r.body))
+receipt_bytes r =
+    counted_bytes r.predecessor ++ (counted_bytes r.receiver ++ (hash_bytes r.receipt_id ++ body_bytes r.body))
 
 abbrev pub IsReceipt : Receipt → Type 0
 IsReceipt r = IsId r.predecessor × (IsId r.receiver × (IsHash r.receipt_id × IsBody r.body))

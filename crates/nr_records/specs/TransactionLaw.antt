@@ -16,5 +16,6 @@ fields_of t = (t.signer, (t.public_key, (t.nonce, (t.receiver, (t.block_hash, t.
 pub transaction_law : IsRead transaction_at transaction_bytes IsTransaction
 unfolding transaction_at
 transaction_law = mapped_law transaction_of fields_of (λ _. refl) (λ _. refl) _ _ _
-    (pair_law _ _ _ _ _ _ id_law (pair_law _ _ _ _ _ _ key_law (pair_law _ _ _ _ _ _ (nat_law record_fault 8) (pair_law _ _ _ _ _ _ id_law
+    (pair_law _ _ _ _ _ _ id_law (pair_law _ _ _ _ _ _ key_law
+    (pair_law _ _ _ _ _ _ (nat_law record_fault 8) (pair_law _ _ _ _ _ _ id_law
     (pair_law _ _ _ _ _ _ hash_law (list_law record_fault _ _ _ action_law))))))

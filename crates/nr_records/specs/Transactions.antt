@@ -16,16 +16,28 @@ use Rattle.nr_records.specs.Actions.{action_at, action_bytes, IsAction}
 
 abbrev pub transaction_bytes : Transaction → List ℕ
 transaction_bytes t =
-    counted_bytes t.signer ++ (key_bytes t.public_key ++ (little 8 t.nonce ++ (counted_bytes t.receiver ++ (hash_bytes t.block_hash ++ list action_bytes t.actions))))
+    counted_bytes t.signer ++ (key_bytes t.public_key
+    ++ (little 8 t.nonce ++ (counted_bytes t.receiver
+    ++ (hash_bytes t.block_hash ++ list action_bytes t.actions))))
 
 abbrev pub IsTransaction : Transaction → Type 0
-IsTransaction t = IsId t.signer × (IsKey t.public_key × ((t.nonce < 256 ^ 8) × (IsId t.receiver × (IsHash t.block_hash × FitsList IsAction t.actions))))
+IsTransaction t =
+    IsId t.signer × (IsKey t.public_key × ((t.nonce < 256 ^ 8)
+    × (IsId t.receiver × (IsHash t.block_hash × FitsList IsAction t.actions))))
 
 abbrev pub Fields : Type 0
 Fields = List ℕ × (PublicKey × (ℕ × (List ℕ × (Hash32 × List Action))))
 
 abbrev pub transaction_of : Fields → Transaction
-transaction_of f = record { signer = f.0; public_key = f.1.0; nonce = f.1.1.0; receiver = f.1.1.1.0; block_hash = f.1.1.1.1.0; actions = f.1.1.1.1.1 }
+transaction_of f =
+    record {
+      signer = f.0;
+      public_key = f.1.0;
+      nonce = f.1.1.0;
+      receiver = f.1.1.1.0;
+      block_hash = f.1.1.1.1.0;
+      actions = f.1.1.1.1.1;
+    }
 
 abbrev pub fields_at : Input → Read Fields
 fields_at = pair account_id_at (pair key_at (pair (nat_at 8) (pair account_id_at (pair hash_at (list_at action_at)))))

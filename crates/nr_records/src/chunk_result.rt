@@ -1,3 +1,5 @@
+//! What a chunk did: its lines, and how its receipts ended.
+
 use nr_bytes::{Blob, List};
 use nr_ids::{Hash32, Height, ShardId};
 

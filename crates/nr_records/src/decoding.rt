@@ -1,3 +1,5 @@
+//! Reading a record out of all of some bytes.
+
 ghost use Rattle.std.specs.Prelude.{◌≡◌, IfOk};
 ghost use Rattle.nr_records.specs.Reading.{all_of};
 ghost use Rattle.nr_bytes.specs.Answers.{Gives};

@@ -1,3 +1,5 @@
+//! A record's bytes.
+
 ghost use Rattle.std.specs.Prelude.{◌≡◌, IfOk, OnOk};
 ghost use Rattle.nr_records.specs.Reading.{all_of};
 

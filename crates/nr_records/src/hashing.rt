@@ -1,3 +1,5 @@
+//! A record's SHA-256.
+
 ghost use Rattle.std.specs.Prelude.{◌≡◌, IfOk};
 ghost use Rattle.sha2.specs.Sha256.{sha256};
 

@@ -1,3 +1,5 @@
+//! What holds of every record's spelling.
+
 ghost use Rattle.std.specs.Prelude.{◌≡◌, ◌++◌, List, ℕ, []};
 ghost use Rattle.nr_bytes.specs.Numbers.{IsBytes};
 ghost use Rattle.nr_bytes.specs.Reading.{Input};

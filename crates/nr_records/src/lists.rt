@@ -1,3 +1,5 @@
+//! Lists as fields of records.
+
 ghost use Rattle.std.specs.Prelude.{◌≡◌, IfOk, OnOk, ◌++◌};
 ghost use Rattle.std.specs.List.{flat_map, AllByRecursion};
 ghost use Rattle.nr_records.specs.Reading.{list_at};

@@ -1,6 +1,12 @@
+//! Receipts of actions and of data: reading, writing, copying.
+
 ghost use Rattle.std.specs.Prelude.{◌≡◌};
-ghost use Rattle.nr_records.specs.Receipts.{data_receiver_at, data_receiver_bytes, IsDataReceiver, data_receipt_at, data_receipt_bytes, IsDataReceipt, action_receipt_at, action_receipt_bytes, IsActionReceipt, body_at, body_bytes, IsBody, receipt_at, receipt_bytes, IsReceipt};
-ghost use Rattle.nr_records.specs.ReceiptLaws.{data_receiver_law, data_receipt_law, action_receipt_law, body_law, receipt_law};
+ghost use Rattle.nr_records.specs.Receipts.{data_receiver_at, data_receiver_bytes, IsDataReceiver, data_receipt_at};
+ghost use Rattle.nr_records.specs.Receipts.{data_receipt_bytes, IsDataReceipt, action_receipt_at, action_receipt_bytes};
+ghost use Rattle.nr_records.specs.Receipts.{IsActionReceipt, body_at, body_bytes, IsBody, receipt_at, receipt_bytes};
+ghost use Rattle.nr_records.specs.Receipts.{IsReceipt};
+ghost use Rattle.nr_records.specs.ReceiptLaws.{data_receiver_law, data_receipt_law, action_receipt_law, body_law};
+ghost use Rattle.nr_records.specs.ReceiptLaws.{receipt_law};
 
 use crate::action::Action;
 use crate::fault::RecordFault;

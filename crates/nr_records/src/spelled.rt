@@ -1,3 +1,5 @@
+//! The trait of what has one spelling.
+
 ghost use Rattle.std.specs.Prelude.{◌≡◌, ◌++◌, OnOk, OnErr, IfOk};
 ghost use Rattle.nr_bytes.specs.Answers.{GivesRead};
 ghost use Rattle.nr_records.specs.declared.fault.RecordFault.TheVariants.{Memory};

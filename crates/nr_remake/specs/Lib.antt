@@ -1,3 +1,4 @@
+-- Definitions that the contracts cite.
 pub mod Forks
 pub mod Marks
 pub mod Merging

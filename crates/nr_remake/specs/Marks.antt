@@ -1,9 +1,12 @@
--- The trie of paths of which some stand for values that are known by length and hash, and others for whole tries that are known by their top's hash and their usage. This project's own.
-use Rattle.std.specs.Prelude.{◌≡◌, ℕ, zero, suc, ◌+◌, ◌≤◌, ◌<◌, true, List, [], ◌∷◌, length, map, Option, Some, None, sum_by}
+-- The trie of paths of which some stand for values that are known by length and hash, and others for whole tries that
+-- are known by their top's hash and their usage. This project's own.
+use Rattle.std.specs.Prelude.{◌≡◌, ℕ, zero, suc, ◌+◌, ◌≤◌, ◌<◌, true, List, [], ◌∷◌, length, map, Option, Some, None}
+use Rattle.std.specs.Prelude.{sum_by}
 use Rattle.std.specs.List.{AllByRecursion}
 use Rattle.nr_ids.specs.declared.key.Hash32.{Hash32}
 use Rattle.nr_triedef.specs.Node.{key_part, summary}
-use Rattle.nr_triedef.specs.Root.{Paths, common, depth, front, behind, value_here, under, hash_below, usage_below, part_usage, with_front, sixteen}
+use Rattle.nr_triedef.specs.Root.{Paths, common, depth, front, behind, value_here, under, hash_below, usage_below}
+use Rattle.nr_triedef.specs.Root.{part_usage, with_front, sixteen}
 use Rattle.nr_triedef.specs.declared.hash.Summary.{Summary}
 use Rattle.nr_triedef.specs.declared.node.Node.{Node}
 use Rattle.nr_triedef.specs.declared.node.Node.TheVariants.{Leaf, Branch}
@@ -57,7 +60,8 @@ marked_trie zero (p ∷ q ∷ ps) = None
 marked_trie (suc depth) (p ∷ q ∷ ps) =
     let shared = front (p ∷ q ∷ ps) in
     let rest = behind (length shared) (p ∷ q ∷ ps) in
-    Some (with_front shared (summary (branch_with (marked_field (value_here rest)) (map (λ n. marked_trie depth (under n rest)) sixteen))))
+    Some (with_front shared (summary (branch_with (marked_field (value_here rest))
+    (map (λ n. marked_trie depth (under n rest)) sixteen))))
 
 -- what stands at a mark's path; a known trie is all that stands there
 pub record IsGroup (all : Paths) (p : List ℕ × List ℕ) (ps : Paths) : Type 0 where

@@ -63,7 +63,8 @@ pub fn remade_root(alloc: Global, kept: &[Kept], new: &List<Entry>) -> Result<Ha
     // Which root it is.
     ensures exact { IfOk result (λ hash. hash ≡ remade kept.now new.now) }
     // It is the root of each map that has these entries in the place of those that were found.
-    ensures changed { IfOk result (λ hash. (searched : Items OneSearched) (m n : Contents) → IsKept searched (paths (map.entries m)) kept.now → IsChanged searched m n new.now → hash ≡ (root_of n).hash) }
+    ensures changed { IfOk result (λ hash. (searched : Items OneSearched) (m n : Contents)
+        → IsKept searched (paths (map.entries m)) kept.now → IsChanged searched m n new.now → hash ≡ (root_of n).hash) }
 {
     exact_root(alloc, kept, new.inner())
 }

@@ -10,4 +10,5 @@ start_of heights number = heights / 8 * number + min (heights % 8) number
 
 -- the text of the heights above all below a stretch, up to all below the next one
 abbrev pub IsStretch : Reports → ℕ → ℕ → List ℕ → Type 0
-IsStretch y heights number text = text ≡ heights_text y.shards (report_in y) (start_of heights number) (start_of heights (number + 1))
+IsStretch y heights number text =
+    text ≡ heights_text y.shards (report_in y) (start_of heights number) (start_of heights (number + 1))

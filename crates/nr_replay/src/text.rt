@@ -49,7 +49,8 @@ fn stretches<R: Threads + Sync>(
     heights: u64,
 ) -> Result<Vec<Result<Blob, AllocError>>, AllocError>
     ensures len { IfOk result (λ texts. vec_len texts ≡ 8) }
-    ensures each { IfOk result (λ texts. (i : ℕ) (d : _) → i < 8 → IfOk (slice_index_or texts.items i d) (λ text. IsStretch reports.now heights i text)) }
+    ensures each { IfOk result (λ texts. (i : ℕ) (d : _) → i < 8
+        → IfOk (slice_index_or texts.items i d) (λ text. IsStretch reports.now heights i text)) }
 {
     let write = |number: usize| -> Result<Blob, AllocError>
         requires { number < 8 }

@@ -26,8 +26,8 @@ use std::thread::Threads;
 ///
 /// What is written is what `nr_top::serial` writes for `run` and `gen`, whatever the threads do. Each shard passes the
 /// gate at three moments of each of its chunks, with its height in its leg; where boundaries change, the threads of the
-/// first leg have ended before those of the second begin. Shards for which no thread can be started are run in turns by the
-/// caller. When the call comes back all threads have ended; nothing says that it does.
+/// first leg have ended before those of the second begin. Shards for which no thread can be started are run in turns
+/// by the caller. When the call comes back all threads have ended; nothing says that it does.
 ///
 /// # Answers
 ///

@@ -52,7 +52,8 @@ struct Leg<W: Drop> {
 
 /// How many chunks a run has. A number that doesn't fit counts as want of memory.
 fn count_of(outcome: &Outcome<ContractCaller>) -> Result<u64, AllocError>
-    ensures { let r = rules_of (chain_in outcome.now.chain) in IfOk result (λ count. count ≡ count_to r.shards (report_at r (ending r)) r.heights) }
+    ensures { let r = rules_of (chain_in outcome.now.chain)
+        in IfOk result (λ count. count ≡ count_to r.shards (report_at r (ending r)) r.heights) }
 {
     outcome.chunk_count().ok_or(AllocError)
 }

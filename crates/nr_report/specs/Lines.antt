@@ -7,7 +7,8 @@ use Rattle.nr_records.specs.declared.chunk_result.RunStatus.{RunStatus}
 use Rattle.nr_records.specs.declared.chunk_result.RunStatus.TheVariants.{Value, Promise, Failure, Clash}
 use Rattle.nr_records.specs.declared.chunk_result.Outcome.{Outcome}
 use Rattle.nr_records.specs.declared.chunk_result.ChunkLine.{ChunkLine}
-use Rattle.nr_records.specs.declared.chunk_result.ChunkLine.TheVariants.{TxOk, TxRefused, Run, Postponed, Received, Lost, Late, Sent}
+use Rattle.nr_records.specs.declared.chunk_result.ChunkLine.TheVariants.{TxOk, TxRefused, Run, Postponed, Received}
+use Rattle.nr_records.specs.declared.chunk_result.ChunkLine.TheVariants.{Lost, Late, Sent}
 use Rattle.nr_records.specs.declared.chunk_result.ChunkResult.{ChunkResult}
 use Rattle.nr_report.specs.declared.totals.Totals.{Totals}
 
@@ -31,7 +32,8 @@ bytes_word (b ∷ bytes) = encode_lower (b ∷ bytes)
 abbrev pub run_words : Outcome → RunStatus → Words
 run_words o (Value bytes) = codes "value" ∷ bytes_word bytes ∷ decimal o.gas ∷ decimal o.burnt ∷ []
 run_words o (Promise id) = codes "promise" ∷ hash_word id ∷ decimal o.gas ∷ decimal o.burnt ∷ []
-run_words o (Failure index kind part) = codes "failure" ∷ decimal index ∷ decimal kind ∷ decimal part ∷ decimal o.gas ∷ decimal o.burnt ∷ []
+run_words o (Failure index kind part) =
+    codes "failure" ∷ decimal index ∷ decimal kind ∷ decimal part ∷ decimal o.gas ∷ decimal o.burnt ∷ []
 run_words o Clash = codes "clash" ∷ codes "0" ∷ decimal o.burnt ∷ []
 
 abbrev pub run_line : Outcome → RunStatus → List ℕ
@@ -49,7 +51,8 @@ told_logs Clash logs = []
 
 abbrev pub line_text : ChunkLine → List ℕ
 line_text (TxOk hash id) = line (codes "tx" ∷ hash_word hash ∷ codes "ok" ∷ hash_word id ∷ [])
-line_text (TxRefused hash number first second) = line (codes "tx" ∷ hash_word hash ∷ codes "refused" ∷ decimal number ∷ decimal first ∷ decimal second ∷ [])
+line_text (TxRefused hash number first second) =
+    line (codes "tx" ∷ hash_word hash ∷ codes "refused" ∷ decimal number ∷ decimal first ∷ decimal second ∷ [])
 line_text (Run o) = run_line o o.status ++ flat_map log_line (told_logs o.status o.logs)
 line_text (Postponed id) = line (codes "post" ∷ hash_word id ∷ [])
 line_text (Received id) = line (codes "data" ∷ hash_word id ∷ [])
@@ -59,7 +62,9 @@ line_text (Sent dest id hash) = line (codes "out" ∷ decimal dest.0 ∷ hash_wo
 
 -- a chunk's own line, and then its lines
 abbrev pub chunk_line : ChunkResult → List ℕ
-chunk_line r = line (codes "chunk" ∷ decimal r.height.0 ∷ decimal r.shard.0 ∷ hash_word r.root ∷ decimal r.gas ∷ decimal r.burnt ∷ [])
+chunk_line r =
+    line (codes "chunk" ∷ decimal r.height.0 ∷ decimal r.shard.0 ∷ hash_word r.root ∷ decimal r.gas ∷ decimal r.burnt
+    ∷ [])
 
 unfoldable pub chunk_text : ChunkResult → List ℕ
 chunk_text r = chunk_line r ++ flat_map line_text r.lines
@@ -69,7 +74,9 @@ total_line what n = line (codes "total" ∷ what ∷ n ∷ [])
 
 -- routed, executed, postponed, delayed, in flight
 abbrev pub places_words : List ℕ → Words
-places_words places = decimal (slice_index places 0) ∷ decimal (slice_index places 1) ∷ decimal (slice_index places 2) ∷ decimal (slice_index places 3) ∷ decimal (slice_index places 4) ∷ []
+places_words places =
+    decimal (slice_index places 0) ∷ decimal (slice_index places 1) ∷ decimal (slice_index places 2)
+    ∷ decimal (slice_index places 3) ∷ decimal (slice_index places 4) ∷ []
 
 abbrev pub tokens_text : Totals → List ℕ
 tokens_text t =

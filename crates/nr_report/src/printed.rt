@@ -4,7 +4,8 @@ ghost use Rattle.std.specs.Prelude.{◌≡◌, [], ◌∷◌, ◌++◌, IfOk, On
 ghost use Rattle.std.specs.List.{flat_map};
 ghost use Rattle.nr_records.specs.declared.chunk_result.RunStatus.TheVariants.{Value, Promise, Failure, Clash};
 ghost use Rattle.nr_records.specs.declared.chunk_result.ChunkLine.TheVariants.{TxOk, TxRefused, Sent};
-ghost use Rattle.nr_report.specs.Lines.{line, hash_word, bytes_word, run_line, log_line, told_logs, line_text, chunk_line, chunk_text, total_line, places_words, tokens_text, totals_text};
+ghost use Rattle.nr_report.specs.Lines.{line, hash_word, bytes_word, run_line, log_line, told_logs, line_text};
+ghost use Rattle.nr_report.specs.Lines.{chunk_line, chunk_text, total_line, places_words, tokens_text, totals_text};
 
 use crate::totals::Totals;
 use nr_bytes::Blob;
@@ -67,7 +68,8 @@ fn print_refused(
     second: u128,
     text: &mut String,
 ) -> Result<(), AllocError>
-    ensures { OnOk result (string_bytes text.new ≡ string_bytes text.old ++ line_text (TxRefused hash.now number first second)) }
+    ensures { OnOk result (string_bytes text.new
+        ≡ string_bytes text.old ++ line_text (TxRefused hash.now number first second)) }
 {
     let hash = hash_digits(alloc, hash)?;
     writeln!(text, "tx {hash} refused {number} {first} {second}")
@@ -111,7 +113,8 @@ fn print_failure(
     part: u32,
     text: &mut String,
 ) -> Result<(), AllocError>
-    ensures { OnOk result (string_bytes text.new ≡ string_bytes text.old ++ run_line outcome.now (Failure index kind part)) }
+    ensures { OnOk result (string_bytes text.new ≡ string_bytes text.old ++ run_line outcome.now
+        (Failure index kind part)) }
 {
     let id = hash_digits(alloc, &outcome.receipt_id)?;
     let gas = outcome.gas;
@@ -153,7 +156,8 @@ fn print_logs(alloc: Global, logs: &[Blob], text: &mut String) -> Result<(), All
 
 /// The lines of a run's logs; where the receipt failed or clashed there are none.
 fn print_told_logs(alloc: Global, outcome: &Outcome, text: &mut String) -> Result<(), AllocError>
-    ensures { OnOk result (string_bytes text.new ≡ string_bytes text.old ++ flat_map log_line (told_logs outcome.now.status outcome.now.logs)) }
+    ensures { OnOk result (string_bytes text.new
+        ≡ string_bytes text.old ++ flat_map log_line (told_logs outcome.now.status outcome.now.logs)) }
 {
     match &outcome.status {
         RunStatus::Value(_) => print_logs(alloc, outcome.logs.inner(), text),
@@ -239,7 +243,8 @@ fn print_total(word: &str, number: u128, text: &mut String) -> Result<(), AllocE
 
 /// The line of where receipts stand.
 fn print_places(places: &[u64; 5], text: &mut String) -> Result<(), AllocError>
-    ensures { OnOk result (string_bytes text.new ≡ string_bytes text.old ++ line (codes "total" ∷ codes "places" ∷ places_words places.now)) }
+    ensures { OnOk result (string_bytes text.new
+        ≡ string_bytes text.old ++ line (codes "total" ∷ codes "places" ∷ places_words places.now)) }
 {
     let [routed, executed, postponed, delayed, flight] = *places;
     writeln!(

@@ -1,3 +1,5 @@
+//! The text of a chunk and of the totals.
+
 ghost use Rattle.std.specs.Prelude.{◌≡◌, ◌++◌, OnOk, OnErr};
 ghost use Rattle.nr_report.specs.Lines.{chunk_text, totals_text};
 

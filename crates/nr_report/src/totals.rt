@@ -1,3 +1,5 @@
+//! The totals of a run.
+
 /// The sums over a run: tokens in the ledger's smallest unit, and how many receipts stand where.
 #[derive(Clone, Copy, Debug, PartialEq, Eq)]
 pub struct Totals {

@@ -1,3 +1,4 @@
+-- Definitions that the contracts cite.
 pub mod Files
 pub mod FileLaws
 pub mod Judging

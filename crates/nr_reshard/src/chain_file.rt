@@ -1,3 +1,5 @@
+//! The blocks of a chain with the change of its boundaries.
+
 use crate::reshard::Reshard;
 use nr_blocks::Block;
 use nr_bytes::List;

@@ -1,3 +1,4 @@
+-- Definitions that the contracts cite.
 pub mod Schedule
 pub mod Checking
 pub mod Moments

@@ -17,7 +17,9 @@ use Rattle.nr_workers.specs.Standing.{AreShown}
 abbrev pub ChainSerial : Type 0 → Type 0
 ChainSerial P = Serial P Kept Working (List Receipt) ChunkResult
 
--- wherever the exchange rule of this run holds, at positions with the numbers and claims of the views and each shard's own stage
+-- wherever the exchange rule of this run holds, at positions with the numbers and claims of the views and each
+-- shard's own stage
 abbrev pub HoldsWhileRunning : {P : Type 0} → ChainSerial P → (P → Chain) → Type 0
 HoldsWhileRunning {P} run chain_of = (s : State (Option (List Receipt)) (Note (ChainSerial P))) (ps : List Position)
-    → IsChain (chain_of run.0) → ExchangeRule run (serial_plan (λ p. rules_of (chain_of p)) run) s → AreShown (rules_of (chain_of run.0)) s.views ps → HoldsAt (chain_of run.0) ps
+    → IsChain (chain_of run.0) → ExchangeRule run (serial_plan (λ p. rules_of (chain_of p)) run) s
+    → AreShown (rules_of (chain_of run.0)) s.views ps → HoldsAt (chain_of run.0) ps

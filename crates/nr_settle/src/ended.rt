@@ -15,9 +15,9 @@ use std::sync::Wait;
 use std::thread::Threads;
 
 /// Runs all shards of a chain to its end, each in a thread of its own. The supply is what the chain's start has in
-/// tokens. Each shard passes the gate at three moments of each of its chunks, and whoever watches the chain is shown each
-/// report, and given back. Shards for which no thread can be started are run in turns by the caller. Nothing says that it
-/// comes back.
+/// tokens. Each shard passes the gate at three moments of each of its chunks, and whoever watches the chain is shown
+/// each report, and given back. Shards for which no thread can be started are run in turns by the caller. Nothing
+/// says that it comes back.
 ///
 /// # Errors
 ///

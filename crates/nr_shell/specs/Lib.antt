@@ -1,3 +1,4 @@
+-- Definitions that the contracts cite.
 pub mod Plans
 pub mod Answers
 pub mod Writing

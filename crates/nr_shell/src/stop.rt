@@ -1,3 +1,5 @@
+//! Why a command stops before it writes.
+
 /// Why a command stops before it writes.
 #[derive(Clone, Copy, Debug, PartialEq, Eq)]
 pub enum Stop<E> {

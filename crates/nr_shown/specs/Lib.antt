@@ -1,3 +1,4 @@
+-- Definitions that the contracts cite.
 pub mod Part
 pub mod Proof
 pub mod Receipt

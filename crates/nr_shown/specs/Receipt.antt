@@ -1,4 +1,5 @@
--- Receipts as JSON values (RFC 8259), with the names of NEAR's JSON (Nomicon, RuntimeSpec, Receipts), which are shown and never read. Bytes in hexadecimal are this project's own.
+-- Receipts as JSON values (RFC 8259), with the names of NEAR's JSON (Nomicon, RuntimeSpec, Receipts), which are shown
+-- and never read. Bytes in hexadecimal are this project's own.
 use Rattle.std.specs.Prelude.{codes}
 use Rattle.serde_json.specs.Data.{Data, string, object, Members, no_members, put}
 use Rattle.nr_json.specs.Actions.{action_json}
@@ -15,7 +16,8 @@ use Rattle.nr_records.specs.declared.receipt.Receipt.{Receipt}
 
 -- ---- a receipt of actions
 abbrev pub data_receiver_members : DataReceiver → Members
-data_receiver_members r = put (codes "receiver_id") (string r.receiver) (put (codes "data_id") (hash_json r.data_id) no_members)
+data_receiver_members r =
+    put (codes "receiver_id") (string r.receiver) (put (codes "data_id") (hash_json r.data_id) no_members)
 
 abbrev pub data_receiver_json : DataReceiver → Data
 data_receiver_json r = object (data_receiver_members r)
@@ -34,7 +36,8 @@ act_json a = object (act_members a)
 
 -- ---- a datum, null where the receipt that owed it failed
 abbrev pub datum_members : DataReceipt → Members
-datum_members d = put (codes "data") (option_json bytes_json d.bytes) (put (codes "data_id") (hash_json d.data_id) no_members)
+datum_members d =
+    put (codes "data") (option_json bytes_json d.bytes) (put (codes "data_id") (hash_json d.data_id) no_members)
 
 abbrev pub datum_json : DataReceipt → Data
 datum_json d = object (datum_members d)

@@ -26,7 +26,8 @@ fn put_place(
     alloc: Global,
     gathered: &Gathered,
 ) -> Result<(), AllocError>
-    ensures { OnOk result (members_view object.new.entries ≡ with_place gathered.now (members_view object.old.entries)) }
+    ensures { OnOk result (members_view object.new.entries
+        ≡ with_place gathered.now (members_view object.old.entries)) }
 {
     let boundaries = array_of(alloc, gathered.layout.boundaries())?;
     put(object, alloc, "boundaries", boundaries)?;
@@ -43,7 +44,8 @@ fn put_lists(
     alloc: Global,
     gathered: &Gathered,
 ) -> Result<(), AllocError>
-    ensures { OnOk result (members_view object.new.entries ≡ with_lists gathered.now (members_view object.old.entries)) }
+    ensures { OnOk result (members_view object.new.entries
+        ≡ with_lists gathered.now (members_view object.old.entries)) }
 {
     put(
         object,

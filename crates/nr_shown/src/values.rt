@@ -50,7 +50,8 @@ pub(crate) fn put_number(
     name: &str,
     number: u64,
 ) -> Result<(), AllocError>
-    ensures { OnOk result (members_view object.new.entries ≡ with_member name.now (number_json number) (members_view object.old.entries)) }
+    ensures { OnOk result (members_view object.new.entries
+        ≡ with_member name.now (number_json number) (members_view object.old.entries)) }
 {
     put(object, alloc, name, Value::from(number))
 }

@@ -1,3 +1,4 @@
+-- Lemmas behind the answers.
 mod Counting
 mod Steps
 mod Found

@@ -1,5 +1,7 @@
--- Calls of contracts: what a call comes to, what it answers, and what every caller promises. After the Nomicon, Runtime Specification (Function Call); the promises are this project's.
-use Rattle.std.specs.Prelude.{◌≡◌, ◌≢◌, ℕ, ◌+◌, ◌≤◌, true, false, List, Option, Some, None, IsSome, Result, Ok, Err, sum_by}
+-- Calls of contracts: what a call comes to, what it answers, and what every caller promises. After the Nomicon,
+-- Runtime Specification (Function Call); the promises are this project's.
+use Rattle.std.specs.Prelude.{◌≡◌, ◌≢◌, ℕ, ◌+◌, ◌≤◌, true, false, List, Option, Some, None, IsSome, Result, Ok, Err}
+use Rattle.std.specs.Prelude.{sum_by}
 use Rattle.std.specs.FinMap.{get}
 use Rattle.std.specs.List.{AllByRecursion, list_any}
 use Rattle.std.specs.Str.{bytes_eq}
@@ -31,7 +33,8 @@ pub record CanCall (w : World) (x : CallContext) : Type 0 where
   pub code : IsSome (get w.code x.current)
 
 -- ---- what it answers
--- the checkpoints stand with their worlds as before, at least as many more can be made, and the configuration is the same
+-- the checkpoints stand with their worlds as before, at least as many more can be made, and the configuration is the
+-- same
 pub record Stands (old new : StateView) : Type 0 where
   pub marks : new.marks ≡ old.marks
   pub spare : old.spare ≤ new.spare
@@ -78,7 +81,8 @@ abbrev pub GoesOn : Option Account → Option Account → Type 0
 GoesOn None None = Unit {0}
 GoesOn None (Some after) = ⊥
 GoesOn (Some account) None = ⊥
-GoesOn (Some account) (Some after) = after ≡ record account { amount = after.amount; storage_usage = after.storage_usage }
+GoesOn (Some account) (Some after) =
+    after ≡ record account { amount = after.amount; storage_usage = after.storage_usage }
 
 -- nothing changes but an account's amount and usage, and its data
 pub record ChangesOnly (id : List ℕ) (w after : World) : Type 0 where
@@ -110,6 +114,8 @@ pub record IsEnd (c : Config) (w : World) (x : CallContext) (end : CallEnd) (aft
 
 pub record IsCaller (c : Config) (call : World → CallContext → Called) : Type 0 where
   -- a call that ends keeps all of these
-  pub ended : (w : World) (x : CallContext) (end : CallEnd) (after : World) → CanCall w x → call w x ≡ Ended end after → IsEnd c w x end after
+  pub ended : (w : World) (x : CallContext) (end : CallEnd) (after : World) → CanCall w x → call w x ≡ Ended end after
+      → IsEnd c w x end after
   -- a failure burns at most the gas of the call
-  pub stopped : (w : World) (x : CallContext) (kind part burnt : ℕ) → CanCall w x → call w x ≡ Stopped kind part burnt → burnt ≤ x.gas
+  pub stopped : (w : World) (x : CallContext) (kind part burnt : ℕ) → CanCall w x → call w x ≡ Stopped kind part burnt
+      → burnt ≤ x.gas

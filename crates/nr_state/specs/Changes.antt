@@ -1,4 +1,5 @@
--- What the writes of a state do to its world, with the storage that its accounts are counted as. After the Nomicon, Data Structures, Account (storage_usage); the counts are this project's.
+-- What the writes of a state do to its world, with the storage that its accounts are counted as. After the Nomicon,
+-- Data Structures, Account (storage_usage); the counts are this project's.
 use Rattle.std.specs.Prelude.{ℕ, ◌+◌, ◌-◌, List, [], ◌∷◌, ◌++◌, length, Option, Some, None, option_map, unwrap_or}
 use Rattle.std.specs.FinMap.{insert, remove, get}
 use Rattle.nr_config.specs.Config.{Config}
@@ -55,10 +56,13 @@ abbrev pub usage_of_datum : Config → World → List ℕ → List ℕ → ℕ
 usage_of_datum c w id key = or_none (option_map (datum_usage c key) (get w.data_of (id, key)))
 
 abbrev pub set_datum : Config → World → List ℕ → List ℕ → List ℕ → World
-set_datum c w id key value = with_usage (record w { data_of = insert w.data_of (id, key) value }) id (usage_of_datum c w id key) (datum_usage c key value)
+set_datum c w id key value =
+    with_usage (record w { data_of = insert w.data_of (id, key) value }) id (usage_of_datum c w id key)
+    (datum_usage c key value)
 
 abbrev pub removed_datum : Config → World → List ℕ → List ℕ → World
-removed_datum c w id key = with_usage (record w { data_of = remove w.data_of (id, key) }) id (usage_of_datum c w id key) 0
+removed_datum c w id key =
+    with_usage (record w { data_of = remove w.data_of (id, key) }) id (usage_of_datum c w id key) 0
 
 -- ---- an account with all that it owns
 abbrev pub without_account : World → List ℕ → World

@@ -37,6 +37,7 @@ world_code = code_by (First × Waiting) (coded× first waiting) taken_apart put_
 
 abbrev pub view_code : Coded StateView
 view_code =
-    code_by (World × (List World × (ℕ × (Config × Bool)))) (coded× world_code (coded× (coded_list world_code) (coded× coded_ℕ (coded× (coded_list coded_ℕ) coded_bool))))
+    code_by (World × (List World × (ℕ × (Config × Bool))))
+    (coded× world_code (coded× (coded_list world_code) (coded× coded_ℕ (coded× (coded_list coded_ℕ) coded_bool))))
     (λ v. (v.world, (v.marks, (v.spare, (v.config, v.whole)))))
     (λ p. record { world = p.0; marks = p.1.0; spare = p.1.1.0; config = p.1.1.1.0; whole = p.1.1.1.1 }) (λ _. refl)

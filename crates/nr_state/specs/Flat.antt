@@ -1,5 +1,8 @@
--- The trie entries of a world: each part of it under keys of its own, and beside the postponed receipts which data they wait for and how many they lack. After the Nomicon, Data Structures, Merkle Proofs and Trie, and Runtime Specification, Receipts; the columns are this project's.
-use Rattle.std.specs.Prelude.{ℕ, ◌+◌, ◌==◌, Bool, cond, List, [], ◌∷◌, length, map, Option, Some, None, is_none, count_by}
+-- The trie entries of a world: each part of it under keys of its own, and beside the postponed receipts which data
+-- they wait for and how many they lack. After the Nomicon, Data Structures, Merkle Proofs and Trie, and Runtime
+-- Specification, Receipts; the columns are this project's.
+use Rattle.std.specs.Prelude.{ℕ, ◌+◌, ◌==◌, Bool, cond, List, [], ◌∷◌, length, map, Option, Some, None, is_none}
+use Rattle.std.specs.Prelude.{count_by}
 use Rattle.std.specs.FinMap.{FinMap, get, entries, values, from_entries}
 use Rattle.std.specs.List.{flat_map}
 use Rattle.nr_ids.specs.declared.key.Hash32.{Hash32}

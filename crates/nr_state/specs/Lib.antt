@@ -1,3 +1,4 @@
+-- Definitions that the contracts cite.
 pub mod World
 pub mod Worlds
 pub mod Flat

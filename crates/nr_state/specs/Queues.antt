@@ -1,5 +1,7 @@
--- What waits in a state: who waits for a datum, and what each change of it is in the columns. After the Nomicon, Runtime Specification, Receipts; the columns are this project's.
-use Rattle.std.specs.Prelude.{◌≡◌, ℕ, ◌+◌, ◌-◌, Bool, true, false, cond, List, [], ◌∷◌, Option, Some, None, is_some, nat_lt}
+-- What waits in a state: who waits for a datum, and what each change of it is in the columns. After the Nomicon,
+-- Runtime Specification, Receipts; the columns are this project's.
+use Rattle.std.specs.Prelude.{◌≡◌, ℕ, ◌+◌, ◌-◌, Bool, true, false, cond, List, [], ◌∷◌, Option, Some, None, is_some}
+use Rattle.std.specs.Prelude.{nat_lt}
 use Rattle.std.specs.FinMap.{get, insert, remove}
 use Rattle.std.specs.List.{list_any}
 use Rattle.nr_ids.specs.declared.key.Hash32.{Hash32}
@@ -17,8 +19,10 @@ awaited_by w receiver id = get (awaited_in w) (receiver, id.0)
 
 -- the postponed receipt that has an input, told by its id; without an id none has it
 abbrev pub WaitsFor : World → List ℕ → Hash32 → Option Hash32 → Type 0
-WaitsFor w receiver id None = (k : List ℕ × List ℕ) (r : Receipt) → get w.postponed k ≡ Some r → r.receiver ≡ receiver → has_input r id ≡ false
-WaitsFor w receiver id (Some by) = (r : Receipt) × ((get w.postponed (receiver, by.0) ≡ Some r) × (has_input r id ≡ true))
+WaitsFor w receiver id None =
+    (k : List ℕ × List ℕ) (r : Receipt) → get w.postponed k ≡ Some r → r.receiver ≡ receiver → has_input r id ≡ false
+WaitsFor w receiver id (Some by) =
+    (r : Receipt) × ((get w.postponed (receiver, by.0) ≡ Some r) × (has_input r id ≡ true))
 
 -- one of the inputs of a receipt is one of a postponed receipt at its receiver
 abbrev pub has_awaited : World → Receipt → Bool
@@ -42,23 +46,29 @@ with_count f k receiver (Some id) = with_count_at f k (receiver, id.0) (get k.mi
 
 -- a datum comes, and who waits for it lacks one input fewer
 abbrev pub more_received : Columns → List ℕ → Hash32 → Option (List ℕ) → Columns
-more_received k receiver id bytes = with_count (λ n. n - 1) (record k { received = insert k.received (receiver, id.0) bytes }) receiver (get k.awaited (receiver, id.0))
+more_received k receiver id bytes =
+    with_count (λ n. n - 1) (record k { received = insert k.received (receiver, id.0) bytes }) receiver
+    (get k.awaited (receiver, id.0))
 
 -- a datum goes, and who waits for it lacks one input more
 abbrev pub less_received : Columns → List ℕ → Hash32 → Option (Option (List ℕ)) → Columns
 less_received k receiver id None = record k { received = remove k.received (receiver, id.0) }
-less_received k receiver id (Some bytes) = with_count (λ n. n + 1) (record k { received = remove k.received (receiver, id.0) }) receiver (get k.awaited (receiver, id.0))
+less_received k receiver id (Some bytes) =
+    with_count (λ n. n + 1) (record k { received = remove k.received (receiver, id.0) }) receiver
+    (get k.awaited (receiver, id.0))
 
 -- ---- postponed receipts
 -- the inputs are awaited by a receipt
 abbrev pub all_awaited : Columns → List ℕ → Hash32 → List Hash32 → Columns
 all_awaited k receiver by [] = k
-all_awaited k receiver by (id ∷ ids) = all_awaited (record k { awaited = insert k.awaited (receiver, id.0) by }) receiver by ids
+all_awaited k receiver by (id ∷ ids) =
+    all_awaited (record k { awaited = insert k.awaited (receiver, id.0) by }) receiver by ids
 
 -- the inputs are awaited no more
 abbrev pub none_awaited : Columns → List ℕ → List Hash32 → Columns
 none_awaited k receiver [] = k
-none_awaited k receiver (id ∷ ids) = none_awaited (record k { awaited = remove k.awaited (receiver, id.0) }) receiver ids
+none_awaited k receiver (id ∷ ids) =
+    none_awaited (record k { awaited = remove k.awaited (receiver, id.0) }) receiver ids
 
 -- a receipt under its key, and how many inputs it lacks
 abbrev pub with_postponed_at : Columns → List ℕ × List ℕ → ℕ → Receipt → Columns
@@ -67,7 +77,8 @@ with_postponed_at k at n r = record k { missing = insert k.missing at n; postpon
 -- a receipt is postponed
 abbrev pub more_postponed : Columns → Receipt → Columns
 more_postponed k r =
-    with_postponed_at (all_awaited k r.receiver r.receipt_id (inputs_of r.body)) (r.receiver, r.receipt_id.0) (missing_inputs (world_in k) r) r
+    with_postponed_at (all_awaited k r.receiver r.receipt_id (inputs_of r.body)) (r.receiver, r.receipt_id.0)
+    (missing_inputs (world_in k) r) r
 
 -- no receipt under a key
 abbrev pub without_postponed_at : Columns → List ℕ × List ℕ → Columns
@@ -76,7 +87,8 @@ without_postponed_at k at = record k { missing = remove k.missing at; postponed 
 -- a postponed receipt is taken out
 abbrev pub less_postponed : Columns → List ℕ → Hash32 → Option Receipt → Columns
 less_postponed k receiver id None = k
-less_postponed k receiver id (Some r) = without_postponed_at (none_awaited k receiver (inputs_of r.body)) (receiver, id.0)
+less_postponed k receiver id (Some r) =
+    without_postponed_at (none_awaited k receiver (inputs_of r.body)) (receiver, id.0)
 
 -- ---- the delayed queue
 -- a receipt at the end
@@ -97,4 +109,5 @@ front_in k (Some q) = cond (nat_lt q.0 q.1) (get k.delayed q.0) None
 -- without the receipt at the front
 abbrev pub less_delayed : Columns → Option (ℕ × ℕ) → Columns
 less_delayed k None = k
-less_delayed k (Some q) = cond (nat_lt q.0 q.1) (record k { delayed = remove k.delayed q.0; queue = Some (q.0 + 1, q.1) }) k
+less_delayed k (Some q) =
+    cond (nat_lt q.0 q.1) (record k { delayed = remove k.delayed q.0; queue = Some (q.0 + 1, q.1) }) k

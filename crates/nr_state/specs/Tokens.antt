@@ -1,4 +1,5 @@
--- The tokens of the receipts that wait in a world, and of the whole world. After the Nomicon, Economics; what a receipt holds is this project's.
+-- The tokens of the receipts that wait in a world, and of the whole world. After the Nomicon, Economics; what a
+-- receipt holds is this project's.
 use Rattle.std.specs.Prelude.{ℕ, ◌+◌, List, sum_by}
 use Rattle.std.specs.FinMap.{values}
 use Rattle.nr_config.specs.Config.{Config}

@@ -1,4 +1,5 @@
--- The storage that the records of an account are counted as. After the Nomicon, Data Structures, Account (storage_usage); the counts are this project's.
+-- The storage that the records of an account are counted as. After the Nomicon, Data Structures, Account
+-- (storage_usage); the counts are this project's.
 use Rattle.std.specs.Prelude.{ℕ, ◌+◌, List, length, replicate}
 use Rattle.nr_config.specs.Config.{Config, extra_record_bytes}
 use Rattle.nr_ids.specs.Keys.{key_bytes}

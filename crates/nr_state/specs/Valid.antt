@@ -1,4 +1,5 @@
--- Valid worlds. After the Nomicon, Data Structures (Account, Access Keys) and Runtime Specification (Receipts); the counts and the bounds are this project's.
+-- Valid worlds. After the Nomicon, Data Structures (Account, Access Keys) and Runtime Specification (Receipts); the
+-- counts and the bounds are this project's.
 use Rattle.std.specs.Prelude.{◌≡◌, ℕ, ◌+◌, ◌^◌, ◌<◌, ◌≤◌, true, false, cond, List, Option, Some, None, IsSome, sum_by}
 use Rattle.std.specs.FinMap.{FinMap, get, entries}
 use Rattle.std.specs.List.{AllByRecursion, list_any}
@@ -32,7 +33,9 @@ owned_usage count m id = sum_by (if_owned id count) (entries m)
 
 -- its own bytes, and those of its keys, its code and its data
 abbrev pub usage_in : Config → World → List ℕ → ℕ
-usage_in c w id = account_bytes_entry c + owned_usage (key_usage c) w.keys id + usage_of_code w id + owned_usage (datum_usage c) w.data_of id
+usage_in c w id =
+    account_bytes_entry c + owned_usage (key_usage c) w.keys id + usage_of_code w id + owned_usage
+    (datum_usage c) w.data_of id
 
 -- ---- the hash of an account's code: zeros where it has none
 abbrev pub hash_of_code : Option (List ℕ) → Hash32
@@ -51,8 +54,10 @@ pub record AreAccounts (c : Config) (w : World) : Type 0 where
   -- no account is the system
   pub no_system : (id : List ℕ) → IsSome (get w.accounts id) → is_system id ≡ false
   -- each is counted as the storage that it uses, and has the hash of its code
-  pub usage : (id : List ℕ) (account : Account) → get w.accounts id ≡ Some account → account.storage_usage ≡ usage_in c w id
-  pub code_hash : (id : List ℕ) (account : Account) → get w.accounts id ≡ Some account → account.code_hash ≡ code_hash_in w id
+  pub usage : (id : List ℕ) (account : Account) → get w.accounts id ≡ Some account → account.storage_usage
+      ≡ usage_in c w id
+  pub code_hash : (id : List ℕ) (account : Account) → get w.accounts id ≡ Some account → account.code_hash
+      ≡ code_hash_in w id
 
 -- ---- receipts that wait
 -- some input hasn't been received

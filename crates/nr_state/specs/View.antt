@@ -24,7 +24,8 @@ waiting_in None = 0
 waiting_in (Some q) = q.1 - q.0
 
 abbrev pub delayed_in : Columns → List Receipt
-delayed_in k = flat_map (λ n. option_to_list (get k.delayed n)) (range_with_len (served_in k.queue) (waiting_in k.queue))
+delayed_in k =
+    flat_map (λ n. option_to_list (get k.delayed n)) (range_with_len (served_in k.queue) (waiting_in k.queue))
 
 abbrev pub world_in : Columns → World
 world_in k =
@@ -39,7 +40,8 @@ world_in k =
       served = served_in k.queue;
     }
 
--- ---- what holds of the postponed receipts of every state: each is kept under its receiver and id, it waits for distinct inputs, and no two at one receiver wait for the same
+-- ---- what holds of the postponed receipts of every state: each is kept under its receiver and id, it waits for
+-- distinct inputs, and no two at one receiver wait for the same
 abbrev pub has_input : Receipt → Hash32 → Bool
 has_input r id = list_any (λ input. bytes_eq input.0 id.0) (inputs_of r.body)
 
@@ -53,7 +55,8 @@ pub record IsPostponed (k : List ℕ × List ℕ) (r : Receipt) : Type 0 where
 
 pub record ArePostponed (w : World) : Type 0 where
   pub each : (k : List ℕ × List ℕ) (r : Receipt) → get w.postponed k ≡ Some r → IsPostponed k r
-  pub apart : (j k : List ℕ × List ℕ) (q r : Receipt) (id : Hash32) → get w.postponed j ≡ Some q → get w.postponed k ≡ Some r
+  pub apart : (j k : List ℕ × List ℕ) (q r : Receipt) (id : Hash32) → get w.postponed j ≡ Some q → get w.postponed k
+      ≡ Some r
       → q.receiver ≡ r.receiver → has_input q id ≡ true → has_input r id ≡ true → j ≡ k
 
 -- the columns are those of their world, and nothing else; what they hold fits its fields
@@ -70,7 +73,8 @@ world_of c = world_in (columns_in c)
 abbrev pub IsTold : World → Type 0
 IsTold w = world_of (flat w) ≡ w
 
--- ---- what a state shows: its world, those of the standing checkpoints (the newest first), how many more checkpoints it can make, its configuration, and that no change was left in the middle
+-- ---- what a state shows: its world, those of the standing checkpoints (the newest first), how many more checkpoints
+-- it can make, its configuration, and that no change was left in the middle
 pub record StateView : Type 0 where
   pub world : World
   pub marks : List World
@@ -79,7 +83,8 @@ pub record StateView : Type 0 where
   pub whole : Bool
 
 abbrev pub state_view : ColumnsView → Config → Bool → StateView
-state_view v c whole = record { world = world_in v.columns; marks = map world_in v.marks; spare = v.spare; config = c; whole = whole }
+state_view v c whole =
+    record { world = world_in v.columns; marks = map world_in v.marks; spare = v.spare; config = c; whole = whole }
 
 abbrev pub with_world : StateView → World → StateView
 with_world s w = record s { world = w }

@@ -1,4 +1,5 @@
--- The world of a shard: its accounts, access keys, contracts and data, and the receipts that wait in it. After the Nomicon, Data Structures (Account, Access Keys) and Runtime Specification (Receipts).
+-- The world of a shard: its accounts, access keys, contracts and data, and the receipts that wait in it. After the
+-- Nomicon, Data Structures (Account, Access Keys) and Runtime Specification (Receipts).
 use Rattle.std.specs.Prelude.{ℕ, ◌+◌, List, [], Option, sum_by}
 use Rattle.std.specs.FinMap.{FinMap, empty, insert, values}
 use Rattle.nr_ids.specs.declared.key.PublicKey.{PublicKey}

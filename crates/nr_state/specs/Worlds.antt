@@ -1,4 +1,5 @@
--- The worlds that a state can show: names are account ids, hashes have 32 bytes, and the numbers, lengths and counts of each record fit its fields. After the Nomicon, Data Structures (Account), and Borsh 1.0.
+-- The worlds that a state can show: names are account ids, hashes have 32 bytes, and the numbers, lengths and counts
+-- of each record fit its fields. After the Nomicon, Data Structures (Account), and Borsh 1.0.
 use Rattle.std.specs.Prelude.{◌≡◌, ℕ, ◌+◌, ◌^◌, ◌<◌, List, length, Option, Some}
 use Rattle.std.specs.FinMap.{get}
 use Rattle.std.specs.List.{AllByRecursion}
@@ -19,11 +20,14 @@ pub record IsWorld (w : World) : Type 0 where
   -- accounts, by their ids
   pub accounts : (id : List ℕ) (account : Account) → get w.accounts id ≡ Some account → IsId id × IsAccount account
   -- what accounts own, by the owner's id
-  pub keys : (k : List ℕ × PublicKey) (access : AccessKey) → get w.keys k ≡ Some access → IsId k.0 × (IsKey k.1 × IsAccessKey access)
+  pub keys : (k : List ℕ × PublicKey) (access : AccessKey) → get w.keys k ≡ Some access → IsId k.0
+      × (IsKey k.1 × IsAccessKey access)
   pub code : (id code : List ℕ) → get w.code id ≡ Some code → IsId id
   pub data_of : (k : List ℕ × List ℕ) (value : List ℕ) → get w.data_of k ≡ Some value → IsId k.0
   -- what waits, by the receiver's id and a hash
-  pub received : (k : List ℕ × List ℕ) (bytes : Option (List ℕ)) → get w.received k ≡ Some bytes → IsId k.0 × ((length k.1 ≡ 32) × IsOption IsCounted bytes)
-  pub postponed : (k : List ℕ × List ℕ) (r : Receipt) → get w.postponed k ≡ Some r → IsId k.0 × ((length k.1 ≡ 32) × IsReceipt r)
+  pub received : (k : List ℕ × List ℕ) (bytes : Option (List ℕ)) → get w.received k ≡ Some bytes → IsId k.0
+      × ((length k.1 ≡ 32) × IsOption IsCounted bytes)
+  pub postponed : (k : List ℕ × List ℕ) (r : Receipt) → get w.postponed k ≡ Some r → IsId k.0
+      × ((length k.1 ≡ 32) × IsReceipt r)
   pub delayed : AllByRecursion IsReceipt w.delayed
   pub served : w.served + length w.delayed < 2 ^ 64

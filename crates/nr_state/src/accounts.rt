@@ -47,7 +47,9 @@ fn owner_with_key<S: Store>(
     key: &PublicKey,
     access: &AccessKey,
 ) -> Result<Account, AllocError>
-    ensures { IfOk result (IsMoved (world_in columns.now.columns) id.now (usage_of_key config.now (world_in columns.now.columns) id.now key.now) (key_usage config.now key.now access.now)) }
+    ensures { IfOk result (IsMoved (world_in columns.now.columns) id.now
+        (usage_of_key config.now (world_in columns.now.columns) id.now key.now)
+        (key_usage config.now key.now access.now)) }
 {
     let before = usage_of_key(columns, alloc, config, id, key)?;
     let after = key_usage(alloc, config, key, access)?;
@@ -62,7 +64,8 @@ fn owner_without_key<S: Store>(
     id: &AccountId,
     key: &PublicKey,
 ) -> Result<Account, AllocError>
-    ensures { IfOk result (IsMoved (world_in columns.now.columns) id.now (usage_of_key config.now (world_in columns.now.columns) id.now key.now) 0) }
+    ensures { IfOk result (IsMoved (world_in columns.now.columns) id.now
+        (usage_of_key config.now (world_in columns.now.columns) id.now key.now) 0) }
 {
     let before = usage_of_key(columns, alloc, config, id, key)?;
     moved_owner(columns, id, before, 0)
@@ -75,7 +78,9 @@ fn write_key<S: Store>(
     access: &AccessKey,
     owner: &Account,
 ) -> Result<(), AllocError>
-    ensures ok { OnOk result (columns.new ≡ with_columns columns.old (with_owner (record columns.old.columns { keys = map.insert columns.old.columns.keys (id.now, key.now) access.now }) id.now owner.now)) }
+    ensures ok { OnOk result (columns.new ≡ with_columns columns.old
+        (with_owner (record columns.old.columns
+        { keys = map.insert columns.old.columns.keys (id.now, key.now) access.now }) id.now owner.now)) }
     ensures fits { OnOk result (IsId id.now × (IsAccount owner.now × (IsKey key.now × IsAccessKey access.now))) }
     ensures marks { columns.new.marks ≡ columns.old.marks }
 {
@@ -91,7 +96,9 @@ fn take_key<S: Store>(
     owner: &Account,
 ) -> Result<bool, AllocError>
     ensures found { IfOk result (λ found. found ≡ is_some (map.get columns.old.columns.keys (id.now, key.now))) }
-    ensures ok { OnOk result (columns.new ≡ with_columns columns.old (with_owner (record columns.old.columns { keys = map.remove columns.old.columns.keys (id.now, key.now) }) id.now owner.now)) }
+    ensures ok { OnOk result (columns.new ≡ with_columns columns.old
+        (with_owner (record columns.old.columns { keys = map.remove columns.old.columns.keys (id.now, key.now) })
+        id.now owner.now)) }
     ensures fits { OnOk result (IsId id.now × IsAccount owner.now) }
     ensures marks { columns.new.marks ≡ columns.old.marks }
 {
@@ -101,7 +108,11 @@ fn take_key<S: Store>(
 }
 
 fn take_owned<S: Store>(columns: &mut Columns<S>, id: &AccountId) -> Result<(), AllocError>
-    ensures ok { OnOk result (columns.new ≡ with_columns columns.old (record columns.old.columns { keys = without_owner columns.old.columns.keys id.now; data_of = without_owner columns.old.columns.data_of id.now })) }
+    ensures ok { OnOk result (columns.new ≡ with_columns columns.old
+        (record columns.old.columns {
+          keys = without_owner columns.old.columns.keys id.now;
+          data_of = without_owner columns.old.columns.data_of id.now;
+        })) }
     ensures marks { columns.new.marks ≡ columns.old.marks }
 {
     columns.remove_access_keys(id)?;
@@ -110,7 +121,13 @@ fn take_owned<S: Store>(columns: &mut Columns<S>, id: &AccountId) -> Result<(), 
 }
 
 fn take_account<S: Store>(columns: &mut Columns<S>, id: &AccountId) -> Result<(), AllocError>
-    ensures ok { OnOk result (columns.new ≡ with_columns columns.old (record columns.old.columns { accounts = map.remove columns.old.columns.accounts id.now; keys = without_owner columns.old.columns.keys id.now; code = map.remove columns.old.columns.code id.now; data_of = without_owner columns.old.columns.data_of id.now })) }
+    ensures ok { OnOk result (columns.new ≡ with_columns columns.old
+        (record columns.old.columns {
+          accounts = map.remove columns.old.columns.accounts id.now;
+          keys = without_owner columns.old.columns.keys id.now;
+          code = map.remove columns.old.columns.code id.now;
+          data_of = without_owner columns.old.columns.data_of id.now;
+        })) }
     ensures marks { columns.new.marks ≡ columns.old.marks }
 {
     take_owned(columns, id)?;
@@ -166,7 +183,8 @@ impl<S: Store> ShardState<S> {
     ) -> Result<(), AllocError>
         requires whole { self.old.whole ≡ true }
         requires owner { IsSome (map.get self.old.world.accounts id.now) }
-        ensures ok { OnOk result (self.new ≡ with_world self.old (set_key self.old.config self.old.world id.now key.now access.now)) }
+        ensures ok { OnOk result (self.new ≡ with_world self.old
+            (set_key self.old.config self.old.world id.now key.now access.now)) }
     {
         let owner = owner_with_key(&self.columns, self.alloc, &self.config, id, key, access)?;
         self.whole = false;
@@ -181,7 +199,8 @@ impl<S: Store> ShardState<S> {
         requires whole { self.old.whole ≡ true }
         requires owner { IsSome (map.get self.old.world.accounts id.now) }
         ensures found { IfOk result (λ found. found ≡ is_some (map.get self.old.world.keys (id.now, key.now))) }
-        ensures ok { OnOk result (self.new ≡ with_world self.old (removed_key self.old.config self.old.world id.now key.now)) }
+        ensures ok { OnOk result (self.new ≡ with_world self.old
+            (removed_key self.old.config self.old.world id.now key.now)) }
     {
         let owner = owner_without_key(&self.columns, self.alloc, &self.config, id, key)?;
         self.whole = false;

@@ -51,7 +51,9 @@ fn write_code<S: Store>(
     code: &[u8],
     owner: &Account,
 ) -> Result<(), AllocError>
-    ensures ok { OnOk result (columns.new ≡ with_columns columns.old (with_owner (record columns.old.columns { code = map.insert columns.old.columns.code id.now code.now }) id.now owner.now)) }
+    ensures ok { OnOk result (columns.new ≡ with_columns columns.old
+        (with_owner (record columns.old.columns { code = map.insert columns.old.columns.code id.now code.now }) id.now
+        owner.now)) }
     ensures fits { OnOk result (IsId id.now × IsAccount owner.now) }
     ensures marks { columns.new.marks ≡ columns.old.marks }
 {
@@ -83,7 +85,9 @@ fn owner_with_datum<S: Store>(
     key: &[u8],
     value: &[u8],
 ) -> Result<Account, AllocError>
-    ensures { IfOk result (IsMoved (world_in columns.now.columns) id.now (usage_of_datum config.now (world_in columns.now.columns) id.now key.now) (datum_usage config.now key.now value.now)) }
+    ensures { IfOk result (IsMoved (world_in columns.now.columns) id.now
+        (usage_of_datum config.now (world_in columns.now.columns) id.now key.now)
+        (datum_usage config.now key.now value.now)) }
 {
     let before = usage_of_datum(columns, config, id, key)?;
     let after = datum_usage(config, key, value)?;
@@ -97,7 +101,8 @@ fn owner_without_datum<S: Store>(
     id: &AccountId,
     key: &[u8],
 ) -> Result<Account, AllocError>
-    ensures { IfOk result (IsMoved (world_in columns.now.columns) id.now (usage_of_datum config.now (world_in columns.now.columns) id.now key.now) 0) }
+    ensures { IfOk result (IsMoved (world_in columns.now.columns) id.now
+        (usage_of_datum config.now (world_in columns.now.columns) id.now key.now) 0) }
 {
     let before = usage_of_datum(columns, config, id, key)?;
     moved_owner(columns, id, before, 0)
@@ -110,7 +115,11 @@ fn write_datum<S: Store>(
     value: &[u8],
     owner: &Account,
 ) -> Result<(), AllocError>
-    ensures ok { OnOk result (columns.new ≡ with_columns columns.old (with_owner (record columns.old.columns { data_of = map.insert columns.old.columns.data_of (id.now, key.now) value.now }) id.now owner.now)) }
+    ensures ok { OnOk result (columns.new ≡ with_columns columns.old
+        (with_owner (record columns.old.columns {
+          data_of = map.insert columns.old.columns.data_of
+              (id.now, key.now) value.now;
+        }) id.now owner.now)) }
     ensures fits { OnOk result (IsId id.now × IsAccount owner.now) }
     ensures marks { columns.new.marks ≡ columns.old.marks }
 {
@@ -126,7 +135,11 @@ fn take_datum<S: Store>(
     owner: &Account,
 ) -> Result<bool, AllocError>
     ensures found { IfOk result (λ found. found ≡ is_some (map.get columns.old.columns.data_of (id.now, key.now))) }
-    ensures ok { OnOk result (columns.new ≡ with_columns columns.old (with_owner (record columns.old.columns { data_of = map.remove columns.old.columns.data_of (id.now, key.now) }) id.now owner.now)) }
+    ensures ok { OnOk result (columns.new ≡ with_columns columns.old
+        (with_owner (record columns.old.columns {
+          data_of = map.remove columns.old.columns.data_of
+              (id.now, key.now);
+        }) id.now owner.now)) }
     ensures fits { OnOk result (IsId id.now × IsAccount owner.now) }
     ensures marks { columns.new.marks ≡ columns.old.marks }
 {
@@ -170,7 +183,8 @@ impl<S: Store> ShardState<S> {
     pub fn set_datum(&mut self, id: &AccountId, key: &[u8], value: &[u8]) -> Result<(), AllocError>
         requires whole { self.old.whole ≡ true }
         requires owner { IsSome (map.get self.old.world.accounts id.now) }
-        ensures ok { OnOk result (self.new ≡ with_world self.old (set_datum self.old.config self.old.world id.now key.now value.now)) }
+        ensures ok { OnOk result (self.new ≡ with_world self.old
+            (set_datum self.old.config self.old.world id.now key.now value.now)) }
     {
         let owner = owner_with_datum(&self.columns, &self.config, id, key, value)?;
         self.whole = false;
@@ -185,7 +199,8 @@ impl<S: Store> ShardState<S> {
         requires whole { self.old.whole ≡ true }
         requires owner { IsSome (map.get self.old.world.accounts id.now) }
         ensures found { IfOk result (λ found. found ≡ is_some (map.get self.old.world.data_of (id.now, key.now))) }
-        ensures ok { OnOk result (self.new ≡ with_world self.old (removed_datum self.old.config self.old.world id.now key.now)) }
+        ensures ok { OnOk result (self.new ≡ with_world self.old
+            (removed_datum self.old.config self.old.world id.now key.now)) }
     {
         let owner = owner_without_datum(&self.columns, &self.config, id, key)?;
         self.whole = false;

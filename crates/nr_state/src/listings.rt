@@ -86,7 +86,8 @@ fn delayed_after<S: Store>(
     waiting: u64,
 ) -> Result<Vec<Receipt>, AllocError>
     requires { served + waiting < 2 ^ 64 }
-    ensures { IfOk result (λ found. found.items ≡ flat_map (λ n. option_to_list (map.get columns.now.columns.delayed n)) (range_with_len served waiting)) }
+    ensures { IfOk result (λ found. found.items
+        ≡ flat_map (λ n. option_to_list (map.get columns.now.columns.delayed n)) (range_with_len served waiting)) }
 {
     let mut found = Vec::new(alloc);
     for behind in 0..waiting {

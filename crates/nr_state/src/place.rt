@@ -1,3 +1,5 @@
+//! Where in the chain a chunk stands.
+
 use nr_ids::Height;
 
 /// Where in the chain a chunk stands.

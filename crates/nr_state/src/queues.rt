@@ -14,9 +14,12 @@ ghost use Rattle.nr_bytes.specs.Spelling.{IsCounted};
 ghost use Rattle.nr_records.specs.Options.{IsOption};
 ghost use Rattle.nr_records.specs.Receipts.{IsReceipt};
 ghost use Rattle.nr_columns.specs.View.{with_columns};
-ghost use Rattle.nr_state.specs.Changes.{with_received, without_received, with_postponed, without_postponed, with_delayed, served_front};
+ghost use Rattle.nr_state.specs.Changes.{with_received, without_received, with_postponed, without_postponed};
+ghost use Rattle.nr_state.specs.Changes.{with_delayed, served_front};
 ghost use Rattle.nr_state.specs.Flat.{inputs_of, is_missing, missing_inputs, missing_in};
-ghost use Rattle.nr_state.specs.Queues.{is_act, awaited_by, has_awaited, WaitsFor, next_in, front_in, more_delayed, less_delayed, with_count, more_received, less_received, all_awaited, none_awaited, more_postponed, less_postponed};
+ghost use Rattle.nr_state.specs.Queues.{is_act, awaited_by, has_awaited, WaitsFor, next_in, front_in, more_delayed};
+ghost use Rattle.nr_state.specs.Queues.{less_delayed, with_count, more_received, less_received, all_awaited};
+ghost use Rattle.nr_state.specs.Queues.{none_awaited, more_postponed, less_postponed};
 ghost use Rattle.nr_state.specs.View.{repeats_input, world_in, with_world};
 
 use crate::state::ShardState;
@@ -54,7 +57,8 @@ pub fn add_received<S: Store>(
 ) -> Result<(), AllocError>
     requires whole { state.old.whole ≡ true }
     requires new { map.get state.old.world.received (receiver.now, data_id.now.0) ≡ None }
-    ensures ok { OnOk result (state.new ≡ with_world state.old (with_received state.old.world receiver.now data_id.now bytes.now)) }
+    ensures ok { OnOk result (state.new ≡ with_world state.old
+        (with_received state.old.world receiver.now data_id.now bytes.now)) }
 {
     state.whole = false;
     put_received(&mut state.columns, receiver, data_id, bytes)?;
@@ -71,8 +75,10 @@ pub fn remove_received<S: Store>(
     data_id: &Hash32,
 ) -> Result<bool, AllocError>
     requires whole { state.old.whole ≡ true }
-    ensures found { IfOk result (λ found. found ≡ is_some (map.get state.old.world.received (receiver.now, data_id.now.0))) }
-    ensures ok { OnOk result (state.new ≡ with_world state.old (without_received state.old.world receiver.now data_id.now)) }
+    ensures found { IfOk result (λ found. found
+        ≡ is_some (map.get state.old.world.received (receiver.now, data_id.now.0))) }
+    ensures ok { OnOk result (state.new ≡ with_world state.old
+        (without_received state.old.world receiver.now data_id.now)) }
 {
     state.whole = false;
     let found = cut_received(&mut state.columns, receiver, data_id)?;
@@ -103,8 +109,11 @@ pub fn missing<S: Store>(
     receipt_id: &Hash32,
 ) -> Result<Option<u32>, AllocError>
     requires { state.now.whole ≡ true }
-    ensures count { IfOk result (λ found. found ≡ map.get (missing_in state.now.world) (receiver.now, receipt_id.now.0)) }
-    ensures inputs { IfOk result (λ found. found ≡ option_map (missing_inputs state.now.world) (map.get state.now.world.postponed (receiver.now, receipt_id.now.0))) }
+    ensures count { IfOk result (λ found. found
+        ≡ map.get (missing_in state.now.world) (receiver.now, receipt_id.now.0)) }
+    ensures inputs { IfOk result (λ found. found
+        ≡ option_map (missing_inputs state.now.world)
+        (map.get state.now.world.postponed (receiver.now, receipt_id.now.0))) }
 {
     state.columns.missing(receiver, receipt_id)
 }
@@ -138,7 +147,8 @@ pub fn take_postponed<S: Store>(
 ) -> Result<Option<Receipt>, AllocError>
     requires whole { state.old.whole ≡ true }
     ensures found { IfOk result (λ found. found ≡ map.get state.old.world.postponed (receiver.now, receipt_id.now.0)) }
-    ensures ok { OnOk result (state.new ≡ with_world state.old (without_postponed state.old.world receiver.now receipt_id.now)) }
+    ensures ok { OnOk result (state.new ≡ with_world state.old
+        (without_postponed state.old.world receiver.now receipt_id.now)) }
 {
     state.whole = false;
     let receipt = cut_postponed(&mut state.columns, receiver, receipt_id)?;
@@ -146,7 +156,8 @@ pub fn take_postponed<S: Store>(
     Ok(receipt)
 }
 
-/// Puts a receipt at the end of the delayed queue. With it at most 2^63 receipts were ever delayed.
+/// Puts a receipt at the end of the delayed queue. With it at most 2^63 receipts were ever delayed, counted
+/// from the genesis or the last change of boundaries.
 pub fn add_delayed<S: Store>(
     _alloc: Global,
     state: &mut ShardState<S>,
@@ -183,7 +194,8 @@ fn put_received<S: Store>(
     data_id: &Hash32,
     bytes: &Option<Blob>,
 ) -> Result<(), AllocError>
-    ensures ok { OnOk result (columns.new ≡ with_columns columns.old (more_received columns.old.columns receiver.now data_id.now bytes.now)) }
+    ensures ok { OnOk result (columns.new ≡ with_columns columns.old
+        (more_received columns.old.columns receiver.now data_id.now bytes.now)) }
     ensures fits { OnOk result (IsId receiver.now × (IsHash data_id.now × IsOption IsCounted bytes.now)) }
     ensures marks { columns.new.marks ≡ columns.old.marks }
 {
@@ -197,8 +209,11 @@ fn cut_received<S: Store>(
     receiver: &AccountId,
     data_id: &Hash32,
 ) -> Result<bool, AllocError>
-    ensures found { IfOk result (λ found. found ≡ is_some (map.get columns.old.columns.received (receiver.now, data_id.now.0))) }
-    ensures ok { OnOk result (columns.new ≡ with_columns columns.old (less_received columns.old.columns receiver.now data_id.now (map.get columns.old.columns.received (receiver.now, data_id.now.0)))) }
+    ensures found { IfOk result (λ found. found
+        ≡ is_some (map.get columns.old.columns.received (receiver.now, data_id.now.0))) }
+    ensures ok { OnOk result (columns.new ≡ with_columns columns.old
+        (less_received columns.old.columns receiver.now data_id.now
+        (map.get columns.old.columns.received (receiver.now, data_id.now.0)))) }
     ensures marks { columns.new.marks ≡ columns.old.marks }
 {
     let found = columns.remove_received(receiver, data_id)?;
@@ -214,7 +229,9 @@ fn lower_missing<S: Store>(
     receiver: &AccountId,
     data_id: &Hash32,
 ) -> Result<(), AllocError>
-    ensures ok { OnOk result (columns.new ≡ with_columns columns.old (with_count (λ n. n - 1) columns.old.columns receiver.now (map.get columns.old.columns.awaited (receiver.now, data_id.now.0)))) }
+    ensures ok { OnOk result (columns.new ≡ with_columns columns.old
+        (with_count (λ n. n - 1) columns.old.columns receiver.now
+        (map.get columns.old.columns.awaited (receiver.now, data_id.now.0)))) }
     ensures marks { columns.new.marks ≡ columns.old.marks }
 {
     let Some(receipt_id) = columns.awaited(receiver, data_id)? else {
@@ -233,7 +250,9 @@ fn raise_missing<S: Store>(
     receiver: &AccountId,
     data_id: &Hash32,
 ) -> Result<(), AllocError>
-    ensures ok { OnOk result (columns.new ≡ with_columns columns.old (with_count (λ n. n + 1) columns.old.columns receiver.now (map.get columns.old.columns.awaited (receiver.now, data_id.now.0)))) }
+    ensures ok { OnOk result (columns.new ≡ with_columns columns.old
+        (with_count (λ n. n + 1) columns.old.columns receiver.now
+        (map.get columns.old.columns.awaited (receiver.now, data_id.now.0)))) }
     ensures marks { columns.new.marks ≡ columns.old.marks }
 {
     let Some(receipt_id) = columns.awaited(receiver, data_id)? else {
@@ -275,8 +294,11 @@ fn cut_postponed<S: Store>(
     receiver: &AccountId,
     receipt_id: &Hash32,
 ) -> Result<Option<Receipt>, AllocError>
-    ensures found { IfOk result (λ found. found ≡ map.get columns.old.columns.postponed (receiver.now, receipt_id.now.0)) }
-    ensures ok { OnOk result (columns.new ≡ with_columns columns.old (less_postponed columns.old.columns receiver.now receipt_id.now (map.get columns.old.columns.postponed (receiver.now, receipt_id.now.0)))) }
+    ensures found { IfOk result (λ found. found
+        ≡ map.get columns.old.columns.postponed (receiver.now, receipt_id.now.0)) }
+    ensures ok { OnOk result (columns.new ≡ with_columns columns.old
+        (less_postponed columns.old.columns receiver.now receipt_id.now
+        (map.get columns.old.columns.postponed (receiver.now, receipt_id.now.0)))) }
     ensures marks { columns.new.marks ≡ columns.old.marks }
 {
     let Some(receipt) = columns.postponed(receiver, receipt_id)? else {
@@ -294,7 +316,8 @@ fn count_missing<S: Store>(
     receiver: &AccountId,
     inputs: &[Hash32],
 ) -> Result<u32, AllocError>
-    ensures { IfOk result (λ count. count ≡ count_by (is_missing (world_in columns.now.columns) receiver.now) inputs.now) }
+    ensures { IfOk result (λ count. count ≡ count_by (is_missing (world_in columns.now.columns) receiver.now)
+        inputs.now) }
 {
     let mut count: u32 = 0;
     for input in inputs {
@@ -311,7 +334,8 @@ fn set_all_awaited<S: Store>(
     inputs: &[Hash32],
     receipt_id: &Hash32,
 ) -> Result<(), AllocError>
-    ensures ok { OnOk result (columns.new ≡ with_columns columns.old (all_awaited columns.old.columns receiver.now receipt_id.now inputs.now)) }
+    ensures ok { OnOk result (columns.new ≡ with_columns columns.old
+        (all_awaited columns.old.columns receiver.now receipt_id.now inputs.now)) }
     ensures marks { columns.new.marks ≡ columns.old.marks }
 {
     for input in inputs {
@@ -325,7 +349,8 @@ fn remove_all_awaited<S: Store>(
     receiver: &AccountId,
     inputs: &[Hash32],
 ) -> Result<(), AllocError>
-    ensures ok { OnOk result (columns.new ≡ with_columns columns.old (none_awaited columns.old.columns receiver.now inputs.now)) }
+    ensures ok { OnOk result (columns.new ≡ with_columns columns.old
+        (none_awaited columns.old.columns receiver.now inputs.now)) }
     ensures marks { columns.new.marks ≡ columns.old.marks }
 {
     for input in inputs {
@@ -346,7 +371,8 @@ fn number_after(next: u64) -> Result<u64, AllocError>
 }
 
 fn put_delayed<S: Store>(columns: &mut Columns<S>, receipt: &Receipt) -> Result<(), AllocError>
-    ensures ok { OnOk result (columns.new ≡ with_columns columns.old (more_delayed columns.old.columns columns.old.columns.queue receipt.now)) }
+    ensures ok { OnOk result (columns.new ≡ with_columns columns.old
+        (more_delayed columns.old.columns columns.old.columns.queue receipt.now)) }
     ensures fits { OnOk result (IsReceipt receipt.now) }
     ensures room { OnOk result (next_in columns.old.columns.queue + 1 ≤ 2 ^ 63) }
     ensures marks { columns.new.marks ≡ columns.old.marks }
@@ -360,7 +386,8 @@ fn put_delayed<S: Store>(columns: &mut Columns<S>, receipt: &Receipt) -> Result<
 
 fn cut_delayed<S: Store>(columns: &mut Columns<S>) -> Result<Option<Receipt>, AllocError>
     ensures found { IfOk result (λ found. found ≡ front_in columns.old.columns columns.old.columns.queue) }
-    ensures ok { OnOk result (columns.new ≡ with_columns columns.old (less_delayed columns.old.columns columns.old.columns.queue)) }
+    ensures ok { OnOk result (columns.new ≡ with_columns columns.old
+        (less_delayed columns.old.columns columns.old.columns.queue)) }
     ensures marks { columns.new.marks ≡ columns.old.marks }
 {
     let Some((served, next)) = columns.queue()? else {

@@ -1,3 +1,4 @@
+-- Definitions that the contracts cite.
 pub mod Refusing
 pub mod Sending
 pub mod Sends

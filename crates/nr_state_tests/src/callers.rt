@@ -145,7 +145,8 @@ fn take<S: Store>(
 ) -> Result<(), AllocError>
     requires whole { state.old.whole ≡ true }
     requires stands { get state.old.world.accounts context.now.current ≡ Some account.now }
-    ensures { OnOk result (state.new ≡ with_world state.old (with_account state.old.world context.now.current (with_less account.now))) }
+    ensures { OnOk result (state.new ≡ with_world state.old
+        (with_account state.old.world context.now.current (with_less account.now))) }
 {
     let amount = account.amount.saturating_sub(1);
     state.set_account(&context.current, &Account { amount, ..*account })?;

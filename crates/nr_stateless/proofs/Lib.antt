@@ -1,3 +1,4 @@
+-- Lemmas behind the answers.
 pub mod ByKeys
 pub mod FoundEntries
 pub mod Replacing

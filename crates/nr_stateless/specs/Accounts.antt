@@ -1,4 +1,5 @@
--- What a walk for some accounts searches: the keys of each account and of its code, what the keys of all that it owns begin with, and always the delayed queue. This project's own.
+-- What a walk for some accounts searches: the keys of each account and of its code, what the keys of all that it owns
+-- begin with, and always the delayed queue. This project's own.
 use Rattle.std.specs.Prelude.{◌==◌, ℕ, Bool, true, false, ◌||◌, not, List, ◌∷◌, map}
 use Rattle.std.specs.List.{filter, flat_map, list_any, starts_with}
 use Rattle.std.specs.Str.{bytes_eq}
@@ -24,7 +25,9 @@ searched_of accounts = all_below queue_key ∷ flat_map of_account accounts
 
 -- ---- the same of whole keys
 abbrev pub is_owned : List ℕ → List ℕ → Bool
-is_owned key id = bytes_eq key (account_key id) || (bytes_eq key (code_key id) || list_any (starts_with ◌==◌ key) (owner_prefixes id))
+is_owned key id =
+    bytes_eq key (account_key id) || (bytes_eq key (code_key id) || list_any (starts_with ◌==◌ key)
+    (owner_prefixes id))
 
 unfoldable pub is_searched : List (List ℕ) → List ℕ → Bool
 is_searched accounts key = starts_with ◌==◌ key queue_key || list_any (is_owned key) accounts

@@ -7,7 +7,8 @@ ghost use Rattle.nr_triedef.specs.Root.{Contents, paths, root_of};
 ghost use Rattle.nr_walk.specs.declared.searched.Searched.{Searched as OneSearched};
 ghost use Rattle.nr_walk.specs.Shown.{IsOf, walk_of};
 ghost use Rattle.nr_walk.specs.Texts.{memory_fault};
-ghost use Rattle.nr_remake.specs.Merging.{IsChanged, IsKept, found_in, kept_in, pairs_of, parts_of, remade, searched_entries};
+ghost use Rattle.nr_remake.specs.Merging.{IsChanged, IsKept, found_in, kept_in, pairs_of, parts_of, remade};
+ghost use Rattle.nr_remake.specs.Merging.{searched_entries};
 ghost use Rattle.nr_stateless.specs.Accounts.{found_of, searched_of};
 ghost use Rattle.nr_stateless.specs.Changing.{AreNew, HasBytes, IsPart, IsReplaced, replaced};
 
@@ -59,7 +60,8 @@ fn walked(
     searched: &[Searched],
 ) -> Result<(Partial, List<Entry>), WalkFault>
     ensures exact { Gives memory_fault result (parts_of (walk_of texts.now searched.now root.now)) }
-    ensures whole { IfOk result (λ r. (m : Contents) → IsOf texts.now root.now m → IsKept searched.now (paths (map.entries m)) r.0 × (pairs_of r.1 ≡ searched_entries searched.now m)) }
+    ensures whole { IfOk result (λ r. (m : Contents) → IsOf texts.now root.now m
+        → IsKept searched.now (paths (map.entries m)) r.0 × (pairs_of r.1 ≡ searched_entries searched.now m)) }
 {
     let gains = walk(alloc, texts, root, searched)?;
     let parts = split(alloc, gains)?;
@@ -86,7 +88,8 @@ impl Partial {
         // Which answer it is.
         ensures exact { Gives memory_fault result (parts_of (walk_of texts.now (searched_of accounts.now) root.now)) }
         // What it gives of each map that a store can hold, has this root and agrees with the texts.
-        ensures whole { IfOk result (λ r. (m : Contents) → IsOf texts.now root.now m → IsPart accounts.now m r.0 × (pairs_of r.1 ≡ found_of accounts.now m)) }
+        ensures whole { IfOk result (λ r. (m : Contents) → IsOf texts.now root.now m → IsPart accounts.now m r.0
+            × (pairs_of r.1 ≡ found_of accounts.now m)) }
     {
         let searched = searched_of(alloc, accounts.inner())?;
         let parts = walked(alloc, texts, root, searched.inner())?;
@@ -105,9 +108,11 @@ impl Partial {
         // Which root it is.
         ensures exact { IfOk result (λ hash. hash ≡ remade self new.now) }
         // Of each map that was walked: it is that of the map with its searched entries replaced by the new ones.
-        ensures replaced { IfOk result (λ hash. (accounts : Items (Items ℕ)) (m : Contents) → HasBytes m → IsPart accounts m self → AreNew accounts new.now → hash ≡ (root_of (replaced accounts m new.now)).hash) }
+        ensures replaced { IfOk result (λ hash. (accounts : Items (Items ℕ)) (m : Contents) → HasBytes m
+            → IsPart accounts m self → AreNew accounts new.now → hash ≡ (root_of (replaced accounts m new.now)).hash) }
         // It is that of each map that differs from such a one in the searched entries alone, which are the new ones.
-        ensures changed { IfOk result (λ hash. (accounts : Items (Items ℕ)) (m n : Contents) → IsPart accounts m self → IsReplaced accounts m n new.now → hash ≡ (root_of n).hash) }
+        ensures changed { IfOk result (λ hash. (accounts : Items (Items ℕ)) (m n : Contents) → IsPart accounts m self
+            → IsReplaced accounts m n new.now → hash ≡ (root_of n).hash) }
     {
         let hash = self.root_with(new)?;
         Ok(hash)
@@ -116,7 +121,8 @@ impl Partial {
     // The root of what is kept together with new entries.
     fn root_with(self, new: &List<Entry>) -> Result<Hash32, AllocError>
         ensures exact { IfOk result (λ hash. hash ≡ remade self new.now) }
-        ensures changed { IfOk result (λ hash. (searched : Items OneSearched) (m n : Contents) → IsKept searched (paths (map.entries m)) self → IsChanged searched m n new.now → hash ≡ (root_of n).hash) }
+        ensures changed { IfOk result (λ hash. (searched : Items OneSearched) (m n : Contents)
+            → IsKept searched (paths (map.entries m)) self → IsChanged searched m n new.now → hash ≡ (root_of n).hash) }
     {
         let hash = remade_root(self.alloc, &self.kept, new)?;
         Ok(hash)

@@ -1,3 +1,5 @@
+//! Walks by the values of an independent program.
+
 use crate::script::replayed;
 use crate::{faults, maps, outside};
 use std::alloc::{AllocError, Global};

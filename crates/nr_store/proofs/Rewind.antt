@@ -128,7 +128,10 @@ InOrder-mark starts count x end h e o =
     rw add-one (omega (arith, e, same), InOrder-later (set starts count x) count end (get_or (set starts count x) count 0) (omega (arith, e, same)) (InOrder-set starts count end count x (omega arith) o))
 
 -- the newest checkpoint taken back
-pub seen-back : (m n : Contents) (log new : List Undo) (starts : List ℕ) (count end : ℕ) → 0 < count → InOrder starts count end → n ≡ rewound m (drop (get_or starts (count - 1) 0) log) → ((k : ℕ) → k ≤ get_or starts (count - 1) 0 → rewound n (drop k new) ≡ rewound m (drop k log)) → seen m log starts count ≡ n ∷ seen n new starts (count - 1)
+pub seen-back : (m n : Contents) (log new : List Undo) (starts : List ℕ) (count end : ℕ) → 0 < count
+    → InOrder starts count end → n ≡ rewound m (drop (get_or starts (count - 1) 0) log)
+    → ((k : ℕ) → k ≤ get_or starts (count - 1) 0 → rewound n (drop k new) ≡ rewound m (drop k log))
+    → seen m log starts count ≡ n ∷ seen n new starts (count - 1)
 seen-back m n log new starts zero end h o e older = absurd (omega arith)
 seen-back m n log new starts (suc c) end h o e older =
     let is : suc c - 1 ≡ c = omega arith in

@@ -1,3 +1,4 @@
+-- Definitions that the contracts cite.
 pub mod Contents
 pub mod Forks
 pub mod Plain

@@ -1,5 +1,7 @@
--- How a plain store keeps its contents: slots with or without a value, and a log of what each change found. This project's own.
-use Rattle.std.specs.Prelude.{ℕ, zero, suc, ◌≡◌, ◌≤◌, List, [], ◌∷◌, Option, Some, None, drop, Vec, IsSome, IsNone, slice_index, unwrap_or}
+-- How a plain store keeps its contents: slots with or without a value, and a log of what each change found. This
+-- project's own.
+use Rattle.std.specs.Prelude.{ℕ, zero, suc, ◌≡◌, ◌≤◌, List, [], ◌∷◌, Option, Some, None, drop, Vec, IsSome, IsNone}
+use Rattle.std.specs.Prelude.{slice_index, unwrap_or}
 use Rattle.std.specs.Option.{option_map}
 use Rattle.std.specs.List.{AllByRecursion}
 use Rattle.std.specs.FinMap.{empty, insert, remove}

@@ -14,7 +14,8 @@ plain_view s =
       spare = s.spare;
     }
 
--- at most eight checkpoints stand and are spare, the log can be taken back, and what is held and was saved keeps within the sizes
+-- at most eight checkpoints stand and are spare, the log can be taken back, and what is held and was saved keeps
+-- within the sizes
 pub record IsPlain (s : Inside) : Type 0 where
   pub few : s.standing + s.spare ≤ 8
   pub slots : HaveSlots s.slots.entries s.log.items

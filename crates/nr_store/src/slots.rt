@@ -1,11 +1,13 @@
 //! The slots of a plain store: keys in the order of their bytes, each with a value or without.
 
-ghost use Rattle.std.specs.Prelude.{◌≡◌, ◌≢◌, ◌==◌, ℕ, List, [], take, drop, length, cond, is_some, true, ◌+◌, ◌≤◌, IsNone, IsSome, OnOk, OnErr, IfOk, vec_len};
+ghost use Rattle.std.specs.Prelude.{◌≡◌, ◌≢◌, ◌==◌, ℕ, List, [], take, drop, length, cond, is_some, true, ◌+◌, ◌≤◌};
+ghost use Rattle.std.specs.Prelude.{IsNone, IsSome, OnOk, OnErr, IfOk, vec_len};
 ghost use Rattle.std.specs.Option.{option_map};
 ghost use Rattle.std.specs.List.{starts_with};
 ghost use Rattle.std.specs.FinMap as map;
 ghost use Rattle.nr_triedef.specs.Stores.{keys_below, most_entries, IsSizedEntry};
-ghost use Rattle.nr_store.specs.Plain.{held_in, text_of, slot_at, value_before, HasSlot, NeedsSlot, put_back, HaveSlots, AreApart, rewound};
+ghost use Rattle.nr_store.specs.Plain.{held_in, text_of, slot_at, value_before, HasSlot, NeedsSlot, put_back};
+ghost use Rattle.nr_store.specs.Plain.{HaveSlots, AreApart, rewound};
 
 use nr_bytes::{Blob, List};
 use std::alloc::{AllocError, Global};
@@ -29,7 +31,8 @@ const MOST_SLOTS: usize = 1 << 26;
 /// Whether an entry keeps within the sizes of a store, and there is room for its slot.
 pub(crate) fn fits(slots: &Slots, key: &[u8], value: &[u8]) -> bool
     ensures entry { result ≡ true → IsSizedEntry key.now value.now }
-    ensures room { result ≡ true → length slots.now.entries + cond (is_some (slot_at slots.now.entries key.now)) 0 1 ≤ most_entries }
+    ensures room { result ≡ true → length slots.now.entries + cond (is_some (slot_at slots.now.entries key.now)) 0 1
+        ≤ most_entries }
 {
     if key.len() > 70_000_000 || value.len() >= 1 << 32 {
         return false;
@@ -45,10 +48,12 @@ pub(crate) fn put(
     value: Vec<u8>,
 ) -> Result<Option<Option<Vec<u8>>>, AllocError>
     ensures before { IfOk result (λ before. option_map text_of before ≡ slot_at slots.old.entries key.items) }
-    ensures ok { OnOk result (held_in slots.new.entries ≡ map.insert (held_in slots.old.entries) key.items value.items) }
+    ensures ok { OnOk result (held_in slots.new.entries
+        ≡ map.insert (held_in slots.old.entries) key.items value.items) }
     ensures slot { OnOk result (HasSlot slots.new.entries key.items) }
     ensures kept { (q : List ℕ) → HasSlot slots.old.entries q → HasSlot slots.new.entries q }
-    ensures count { IfOk result (λ before. length slots.new.entries ≡ length slots.old.entries + cond (is_some before) 0 1) }
+    ensures count { IfOk result (λ before. length slots.new.entries
+        ≡ length slots.old.entries + cond (is_some before) 0 1) }
     ensures err { OnErr result (slots.new.entries ≡ slots.old.entries) }
 {
     let before = slots.insert(key, Some(value))?;
@@ -109,8 +114,10 @@ pub(crate) fn drop_empty_slots(slots: &mut Slots, log: &[Undo])
 /// Takes one change back.
 fn take_back(slots: &mut Slots, undo: Undo)
     requires { NeedsSlot slots.old.entries undo }
-    ensures after { held_in slots.new.entries ≡ put_back (held_in slots.old.entries) undo.key.items (value_before undo) }
-    ensures kept { (q : List ℕ) → HasSlot slots.old.entries q → (IsNone undo.before → q ≢ undo.key.items) → HasSlot slots.new.entries q }
+    ensures after { held_in slots.new.entries ≡ put_back (held_in slots.old.entries) undo.key.items
+        (value_before undo) }
+    ensures kept { (q : List ℕ) → HasSlot slots.old.entries q → (IsNone undo.before → q ≢ undo.key.items)
+        → HasSlot slots.new.entries q }
 {
     let Undo { key, before } = undo;
     match before {
@@ -126,7 +133,8 @@ pub(crate) fn undo_to(slots: &mut Slots, log: &mut Vec<Undo>, start: usize)
     requires apart { AreApart log.old.items }
     ensures contents { held_in slots.new.entries ≡ rewound (held_in slots.old.entries) (drop start log.old.items) }
     ensures log { log.new.items ≡ take start log.old.items }
-    ensures older { (n : ℕ) → n ≤ start → rewound (held_in slots.new.entries) (drop n log.new.items) ≡ rewound (held_in slots.old.entries) (drop n log.old.items) }
+    ensures older { (n : ℕ) → n ≤ start → rewound (held_in slots.new.entries) (drop n log.new.items)
+        ≡ rewound (held_in slots.old.entries) (drop n log.old.items) }
     ensures slots { HaveSlots slots.new.entries log.new.items }
     ensures apart { AreApart log.new.items }
 {

@@ -1,6 +1,7 @@
 //! Entries in the order of their keys, and slices of them that leave out the front of each key.
 
-ghost use Rattle.std.specs.Prelude.{◌≡◌, ◌≤◌, ◌<◌, ◌+◌, ◌-◌, ◌^◌, true, false, None, Some, length, take, drop, IsSome, IfOk, MatchOption};
+ghost use Rattle.std.specs.Prelude.{◌≡◌, ◌≤◌, ◌<◌, ◌+◌, ◌-◌, ◌^◌, true, false, None, Some, length, take, drop, IsSome};
+ghost use Rattle.std.specs.Prelude.{IfOk, MatchOption};
 ghost use Rattle.std.specs.List.{AllByRecursion};
 ghost use Rattle.nr_triedef.specs.Node.{nibbles, IsNibbles};
 ghost use Rattle.nr_triedef.specs.Root.{common, front, behind, value_here, under};
@@ -27,6 +28,7 @@ impl<'a> Model for Entry<'a> {
 }
 
 impl<'a> Entry<'a> {
+    /// An entry of a key and its value.
     pub fn of(key: &'a [u8], value: &'a [u8]) -> Entry<'a>
         ensures value { result ≡ (nibbles key.now, value.now) }
         ensures small { IsNibbles result.0 }
@@ -133,6 +135,7 @@ impl<'a> Span<'a> {
         Span { entries, offset: 0 }
     }
 
+    /// How many entries there are.
     pub fn len(&self) -> usize
         ensures count { result ≡ length self.now }
         ensures order { CanWalk self.now }

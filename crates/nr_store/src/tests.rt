@@ -1,3 +1,5 @@
+//! A store of three keys, with checkpoints.
+
 ghost use Rattle.std.specs.Prelude.{◌≡◌, ◌<◌, [], OnOk};
 
 use crate::PlainStore;

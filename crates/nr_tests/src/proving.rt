@@ -1,5 +1,5 @@
-//! Roots, proofs of items, and the judgement of proofs, over worked chains. Roots and proofs are those of an independent
-//! program.
+//! Roots, proofs of items, and the judgement of proofs, over worked chains. Roots and proofs are those of an
+//! independent program.
 
 use crate::setting::{Ended, end_of, shelf_of, shelf_of_all};
 use crate::{sharded, worked};

@@ -1,5 +1,5 @@
-//! Schedules over worked examples, and what they write: chunks as the runs report them, and around them the steps that an
-//! independent program makes.
+//! Schedules over worked examples, and what they write: chunks as the runs report them, and around them the steps
+//! that an independent program makes.
 
 /// Shard 1 goes ahead to its last chunk, and shard 0 follows to its third; some steps aren't enabled.
 pub(crate) const SKEWED: &str = "open 1\n\

@@ -7,7 +7,8 @@ use Rattle.nr_shell.specs.declared.stop.Stop.{Stop}
 use Rattle.nr_shell.specs.declared.stop.Stop.TheVariants.{Unread, Memory, Refused}
 use Rattle.nr_shell.specs.Writing.{GrewInPart}
 use Rattle.nr_top.specs.declared.status.Status.{Status}
-use Rattle.nr_top.specs.declared.status.Status.TheVariants.{Done, Usage, Config, Genesis, Blocks, Schedule, Proof, NoItem, Gathered, Parts, ReadFault, WriteFault, NoMemory}
+use Rattle.nr_top.specs.declared.status.Status.TheVariants.{Done, Usage, Config, Genesis, Blocks, Schedule, Proof}
+use Rattle.nr_top.specs.declared.status.Status.TheVariants.{NoItem, Gathered, Parts, ReadFault, WriteFault, NoMemory}
 
 -- the text was written, or a front of it; or before the writing a file was unread, memory ran out, or the plan refuses
 pub data Class : Type 0 where

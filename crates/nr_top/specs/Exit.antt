@@ -1,7 +1,8 @@
 -- How a program ends with an answer: its exit status, and the line that tells it. This project's own.
 use Rattle.std.specs.Prelude.{ℕ, List, [], ◌∷◌, ◌++◌, decimal}
 use Rattle.nr_top.specs.declared.status.Status.{Status}
-use Rattle.nr_top.specs.declared.status.Status.TheVariants.{Done, Usage, Config, Genesis, Blocks, Schedule, Proof, NoItem, Gathered, Parts, ReadFault, WriteFault, NoMemory}
+use Rattle.nr_top.specs.declared.status.Status.TheVariants.{Done, Usage, Config, Genesis, Blocks, Schedule, Proof}
+use Rattle.nr_top.specs.declared.status.Status.TheVariants.{NoItem, Gathered, Parts, ReadFault, WriteFault, NoMemory}
 
 -- the exit status, and the numbers that it tells
 abbrev pub told : Status → ℕ × List ℕ

@@ -1,4 +1,5 @@
--- The run of a generated chain, in short: how many chunks were sealed, the digest of the report, and the totals. This project's own.
+-- The run of a generated chain, in short: how many chunks were sealed, the digest of the report, and the totals. This
+-- project's own.
 use Rattle.std.specs.Prelude.{ℕ, List, [], ◌∷◌, ◌++◌, codes, decimal}
 use Rattle.nr_chunk.specs.Chain.{Chain, rules_of}
 use Rattle.nr_config.specs.Config.{generated}
@@ -18,7 +19,8 @@ use Rattle.nr_top.specs.Run.{chain, one_leg}
 abbrev pub generated_chain : ℕ → ℕ → ℕ → Chain
 generated_chain start shards blocks = chain generated (generated_genesis shards) (generated_blocks start shards blocks)
 
--- ---- what is written of it: the numbers that generate it, how many chunks were sealed, and the digest of the report that its run has; then the totals
+-- ---- what is written of it: the numbers that generate it, how many chunks were sealed, and the digest of the report
+-- that its run has; then the totals
 abbrev pub first_lines : ℕ → ℕ → ℕ → ℕ → Hash32 → List ℕ
 first_lines start shards blocks chunks hash =
     line (codes "gen" ∷ decimal start ∷ decimal shards ∷ decimal blocks ∷ [])
@@ -29,4 +31,5 @@ unfoldable pub generated_text : ℕ → ℕ → ℕ → List ℕ
 generated_text start shards blocks =
     let x = generated_chain start shards blocks in
     let r = rules_of x in
-    first_lines start shards blocks (count_to r.shards (report_at r (ending r)) r.heights) (digest (course_text (one_leg x))) ++ totals_text (totals_at x (ending r))
+    first_lines start shards blocks (count_to r.shards (report_at r (ending r)) r.heights)
+    (digest (course_text (one_leg x))) ++ totals_text (totals_at x (ending r))

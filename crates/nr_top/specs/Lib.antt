@@ -1,3 +1,4 @@
+-- Definitions that the contracts cite.
 pub mod Totals
 pub mod Run
 pub mod Generated

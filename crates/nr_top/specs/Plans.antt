@@ -1,7 +1,8 @@
 -- What each command does, as a plan: the files that it asks for in their order, and what it answers or refuses. This
 -- project's own commands and limits.
 use Rattle.std.specs.Prelude.{ℕ, ◌+◌, cond, nat_lt, List, [], ◌∷◌, ◌++◌, Option, Some, None, length}
-use Rattle.nr_words.specs.Command.{Command, Replay, Generate, Roots, Prove, Verify, Cut, CheckPart, JoinParts, Gather, Recheck, Names}
+use Rattle.nr_words.specs.Command.{Command, Replay, Generate, Roots, Prove, Verify, Cut, CheckPart, JoinParts, Gather}
+use Rattle.nr_words.specs.Command.{Recheck, Names}
 use Rattle.nr_words.specs.declared.words.ChunkItem.{ChunkItem}
 use Rattle.nr_words.specs.declared.words.ChunkPlace.{ChunkPlace}
 use Rattle.nr_words.specs.declared.words.StatePart.{StatePart}
@@ -26,7 +27,9 @@ use Rattle.nr_top.specs.Roots.{root_in}
 use Rattle.nr_top.specs.Run.{loaded}
 use Rattle.nr_top.specs.StateParts.{check_part_plan, cut_answer, join_parts_plan, part_names}
 use Rattle.nr_top.specs.declared.status.Status.{Status}
-use Rattle.nr_top.specs.declared.status.Status.TheVariants.{Usage, Config as faulty_config, Genesis as faulty_genesis, Blocks as faulty_blocks, Schedule as faulty_schedule, Proof as faulty_proof, NoMemory}
+use Rattle.nr_top.specs.declared.status.Status.TheVariants.{Usage, Config as faulty_config, Genesis as faulty_genesis}
+use Rattle.nr_top.specs.declared.status.Status.TheVariants.{Blocks as faulty_blocks, Schedule as faulty_schedule}
+use Rattle.nr_top.specs.declared.status.Status.TheVariants.{Proof as faulty_proof, NoMemory}
 
 -- ---- the lines of a schedule for so many shards, in a file of at most 1 MiB; its faults, by kind and line
 abbrev pub schedule_status : ScheduleFault → Status

@@ -1,6 +1,8 @@
--- The roots of a chain's chunks, the proof of an item of one of them, and what is said of a proof: what is written, or why
+-- The roots of a chain's chunks, the proof of an item of one of them, and what is said of a proof: what is written,
+-- or why
 -- nothing is. This project's own.
-use Rattle.std.specs.Prelude.{ℕ, ◌+◌, Bool, true, false, List, [], ◌∷◌, ◌++◌, length, Option, Some, None, Result, Ok, Err, codes, decimal}
+use Rattle.std.specs.Prelude.{ℕ, ◌+◌, Bool, true, false, List, [], ◌∷◌, ◌++◌, length, Option, Some, None, Result, Ok}
+use Rattle.std.specs.Prelude.{Err, codes, decimal}
 use Rattle.nr_chunk.specs.Chain.{Chain, rules_of}
 use Rattle.nr_course.specs.Course.{Course, height_in, leg_at, second}
 use Rattle.nr_course.specs.declared.turn.Turn.{Turn}
@@ -24,7 +26,8 @@ use Rattle.nr_words.specs.declared.words.ChunkItem.{ChunkItem}
 -- ---- `roots`: a line for each chunk, with the root of its outcomes and that of its receipts
 abbrev pub roots_line : ChunkResult → List ℕ
 roots_line y =
-    line (codes "roots" ∷ decimal y.height.0 ∷ decimal y.shard.0 ∷ hash_word (root_of y Outcome) ∷ hash_word (root_of y Receipt) ∷ [])
+    line (codes "roots" ∷ decimal y.height.0 ∷ decimal y.shard.0 ∷ hash_word (root_of y Outcome)
+    ∷ hash_word (root_of y Receipt) ∷ [])
 
 abbrev pub roots_told : Option ChunkResult → List ℕ
 roots_told None = []

@@ -37,7 +37,8 @@ recheck_status fault.Bounds = faulty_gathered 6 0
 recheck_status fault.Memory = NoMemory
 
 abbrev pub recheck_answer : Config → Gathered → Plan (List ℕ) Status
-recheck_answer c g = and_then (by_reading recheck_status (rechecked c (call c) g)) (λ report. Answer (chunk_text report))
+recheck_answer c g =
+    and_then (by_reading recheck_status (rechecked c (call c) g)) (λ report. Answer (chunk_text report))
 
 abbrev pub by_gathered : List ℕ → Config → Plan (List ℕ) Status
 by_gathered file c = and_then (gathered_plan file) (recheck_answer c)

@@ -1,4 +1,5 @@
--- The commands on parts of a state: what is cut out of a run, and what is written of parts in files. This project's own.
+-- The commands on parts of a state: what is cut out of a run, and what is written of parts in files. This project's
+-- own.
 use Rattle.std.specs.Prelude.{ℕ, ◌+◌, cond, List, [], ◌∷◌, ◌++◌, length, map, codes, decimal, unwrap_or}
 use Rattle.std.specs.List.{range_with_len}
 use Rattle.nr_chunk.specs.Chain.{Chain}
@@ -56,7 +57,8 @@ part_file_plan position name = and_then (file_plan name 268435456 (faulty_parts 
 
 -- ---- one part against a root
 abbrev pub part_line : Part → List ℕ
-part_line p = line (codes "part" ∷ decimal p.number ∷ decimal p.count ∷ codes "entries" ∷ decimal (length p.entries) ∷ [])
+part_line p =
+    line (codes "part" ∷ decimal p.number ∷ decimal p.count ∷ codes "entries" ∷ decimal (length p.entries) ∷ [])
 
 abbrev pub check_answer : Hash32 → Part → Plan (List ℕ) Status
 check_answer root part = and_then (by_reading (part_status 0) (checked root part)) (λ accepted. Answer (part_line part))

@@ -44,14 +44,16 @@ fn run_generated(
 
 /// How many chunks there are. A number that doesn't fit counts as want of memory.
 fn count_of(outcome: &Outcome<ContractCaller>) -> Result<u64, AllocError>
-    ensures { let r = rules_of (chain_in outcome.now.chain) in IfOk result (λ count. count ≡ count_to r.shards (report_at r (ending r)) r.heights) }
+    ensures { let r = rules_of (chain_in outcome.now.chain)
+        in IfOk result (λ count. count ≡ count_to r.shards (report_at r (ending r)) r.heights) }
 {
     outcome.chunk_count().ok_or(AllocError)
 }
 
 /// Hashes the text of all chunks, height by height.
 fn hash_chunks(alloc: Global, outcome: &Outcome<ContractCaller>) -> Result<Sha256, AllocError>
-    ensures { let r = rules_of (chain_in outcome.now.chain) in IfOk result (λ hasher. Holds256 hasher (heights_text r.shards (report_at r (ending r)) 0 r.heights)) }
+    ensures { let r = rules_of (chain_in outcome.now.chain)
+        in IfOk result (λ hasher. Holds256 hasher (heights_text r.shards (report_at r (ending r)) 0 r.heights)) }
 {
     let mut hasher = Sha256::new();
     for below in 0..outcome.chain().heights() {

@@ -52,7 +52,8 @@ pub fn totals_law()
 /// comes to an answer, it has asked for all of them. Words that are no command ask for none. It does nothing when it
 /// runs.
 pub fn asked_law()
-    ensures front { (held : List ℕ → Option (List ℕ)) (asked : Option Command) (names : List (List ℕ)) (q : Plan (List ℕ) Status)
+    ensures front { (held : List ℕ → Option (List ℕ)) (asked : Option Command) (names : List (List ℕ))
+        (q : Plan (List ℕ) Status)
         → LeadsBy held names (plan asked) q → (rest : List (List ℕ)) × (files_of asked ≡ names ++ rest) }
     ensures all { (held : List ℕ → Option (List ℕ)) (asked : Option Command) (names : List (List ℕ)) (text : List ℕ)
         → LeadsBy held names (plan asked) (Answer text) → names ≡ files_of asked }

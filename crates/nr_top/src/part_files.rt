@@ -88,7 +88,8 @@ fn add_part<S: Shelf>(
 ) -> Result<(), Stop<Status>>
     ensures { Follows refuses (λ _. parts.new.items) (S.held shelf.old) (S.held shelf.new)
         (S.asked shelf.old) (S.asked shelf.new) (S.faults shelf.old) (S.faults shelf.new)
-        result (and_then (part_file_plan position (part_name prefix.now position)) (λ part. Answer (parts.old.items ++ part ∷ []))) }
+        result (and_then (part_file_plan position (part_name prefix.now position))
+        (λ part. Answer (parts.old.items ++ part ∷ []))) }
 {
     match load_named(alloc, prefix, position, shelf) {
         Ok(part) => match push_part(parts, part) {

@@ -1,3 +1,5 @@
+//! How a call of `near_serial` or `near_replay` ends.
+
 use nr_chainfiles::ChainRefusal;
 use nr_configfile::ConfigRefusal;
 

@@ -1,3 +1,4 @@
+-- Lemmas behind the answers.
 pub mod Parts
 pub mod Each
 pub mod Laws

@@ -1,3 +1,4 @@
+-- Definitions that the contracts cite.
 pub mod Node
 pub mod Root
 pub mod Stores

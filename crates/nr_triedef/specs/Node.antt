@@ -1,5 +1,7 @@
--- The nodes of the state trie: their texts, hashes and memory usage. After the Nomicon, Data Structures, Merkle Proofs and Trie, whose node kinds these are; the bytes are this project's.
-use Rattle.std.specs.Prelude.{ℕ, ◌+◌, ◌*◌, ◌/◌, ◌%◌, ◌<◌, ◌≤◌, ◌==◌, Bool, true, false, cond, ◌||◌, IsTrue, List, [], ◌∷◌, ◌++◌, length, Option, Some, None, is_some, count_by, slice_index}
+-- The nodes of the state trie: their texts, hashes and memory usage. After the Nomicon, Data Structures, Merkle
+-- Proofs and Trie, whose node kinds these are; the bytes are this project's.
+use Rattle.std.specs.Prelude.{ℕ, ◌+◌, ◌*◌, ◌/◌, ◌%◌, ◌<◌, ◌≤◌, ◌==◌, Bool, true, false, cond, ◌||◌, IsTrue, List, []}
+use Rattle.std.specs.Prelude.{◌∷◌, ◌++◌, length, Option, Some, None, is_some, count_by, slice_index}
 use Rattle.std.specs.List.{flat_map}
 use Rattle.sha2.specs.Sha256.{sha256}
 use Rattle.nr_bytes.specs.Numbers.{little}
@@ -72,7 +74,8 @@ unfoldable pub node_text : Node → List ℕ
 node_text (Leaf part length hash usage) = 0 ∷ (counted_bytes part ++ little 4 length ++ hash.0 ++ little 8 usage)
 node_text (Extension part child usage) = 1 ∷ (counted_bytes part ++ child.0 ++ little 8 usage)
 node_text (Branch None children usage) = 2 ∷ (children_bytes children ++ little 8 usage)
-node_text (Branch (Some value) children usage) = 3 ∷ (little 4 value.0 ++ value.1.0 ++ children_bytes children ++ little 8 usage)
+node_text (Branch (Some value) children usage) =
+    3 ∷ (little 4 value.0 ++ value.1.0 ++ children_bytes children ++ little 8 usage)
 
 abbrev pub digest : List ℕ → Hash32
 digest bytes = record { 0 = sha256 bytes }

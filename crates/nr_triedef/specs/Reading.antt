@@ -1,5 +1,8 @@
--- The reading of a node's text, field by field: a text that is no node's is refused at the first field that can't be read. The texts are this project's own.
-use Rattle.std.specs.Prelude.{◌≡◌, ℕ, zero, suc, ◌/◌, ◌%◌, ◌<◌, ◌^◌, ◌==◌, Bool, true, false, cond, ◌&&◌, nat_lt, nat_le, ⊤, List, [], ◌∷◌, length, Option, Some, None, is_some, Result, Ok, Err, count_ones}
+-- The reading of a node's text, field by field: a text that is no node's is refused at the first field that can't be
+-- read. The texts are this project's own.
+use Rattle.std.specs.Prelude.{◌≡◌, ℕ, zero, suc, ◌/◌, ◌%◌, ◌<◌, ◌^◌, ◌==◌, Bool, true, false, cond, ◌&&◌, nat_lt}
+use Rattle.std.specs.Prelude.{nat_le, ⊤, List, [], ◌∷◌, length, Option, Some, None, is_some, Result, Ok, Err}
+use Rattle.std.specs.Prelude.{count_ones}
 use Rattle.std.specs.List.{AllByRecursion}
 use Rattle.nr_bytes.specs.declared.fault.BytesFault.{BytesFault}
 use Rattle.nr_bytes.specs.declared.fault.BytesFault.TheVariants as bytes_faults
@@ -113,8 +116,10 @@ abbrev pub IsValue : Option (ℕ × Hash32) → Type 0
 IsValue None = ⊤
 IsValue (Some value) = (value.0 < 2 ^ 32) × IsHash value.1
 
--- what the types say of a node, and that its part can be counted: lengths and counts below 2^32, usages below 2^64, hashes of 32 bytes, 16 children
+-- what the types say of a node, and that its part can be counted: lengths and counts below 2^32, usages below 2^64,
+-- hashes of 32 bytes, 16 children
 abbrev pub Fits : Node → Type 0
 Fits (Leaf part size hash usage) = (length part < 2 ^ 32) × (size < 2 ^ 32) × IsHash hash × (usage < 2 ^ 64)
 Fits (Extension part child usage) = (length part < 2 ^ 32) × IsHash child × (usage < 2 ^ 64)
-Fits (Branch value children usage) = IsValue value × (length children ≡ 16) × AllByRecursion IsChild children × (usage < 2 ^ 64)
+Fits (Branch value children usage) =
+    IsValue value × (length children ≡ 16) × AllByRecursion IsChild children × (usage < 2 ^ 64)

@@ -1,5 +1,7 @@
--- The root of a finite map: hash and memory usage of the trie that holds it, by recursion on its entries. After the Nomicon, Data Structures, Merkle Proofs and Trie.
-use Rattle.std.specs.Prelude.{ℕ, zero, suc, ◌+◌, ◌*◌, ◌==◌, true, false, cond, max, List, [], ◌∷◌, length, map, drop, replicate, Option, Some, None, sum_by}
+-- The root of a finite map: hash and memory usage of the trie that holds it, by recursion on its entries. After the
+-- Nomicon, Data Structures, Merkle Proofs and Trie.
+use Rattle.std.specs.Prelude.{ℕ, zero, suc, ◌+◌, ◌*◌, ◌==◌, true, false, cond, max, List, [], ◌∷◌, length, map, drop}
+use Rattle.std.specs.Prelude.{replicate, Option, Some, None, sum_by}
 use Rattle.std.specs.FinMap.{FinMap, entries}
 use Rattle.std.specs.Ordering.{nat_cmp}
 use Rattle.std.specs.Cmp.Lexicographic.{slice_cmp}
@@ -73,7 +75,8 @@ hash_below None = None
 hash_below (Some s) = Some s.hash
 
 abbrev pub branch : Option (List ℕ) → List (Option Summary) → Node
-branch value below = Branch (value_field value) (map hash_below below) (50 + value_usage value + sum_by usage_below below)
+branch value below =
+    Branch (value_field value) (map hash_below below) (50 + value_usage value + sum_by usage_below below)
 
 abbrev pub extension : List ℕ → Summary → Node
 extension part s = Extension part s.hash (part_usage part + s.usage)
@@ -86,7 +89,8 @@ with_front (x ∷ xs) s = summary (extension (key_part (x ∷ xs) false) s)
 abbrev pub sixteen : List ℕ
 sixteen = 0 ∷ 1 ∷ 2 ∷ 3 ∷ 4 ∷ 5 ∷ 6 ∷ 7 ∷ 8 ∷ 9 ∷ 10 ∷ 11 ∷ 12 ∷ 13 ∷ 14 ∷ 15 ∷ []
 
--- the trie of paths whose keys have fewer nibbles than the depth and differ: nothing, a leaf, or a branch by the first nibble that differs
+-- the trie of paths whose keys have fewer nibbles than the depth and differ: nothing, a leaf, or a branch by the
+-- first nibble that differs
 unfoldable pub trie : ℕ → Paths → Option Summary
 trie depth [] = None
 trie depth (p ∷ []) = Some (summary (leaf p))

@@ -96,7 +96,8 @@ fn leaf_text(
     hash: &Hash32,
     usage: u64,
 ) -> Result<Blob, AllocError>
-    ensures { IfOk result (λ text. text ≡ 0 ∷ (counted_bytes part.now ++ little 4 length ++ hash.now.0 ++ little 8 usage)) }
+    ensures { IfOk result (λ text. text ≡ 0 ∷ (counted_bytes part.now ++ little 4 length ++ hash.now.0
+        ++ little 8 usage)) }
 {
     let mut text = Writer::new(alloc);
     text.put_u8(0)?;
@@ -143,7 +144,8 @@ fn valued_text(
     children: &[Option<Hash32>; 16],
     usage: u64,
 ) -> Result<Blob, AllocError>
-    ensures { IfOk result (λ text. text ≡ 3 ∷ (little 4 length ++ hash.now.0 ++ children_bytes children.now ++ little 8 usage)) }
+    ensures { IfOk result (λ text. text ≡ 3 ∷ (little 4 length ++ hash.now.0 ++ children_bytes children.now
+        ++ little 8 usage)) }
 {
     let mut text = Writer::new(alloc);
     text.put_u8(3)?;

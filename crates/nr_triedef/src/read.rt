@@ -3,7 +3,8 @@
 ghost use Rattle.std.specs.Prelude.{◌≡◌, ◌<◌, true, nat_lt, is_some, IfOk, Ok};
 ghost use Rattle.nr_bytes.specs.Answers.{Gives, GivesRead};
 ghost use Rattle.nr_triedef.specs.Node.{IsNode, is_flag, is_part, nibble_count, node_text};
-ghost use Rattle.nr_triedef.specs.Reading.{Fits, hash_at, is_front, part_at, value_at, leaf_at, extension_at, child_at, each_at, children_at, branch_at, valued_at, kind_at, node_at};
+ghost use Rattle.nr_triedef.specs.Reading.{Fits, hash_at, is_front, part_at, value_at, leaf_at, extension_at, child_at};
+ghost use Rattle.nr_triedef.specs.Reading.{each_at, children_at, branch_at, valued_at, kind_at, node_at};
 ghost use Rattle.nr_triedef.specs.declared.node.Node.{Node as Nodes};
 ghost use Rattle.nr_triedef.specs.declared.fault.NodeFault.TheVariants.{Memory};
 
@@ -200,7 +201,8 @@ pub fn read_node(alloc: Global, text: &[u8]) -> Result<Node, NodeFault>
     // What is read is a node with this text.
     ensures found { IfOk result (λ node. IsNode node × Fits node × (text.now ≡ node_text node)) }
     // What has this text is read, unless memory runs out.
-    ensures only { (node : Nodes) → IsNode node → Fits node → text.now ≡ node_text node → Gives Memory result (Ok node) }
+    ensures only { (node : Nodes) → IsNode node → Fits node → text.now ≡ node_text node
+        → Gives Memory result (Ok node) }
     // Which fault it is.
     ensures exact { Gives Memory result (node_at text.now) }
 {

@@ -1,6 +1,7 @@
 //! The trait of stores.
 
-ghost use Rattle.std.specs.Prelude.{◌≡◌, ℕ, ◌+◌, ◌<◌, ◌≤◌, ◌∷◌, List as Items, length, drop, is_some, max, IfOk, OnOk, OnErr};
+ghost use Rattle.std.specs.Prelude.{◌≡◌, ℕ, ◌+◌, ◌<◌, ◌≤◌, ◌∷◌, List as Items, length, drop, is_some, max, IfOk, OnOk};
+ghost use Rattle.std.specs.Prelude.{OnErr};
 ghost use Rattle.std.specs.Option.{option_copied};
 ghost use Rattle.std.specs.FinMap as map;
 ghost use Rattle.nr_triedef.specs.Root.{Contents, root_of};
@@ -42,7 +43,8 @@ pub trait Store {
     /// Puts a value at a key, in place of an earlier one.
     fn set(&mut self, key: &[u8], value: &[u8]) -> Result<(), AllocError>
         ensures ok { OnOk result (contents self.new ≡ map.insert (contents self.old) key.now value.now) }
-        ensures sizes { OnOk result (IsSizedEntry key.now value.now × (length (map.entries (contents self.new)) ≤ most_entries)) }
+        ensures sizes { OnOk result (IsSizedEntry key.now value.now
+            × (length (map.entries (contents self.new)) ≤ most_entries)) }
         ensures err { OnErr result (contents self.new ≡ contents self.old) }
         ensures marks { marks self.new ≡ marks self.old }
         ensures spare { spare self.new ≡ spare self.old };

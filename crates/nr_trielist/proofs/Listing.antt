@@ -95,7 +95,10 @@ smaller_given gs f g child lt keys made =
     let less = work_given f.keys (length f.made) lt in
     subst (λ n. works gs + n < works gs + work (16 - length f.made) (length f.made) f.keys) (sym is) (omega arith)
 
-pub smaller_begun : (gs hs : List Branching) (f g : Branching) (child : Paths) → length f.made < 16 → child ≡ under (15 - length f.made) (cut f.keys) → 2 ≤ length child → hs ≡ f ∷ gs → g.keys ≡ child → g.made ≡ [] → works hs + work (16 - length g.made) (length g.made) g.keys < works gs + work (16 - length f.made) (length f.made) f.keys
+pub smaller_begun : (gs hs : List Branching) (f g : Branching) (child : Paths) → length f.made < 16
+    → child ≡ under (15 - length f.made) (cut f.keys) → 2 ≤ length child → hs ≡ f ∷ gs → g.keys ≡ child → g.made ≡ []
+    → works hs + work (16 - length g.made) (length g.made) g.keys < works gs + work (16 - length f.made)
+    (length f.made) f.keys
 smaller_begun gs hs f g child lt is many above keys made =
     let n : works hs ≡ work (15 - length f.made) (length f.made) f.keys + works gs = ap works above in
     let m : work (16 - length g.made) (length g.made) g.keys ≡ work 16 0 child = (λ i. work (16 - length (made i)) (length (made i)) (keys i)) in
@@ -132,7 +135,10 @@ gained_given f g child keys lt same made is =
     ∙ sym ready
 
 -- a child made of few keys
-pub listed_given : (start nodes more : List Node) (gs : List Branching) (f g : Branching) (child : Option Summary) (keys : Paths) → length f.made < 16 → g.keys ≡ f.keys → g.made ≡ child ∷ f.made → keys ≡ under (15 - length f.made) (cut f.keys) → more ≡ nodes ++ reverse (all_nodes keys) → nodes ≡ gained_all start gs ++ gained f → more ≡ gained_all start gs ++ gained g
+pub listed_given : (start nodes more : List Node) (gs : List Branching) (f g : Branching) (child : Option Summary)
+    (keys : Paths) → length f.made < 16 → g.keys ≡ f.keys → g.made ≡ child ∷ f.made
+    → keys ≡ under (15 - length f.made) (cut f.keys) → more ≡ nodes ++ reverse (all_nodes keys)
+    → nodes ≡ gained_all start gs ++ gained f → more ≡ gained_all start gs ++ gained g
 listed_given start nodes more gs f g child keys lt same made is e h =
     e ∙ ap (λ (l : List Node). l ++ reverse (all_nodes keys)) h ∙ append_assoc (gained_all start gs) (gained f) (reverse (all_nodes keys)) ∙ ap (λ (l : List Node). gained_all start gs ++ l) (gained_given f g child keys lt same made is)
 
@@ -143,7 +149,10 @@ listed_begun start nodes gs hs f g above made h =
     h ∙ sym (append-nil (gained_all start gs ++ gained f)) ∙ (λ i. gained_all start (sym above i) ++ sym none i)
 
 -- a whole branch
-pub listed_closed : (start nodes more : List Node) (gs : List Branching) (f : Branching) → length f.made ≡ 16 → all_nodes f.keys ≡ heads f.keys ++ flat_map (λ n. all_nodes (under n (cut f.keys))) sixteen → more ≡ nodes ++ reverse (heads f.keys) → nodes ≡ gained_all start gs ++ gained f → more ≡ gained_all start gs ++ reverse (all_nodes f.keys)
+pub listed_closed : (start nodes more : List Node) (gs : List Branching) (f : Branching) → length f.made ≡ 16
+    → all_nodes f.keys ≡ heads f.keys ++ flat_map (λ n. all_nodes (under n (cut f.keys))) sixteen
+    → more ≡ nodes ++ reverse (heads f.keys) → nodes ≡ gained_all start gs ++ gained f
+    → more ≡ gained_all start gs ++ reverse (all_nodes f.keys)
 listed_closed start nodes more gs f full all e h =
     let whole : gained f ++ reverse (heads f.keys) ≡ reverse (all_nodes f.keys) =
     ap (λ k. reverse (child_nodes f.keys (16 - k) k) ++ reverse (heads f.keys)) full

@@ -1,6 +1,8 @@
--- The nodes of the trie of some keys, each with those below it, after the recursion that gives the trie's hash and usage. This project's own.
+-- The nodes of the trie of some keys, each with those below it, after the recursion that gives the trie's hash and
+-- usage. This project's own.
 use Rattle.std.specs.Prelude.{ℕ, zero, suc, List, [], ◌∷◌, ◌++◌, false, length, map, Option, Some, None}
-use Rattle.nr_triedef.specs.Root.{Paths, front, behind, value_here, under, leaf, branch, extension, sixteen, depth, trie, paths}
+use Rattle.nr_triedef.specs.Root.{Paths, front, behind, value_here, under, leaf, branch, extension, sixteen, depth}
+use Rattle.nr_triedef.specs.Root.{trie, paths}
 use Rattle.nr_triedef.specs.Node.{key_part, summary}
 use Rattle.nr_triedef.specs.declared.node.Node.{Node}
 use Rattle.nr_triedef.specs.declared.hash.Summary.{Summary}
@@ -30,7 +32,8 @@ entry_here place (Some value) = Some (place, value)
 -- a node behind a front, which may be empty: the extension over it, and the others beside it
 abbrev pub fronted : List ℕ → List ℕ → Summary → Stood → Forest → Forest → Forest
 fronted place [] below top children beside = tree top children beside
-fronted place (x ∷ xs) below top children beside = tree (stood place (extension (key_part (x ∷ xs) false) below) None) (tree top children bare) beside
+fronted place (x ∷ xs) below top children beside =
+    tree (stood place (extension (key_part (x ∷ xs) false) below) None) (tree top children bare) beside
 
 -- for each nibble what f puts before the rest
 abbrev pub rows : (ℕ → Forest → Forest) → List ℕ → Forest
@@ -47,7 +50,8 @@ forest (suc depth) place (p ∷ q ∷ ps) beside =
     let rest = behind (length shared) (p ∷ q ∷ ps) in
     let node = branch (value_here rest) (map (λ n. trie depth (under n rest)) sixteen) in
     let here = place ++ shared in
-    fronted place shared (summary node) (stood here node (entry_here here (value_here rest))) (rows (λ n others. forest depth (here ++ n ∷ []) (under n rest) others) sixteen) beside
+    fronted place shared (summary node) (stood here node (entry_here here (value_here rest)))
+    (rows (λ n others. forest depth (here ++ n ∷ []) (under n rest) others) sixteen) beside
 
 -- the nodes of the trie of entries, whose keys are of bytes
 unfoldable pub forest_of : List (List ℕ × List ℕ) → Forest

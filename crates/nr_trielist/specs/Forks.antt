@@ -10,4 +10,5 @@ pub record IsFork (f : Inside) : Type 0 where
   pub order : CanWalk f.keys
   pub rest : f.rest ≡ cut f.keys
   pub few : length f.made.items ≤ 16
-  pub made : f.made.items ≡ map (λ n. whole (under n f.rest)) (range_with_len (16 - length f.made.items) (length f.made.items))
+  pub made : f.made.items ≡ map (λ n. whole (under n f.rest))
+      (range_with_len (16 - length f.made.items) (length f.made.items))

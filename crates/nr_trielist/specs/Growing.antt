@@ -1,8 +1,10 @@
--- The nodes of the trie of keys as a list, depth first, each with all below it before those beside it. This project's own.
+-- The nodes of the trie of keys as a list, depth first, each with all below it before those beside it. This project's
+-- own.
 use Rattle.std.specs.Prelude.{ℕ, zero, suc, false, List, [], ◌∷◌, ◌++◌, length, map}
 use Rattle.std.specs.List.{flat_map}
 use Rattle.nr_triedef.specs.Node.{key_part, summary}
-use Rattle.nr_triedef.specs.Root.{Paths, front, behind, value_here, under, leaf, branch, extension, sixteen, depth, trie}
+use Rattle.nr_triedef.specs.Root.{Paths, front, behind, value_here, under, leaf, branch, extension, sixteen, depth}
+use Rattle.nr_triedef.specs.Root.{trie}
 use Rattle.nr_triedef.specs.declared.node.Node.{Node}
 use Rattle.nr_store.specs.Tries.{cut, whole}
 
@@ -18,7 +20,8 @@ nodes_at zero (p ∷ q ∷ ps) = []
 nodes_at (suc depth) (p ∷ q ∷ ps) =
     let shared = front (p ∷ q ∷ ps) in
     let rest = behind (length shared) (p ∷ q ∷ ps) in
-    head_nodes shared (branch (value_here rest) (map (λ n. trie depth (under n rest)) sixteen)) ++ flat_map (λ n. nodes_at depth (under n rest)) sixteen
+    head_nodes shared (branch (value_here rest) (map (λ n. trie depth (under n rest)) sixteen))
+    ++ flat_map (λ n. nodes_at depth (under n rest)) sixteen
 
 -- all nodes of the trie of the keys
 unfoldable pub all_nodes : Paths → List Node

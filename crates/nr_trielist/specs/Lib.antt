@@ -1,3 +1,4 @@
+-- Definitions that the contracts cite.
 pub mod Forest
 pub mod Forks
 pub mod Growing

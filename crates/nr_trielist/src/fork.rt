@@ -1,6 +1,7 @@
 //! Branches that are being made, and those that wait for a child.
 
-ghost use Rattle.std.specs.Prelude.{◌≡◌, ◌≤◌, ◌<◌, ◌-◌, ◌==◌, ◌++◌, ◌∷◌, [], Some, length, reverse, IfOk, OnOk, MatchOption};
+ghost use Rattle.std.specs.Prelude.{◌≡◌, ◌≤◌, ◌<◌, ◌-◌, ◌==◌, ◌++◌, ◌∷◌, [], Some, length, reverse, IfOk, OnOk};
+ghost use Rattle.std.specs.Prelude.{MatchOption};
 ghost use Rattle.nr_triedef.specs.Node.{IsNibbles, IsNode, summary};
 ghost use Rattle.nr_triedef.specs.Root.{under, with_front, sixteen};
 ghost use Rattle.std.specs.List.{flat_map};
@@ -86,7 +87,8 @@ impl<'a> Fork<'a> {
         requires { length self.now.made ≡ 16 }
         ensures top { IfOk result (λ s. Some s ≡ whole self.now.keys) }
         ensures nodes { OnOk result (nodes.new.items ≡ nodes.old.items ++ reverse (heads self.now.keys)) }
-        ensures list { all_nodes self.now.keys ≡ heads self.now.keys ++ flat_map (λ n. all_nodes (under n (cut self.now.keys))) sixteen }
+        ensures list { all_nodes self.now.keys ≡ heads self.now.keys
+            ++ flat_map (λ n. all_nodes (under n (cut self.now.keys))) sixteen }
     {
         let node = branch(&self.rest, &self.made, hashes)?;
         let shared = self.keys.front(alloc)?;

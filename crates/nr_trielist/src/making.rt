@@ -2,7 +2,8 @@
 
 ghost use Rattle.std.specs.Prelude.{◌≡◌, ◌<◌, ◌≤◌, ◌+◌, false, length, map, sum_by, IfOk};
 ghost use Rattle.nr_triedef.specs.Node.{IsNibbles, IsNode, key_part, links, summary, usage_of};
-ghost use Rattle.nr_triedef.specs.Root.{value_here, part_usage, value_usage, usage_below, leaf, extension, value_field, hash_below, branch};
+ghost use Rattle.nr_triedef.specs.Root.{value_here, part_usage, value_usage, usage_below, leaf, extension, value_field};
+ghost use Rattle.nr_triedef.specs.Root.{hash_below, branch};
 ghost use Rattle.nr_store.specs.Tries.{first_path};
 
 use crate::hashes::Hashes;

@@ -122,7 +122,10 @@ bend_end nodes id k part sound lt e is =
     let same : k ≡ part = stripped_is part k [] is ∙ append-nil part in
     bend_whole nodes id k part sound lt e (ap is_some (ap (λ (t : List ℕ). stripped t part) same ∙ ap (stripped part) (sym (append-nil part)) ∙ strip_off part []))
 
-bend_on : (nodes : List Shape) (id : ℕ) (k part rest : List ℕ) (x : ℕ) (c : Option ℕ) → Sound nodes → id < length nodes → part ≡ (shape_at nodes id).part → stripped part k ≡ Some (x ∷ rest) → child (shape_at nodes id).below x ≡ c → kept k (paths_at nodes id) ≡ in_front (shape_at nodes id).part (chosen x rest (option_map (paths_at nodes) c))
+bend_on : (nodes : List Shape) (id : ℕ) (k part rest : List ℕ) (x : ℕ) (c : Option ℕ) → Sound nodes
+    → id < length nodes → part ≡ (shape_at nodes id).part → stripped part k ≡ Some (x ∷ rest)
+    → child (shape_at nodes id).below x ≡ c → kept k (paths_at nodes id)
+    ≡ in_front (shape_at nodes id).part (chosen x rest (option_map (paths_at nodes) c))
 bend_on nodes id k part rest x c sound lt e is down =
     let s : Shape = shape_at nodes id in
     let key : k ≡ s.part ++ (x ∷ rest) = stripped_is part k (x ∷ rest) is ∙ ap (λ (p : List ℕ). p ++ (x ∷ rest)) e in
@@ -138,7 +141,10 @@ bend_on nodes id k part rest x c sound lt e is down =
 pub bend_sprout : (nodes : List Shape) (id : ℕ) (k part rest : List ℕ) (x : ℕ) → Sound nodes → id < length nodes → part ≡ (shape_at nodes id).part → stripped part k ≡ Some (x ∷ rest) → child (shape_at nodes id).below x ≡ None → kept k (paths_at nodes id) ≡ []
 bend_sprout nodes id k part rest x sound lt e is down = bend_on nodes id k part rest x None sound lt e is down
 
-pub bend_down : (nodes : List Shape) (id : ℕ) (k part rest : List ℕ) (x c : ℕ) → Sound nodes → id < length nodes → part ≡ (shape_at nodes id).part → stripped part k ≡ Some (x ∷ rest) → child (shape_at nodes id).below x ≡ Some c → kept k (paths_at nodes id) ≡ in_front (shape_at nodes id).part (in_front (x ∷ []) (kept rest (paths_at nodes c)))
+pub bend_down : (nodes : List Shape) (id : ℕ) (k part rest : List ℕ) (x c : ℕ) → Sound nodes → id < length nodes
+    → part ≡ (shape_at nodes id).part → stripped part k ≡ Some (x ∷ rest) → child (shape_at nodes id).below x ≡ Some c
+    → kept k (paths_at nodes id) ≡ in_front (shape_at nodes id).part
+    (in_front (x ∷ []) (kept rest (paths_at nodes c)))
 bend_down nodes id k part rest x c sound lt e is down = bend_on nodes id k part rest x (Some c) sound lt e is down
 
 -- ---- a part against a prefix

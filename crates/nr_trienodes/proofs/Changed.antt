@@ -46,7 +46,10 @@ changed_root old new before (Some id) key o extra root c = (c.there, λ q some. 
     by_key q some true e = (key, same_key q (nibbles key) e)
     by_key q some false e = whole before q root (ap (λ (v : Option (List ℕ)). is_some v) (sym (c.sets.other q (other_key q (nibbles key) e))) ∙ some)
 
-changed_get : (old new : List Shape) (before after : Option NodeId) (key : List ℕ) (o : Option (List ℕ)) (extra : ℕ) → Sound old → Sound new → IsRoot old before → Changes old new (name_in before) (name_in after) (nibbles key) o extra → (q : List ℕ) → get (contents new after) q ≡ cond (eq_by_cmp R q key) o (get (contents old before) q)
+changed_get : (old new : List Shape) (before after : Option NodeId) (key : List ℕ) (o : Option (List ℕ)) (extra : ℕ)
+    → Sound old → Sound new → IsRoot old before
+    → Changes old new (name_in before) (name_in after) (nibbles key) o extra → (q : List ℕ)
+    → get (contents new after) q ≡ cond (eq_by_cmp R q key) o (get (contents old before) q)
 changed_get old new before after key o extra so sn root c q =
     get_is new after q sn (changed_root old new before after key o extra root c)
     ∙ elim (eq_by_cmp R q key) as (λ b. eq_by_cmp R q key ≡ b → found_in new (name_in after) (nibbles q) ≡ cond b o (get (contents old before) q)) [
@@ -59,7 +62,11 @@ unfolding cost
 cost_is nodes None = refl
 cost_is nodes (Some id) = refl
 
-is_changed : (old new : List Shape) (before after : Option NodeId) (key : List ℕ) (o : Option (List ℕ)) (extra : ℕ) (m : Contents) → Sound old → Sound new → IsRoot old before → Changes old new (name_in before) (name_in after) (nibbles key) o extra → ((q : List ℕ) → get m q ≡ cond (eq_by_cmp R q key) o (get (contents old before) q)) → IsChanged old new before after m extra
+is_changed : (old new : List Shape) (before after : Option NodeId) (key : List ℕ) (o : Option (List ℕ)) (extra : ℕ)
+    (m : Contents) → Sound old → Sound new → IsRoot old before
+    → Changes old new (name_in before) (name_in after) (nibbles key) o extra
+    → ((q : List ℕ) → get m q ≡ cond (eq_by_cmp R q key) o (get (contents old before) q))
+    → IsChanged old new before after m extra
 is_changed old new before after key o extra m so sn root c is =
     record {
       root = changed_root old new before after key o extra root c;

@@ -73,7 +73,10 @@ fold_at {A} f none (s ∷ older) id back lt =
     ] refl
 
 -- the same where f sees no difference between the nodes
-pub fold_alike : {A : Type 0} (f : Shape → List (Option A) → A) (none : A) (a b : List Shape) → Back a → length a ≡ length b → ((id : ℕ) → id < length a → (shape_at b id).below ≡ (shape_at a id).below) → ((id : ℕ) → id < length a → (r : List (Option A)) → f (shape_at b id) r ≡ f (shape_at a id) r) → (id : ℕ) → id < length a → fold f none b id ≡ fold f none a id
+pub fold_alike : {A : Type 0} (f : Shape → List (Option A) → A) (none : A) (a b : List Shape) → Back a
+    → length a ≡ length b → ((id : ℕ) → id < length a → (shape_at b id).below ≡ (shape_at a id).below)
+    → ((id : ℕ) → id < length a → (r : List (Option A)) → f (shape_at b id) r ≡ f (shape_at a id) r) → (id : ℕ)
+    → id < length a → fold f none b id ≡ fold f none a id
 fold_alike {A} f none a b back len below same =
     by_names (λ id. id < length a → fold f none b id ≡ fold f none a id) (λ id less lt.
     let first : id < length b = subst (λ n. id < n) len lt in

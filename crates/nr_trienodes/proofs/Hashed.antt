@@ -22,7 +22,10 @@ use Rattle.nr_trienodes.proofs.Climbing.{cost_kept, cost_new}
 use Rattle.nr_trienodes.proofs.Maps.{root_is, root_none}
 
 -- ---- a child's summary
-pub summary_kept : (nodes : List Shape) (child : Option ℕ) (id usage : ℕ) (hash : Hash32) (kept : Option Hash32) → Sound nodes → id < length nodes → child ≡ Some id → usage ≡ (summary_at nodes id).usage → kept ≡ (shape_at nodes id).hash → kept ≡ Some hash → Some (record { hash = hash; usage = usage }) ≡ option_map (summary_at nodes) child
+pub summary_kept : (nodes : List Shape) (child : Option ℕ) (id usage : ℕ) (hash : Hash32) (kept : Option Hash32)
+    → Sound nodes → id < length nodes → child ≡ Some id → usage ≡ (summary_at nodes id).usage
+    → kept ≡ (shape_at nodes id).hash → kept ≡ Some hash → Some (record { hash = hash; usage = usage })
+    ≡ option_map (summary_at nodes) child
 summary_kept nodes child id usage hash kept sound lt e eu ek es =
     let h : hash ≡ (summary_at nodes id).hash = (sound id lt).hash hash (sym ek ∙ es) in
     (λ i. let s : Summary = record { hash = h i; usage = eu i } in Some s) ∙ ap (option_map (summary_at nodes)) (sym e)
@@ -72,7 +75,10 @@ summary_is nodes id b sound lt e =
     ∙ ap (λ n. cond (is_leaf s.value n) (summary (leaf_with (key_part s.part true) (value_or_none s.value))) (with_front s.part (summary (branch s.value (map (option_map (summary_at nodes)) s.below))))) (count-children (summary_at nodes) s.below)
     ∙ ap (λ t. cond t (summary (leaf_with (key_part s.part true) (value_or_none s.value))) (with_front s.part (summary (branch s.value (map (option_map (summary_at nodes)) s.below))))) e
 
-pub inner_is : (nodes : List Shape) (id : ℕ) → Sound nodes → id < length nodes → is_leaf (shape_at nodes id).value (count_by is_some (shape_at nodes id).below) ≡ false → summary_at nodes id ≡ with_front (shape_at nodes id).part (summary (branch (shape_at nodes id).value (map (option_map (summary_at nodes)) (shape_at nodes id).below)))
+pub inner_is : (nodes : List Shape) (id : ℕ) → Sound nodes → id < length nodes
+    → is_leaf (shape_at nodes id).value (count_by is_some (shape_at nodes id).below) ≡ false → summary_at nodes id
+    ≡ with_front (shape_at nodes id).part (summary
+    (branch (shape_at nodes id).value (map (option_map (summary_at nodes)) (shape_at nodes id).below)))
 inner_is nodes id sound lt e = summary_is nodes id false sound lt e
 
 both_true : (value : Option (List ℕ)) (v : List ℕ) (n : ℕ) → (n == 0) ≡ true → value ≡ Some v → is_leaf value n ≡ true

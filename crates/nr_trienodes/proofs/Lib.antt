@@ -1,3 +1,4 @@
+-- Lemmas behind the answers.
 pub mod Changed
 pub mod Climbing
 pub mod Cuts

@@ -218,7 +218,10 @@ below_passed nodes oldest n old mid lt len h none = record {
       omega (arith, count_drop mid n (omega arith), no, h.few);
 }
 
-pub below_on : (nodes : List Shape) (oldest left : ℕ) (old mid new : Names) → Sound nodes → oldest < left → left ≤ length nodes → length old ≡ length nodes → BelowMarked nodes oldest old mid left → is_some (new_name mid (left - 1)) ≡ true → RowMarked (shape_at nodes (left - 1)).below mid new (left - 1) → BelowMarked nodes oldest old new (left - 1)
+pub below_on : (nodes : List Shape) (oldest left : ℕ) (old mid new : Names) → Sound nodes → oldest < left
+    → left ≤ length nodes → length old ≡ length nodes → BelowMarked nodes oldest old mid left
+    → is_some (new_name mid (left - 1)) ≡ true → RowMarked (shape_at nodes (left - 1)).below mid new (left - 1)
+    → BelowMarked nodes oldest old new (left - 1)
 below_on nodes oldest left old mid new sound some le len h kept row =
     let e : left ≡ suc (left - 1) = omega arith in
     below_kept nodes oldest (left - 1) old mid new sound (omega arith) (omega arith) (h.marks.same ∙ len) (subst (BelowMarked nodes oldest old mid) e h) kept row

@@ -121,7 +121,10 @@ row_step nodes row key j old mid new lt few small back h pushes = elim (get_or r
           places = λ a. subst (ArePlaces nodes) (sym p.is) (places_push nodes mid p.place (h.places a) placed);
         }
 
-pub row_down : (nodes : List Shape) (id : ℕ) (row : List (Option ℕ)) (key : List ℕ) (count : ℕ) (old mid new : List Place) → Sound nodes → id < length nodes → row ≡ (shape_at nodes id).below → 0 < count → count ≤ 16 → IsNibbles key → RowPushed nodes row key count old mid → PushesSo mid new (get_or row (count - 1) None) key (count - 1) → RowPushed nodes row key (count - 1) old new
+pub row_down : (nodes : List Shape) (id : ℕ) (row : List (Option ℕ)) (key : List ℕ) (count : ℕ)
+    (old mid new : List Place) → Sound nodes → id < length nodes → row ≡ (shape_at nodes id).below → 0 < count
+    → count ≤ 16 → IsNibbles key → RowPushed nodes row key count old mid
+    → PushesSo mid new (get_or row (count - 1) None) key (count - 1) → RowPushed nodes row key (count - 1) old new
 row_down nodes id row key count old mid new sound lt is some few small h pushes =
     let sixteen : length row ≡ 16 = ap length is ∙ (sound id lt).sixteen in
     let e : count ≡ suc (count - 1) = omega arith in
@@ -192,7 +195,10 @@ pub copied_some : {A : Type 0} (o : Option (Bor A)) → is_some (option_copied o
 copied_some None = refl
 copied_some (Some x) = refl
 
-pub place_listed : (nodes : List Shape) (p : Place) (key : List ℕ) (before listed : List (List ℕ)) (old new : List Place) → Sound nodes → p.node < length nodes → key ≡ p.front.items ++ (shape_at nodes p.node).part → AreWhole (place_paths nodes p) → listed ≡ before ++ own_keys nodes p.node key → RowPushed nodes (shape_at nodes p.node).below key 0 old new → PlaceListed nodes p before listed old new
+pub place_listed : (nodes : List Shape) (p : Place) (key : List ℕ) (before listed : List (List ℕ))
+    (old new : List Place) → Sound nodes → p.node < length nodes → key ≡ p.front.items ++ (shape_at nodes p.node).part
+    → AreWhole (place_paths nodes p) → listed ≡ before ++ own_keys nodes p.node key
+    → RowPushed nodes (shape_at nodes p.node).below key 0 old new → PlaceListed nodes p before listed old new
 place_listed nodes p key before listed old new sound lt e whole is pushed =
     let own : Paths = in_front key (own_path (shape_at nodes p.node).value) in
     let below : Paths = Below nodes p.node key in

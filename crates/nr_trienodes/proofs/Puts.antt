@@ -100,7 +100,10 @@ fork_cost nodes x c small =
     omega (arith, costs-set (cost_at nodes) no_children x (Some c) small, ap (λ (o : Option ℕ). or_zero (option_map (cost_at nodes) o)) none)
 
 -- the key ends where the part is cut
-pub put_fork : (old low new : List Shape) (node n x lower : ℕ) (id : Option ℕ) (part key value : List ℕ) → Forked old low node n x lower → part ≡ take n (shape_at old node).part → n ≤ length (shape_at old node).part → stripped part key ≡ Some [] → Settles low new part (Some value) (set no_children x (Some lower)) id → Changes old new (Some node) id key (Some value) (2 * length key + 3)
+pub put_fork : (old low new : List Shape) (node n x lower : ℕ) (id : Option ℕ) (part key value : List ℕ)
+    → Forked old low node n x lower → part ≡ take n (shape_at old node).part → n ≤ length (shape_at old node).part
+    → stripped part key ≡ Some [] → Settles low new part (Some value) (set no_children x (Some lower)) id
+    → Changes old new (Some node) id key (Some value) (2 * length key + 3)
 put_fork old low new node n x lower id part key value f ep le e settles =
     let front : List ℕ = take n (shape_at old node).part in
     let row : List (Option ℕ) = set no_children x (Some lower) in
@@ -140,7 +143,11 @@ put_branch old low mid new node n x lower y leaf id part key rest value f there 
     only z d false t h = absurd (let is : child (set no_children x (Some lower)) z ≡ None = child-set_other no_children x (Some lower) z (not_same z x t) ∙ child-none 16 z in cc)
 
 -- ---- from the root
-pub put_climbed : (old mid new : List Shape) (root node : ℕ) (below id : Option ℕ) (way : List Step) (key rest : List ℕ) (o : Option (List ℕ)) (extra more : ℕ) → Sound old → Extends old mid → Leads old root key way node rest → Changes old mid (Some node) below rest o extra → Climbs mid new way below id → length way + length rest ≤ length key → extra ≤ 2 * length rest + more → Changes old new (Some root) id key o (2 * length key + more)
+pub put_climbed : (old mid new : List Shape) (root node : ℕ) (below id : Option ℕ) (way : List Step)
+    (key rest : List ℕ) (o : Option (List ℕ)) (extra more : ℕ) → Sound old → Extends old mid
+    → Leads old root key way node rest → Changes old mid (Some node) below rest o extra → Climbs mid new way below id
+    → length way + length rest ≤ length key → extra ≤ 2 * length rest + more
+    → Changes old new (Some root) id key o (2 * length key + more)
 put_climbed old mid new root node below id way key rest o extra more sound grows leads changes climbs short le =
     changes_more old new (Some root) id key o (extra + 2 * length way) (2 * length key + more) (omega arith) (climbs old root key node rest o extra sound grows leads changes)
 

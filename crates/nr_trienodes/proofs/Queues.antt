@@ -177,7 +177,11 @@ gathering_next nodes root names new next m sound g lt em en = subst (Gathering n
     len : length (names ++ cold nodes (shape_at nodes (get_or names next 0)).below) ≡ length names + length (cold nodes (shape_at nodes (get_or names next 0)).below)
     len = length-append names (cold nodes (shape_at nodes (get_or names next 0)).below)
 
-    each : (P : ℕ → Type 0) → ((j : ℕ) → j < length names → P (get_or names j 0)) → ((p : ℕ) → p < length (cold nodes (shape_at nodes (get_or names next 0)).below) → P (get_or (cold nodes (shape_at nodes (get_or names next 0)).below) p 0)) → (j : ℕ) → j < length (names ++ cold nodes (shape_at nodes (get_or names next 0)).below) → P (get_or (names ++ cold nodes (shape_at nodes (get_or names next 0)).below) j 0)
+    each : (P : ℕ → Type 0) → ((j : ℕ) → j < length names → P (get_or names j 0))
+        → ((p : ℕ) → p < length (cold nodes (shape_at nodes (get_or names next 0)).below)
+        → P (get_or (cold nodes (shape_at nodes (get_or names next 0)).below) p 0)) → (j : ℕ)
+        → j < length (names ++ cold nodes (shape_at nodes (get_or names next 0)).below)
+        → P (get_or (names ++ cold nodes (shape_at nodes (get_or names next 0)).below) j 0)
     each P a b j less =
         elim (cases_lt j (length names)) [
           | inl first ↦ subst P (sym (get_first names (cold nodes (shape_at nodes (get_or names next 0)).below) j first)) (a j first)
@@ -199,7 +203,17 @@ gathering_next nodes root names new next m sound g lt em en = subst (Gathering n
           top = λ e. let k = g.top e in (k.0, ((let less : k.0 < length names = k.1.0 in omega (arith, len)), get_first names (cold nodes row) k.0 k.1.0 ∙ k.1.1));
           below = λ j x c less e h. by_place j x c (j == next) refl less e h;
           cost = let costs = next_costs nodes (get_or names next 0) sound here (g.cold next lt) in
-              omega (arith, g.cost, costs, ap (sum_by (weight_at nodes)) (take_first names (cold nodes row) (suc next) (omega arith)), ap (sum_by (cost_at nodes)) (drop_first names (cold nodes row) (suc next) (omega arith)), sum_by-append (cost_at nodes) (drop (suc next) names) (cold nodes row), sum_take (weight_at nodes) names next lt, sum_drop (cost_at nodes) names next lt);
+              omega (
+                arith,
+                g.cost,
+                costs,
+                ap (sum_by (weight_at nodes))
+                    (take_first names (cold nodes row) (suc next) (omega arith)),
+                ap (sum_by (cost_at nodes)) (drop_first names (cold nodes row) (suc next) (omega arith)),
+                sum_by-append (cost_at nodes) (drop (suc next) names) (cold nodes row),
+                sum_take (weight_at nodes) names next lt,
+                sum_drop (cost_at nodes) names next lt,
+              );
         }
       where
         by_place : (j x c : ℕ) (b : Bool) → (j == next) ≡ b → j < suc next → child (shape_at nodes (get_or (names ++ cold nodes (shape_at nodes (get_or names next 0)).below) j 0)).below x ≡ Some c → is_hashed nodes c ≡ false → IsBehind (names ++ cold nodes (shape_at nodes (get_or names next 0)).below) j c

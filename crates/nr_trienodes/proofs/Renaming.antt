@@ -54,7 +54,10 @@ children_named {A} names f g (Some c ∷ cs) same =
     let first : option_map g (new_name names c) ≡ Some (f c) = ap (option_map g) here.1 ∙ ap (λ (a : A). Some a) here.2 in
     (λ i. first i ∷ children_named names f g cs (λ x c e. same (suc x) c e) i)
 
-pub fold_named : {A : Type 0} (f : Shape → List (Option A) → A) (none : A) (names : Names) (old new : List Shape) → ((s : Shape) (cs : List (Option ℕ)) (bs : List (Option A)) → f (record s { below = cs }) bs ≡ f s bs) → Back old → AreNamed names old new → (id name : ℕ) → id < length old → new_name names id ≡ Some name → fold f none new name ≡ fold f none old id
+pub fold_named : {A : Type 0} (f : Shape → List (Option A) → A) (none : A) (names : Names) (old new : List Shape)
+    → ((s : Shape) (cs : List (Option ℕ)) (bs : List (Option A)) → f (record s { below = cs }) bs ≡ f s bs) → Back old
+    → AreNamed names old new → (id name : ℕ) → id < length old → new_name names id ≡ Some name → fold f none new name
+    ≡ fold f none old id
 fold_named {A} f none names old new blind back are = by_names (λ id. (name : ℕ) → id < length old → new_name names id ≡ Some name → fold f none new name ≡ fold f none old id) step
   where
     step : (id : ℕ) → ((c : ℕ) → c < id → (name : ℕ) → c < length old → new_name names c ≡ Some name → fold f none new name ≡ fold f none old c) → (name : ℕ) → id < length old → new_name names id ≡ Some name → fold f none new name ≡ fold f none old id

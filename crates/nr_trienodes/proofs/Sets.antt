@@ -82,7 +82,10 @@ sets_value nodes part v w below key e =
     }
 
 -- ---- another child
-childed_other : (old new : List Shape) (value : Option (List ℕ)) (below : List (Option ℕ)) (x : ℕ) (c : Option ℕ) (rest : List ℕ) (m : Option (List ℕ)) → x < length below → ((d : ℕ) (q : List ℕ) → ((y : ℕ) × (child below y ≡ Some d)) → found new d q ≡ found old d q) → ((r : List ℕ) → r ≢ rest → found_in new c r ≡ found_in old (child below x) r) → m ≢ Some (x ∷ rest)
+childed_other : (old new : List Shape) (value : Option (List ℕ)) (below : List (Option ℕ)) (x : ℕ) (c : Option ℕ)
+    (rest : List ℕ) (m : Option (List ℕ)) → x < length below
+    → ((d : ℕ) (q : List ℕ) → ((y : ℕ) × (child below y ≡ Some d)) → found new d q ≡ found old d q)
+    → ((r : List ℕ) → r ≢ rest → found_in new c r ≡ found_in old (child below x) r) → m ≢ Some (x ∷ rest)
     → given value (map (option_map (found new)) (set below x c)) m ≡ given value (map (option_map (found old)) below) m
 childed_other old new value below x c rest None lt same other ne = refl
 childed_other old new value below x c rest (Some []) lt same other ne = refl
@@ -100,7 +103,10 @@ childed_other old new value below x c rest (Some (y ∷ r)) lt same other ne =
     each None h = refl
     each (Some d) h = h d refl
 
-pub sets_child : (old new : List Shape) (part : List ℕ) (value : Option (List ℕ)) (below : List (Option ℕ)) (x : ℕ) (c : Option ℕ) (rest key : List ℕ) (o : Option (List ℕ)) → x < length below → ((d : ℕ) (q : List ℕ) → ((y : ℕ) × (child below y ≡ Some d)) → found new d q ≡ found old d q) → stripped part key ≡ Some (x ∷ rest) → Sets (found_in old (child below x)) (found_in new c) rest o
+pub sets_child : (old new : List Shape) (part : List ℕ) (value : Option (List ℕ)) (below : List (Option ℕ)) (x : ℕ)
+    (c : Option ℕ) (rest key : List ℕ) (o : Option (List ℕ)) → x < length below
+    → ((d : ℕ) (q : List ℕ) → ((y : ℕ) × (child below y ≡ Some d)) → found new d q ≡ found old d q)
+    → stripped part key ≡ Some (x ∷ rest) → Sets (found_in old (child below x)) (found_in new c) rest o
     → Sets (stands_for old part value below) (stands_for new part value (set below x c)) key o
 sets_child old new part value below x c rest key o lt same e sets =
     record {

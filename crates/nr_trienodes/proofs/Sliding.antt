@@ -109,7 +109,10 @@ slides_passed nodes marks now names id next lt h none = subst (λ n. Slides node
     none_here = ap (λ b. cond {A = ℕ} b 1 0) (ap is_some (sym (h.marked id (omega arith))) ∙ none)
 
 -- a node that is kept
-pub slides_on : (nodes : List Shape) (marks : Names) (now new : List Shape) (names : Names) (id next : ℕ) → Back nodes → length marks ≡ length nodes → id < length nodes → Slides nodes marks now names id next → is_some (new_name names id) ≡ true → IsSlid (set names id (Some next)) now new id next → Slides nodes marks new (set names id (Some next)) (id + 1) (next + 1)
+pub slides_on : (nodes : List Shape) (marks : Names) (now new : List Shape) (names : Names) (id next : ℕ) → Back nodes
+    → length marks ≡ length nodes → id < length nodes → Slides nodes marks now names id next
+    → is_some (new_name names id) ≡ true → IsSlid (set names id (Some next)) now new id next
+    → Slides nodes marks new (set names id (Some next)) (id + 1) (next + 1)
 slides_on nodes marks now new names id next back long lt h some slid = subst (λ n. Slides nodes marks new (set names id (Some next)) n (next + 1)) (sym (add-one id)) (record {
   within = omega (arith, h.within);
   many = omega (arith, h.many, count_take marks id (omega arith), one_here);
@@ -225,7 +228,10 @@ shape_take (m ∷ nodes) taken n i e le lt =
     let now : x ≡ get_or taken i x = old ∙ sym (ap (λ (t : List Node). get_or t i x) e ∙ get_or-take n (m ∷ nodes) i x lt) in
     shapes_at taken i x (omega arith) now ∙ sym (shapes_at (m ∷ nodes) i x first old)
 
-pub slides_end : (before nodes taken : List Node) (marks names : Names) (id next : ℕ) → Sound (shapes before) → length marks ≡ length (shapes before) → IsClosed (shapes before) marks 0 → Slides (shapes before) marks (shapes nodes) names id next → id ≡ length (shapes before) → taken ≡ take next nodes → AreNamed names (shapes before) (shapes taken)
+pub slides_end : (before nodes taken : List Node) (marks names : Names) (id next : ℕ) → Sound (shapes before)
+    → length marks ≡ length (shapes before) → IsClosed (shapes before) marks 0
+    → Slides (shapes before) marks (shapes nodes) names id next → id ≡ length (shapes before)
+    → taken ≡ take next nodes → AreNamed names (shapes before) (shapes taken)
 slides_end before nodes taken marks names id next sound long closed h e is =
     let all : Slides (shapes before) marks (shapes nodes) names (length (shapes before)) next = subst (λ n. Slides (shapes before) marks (shapes nodes) names n next) e h in
     let le : next ≤ length nodes = omega (arith, h.within, h.same, shapes-length nodes) in

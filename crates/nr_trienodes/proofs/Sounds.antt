@@ -24,7 +24,11 @@ pub sum_by-same : {A : Type 0} (f g : A → ℕ) (xs : List A) → ((x : A) → 
 sum_by-same f g xs same = ap (λ h. sum_by h xs) (λ i x. same x i)
 
 pub count-children : {A : Type 0} (f : ℕ → A) (cs : List (Option ℕ)) → count_by is_some (map (option_map f) cs) ≡ count_by is_some cs
-count-children {A} f cs = sum_by-map (λ (o : Option A). cond {A = ℕ} (is_some o) 1 0) (option_map f) cs ∙ sum_by-same (λ (c : Option ℕ). cond {A = ℕ} (is_some (option_map f c)) 1 0) (λ c. cond {A = ℕ} (is_some c) 1 0) cs (λ c. elim c as (λ o. cond {A = ℕ} (is_some (option_map f o)) 1 0 ≡ cond {A = ℕ} (is_some o) 1 0) [ None ↦ refl | Some n ↦ refl ])
+count-children {A} f cs =
+    sum_by-map (λ (o : Option A). cond {A = ℕ} (is_some o) 1 0) (option_map f) cs ∙ sum_by-same
+    (λ (c : Option ℕ). cond {A = ℕ} (is_some (option_map f c)) 1 0) (λ c. cond {A = ℕ} (is_some c) 1 0) cs
+    (λ c. elim c as (λ o. cond {A = ℕ} (is_some (option_map f o)) 1 0 ≡ cond {A = ℕ} (is_some o) 1 0)
+    [ None ↦ refl | Some n ↦ refl ])
 
 -- ---- the usage of a node
 front-usage : (part : List ℕ) (s : Summary) → (with_front part s).usage ≡ front_usage part false + s.usage

@@ -104,7 +104,12 @@ added nodes new v id n s e sound ei few es none can en =
     }
 
 -- a node of these can stand, where its usage was made of its parts
-pub can_stand : (v : List Shape) (part : List ℕ) (value : Option (List ℕ)) (row : List (Option ℕ)) (usage sum : ℕ) (alone : Bool) → length row ≡ 16 → IsNibbles part → IsLinked value row → ((x c : ℕ) → child row x ≡ Some c → c < length v) → sum ≡ sum_by (λ c. usage_below (option_map (summary_at v) c)) row → (count_by is_some row == 0) ≡ alone → usage ≡ own_usage part value alone sum → CanStand v (record { part = part; value = value; below = row; usage = usage; hash = None })
+pub can_stand : (v : List Shape) (part : List ℕ) (value : Option (List ℕ)) (row : List (Option ℕ)) (usage sum : ℕ)
+    (alone : Bool) → length row ≡ 16 → IsNibbles part → IsLinked value row
+    → ((x c : ℕ) → child row x ≡ Some c → c < length v)
+    → sum ≡ sum_by (λ c. usage_below (option_map (summary_at v) c)) row → (count_by is_some row == 0) ≡ alone
+    → usage ≡ own_usage part value alone sum
+    → CanStand v (record { part = part; value = value; below = row; usage = usage; hash = None })
 can_stand v part value row usage sum alone len small linked back es ea eu =
     let s : Shape = record { part = part; value = value; below = row; usage = usage; hash = None } in
     let below : List (Option Summary) = map (option_map (summary_at v)) row in

@@ -1,5 +1,6 @@
 -- Which nodes' hashes are still to be made, and what keeping hashes changes. This project's own.
-use Rattle.std.specs.Prelude.{◌≡◌, ◌<◌, ◌≤◌, ◌+◌, ℕ, List, [], ◌∷◌, length, take, drop, cond, sum_by, slice_index, Bool, Option, Some, None, is_some, true, false}
+use Rattle.std.specs.Prelude.{◌≡◌, ◌<◌, ◌≤◌, ◌+◌, ℕ, List, [], ◌∷◌, length, take, drop, cond, sum_by, slice_index, Bool}
+use Rattle.std.specs.Prelude.{Option, Some, None, is_some, true, false}
 use Rattle.nr_trienodes.specs.Shape.{Shape, child, shape_at}
 use Rattle.nr_trienodes.specs.Tries.{weight, cost_at}
 use Rattle.nr_trienodes.specs.Views.{Sound}
@@ -33,7 +34,8 @@ IsBehind names j c = (k : ℕ) × ((j < k) × (k < length names) × (slice_index
 -- names of nodes whose hashes are to be made, each before those of its children
 pub record IsQueue (nodes : List Shape) (names : List ℕ) : Type 0 where
   pub there : (j : ℕ) → j < length names → slice_index names j < length nodes
-  pub below : (j x c : ℕ) → j < length names → child (shape_at nodes (slice_index names j)).below x ≡ Some c → is_hashed nodes c ≡ false → IsBehind names j c
+  pub below : (j x c : ℕ) → j < length names → child (shape_at nodes (slice_index names j)).below x ≡ Some c
+      → is_hashed nodes c ≡ false → IsBehind names j c
 
 -- while they are gathered: the cold children of the first names stand behind these
 pub record Gathering (nodes : List Shape) (root : ℕ) (names : List ℕ) (next : ℕ) : Type 0 where
@@ -41,7 +43,8 @@ pub record Gathering (nodes : List Shape) (root : ℕ) (names : List ℕ) (next 
   pub there : (j : ℕ) → j < length names → slice_index names j < length nodes
   pub cold : (j : ℕ) → j < length names → is_hashed nodes (slice_index names j) ≡ false
   pub top : is_hashed nodes root ≡ false → (k : ℕ) × ((k < length names) × (slice_index names k ≡ root))
-  pub below : (j x c : ℕ) → j < next → child (shape_at nodes (slice_index names j)).below x ≡ Some c → is_hashed nodes c ≡ false → IsBehind names j c
+  pub below : (j x c : ℕ) → j < next → child (shape_at nodes (slice_index names j)).below x ≡ Some c
+      → is_hashed nodes c ≡ false → IsBehind names j c
   pub cost : sum_by (weight_at nodes) (take next names) + sum_by (cost_at nodes) (drop next names) ≤ cost_at nodes root
 
 -- and the root's is among them, where it is to be made

@@ -1,3 +1,4 @@
+-- Definitions that the contracts cite.
 pub mod Shape
 pub mod Views
 pub mod Tries

@@ -1,5 +1,6 @@
 -- Keys below a prefix: the paths that begin with it, and the places from which they are listed. This project's own.
-use Rattle.std.specs.Prelude.{◌≡◌, ℕ, ◌+◌, ◌<◌, List, [], ◌∷◌, ◌++◌, length, map, Option, Some, None, is_some, IsSome, sum_by, drop}
+use Rattle.std.specs.Prelude.{◌≡◌, ℕ, ◌+◌, ◌<◌, List, [], ◌∷◌, ◌++◌, length, map, Option, Some, None, is_some, IsSome}
+use Rattle.std.specs.Prelude.{sum_by, drop}
 use Rattle.std.specs.Option.{option_map}
 use Rattle.std.specs.List.{AllByRecursion, filter}
 use Rattle.nr_triedef.specs.Node.{nibbles, paired, IsNibbles}
@@ -69,7 +70,8 @@ own_keys nodes node key = keys_in (in_front key (own_path (shape_at nodes node).
 -- the place of the paths that begin with a prefix
 abbrev pub TopsSo : List Shape → ℕ → List ℕ → Option Place → Type 0
 TopsSo nodes root prefix None = kept (nibbles prefix) (paths_at nodes root) ≡ []
-TopsSo nodes root prefix (Some p) = IsPlace nodes p × (kept (nibbles prefix) (paths_at nodes root) ≡ place_paths nodes p)
+TopsSo nodes root prefix (Some p) =
+    IsPlace nodes p × (kept (nibbles prefix) (paths_at nodes root) ≡ place_paths nodes p)
 
 -- a child's place behind the others
 pub record Pushed (old new : List Place) (child : ℕ) (key : List ℕ) (nibble : ℕ) : Type 0 where
@@ -84,8 +86,10 @@ PushesSo old new (Some child) key nibble = Pushed old new child key nibble
 
 -- the places of the children from a nibble on, behind the others
 pub record RowPushed (nodes : List Shape) (row : List (Option ℕ)) (key : List ℕ) (from : ℕ) (old new : List Place) : Type 0 where
-  pub paths : paths_of nodes new ≡ in_front key (paths_from from (drop from (map (option_map (paths_at nodes)) row))) ++ paths_of nodes old
-  pub count : count_of nodes new ≡ sum_by or_zero (drop from (map (option_map (count_at nodes)) row)) + count_of nodes old
+  pub paths : paths_of nodes new ≡ in_front key (paths_from from (drop from (map (option_map (paths_at nodes)) row)))
+      ++ paths_of nodes old
+  pub count : count_of nodes new ≡ sum_by or_zero (drop from (map (option_map (count_at nodes)) row))
+      + count_of nodes old
   pub places : ArePlaces nodes old → ArePlaces nodes new
 
 -- a place's own key is listed, and its children wait before the others

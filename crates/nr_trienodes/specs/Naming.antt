@@ -1,5 +1,6 @@
 -- Nodes under other names, and the nodes that are at and below some. This project's own.
-use Rattle.std.specs.Prelude.{◌≡◌, ◌≢◌, ℕ, ◌<◌, List, length, map, take, drop, cond, is_some, true, count_by, sum_by, zero, suc, ◌+◌, ◌≤◌, Option, Some, None, slice_index_or, slice_set}
+use Rattle.std.specs.Prelude.{◌≡◌, ◌≢◌, ℕ, ◌<◌, List, length, map, take, drop, cond, is_some, true, count_by, sum_by}
+use Rattle.std.specs.Prelude.{zero, suc, ◌+◌, ◌≤◌, Option, Some, None, slice_index_or, slice_set}
 use Rattle.std.specs.Option.{option_map}
 use Rattle.std.specs.List.{AllByRecursion}
 use Rattle.nr_trienodes.specs.Roots.{young_at, young_count}
@@ -83,7 +84,9 @@ pub record RowMarked (children : List (Option ℕ)) (old new : Names) (n : ℕ) 
 
 -- from n on, the children of nodes that are kept are kept
 abbrev pub IsClosed : List Shape → Names → ℕ → Type 0
-IsClosed nodes names n = (id : ℕ) → n ≤ id → id < length nodes → IsKept names id → (x c : ℕ) → child (shape_at nodes id).below x ≡ Some c → IsKept names c
+IsClosed nodes names n =
+    (id : ℕ) → n ≤ id → id < length nodes → IsKept names id → (x c : ℕ) → child (shape_at nodes id).below x ≡ Some c
+    → IsKept names c
 
 -- all that is needed from n on is kept; without the oldest it is no more than what is at and below what was kept
 pub record BelowMarked (nodes : List Shape) (oldest : ℕ) (old new : Names) (n : ℕ) : Type 0 where
@@ -112,7 +115,8 @@ pub record Slides (nodes : List Shape) (marks : Names) (now : List Shape) (names
   pub many : next ≡ count_by is_some (take id marks)
   pub same : length now ≡ length nodes
   pub long : length names ≡ length marks
-  pub named : (c name : ℕ) → c < id → new_name names c ≡ Some name → (name < next) × (shape_at now name ≡ with_names names (shape_at nodes c))
+  pub named : (c name : ℕ) → c < id → new_name names c ≡ Some name → (name < next)
+      × (shape_at now name ≡ with_names names (shape_at nodes c))
   pub onto : (name : ℕ) → name < next → (c : ℕ) × (c < id) × (new_name names c ≡ Some name)
   pub rise : (c d m n : ℕ) → c < d → d < id → new_name names c ≡ Some m → new_name names d ≡ Some n → m < n
   pub kept : (c : ℕ) → c < id → is_some (new_name names c) ≡ is_some (new_name marks c)
@@ -122,4 +126,5 @@ pub record Slides (nodes : List Shape) (marks : Names) (now : List Shape) (names
 -- one node more is slid
 abbrev pub SlidesOn : List Shape → List Shape → Names → Names → ℕ → ℕ → ℕ → Type 0
 SlidesOn old new before after id next result =
-    (nodes : List Shape) (marks : Names) → Sound nodes → length marks ≡ length nodes → id < length nodes → Slides nodes marks old before id next → Slides nodes marks new after (id + 1) result
+    (nodes : List Shape) (marks : Names) → Sound nodes → length marks ≡ length nodes → id < length nodes
+    → Slides nodes marks old before id next → Slides nodes marks new after (id + 1) result

@@ -1,5 +1,6 @@
 -- Roots: the finite maps that nodes stand for, and what stays of them. This project's own.
-use Rattle.std.specs.Prelude.{◌≡◌, ◌<◌, ◌≤◌, ℕ, ◌+◌, ◌*◌, ◌^◌, ltb, cond, List, [], ◌∷◌, length, map, Option, Some, None, IsSome, Result, Err}
+use Rattle.std.specs.Prelude.{◌≡◌, ◌<◌, ◌≤◌, ℕ, ◌+◌, ◌*◌, ◌^◌, ltb, cond, List, [], ◌∷◌, length, map, Option, Some}
+use Rattle.std.specs.Prelude.{None, IsSome, Result, Err}
 use Rattle.std.specs.FinMap.{empty, from_sorted}
 use Rattle.nr_triedef.specs.Node.{nibbles, paired}
 use Rattle.nr_triedef.specs.Root.{Paths, Contents}
@@ -81,7 +82,8 @@ abbrev pub Renames : List Shape → List Shape → List (Option NodeId) → List
 Renames old new [] [] = Unit {0}
 Renames old new [] (q ∷ qs) = ⊥
 Renames old new (r ∷ rs) [] = ⊥
-Renames old new (r ∷ rs) (q ∷ qs) = IsRoot new q × (contents new q ≡ contents old r) × (cost new q ≤ cost old r) × Renames old new rs qs
+Renames old new (r ∷ rs) (q ∷ qs) =
+    IsRoot new q × (contents new q ≡ contents old r) × (cost new q ≤ cost old r) × Renames old new rs qs
 
 -- none, or the name of one of the oldest nodes
 abbrev pub IsOldest : ℕ → Option NodeId → Type 0
@@ -97,7 +99,8 @@ OldestStay oldest (r ∷ rs) (q ∷ qs) = (IsOldest oldest r → q ≡ r) × Old
 
 -- of the oldest nodes, so many as given, each that is there stays as it is under its name
 abbrev pub AreOldestKept : List Shape → List Shape → ℕ → Type 0
-AreOldestKept old new oldest = (id : ℕ) → id < oldest → id < length old → (id < length new) × (shape_at new id ≡ shape_at old id)
+AreOldestKept old new oldest =
+    (id : ℕ) → id < oldest → id < length old → (id < length new) × (shape_at new id ≡ shape_at old id)
 
 -- a change is refused as full exactly where there is no room, with the number of nodes held
 pub record FullsSo {A : Type 0} (held nibbles : ℕ) (result : Result A NodesFault) : Type 0 where

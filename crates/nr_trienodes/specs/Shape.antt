@@ -1,9 +1,11 @@
--- What a node is, and what is said of it by recursion on the nodes below it. A list of an arena's nodes has the newest first, so that a node's name is how many are older. This project's own.
+-- What a node is, and what is said of it by recursion on the nodes below it. A list of an arena's nodes has the
+-- newest first, so that a node's name is how many are older. This project's own.
 use Rattle.std.specs.Prelude.{ℕ, zero, suc, ◌==◌, cond, List, [], ◌∷◌, length, map, replicate, Option, None}
 use Rattle.std.specs.Option.{option_map}
 use Rattle.nr_ids.specs.declared.key.Hash32.{Hash32}
 
--- nibbles in front, the value whose key ends behind these, the child for each next nibble, the memory usage, and the hash where it is kept
+-- nibbles in front, the value whose key ends behind these, the child for each next nibble, the memory usage, and the
+-- hash where it is kept
 pub record Shape : Type 0 where
   pub part : List ℕ
   pub value : Option (List ℕ)
@@ -35,7 +37,8 @@ shape_at (s ∷ older) id = cond (id == length older) s (shape_at older id)
 -- what f makes of a node and of what it made of its children
 unfoldable pub fold : {A : Type 0} → (Shape → List (Option A) → A) → A → List Shape → ℕ → A
 fold f none [] id = none
-fold f none (s ∷ older) id = cond (id == length older) (f s (map (option_map (fold f none older)) s.below)) (fold f none older id)
+fold f none (s ∷ older) id =
+    cond (id == length older) (f s (map (option_map (fold f none older)) s.below)) (fold f none older id)
 
 -- what f makes of a node over these
 abbrev pub over : {A : Type 0} → (Shape → List (Option A) → A) → A → List Shape → Shape → A

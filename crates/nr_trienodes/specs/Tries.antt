@@ -1,5 +1,7 @@
--- What a node stands for: the look-up of a key, its paths in order, its hash and memory usage, and what making its hash costs. This project's own; the hashes are those of the Nomicon, Data Structures, Merkle Proofs and Trie.
-use Rattle.std.specs.Prelude.{◌≡◌, ℕ, suc, ◌+◌, ◌==◌, ◌≤◌, ◌&&◌, Bool, true, false, cond, List, [], ◌∷◌, ◌++◌, length, map, Option, Some, None, is_some, count_by, sum_by}
+-- What a node stands for: the look-up of a key, its paths in order, its hash and memory usage, and what making its
+-- hash costs. This project's own; the hashes are those of the Nomicon, Data Structures, Merkle Proofs and Trie.
+use Rattle.std.specs.Prelude.{◌≡◌, ℕ, suc, ◌+◌, ◌==◌, ◌≤◌, ◌&&◌, Bool, true, false, cond, List, [], ◌∷◌, ◌++◌, length}
+use Rattle.std.specs.Prelude.{map, Option, Some, None, is_some, count_by, sum_by}
 use Rattle.nr_triedef.specs.declared.hash.Summary.{Summary}
 use Rattle.nr_triedef.specs.Node.{key_part, summary}
 use Rattle.nr_triedef.specs.Root.{Paths, leaf_with, branch, with_front, summary_of, part_usage, value_usage}
@@ -115,4 +117,5 @@ cost_in nodes (Some id) = cost_at nodes id
 -- ---- nodes as they are to be
 -- a node that has a value alone or two links
 abbrev pub IsLinked : Option (List ℕ) → List (Option ℕ) → Type 0
-IsLinked value below = is_leaf value (count_by is_some below) ≡ false → 2 ≤ cond (is_some value) 1 0 + count_by is_some below
+IsLinked value below =
+    is_leaf value (count_by is_some below) ≡ false → 2 ≤ cond (is_some value) 1 0 + count_by is_some below

@@ -1,5 +1,7 @@
--- Where a key goes at a node, the way down along it, and what a change of one key does to what a node stands for. This project's own.
-use Rattle.std.specs.Prelude.{◌≡◌, ◌≢◌, ℕ, ◌+◌, ◌*◌, ◌<◌, ◌≤◌, ◌^◌, List, [], ◌∷◌, ◌++◌, length, map, take, drop, slice_index, is_some, count_by, sum_by, Option, Some, None, true}
+-- Where a key goes at a node, the way down along it, and what a change of one key does to what a node stands for.
+-- This project's own.
+use Rattle.std.specs.Prelude.{◌≡◌, ◌≢◌, ℕ, ◌+◌, ◌*◌, ◌<◌, ◌≤◌, ◌^◌, List, [], ◌∷◌, ◌++◌, length, map, take, drop}
+use Rattle.std.specs.Prelude.{slice_index, is_some, count_by, sum_by, Option, Some, None, true}
 use Rattle.std.specs.Option.{option_map}
 use Rattle.std.specs.List.{AllByRecursion}
 use Rattle.nr_triedef.specs.Node.{nibbles}

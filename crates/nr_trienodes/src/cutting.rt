@@ -20,7 +20,8 @@ fn cut_below(nodes: &mut Nodes, root: u32, key: &[u8]) -> Result<Option<u32>, Al
     requires { root < length nodes.old }
     ensures few { length nodes.new ≤ length nodes.old + length (nibbles key.now) + 1 }
     ensures grows { Extends nodes.old nodes.new }
-    ensures cut { IfOk result (λ id. Changes nodes.old nodes.new (Some root) id (nibbles key.now) None (2 * length (nibbles key.now) + 3)) }
+    ensures cut { IfOk result (λ id. Changes nodes.old nodes.new (Some root) id (nibbles key.now) None
+        (2 * length (nibbles key.now) + 3)) }
 {
     let end = walk(nodes, root, key)?;
     match end.stop {
@@ -43,7 +44,8 @@ fn cut_from(nodes: &mut Nodes, root: Option<NodeId>, key: &[u8]) -> Result<Optio
     requires { IsRoot nodes.old root }
     ensures few { length nodes.new ≤ length nodes.old + length (nibbles key.now) + 1 }
     ensures grows { Extends nodes.old nodes.new }
-    ensures cut { IfOk result (λ id. Changes nodes.old nodes.new (name_in root) id (nibbles key.now) None (2 * length (nibbles key.now) + 3)) }
+    ensures cut { IfOk result (λ id. Changes nodes.old nodes.new (name_in root) id (nibbles key.now) None
+        (2 * length (nibbles key.now) + 3)) }
     ensures sound { Sound nodes.new }
 {
     let changed = match root {
@@ -72,7 +74,8 @@ impl Nodes {
     #[tactic(auto, using(crate::proofs::Changed::keeps_extends, crate::proofs::Changed::cut_back))]
     pub fn cut(&mut self, root: Option<NodeId>, key: &[u8]) -> Result<Option<NodeId>, NodesFault>
         requires { IsRoot self.old root }
-        ensures cut { IfOk result (λ after. IsChanged self.old self.new root after (map.remove (contents self.old root) key.now) (2 * length (nibbles key.now) + 3)) }
+        ensures cut { IfOk result (λ after. IsChanged self.old self.new root after
+            (map.remove (contents self.old root) key.now) (2 * length (nibbles key.now) + 3)) }
         ensures kept { Keeps self.old self.new }
         ensures few { length self.new ≤ length self.old + 2 * length (nibbles key.now) + 3 }
         ensures err { OnErr result (self.new ≡ self.old) }

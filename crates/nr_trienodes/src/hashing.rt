@@ -1,6 +1,7 @@
 //! Hashes of roots.
 
-ghost use Rattle.std.specs.Prelude.{◌≡◌, ◌<◌, ◌≤◌, ◌+◌, ◌++◌, ◌∷◌, [], ℕ, true, length, sum_by, slice_index, IfOk, OnOk};
+ghost use Rattle.std.specs.Prelude.{◌≡◌, ◌<◌, ◌≤◌, ◌+◌, ◌++◌, ◌∷◌, [], ℕ, true, length, sum_by, slice_index, IfOk};
+ghost use Rattle.std.specs.Prelude.{OnOk};
 ghost use Rattle.nr_triedef.specs.Root.{root_of};
 ghost use Rattle.nr_trienodes.specs.Shape.{shape_at};
 ghost use Rattle.nr_trienodes.specs.Tries.{summary_at, cost_at};
@@ -88,7 +89,8 @@ fn warm<L: Ledger>(
     requires { IsQueue nodes.old queue.items }
     ensures warms { Warms nodes.old nodes.new }
     ensures steps { steps.new ≤ steps.old + sum_by (weight_at nodes.old) queue.items }
-    ensures all { OnOk result ((j : ℕ) → j < length queue.items → is_hashed nodes.new (slice_index queue.items j) ≡ true) }
+    ensures all { OnOk result ((j : ℕ) → j < length queue.items → is_hashed nodes.new (slice_index queue.items j)
+        ≡ true) }
 {
     let _count = nodes.count();
     let mut queue = queue;

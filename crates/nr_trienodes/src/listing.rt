@@ -5,7 +5,8 @@ ghost use Rattle.nr_triedef.specs.Node.{IsNibbles, paired};
 ghost use Rattle.nr_triedef.specs.Stores.{keys_below};
 ghost use Rattle.nr_trienodes.specs.Shape.{shape_at};
 ghost use Rattle.nr_trienodes.specs.Roots.{IsRoot, contents};
-ghost use Rattle.nr_trienodes.specs.Listing.{FitsSo, BendsSo, TopsSo, IsPlace, AreWhole, place_paths, keys_in, own_keys, PushesSo, RowPushed, PlaceListed};
+ghost use Rattle.nr_trienodes.specs.Listing.{FitsSo, BendsSo, TopsSo, IsPlace, AreWhole, place_paths, keys_in};
+ghost use Rattle.nr_trienodes.specs.Listing.{own_keys, PushesSo, RowPushed, PlaceListed};
 
 use crate::nodes::{NodeId, Nodes};
 use crate::turn::nibble_at;
@@ -145,7 +146,8 @@ fn push_children(
 ) -> Result<(), AllocError>
     requires there { node < length nodes.now }
     requires small { IsNibbles key.now }
-    ensures { OnOk result (RowPushed nodes.now (shape_at nodes.now node).below key.now 0 places.old.items places.new.items) }
+    ensures { OnOk result (RowPushed nodes.now (shape_at nodes.now node).below key.now 0 places.old.items
+        places.new.items) }
 {
     let alloc = nodes.allocator();
     let row = nodes.row(node);
@@ -181,7 +183,8 @@ fn list_place(
 ) -> Result<(), AllocError>
     requires place { IsPlace nodes.now place }
     requires whole { AreWhole (place_paths nodes.now place) }
-    ensures { OnOk result (PlaceListed nodes.now place keys.old.items keys.new.items places.old.items places.new.items) }
+    ensures { OnOk result (PlaceListed nodes.now place keys.old.items keys.new.items places.old.items
+        places.new.items) }
 {
     let _sound = nodes.count();
     let Place { front, node } = place;

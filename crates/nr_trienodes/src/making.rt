@@ -1,9 +1,11 @@
 //! Hashes and usages of nodes, made of those of their children.
 
-ghost use Rattle.std.specs.Prelude.{◌≡◌, ◌==◌, ◌<◌, ◌≤◌, ◌+◌, ℕ, true, false, length, cond, map, is_some, count_by, sum_by, slice_index_or, None, IfOk};
+ghost use Rattle.std.specs.Prelude.{◌≡◌, ◌==◌, ◌<◌, ◌≤◌, ◌+◌, ℕ, true, false, length, cond, map, is_some, count_by};
+ghost use Rattle.std.specs.Prelude.{sum_by, slice_index_or, None, IfOk};
 ghost use Rattle.std.specs.Option.{option_copied, option_map};
 ghost use Rattle.nr_triedef.specs.Node.{IsNibbles, IsNode, key_part, links, summary, usage_of};
-ghost use Rattle.nr_triedef.specs.Root.{part_usage, value_usage, usage_below, leaf_with, extension, value_field, hash_below, branch, with_front};
+ghost use Rattle.nr_triedef.specs.Root.{part_usage, value_usage, usage_below, leaf_with, extension, value_field};
+ghost use Rattle.nr_triedef.specs.Root.{hash_below, branch, with_front};
 ghost use Rattle.nr_trienodes.specs.Shape.{shape_at};
 ghost use Rattle.nr_trienodes.specs.Tries.{is_leaf, summary_at};
 ghost use Rattle.nr_trienodes.specs.Hashing.{HasHashes, IsWarm, weight_at};
@@ -124,7 +126,10 @@ fn with_front<L: Ledger>(
 
 // A value as a branch has it, and its memory usage.
 fn value_of(value: Option<&[u8]>) -> Result<(Option<(u32, Hash32)>, u64), AllocError>
-    ensures { IfOk result (λ v. v ≡ (value_field (option_copied value.entry), value_usage (option_copied value.entry))) }
+    ensures { IfOk result (λ v. v ≡ (
+      value_field (option_copied value.entry),
+      value_usage (option_copied value.entry),
+    )) }
 {
     match value {
         None => Ok((None, 0)),

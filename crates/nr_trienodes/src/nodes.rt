@@ -1,13 +1,15 @@
 //! The arena.
 
-ghost use Rattle.std.specs.Prelude.{◌≡◌, ◌<◌, ◌≤◌, ◌-◌, ◌+◌, ◌^◌, ◌*◌, ◌/◌, ℕ, true, false, [], length, map, take, drop, slice_set, is_some, count_by, sum_by, Some, IfOk, OnErr};
+ghost use Rattle.std.specs.Prelude.{◌≡◌, ◌<◌, ◌≤◌, ◌-◌, ◌+◌, ◌^◌, ◌*◌, ◌/◌, ℕ, true, false, [], length, map, take};
+ghost use Rattle.std.specs.Prelude.{drop, slice_set, is_some, count_by, sum_by, Some, IfOk, OnErr};
 ghost use Rattle.std.specs.Option.{option_copied, option_map};
 ghost use Rattle.nr_triedef.specs.Node.{IsNibbles};
 ghost use Rattle.nr_triedef.specs.Root.{usage_below, value_usage};
 ghost use Rattle.nr_trienodes.specs.Packing.{IsPackable, none_number};
 ghost use Rattle.nr_trienodes.specs.Shape.{shape_at, child, no_children};
 ghost use Rattle.nr_trienodes.specs.Tries.{summary_at, front_usage, own_usage, IsLinked};
-ghost use Rattle.nr_trienodes.specs.Naming.{new_name, renamed, with_names, HaveOwn, AreOldest, IsKept, IsClosed, IsSlid, AreNamed, SlidesOn};
+ghost use Rattle.nr_trienodes.specs.Naming.{new_name, renamed, with_names, HaveOwn, AreOldest, IsKept, IsClosed};
+ghost use Rattle.nr_trienodes.specs.Naming.{IsSlid, AreNamed, SlidesOn};
 ghost use Rattle.nr_trienodes.specs.Views.{shape, shapes, Sound, IsIn, Adds, KeepsHash};
 
 use crate::body::{Body, is_alone, with_row};
@@ -107,7 +109,8 @@ fn rename_node(node: &mut Node, names: &Names)
 fn move_node(nodes: &mut Vec<Node>, names: &Names, id: usize, to: usize)
     requires there { id < length nodes.old.items }
     requires lower { to ≤ id }
-    requires children { (x c : ℕ) → child (shape_at (shapes nodes.old.items) id).below x ≡ Some c → c < length names.now }
+    requires children { (x c : ℕ) → child (shape_at (shapes nodes.old.items) id).below x ≡ Some c
+        → c < length names.now }
     requires packable { IsPackable (with_names names.now (shape_at (shapes nodes.old.items) id)).below }
     ensures { IsSlid names.now (shapes nodes.old.items) (shapes nodes.new.items) id to }
 {
@@ -282,7 +285,8 @@ impl Nodes {
     pub(crate) fn keep_hash(&mut self, id: u32, hash: NodeHash)
         requires there { id < length self.old }
         requires hash { hash ≡ (summary_at self.old id).hash }
-        requires below { (x c : ℕ) → child (shape_at self.old id).below x ≡ Some c → is_some (shape_at self.old c).hash ≡ true }
+        requires below { (x c : ℕ) → child (shape_at self.old id).below x ≡ Some c
+            → is_some (shape_at self.old c).hash ≡ true }
         ensures { KeepsHash self.old self.new id hash }
     {
         let node = &mut self.nodes[id as usize];
@@ -351,7 +355,9 @@ impl Nodes {
         requires nibble { nibble < 16 }
         requires below { below < length self.now }
         requires some { is_some (child (shape_at self.now id).below nibble) ≡ true }
-        ensures { IfOk result (λ n. n ≡ own_usage (shape_at self.now id).part (shape_at self.now id).value false (sum_by (λ c. usage_below (option_map (summary_at self.now) c)) (slice_set (shape_at self.now id).below nibble (Some below)))) }
+        ensures { IfOk result (λ n. n ≡ own_usage (shape_at self.now id).part (shape_at self.now id).value false
+            (sum_by (λ c. usage_below (option_map (summary_at self.now) c))
+            (slice_set (shape_at self.now id).below nibble (Some below)))) }
     {
         let _count = self.count();
         let old = self.child(id, nibble);
@@ -385,7 +391,8 @@ impl Nodes {
         requires nibble { nibble < 16 }
         requires below { below < length self.old }
         requires some { is_some (child (shape_at self.old id).below nibble) ≡ true }
-        ensures ok { IfOk result (λ name. Adds self.old self.new name (shape_at self.old id).part (shape_at self.old id).value (slice_set (shape_at self.old id).below nibble (Some below))) }
+        ensures ok { IfOk result (λ name. Adds self.old self.new name (shape_at self.old id).part
+            (shape_at self.old id).value (slice_set (shape_at self.old id).below nibble (Some below))) }
         ensures err { OnErr result (self.new ≡ self.old) }
     {
         let name = self.count();

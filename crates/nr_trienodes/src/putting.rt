@@ -46,7 +46,8 @@ fn split(
     requires parts { Parts (shape_at nodes.old node) key.now at shared }
     ensures few { length nodes.new ≤ length nodes.old + 3 }
     ensures grows { Extends nodes.old nodes.new }
-    ensures put { IfOk result (λ id. Changes nodes.old nodes.new (Some node) id (left key.now at) (Some value) (2 * length (left key.now at) + 3)) }
+    ensures put { IfOk result (λ id. Changes nodes.old nodes.new (Some node) id (left key.now at) (Some value)
+        (2 * length (left key.now at) + 3)) }
 {
     let nibble = nodes.part(node)[shared];
     let lower = behind(nodes, node, shared + 1)?;
@@ -81,7 +82,8 @@ fn put_at(
     requires stop { StopsSo (shape_at nodes.old node) key.now at stop }
     ensures few { length nodes.new ≤ length nodes.old + 3 }
     ensures grows { Extends nodes.old nodes.new }
-    ensures put { IfOk result (λ id. Changes nodes.old nodes.new (Some node) id (left key.now at) (Some value) (2 * length (left key.now at) + 3)) }
+    ensures put { IfOk result (λ id. Changes nodes.old nodes.new (Some node) id (left key.now at) (Some value)
+        (2 * length (left key.now at) + 3)) }
 {
     let _count = nodes.count();
     match stop {
@@ -112,7 +114,8 @@ fn put_below(
     requires { root < length nodes.old }
     ensures few { length nodes.new ≤ length nodes.old + length (nibbles key.now) + 3 }
     ensures grows { Extends nodes.old nodes.new }
-    ensures put { IfOk result (λ id. Changes nodes.old nodes.new (Some root) id (nibbles key.now) (Some value) (2 * length (nibbles key.now) + 3)) }
+    ensures put { IfOk result (λ id. Changes nodes.old nodes.new (Some root) id (nibbles key.now) (Some value)
+        (2 * length (nibbles key.now) + 3)) }
 {
     let end = walk(nodes, root, key)?;
     let below = put_at(nodes, end.node, end.stop, key, end.at, value)?;
@@ -131,7 +134,8 @@ fn put_from(
     requires { IsRoot nodes.old root }
     ensures few { length nodes.new ≤ length nodes.old + length (nibbles key.now) + 3 }
     ensures grows { Extends nodes.old nodes.new }
-    ensures put { IfOk result (λ id. Changes nodes.old nodes.new (name_in root) id (nibbles key.now) (Some value) (2 * length (nibbles key.now) + 3)) }
+    ensures put { IfOk result (λ id. Changes nodes.old nodes.new (name_in root) id (nibbles key.now) (Some value)
+        (2 * length (nibbles key.now) + 3)) }
 {
     match root {
         Some(root) => {
@@ -163,7 +167,8 @@ fn put_value(
     requires { IsRoot nodes.old root }
     ensures few { length nodes.new ≤ length nodes.old + length (nibbles key.now) + 3 }
     ensures grows { Extends nodes.old nodes.new }
-    ensures put { IfOk result (λ id. Changes nodes.old nodes.new (name_in root) (Some id) (nibbles key.now) (Some value.now) (2 * length (nibbles key.now) + 3)) }
+    ensures put { IfOk result (λ id. Changes nodes.old nodes.new (name_in root) (Some id) (nibbles key.now)
+        (Some value.now) (2 * length (nibbles key.now) + 3)) }
     ensures sound { Sound nodes.new }
 {
     let held = held_value(nodes, value);
@@ -195,7 +200,8 @@ impl Nodes {
         value: &[u8],
     ) -> Result<NodeId, NodesFault>
         requires { IsRoot self.old root }
-        ensures put { IfOk result (λ id. IsChanged self.old self.new root (Some id) (map.insert (contents self.old root) key.now value.now) (2 * length (nibbles key.now) + 3)) }
+        ensures put { IfOk result (λ id. IsChanged self.old self.new root (Some id)
+            (map.insert (contents self.old root) key.now value.now) (2 * length (nibbles key.now) + 3)) }
         ensures kept { Keeps self.old self.new }
         ensures few { length self.new ≤ length self.old + 2 * length (nibbles key.now) + 3 }
         ensures err { OnErr result (self.new ≡ self.old) }

@@ -1,6 +1,7 @@
 //! Nodes made in place of others, so that each is a leaf or has two links.
 
-ghost use Rattle.std.specs.Prelude.{◌≡◌, ◌<◌, ◌≤◌, ◌+◌, ◌++◌, ◌∷◌, ℕ, length, take, drop, slice_set, is_some, true, Some, IfOk};
+ghost use Rattle.std.specs.Prelude.{◌≡◌, ◌<◌, ◌≤◌, ◌+◌, ◌++◌, ◌∷◌, ℕ, length, take, drop, slice_set, is_some, true};
+ghost use Rattle.std.specs.Prelude.{Some, IfOk};
 ghost use Rattle.nr_triedef.specs.Node.{IsNibbles};
 ghost use Rattle.nr_trienodes.specs.Shape.{shape_at, child};
 ghost use Rattle.nr_trienodes.specs.Tries.{IsLinked};
@@ -63,7 +64,9 @@ fn join(nodes: &mut Nodes, front: Vec<u8>, nibble: u8, child: u32) -> Result<u32
     requires child { child < length nodes.old }
     ensures few { length nodes.new ≤ length nodes.old + 1 }
     ensures grows { Extends nodes.old nodes.new }
-    ensures joined { IfOk result (λ id. Settles nodes.old nodes.new (front.items ++ nibble ∷ (shape_at nodes.old child).part) (shape_at nodes.old child).value (shape_at nodes.old child).below (Some id)) }
+    ensures joined { IfOk result (λ id. Settles nodes.old nodes.new
+        (front.items ++ nibble ∷ (shape_at nodes.old child).part) (shape_at nodes.old child).value
+        (shape_at nodes.old child).below (Some id)) }
     ensures sound { Sound nodes.old }
 {
     let _count = nodes.count();
@@ -116,7 +119,8 @@ fn relink(nodes: &mut Nodes, node: u32, nibble: u8, below: u32) -> Result<u32, A
     requires some { is_some (child (shape_at nodes.old node).below nibble) ≡ true }
     ensures few { length nodes.new ≤ length nodes.old + 1 }
     ensures grows { Extends nodes.old nodes.new }
-    ensures settled { IfOk result (λ id. Settles nodes.old nodes.new (shape_at nodes.old node).part (shape_at nodes.old node).value (slice_set (shape_at nodes.old node).below nibble (Some below)) (Some id)) }
+    ensures settled { IfOk result (λ id. Settles nodes.old nodes.new (shape_at nodes.old node).part
+        (shape_at nodes.old node).value (slice_set (shape_at nodes.old node).below nibble (Some below)) (Some id)) }
 {
     let id = nodes.relink(node, nibble, below)?;
     Ok(id)
@@ -134,7 +138,8 @@ fn remake(
     requires below { IsIn (length nodes.old) below }
     ensures few { length nodes.new ≤ length nodes.old + 1 }
     ensures grows { Extends nodes.old nodes.new }
-    ensures settled { IfOk result (λ id. Settles nodes.old nodes.new (shape_at nodes.old node).part (shape_at nodes.old node).value (slice_set (shape_at nodes.old node).below nibble below) id) }
+    ensures settled { IfOk result (λ id. Settles nodes.old nodes.new (shape_at nodes.old node).part
+        (shape_at nodes.old node).value (slice_set (shape_at nodes.old node).below nibble below) id) }
 {
     let alloc = nodes.allocator();
     let part = Vec::from_slice(alloc, nodes.part(node))?;
@@ -157,7 +162,8 @@ pub(crate) fn replace_child(
     requires below { IsIn (length nodes.old) below }
     ensures few { length nodes.new ≤ length nodes.old + 1 }
     ensures grows { Extends nodes.old nodes.new }
-    ensures settled { IfOk result (λ id. Settles nodes.old nodes.new (shape_at nodes.old node).part (shape_at nodes.old node).value (slice_set (shape_at nodes.old node).below nibble below) id) }
+    ensures settled { IfOk result (λ id. Settles nodes.old nodes.new (shape_at nodes.old node).part
+        (shape_at nodes.old node).value (slice_set (shape_at nodes.old node).below nibble below) id) }
 {
     let Some(child) = below else {
         return remake(nodes, node, nibble, None);
@@ -178,7 +184,8 @@ pub(crate) fn replace_value(
     requires { node < length nodes.old }
     ensures few { length nodes.new ≤ length nodes.old + 1 }
     ensures grows { Extends nodes.old nodes.new }
-    ensures settled { IfOk result (λ id. Settles nodes.old nodes.new (shape_at nodes.old node).part value (shape_at nodes.old node).below id) }
+    ensures settled { IfOk result (λ id. Settles nodes.old nodes.new (shape_at nodes.old node).part value
+        (shape_at nodes.old node).below id) }
 {
     let alloc = nodes.allocator();
     let part = Vec::from_slice(alloc, nodes.part(node))?;
@@ -232,7 +239,8 @@ pub(crate) fn behind(nodes: &mut Nodes, node: u32, front: usize) -> Result<u32, 
     requires front { front ≤ length (shape_at nodes.old node).part }
     ensures few { length nodes.new ≤ length nodes.old + 1 }
     ensures grows { Extends nodes.old nodes.new }
-    ensures rest { IfOk result (λ id. Settles nodes.old nodes.new (drop front (shape_at nodes.old node).part) (shape_at nodes.old node).value (shape_at nodes.old node).below (Some id)) }
+    ensures rest { IfOk result (λ id. Settles nodes.old nodes.new (drop front (shape_at nodes.old node).part)
+        (shape_at nodes.old node).value (shape_at nodes.old node).below (Some id)) }
     ensures sound { Sound nodes.old }
 {
     let alloc = nodes.allocator();

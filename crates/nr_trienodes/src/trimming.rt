@@ -5,7 +5,8 @@ ghost use Rattle.std.specs.List.{AllByRecursion};
 ghost use Rattle.std.specs.FinMap as map_of;
 ghost use Rattle.nr_trienodes.specs.Shape.{shape_at};
 ghost use Rattle.nr_trienodes.specs.Views.{IsIn};
-ghost use Rattle.nr_trienodes.specs.Roots.{IsRoot, Renames, OldestStay, AreOldestKept, contents, name_in, root_count, young_count};
+ghost use Rattle.nr_trienodes.specs.Roots.{IsRoot, Renames, OldestStay, AreOldestKept, contents, name_in, root_count};
+ghost use Rattle.nr_trienodes.specs.Roots.{young_count};
 ghost use Rattle.nr_trienodes.specs.Naming.{marked, new_root, AreOldest, HasName, RowMarked, BelowMarked, RootsMarked};
 
 use crate::names::Names;
@@ -123,7 +124,8 @@ impl Nodes {
         ensures ok { OnOk result (Renames self.old self.new roots.old roots.new) }
         ensures none { OnOk result (OldestStay 0 roots.old roots.new) }
         ensures tries { OnOk result (length self.new ≤ sum_by (root_count self.old) roots.old) }
-        ensures few { OnOk result (length self.new ≤ sum_by (λ r. 2 * length (map_of.entries (contents self.new r))) roots.new) }
+        ensures few { OnOk result (length self.new
+            ≤ sum_by (λ r. 2 * length (map_of.entries (contents self.new r))) roots.new) }
         ensures err { OnErr result (self.new ≡ self.old) }
         ensures names { OnErr result (roots.new ≡ roots.old) }
     {

@@ -99,7 +99,10 @@ levels_none v i l =
     subst (λ (t : Option NodeId). IsLevel v t (get_or (replicate 9 0) i 0)) (sym (get_or-replicate 9 i None None l))
     (subst (IsLevel v None) (sym (get_or-replicate 9 i 0 0 l)) (level_none v))
 
-pub level_put : (v w : Arena) (top put : Option NodeId) (key value : List ℕ) (found : Bool) (count grown more : ℕ) → IsLevel v top count → IsChanged v w top put (insert (contents v top) key value) more → found ≡ is_some (get (contents v top) key) → IsSizedEntry key value → grown ≤ most_entries → grown ≡ cond found count (count + 1) → IsLevel w put grown
+pub level_put : (v w : Arena) (top put : Option NodeId) (key value : List ℕ) (found : Bool) (count grown more : ℕ)
+    → IsLevel v top count → IsChanged v w top put (insert (contents v top) key value) more
+    → found ≡ is_some (get (contents v top) key) → IsSizedEntry key value → grown ≤ most_entries
+    → grown ≡ cond found count (count + 1) → IsLevel w put grown
 level_put v w top put key value found count grown more h is there entry few e =
     let all : length (entries (insert (contents v top) key value)) ≡ cond found (length (entries (contents v top))) (length (entries (contents v top)) + 1) = count_insert (contents v top) key value found there in
     let many : grown ≡ length (entries (insert (contents v top) key value)) = e ∙ ap (λ n. cond found n (n + 1)) h.count ∙ sym all in
@@ -143,12 +146,22 @@ few_levels v roots counts nine h i l = let level : IsLevel v (root_at roots i) (
 found_moved : (u v : Arena) (top moved : Option NodeId) (key : List ℕ) (found : Bool) → IsMoved u v top moved → found ≡ is_some (get (contents u top) key) → found ≡ is_some (get (contents v moved) key)
 found_moved u v top moved key found is e = e ∙ ap (λ (m : Contents). is_some (get m key)) (sym is.held)
 
-pub levels_put : (u v w : Arena) (roots mid : Roots) (counts : List ℕ) (k : ℕ) (put : Option NodeId) (key value : List ℕ) (found : Bool) (grown more : ℕ) → length roots ≡ 9 → length mid ≡ 9 → length counts ≡ 9 → k < 9 → AreLevels u roots counts → AreMoved u roots v mid → Keeps v w → IsChanged v w (root_at mid k) put (insert (contents v (root_at mid k)) key value) more → found ≡ is_some (get (held_at u roots k) key) → IsSizedEntry key value → grown ≤ most_entries → grown ≡ cond found (get_or counts k 0) (get_or counts k 0 + 1) → AreLevels w (set mid k put) (set counts k grown)
+pub levels_put : (u v w : Arena) (roots mid : Roots) (counts : List ℕ) (k : ℕ) (put : Option NodeId)
+    (key value : List ℕ) (found : Bool) (grown more : ℕ) → length roots ≡ 9 → length mid ≡ 9 → length counts ≡ 9
+    → k < 9 → AreLevels u roots counts → AreMoved u roots v mid → Keeps v w
+    → IsChanged v w (root_at mid k) put (insert (contents v (root_at mid k)) key value) more
+    → found ≡ is_some (get (held_at u roots k) key) → IsSizedEntry key value → grown ≤ most_entries
+    → grown ≡ cond found (get_or counts k 0) (get_or counts k 0 + 1)
+    → AreLevels w (set mid k put) (set counts k grown)
 levels_put u v w roots mid counts k put key value found grown more nine mids many l h moved keeps is there entry few e =
     levels_set w mid counts k put grown mids many l (levels_moved u w roots mid counts nine h (moved_kept u v w roots mid moved keeps))
     (level_put v w (root_at mid k) put key value found (get_or counts k 0) grown more (level_moved u v (root_at roots k) (root_at mid k) (get_or counts k 0) (h k l) (moved k (omega arith))) is (found_moved u v (root_at roots k) (root_at mid k) key found (moved k (omega arith)) there) entry few e)
 
-pub levels_cut : (u v w : Arena) (roots mid : Roots) (counts : List ℕ) (k : ℕ) (cut : Option NodeId) (key : List ℕ) (more : ℕ) → length roots ≡ 9 → length mid ≡ 9 → length counts ≡ 9 → k < 9 → AreLevels u roots counts → AreMoved u roots v mid → Keeps v w → IsChanged v w (root_at mid k) cut (remove (contents v (root_at mid k)) key) more → is_some (get (held_at u roots k) key) ≡ true → AreLevels w (set mid k cut) (set counts k (get_or counts k 0 - 1))
+pub levels_cut : (u v w : Arena) (roots mid : Roots) (counts : List ℕ) (k : ℕ) (cut : Option NodeId) (key : List ℕ)
+    (more : ℕ) → length roots ≡ 9 → length mid ≡ 9 → length counts ≡ 9 → k < 9 → AreLevels u roots counts
+    → AreMoved u roots v mid → Keeps v w → IsChanged v w (root_at mid k) cut (remove (contents v (root_at mid k)) key)
+    more → is_some (get (held_at u roots k) key) ≡ true
+    → AreLevels w (set mid k cut) (set counts k (get_or counts k 0 - 1))
 levels_cut u v w roots mid counts k cut key more nine mids many l h moved keeps is there =
     levels_set w mid counts k cut (get_or counts k 0 - 1) mids many l (levels_moved u w roots mid counts nine h (moved_kept u v w roots mid moved keeps))
     (level_cut v w (root_at mid k) cut key (get_or counts k 0) more (level_moved u v (root_at roots k) (root_at mid k) (get_or counts k 0) (h k l) (moved k (omega arith))) is (sym (found_moved u v (root_at roots k) (root_at mid k) key true (moved k (omega arith)) (sym there))))

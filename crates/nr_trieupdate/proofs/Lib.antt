@@ -1,3 +1,4 @@
+-- Lemmas behind the answers.
 pub mod Standing
 pub mod Counting
 pub mod Overlays

@@ -14,7 +14,8 @@ base_view s =
       saved = saved_cost s.nodes s.roots s.standing;
     }
 
--- at most eight checkpoints stand and are spare, each root stands for entries within the sizes, and the arena is trimmed before it is full
+-- at most eight checkpoints stand and are spare, each root stands for entries within the sizes, and the arena is
+-- trimmed before it is full
 pub record IsBase (s : Inside) : Type 0 where
   pub few : s.standing + s.spare ≤ 8
   pub levels : AreLevels s.nodes s.roots s.counts

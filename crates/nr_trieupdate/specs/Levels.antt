@@ -1,5 +1,6 @@
 -- Roots one above another: what each standing checkpoint saw, and what is held now. This project's own.
-use Rattle.std.specs.Prelude.{◌≡◌, ℕ, zero, suc, ◌<◌, ◌≤◌, ◌^◌, max, List, [], ◌∷◌, length, Option, None, slice_index, slice_index_or}
+use Rattle.std.specs.Prelude.{◌≡◌, ℕ, zero, suc, ◌<◌, ◌≤◌, ◌^◌, max, List, [], ◌∷◌, length, Option, None, slice_index}
+use Rattle.std.specs.Prelude.{slice_index_or}
 use Rattle.std.specs.FinMap.{entries}
 use Rattle.nr_triedef.specs.Root.{Contents}
 use Rattle.nr_triedef.specs.Stores.{most_entries, IsSized}

@@ -1,3 +1,4 @@
+-- Definitions that the contracts cite.
 pub mod BaseView
 pub mod Bases
 pub mod Levels

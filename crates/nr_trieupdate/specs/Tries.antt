@@ -15,7 +15,8 @@ trie_view s =
       unhashed = s.base.unhashed + most_debt (s.changes.contents ∷ s.changes.marks);
     }
 
--- all checkpoints are those of the waiting changes, at most eight with those that are spare, and no more entries come to be at any than the count
+-- all checkpoints are those of the waiting changes, at most eight with those that are spare, and no more entries come
+-- to be at any than the count
 pub record IsTrie (s : Inside) : Type 0 where
   pub base : s.base.marks ≡ []
   pub standing : s.standing ≡ length s.changes.marks

@@ -4,7 +4,8 @@ use Rattle.std.specs.FinMap.{code}
 use Rattle.std.specs.Coded.{Coded, code_by, coded×, coded_ℕ, coded_list}
 use Rattle.nr_triedef.specs.Root.{Contents}
 
--- what it holds, what each standing checkpoint saw (the newest first), how many more can be made, and how many nodes a next root hashes at most, now or after going back
+-- what it holds, what each standing checkpoint saw (the newest first), how many more can be made, and how many nodes
+-- a next root hashes at most, now or after going back
 pub record TrieView : Type 0 where
   pub contents : Contents
   pub marks : List Contents
@@ -16,5 +17,7 @@ contents_code = code (coded_list coded_ℕ) (coded_list coded_ℕ)
 
 abbrev pub trie_code : Coded TrieView
 trie_code =
-    code_by (Contents × (List Contents × (ℕ × ℕ))) (coded× contents_code (coded× (coded_list contents_code) (coded× coded_ℕ coded_ℕ)))
-    (λ v. (v.contents, (v.marks, (v.spare, v.unhashed)))) (λ p. record { contents = p.0; marks = p.1.0; spare = p.1.1.0; unhashed = p.1.1.1 }) (λ _. refl)
+    code_by (Contents × (List Contents × (ℕ × ℕ)))
+    (coded× contents_code (coded× (coded_list contents_code) (coded× coded_ℕ coded_ℕ)))
+    (λ v. (v.contents, (v.marks, (v.spare, v.unhashed))))
+    (λ p. record { contents = p.0; marks = p.1.0; spare = p.1.1.0; unhashed = p.1.1.1 }) (λ _. refl)

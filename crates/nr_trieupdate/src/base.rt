@@ -90,7 +90,8 @@ impl Store for Base {
 
     fn set(&mut self, key: &[u8], value: &[u8]) -> Result<(), AllocError>
         ensures ok { OnOk result (self.new.contents ≡ map.insert self.old.contents key.now value.now) }
-        ensures sizes { OnOk result (IsSizedEntry key.now value.now × (length (map.entries self.new.contents) ≤ most_entries)) }
+        ensures sizes { OnOk result (IsSizedEntry key.now value.now
+            × (length (map.entries self.new.contents) ≤ most_entries)) }
         ensures err { OnErr result (self.new.contents ≡ self.old.contents) }
         ensures marks { self.new.marks ≡ self.old.marks }
         ensures spare { self.new.spare ≡ self.old.spare }

@@ -111,7 +111,8 @@ pub(crate) fn put(
     requires sized { IsSizedEntry key.now value.now }
     requires room { length nodes.old ≤ most_nodes }
     ensures kept { Keeps nodes.old nodes.new }
-    ensures put { IfOk result (λ id. IsChanged nodes.old nodes.new root (Some id) (map.insert (contents nodes.old root) key.now value.now) (2 * length (nibbles key.now) + 3)) }
+    ensures put { IfOk result (λ id. IsChanged nodes.old nodes.new root (Some id)
+        (map.insert (contents nodes.old root) key.now value.now) (2 * length (nibbles key.now) + 3)) }
 {
     match nodes.put(root, key, value) {
         Ok(id) => Ok(id),
@@ -134,7 +135,8 @@ pub(crate) fn cut(
     requires short { length key.now ≤ 70000000 }
     requires room { length nodes.old ≤ most_nodes }
     ensures kept { Keeps nodes.old nodes.new }
-    ensures cut { IfOk result (λ id. IsChanged nodes.old nodes.new root id (map.remove (contents nodes.old root) key.now) (2 * length (nibbles key.now) + 3)) }
+    ensures cut { IfOk result (λ id. IsChanged nodes.old nodes.new root id
+        (map.remove (contents nodes.old root) key.now) (2 * length (nibbles key.now) + 3)) }
 {
     match nodes.cut(root, key) {
         Ok(id) => Ok(id),

@@ -39,7 +39,9 @@ fn gather_one(
     changes: &PlainStore,
     key: &[u8],
 ) -> Result<(), AllocError>
-    ensures { (keys : Items (Items ℕ)) → IsGathered (over changes.now.contents base.now.contents) found.old.contents keys → OnOk result (IsGathered (over changes.now.contents base.now.contents) found.new.contents (key.now ∷ keys)) }
+    ensures { (keys : Items (Items ℕ)) → IsGathered (over changes.now.contents base.now.contents) found.old.contents
+        keys → OnOk result (IsGathered (over changes.now.contents base.now.contents) found.new.contents
+        (key.now ∷ keys)) }
 {
     match value_at(base, changes, key) {
         None => Ok(()),
@@ -57,7 +59,9 @@ fn gather(
     changes: &PlainStore,
     keys: &[Blob],
 ) -> Result<(), AllocError>
-    ensures { (other : Items (Items ℕ)) → IsGathered (over changes.now.contents base.now.contents) found.old.contents other → OnOk result (IsGathered (over changes.now.contents base.now.contents) found.new.contents (keys.now ++ other)) }
+    ensures { (other : Items (Items ℕ)) → IsGathered (over changes.now.contents base.now.contents) found.old.contents
+        other → OnOk result (IsGathered (over changes.now.contents base.now.contents) found.new.contents
+        (keys.now ++ other)) }
 {
     let mut left = keys.len();
     while left > 0 {

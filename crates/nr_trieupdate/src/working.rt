@@ -46,11 +46,13 @@ pub(crate) fn is_counted(base: &Base, changes: &PlainStore, count: usize, key: &
 
 // Works the change at a key in, where one waits.
 fn work_in_one(base: &mut Base, changes: &PlainStore, key: &[u8]) -> Result<(), AllocError>
-    ensures ok { OnOk result (base.new.contents ≡ changed base.old.contents key.now (map.get changes.now.contents key.now)) }
+    ensures ok { OnOk result (base.new.contents
+        ≡ changed base.old.contents key.now (map.get changes.now.contents key.now)) }
     ensures marks { base.new.marks ≡ base.old.marks }
     ensures saved { base.new.saved ≤ base.old.saved }
     ensures unhashed { base.new.unhashed ≤ base.old.unhashed + weight key.now }
-    ensures moved { base.new.unhashed + debt (map.remove changes.now.contents key.now) ≤ base.old.unhashed + debt changes.now.contents }
+    ensures moved { base.new.unhashed + debt (map.remove changes.now.contents key.now)
+        ≤ base.old.unhashed + debt changes.now.contents }
 {
     match changes.get(key) {
         None => Ok(()),

@@ -1,3 +1,4 @@
+-- Lemmas behind the answers.
 pub mod Costing
 pub mod Charging
 pub mod Paying

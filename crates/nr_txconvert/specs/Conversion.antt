@@ -45,9 +45,11 @@ receipt_of tx place =
 
 -- the gas for sending is burnt
 abbrev pub converted : Config → Transaction → Place → Converted
-converted c tx place = record { receipt = receipt_of tx place; gas = sending_gas c tx; burnt = sending_gas c tx * place.price }
+converted c tx place =
+    record { receipt = receipt_of tx place; gas = sending_gas c tx; burnt = sending_gas c tx * place.price }
 
--- ---- what the signer is left with: it paid the whole cost, its key has the transaction's nonce, and an allowance is less by the cost of the gas
+-- ---- what the signer is left with: it paid the whole cost, its key has the transaction's nonce, and an allowance is
+-- less by the cost of the gas
 abbrev pub lowered : ℕ → Permission → Permission
 lowered cost (Call call) = Call (record call { allowance = option_map (λ allowance. allowance - cost) call.allowance })
 lowered cost Full = Full
@@ -59,7 +61,9 @@ abbrev pub used_key : Config → Transaction → ℕ → AccessKey → AccessKey
 used_key c tx price key = record { nonce = tx.nonce; permission = lowered (gas_cost c tx price) key.permission }
 
 abbrev pub charged : Config → World → Transaction → ℕ → Account → AccessKey → World
-charged c w tx price account key = set_key c (with_account w tx.signer (paid_account c tx price account)) tx.signer tx.public_key (used_key c tx price key)
+charged c w tx price account key =
+    set_key c (with_account w tx.signer (paid_account c tx price account)) tx.signer tx.public_key
+    (used_key c tx price key)
 
 -- ---- the whole: the world behind it and what the transaction becomes, or the first refusal
 abbrev pub Conversion : Type 0
@@ -71,7 +75,8 @@ unless_refused c w tx place account key (Some fault) = Err fault
 
 abbrev pub by_key : Config → World → Transaction → Place → Account → Option AccessKey → Conversion
 by_key c w tx place account None = Err NoKey
-by_key c w tx place account (Some key) = unless_refused c w tx place account key (first_refusal (refusals c tx place.price account key))
+by_key c w tx place account (Some key) =
+    unless_refused c w tx place account key (first_refusal (refusals c tx place.price account key))
 
 abbrev pub by_signer : Config → World → Transaction → Place → Option Account → Conversion
 by_signer c w tx place None = Err NoSigner
@@ -80,7 +85,9 @@ by_signer c w tx place (Some account) = by_key c w tx place account (get w.keys 
 unfoldable pub convert : Config → World → Transaction → Place → Conversion
 convert c w tx place = by_signer c w tx place (get w.accounts tx.signer)
 
--- ---- what the call answers: exactly that; a refusal leaves the state as it was. Where memory runs out nothing is said.
+-- ---- what the call answers: exactly that; a refusal leaves the state as it was. Where memory runs out nothing is
+-- said.
 abbrev pub Converts : Config → Result Converted TxFault → StateView → StateView → Transaction → Place → Type 0
-Converts c (Ok made) old new tx place = (convert c old.world tx place ≡ Ok (new.world, made)) × (new ≡ with_world old new.world)
+Converts c (Ok made) old new tx place =
+    (convert c old.world tx place ≡ Ok (new.world, made)) × (new ≡ with_world old new.world)
 Converts c (Err fault) old new tx place = fault ≢ Memory → (convert c old.world tx place ≡ Err fault) × (new ≡ old)

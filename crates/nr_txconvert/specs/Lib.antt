@@ -1,3 +1,4 @@
+-- Definitions that the contracts cite.
 pub mod Costs
 pub mod Refusals
 pub mod Conversion

@@ -29,5 +29,6 @@ storage_refusals has needs = (nat_lt has needs, StorageStake has needs) ∷ []
 
 -- what a signer who has the key pays, or the first refusal of all
 abbrev pub Judges : Result Cost TxFault → Config → Transaction → ℕ → Account → AccessKey → Type 0
-Judges (Ok cost) c tx price account key = (first_refusal (refusals c tx price account key) ≡ None) × (cost ≡ cost_is c tx price)
+Judges (Ok cost) c tx price account key =
+    (first_refusal (refusals c tx price account key) ≡ None) × (cost ≡ cost_is c tx price)
 Judges (Err fault) c tx price account key = first_refusal (refusals c tx price account key) ≡ Some fault

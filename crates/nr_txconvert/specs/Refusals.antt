@@ -1,5 +1,7 @@
--- Why a transaction of a signer who has the key becomes no receipt. After the Nomicon, Runtime Specification (Transactions) and Data Structures (Access Keys); order and bounds are this project's.
-use Rattle.std.specs.Prelude.{ℕ, ◌+◌, ◌-◌, ◌*◌, ◌==◌, ◌||◌, not, Bool, true, false, cond, List, [], ◌∷◌, ◌++◌, length, Option, Some, None, unwrap_or, nat_lt, nat_le}
+-- Why a transaction of a signer who has the key becomes no receipt. After the Nomicon, Runtime Specification
+-- (Transactions) and Data Structures (Access Keys); order and bounds are this project's.
+use Rattle.std.specs.Prelude.{ℕ, ◌+◌, ◌-◌, ◌*◌, ◌==◌, ◌||◌, not, Bool, true, false, cond, List, [], ◌∷◌, ◌++◌, length}
+use Rattle.std.specs.Prelude.{Option, Some, None, unwrap_or, nat_lt, nat_le}
 use Rattle.std.specs.List.{list_any}
 use Rattle.std.specs.Str.{bytes_eq}
 use Rattle.nr_config.specs.Config.{Config, storage_price, max_actions, max_prepaid_gas}
@@ -14,7 +16,8 @@ use Rattle.nr_records.specs.declared.action.Action.TheVariants.{FunctionCall}
 use Rattle.nr_records.specs.declared.transaction.Transaction.{Transaction}
 use Rattle.nr_txconvert.specs.Costs.{gas_cost, whole_cost, is_too_dear}
 use Rattle.nr_txconvert.specs.declared.fault.TxFault.{TxFault}
-use Rattle.nr_txconvert.specs.declared.fault.TxFault.TheVariants.{Nonce, TooManyActions, GasTooLarge, KeyForbids, CostOverflow, Allowance, Balance, StorageStake}
+use Rattle.nr_txconvert.specs.declared.fault.TxFault.TheVariants.{Nonce, TooManyActions, GasTooLarge, KeyForbids}
+use Rattle.nr_txconvert.specs.declared.fault.TxFault.TheVariants.{CostOverflow, Allowance, Balance, StorageStake}
 
 -- ---- of any key: by its nonce, and by how many actions there are and how much gas is attached to them
 abbrev pub use_refusals : Config → Transaction → AccessKey → List (Bool × TxFault)
@@ -24,7 +27,8 @@ use_refusals c tx key =
     ∷ (nat_lt (max_prepaid_gas c) (attached_gas tx.actions), GasTooLarge)
     ∷ []
 
--- ---- of a key for calls: it allows one call and nothing else, without a deposit, of its receiver, by one of its methods
+-- ---- of a key for calls: it allows one call and nothing else, without a deposit, of its receiver, by one of its
+-- methods
 abbrev pub is_one_call : List Action → Bool
 is_one_call (FunctionCall method args gas deposit ∷ []) = true
 is_one_call actions = false
@@ -70,7 +74,10 @@ abbrev pub payment_refusals : Config → Account → Permission → ℕ → ℕ 
 payment_refusals c account permission gas whole =
     (is_below (allowance_of permission) gas, Allowance (unwrap_or (allowance_of permission) 0) gas)
     ∷ (nat_lt account.amount whole, Balance account.amount whole)
-    ∷ (nat_lt (left_with account whole) (storage_stake c account), StorageStake (left_with account whole) (storage_stake c account))
+    ∷ (
+      nat_lt (left_with account whole) (storage_stake c account),
+      StorageStake (left_with account whole) (storage_stake c account),
+    )
     ∷ []
 
 -- ---- all of them in the order in which they are tried, each with its test
@@ -78,7 +85,8 @@ abbrev pub refusals : Config → Transaction → ℕ → Account → AccessKey �
 refusals c tx price account key =
     use_refusals c tx key
     ++ key_refusals key.permission tx
-    ++ (is_too_dear c tx price, CostOverflow) ∷ payment_refusals c account key.permission (gas_cost c tx price) (whole_cost c tx price)
+    ++ (is_too_dear c tx price, CostOverflow) ∷ payment_refusals c account key.permission (gas_cost c tx price)
+    (whole_cost c tx price)
 
 abbrev pub first_refusal : List (Bool × TxFault) → Option TxFault
 first_refusal [] = None

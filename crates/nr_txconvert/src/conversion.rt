@@ -5,7 +5,8 @@ ghost use Rattle.std.specs.FinMap.{get};
 ghost use Rattle.nr_state.specs.View.{with_world};
 ghost use Rattle.nr_state.specs.World.{with_account};
 ghost use Rattle.nr_txconvert.specs.Parts.{cost_is};
-ghost use Rattle.nr_txconvert.specs.Conversion.{transaction_hash, receipt_of, converted, lowered, used_key, charged, paid_account, Converts};
+ghost use Rattle.nr_txconvert.specs.Conversion.{transaction_hash, receipt_of, converted, lowered, used_key, charged};
+ghost use Rattle.nr_txconvert.specs.Conversion.{paid_account, Converts};
 
 use crate::converted::Converted;
 use crate::cost::{Cost, price_of};
@@ -77,7 +78,8 @@ fn pay<S: Store>(
     cost: u128,
 ) -> Result<(), AllocError>
     requires { state.old.whole ≡ true }
-    ensures { OnOk result (state.new ≡ with_world state.old (with_account state.old.world tx.now.signer (record account.now { amount = account.now.amount - cost }))) }
+    ensures { OnOk result (state.new ≡ with_world state.old
+        (with_account state.old.world tx.now.signer (record account.now { amount = account.now.amount - cost }))) }
 {
     let amount = account.amount.saturating_sub(cost);
     state.set_account(&tx.signer, &Account { amount, ..*account })?;
@@ -96,7 +98,8 @@ fn charge<S: Store>(
 ) -> Result<(), AllocError>
     requires whole { state.old.whole ≡ true }
     requires cost { cost.now ≡ cost_is state.old.config tx.now place.now.price }
-    ensures { OnOk result (state.new ≡ with_world state.old (charged state.old.config state.old.world tx.now place.now.price account.now access)) }
+    ensures { OnOk result (state.new ≡ with_world state.old
+        (charged state.old.config state.old.world tx.now place.now.price account.now access)) }
 {
     pay(state, tx, account, cost.whole)?;
     let used = AccessKey {

@@ -1,3 +1,5 @@
+//! What a transaction became.
+
 use nr_records::Receipt;
 
 /// What a transaction became.

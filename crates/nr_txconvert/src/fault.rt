@@ -1,3 +1,5 @@
+//! The ten refusals of a transaction.
+
 ghost use Rattle.std.specs.Prelude.{◌≡◌};
 ghost use Rattle.nr_txconvert.specs.declared.fault.TxFault.TheVariants.{Memory};
 

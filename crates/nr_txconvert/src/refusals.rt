@@ -3,7 +3,8 @@
 ghost use Rattle.std.specs.Prelude.{◌≡◌, ◌+◌};
 ghost use Rattle.std.specs.List.{list_any};
 ghost use Rattle.std.specs.Str.{bytes_eq};
-ghost use Rattle.nr_txconvert.specs.Refusals.{use_refusals, call_refusals, key_refusals, payment_refusals, allows_method, allowance_of, storage_stake};
+ghost use Rattle.nr_txconvert.specs.Refusals.{use_refusals, call_refusals, key_refusals, payment_refusals};
+ghost use Rattle.nr_txconvert.specs.Refusals.{allows_method, allowance_of, storage_stake};
 ghost use Rattle.nr_txconvert.specs.Parts.{FindsFirst, Judges, storage_refusals};
 
 use crate::cost::{Cost, cost_of, price_of};

@@ -1,3 +1,4 @@
+-- Lemmas behind the answers.
 pub mod Completing
 pub mod Couples
 pub mod Entering

@@ -1,3 +1,4 @@
+-- Definitions that the contracts cite.
 pub mod Looked
 pub mod Looking
 pub mod Searched

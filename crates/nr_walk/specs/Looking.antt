@@ -1,5 +1,6 @@
 -- Looking at one node: its text, and what it must be beside the held texts of its children. This project's own.
-use Rattle.std.specs.Prelude.{ℕ, ◌+◌, ◌%◌, ◌==◌, Bool, true, false, cond, ◌&&◌, ◌||◌, not, nat_le, List, length, Option, Some, None, is_some, Result, Ok, Err, sum_by}
+use Rattle.std.specs.Prelude.{ℕ, ◌+◌, ◌%◌, ◌==◌, Bool, true, false, cond, ◌&&◌, ◌||◌, not, nat_le, List, length, Option}
+use Rattle.std.specs.Prelude.{Some, None, is_some, Result, Ok, Err, sum_by}
 use Rattle.std.specs.List.{list_all}
 use Rattle.std.specs.FinMap.{get}
 use Rattle.nr_bytes.specs.Reading.{◌>>=◌}
@@ -40,7 +41,8 @@ is_sum told sum whole = nat_le sum told && (not whole || (told == sum))
 
 -- the usage told is that of the node alone and of its children
 unfoldable pub is_summed : Contents → Node → Bool
-is_summed texts node = is_sum (usage_of node) (own_usage node + sum_known texts (children_of node)) (are_known texts (children_of node))
+is_summed texts node =
+    is_sum (usage_of node) (own_usage node + sum_known texts (children_of node)) (are_known texts (children_of node))
 
 -- ---- what an extension stands over
 abbrev pub is_branch_read : Result Node NodeFault → Bool

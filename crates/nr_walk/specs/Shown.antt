@@ -1,5 +1,7 @@
--- What a walk shows of the paths of a trie: those that are searched, with their values, and what stands for the others, in their order. This project's own.
-use Rattle.std.specs.Prelude.{◌≡◌, ℕ, ◌≤◌, true, false, cond, List, [], ◌∷◌, ◌++◌, length, map, replicate, ◌==◌, Bool, Some, Result, Ok}
+-- What a walk shows of the paths of a trie: those that are searched, with their values, and what stands for the
+-- others, in their order. This project's own.
+use Rattle.std.specs.Prelude.{◌≡◌, ℕ, ◌≤◌, true, false, cond, List, [], ◌∷◌, ◌++◌, length, map, replicate, ◌==◌, Bool}
+use Rattle.std.specs.Prelude.{Some, Result, Ok}
 use Rattle.std.specs.List.{AllByRecursion}
 use Rattle.std.specs.Cmp.Lexicographic.{pointwise}
 use Rattle.std.specs.FinMap.{entries}
@@ -62,7 +64,8 @@ pub record IsFound (searched : List Searched) (e : Entry) (ps : Paths) : Type 0 
   pub entry_is : e ≡ entry (packed path) value
   pub found : finds searched path ≡ true
 
--- these paths stand at the place of what is kept, and none of them is searched; a known trie is all that stands there, and nothing is searched there
+-- these paths stand at the place of what is kept, and none of them is searched; a known trie is all that stands
+-- there, and nothing is searched there
 pub record IsBeside (searched : List Searched) (all : Paths) (k : Kept) (ps : Paths) : Type 0 where
   pub there : Paths
   pub is : ps ≡ placed k.path there
@@ -103,4 +106,5 @@ is_empty_root root = pointwise ◌==◌ root.0 (replicate 32 0)
 
 -- the walk from a root: under the root of no entries nothing is looked at
 unfoldable pub walk_of : Contents → List Searched → Hash32 → Result (List Gain) WalkFault
-walk_of texts searched root = cond (is_empty_root root) (Ok []) (walk_from texts searched most_nodes (spot [] root ∷ []))
+walk_of texts searched root =
+    cond (is_empty_root root) (Ok []) (walk_from texts searched most_nodes (spot [] root ∷ []))

@@ -8,12 +8,14 @@ use Rattle.nr_walk.specs.Searched.{looks, finds}
 -- from a place on these look at the same and find the same as all
 abbrev pub Decides : List Searched → List ℕ → List Searched → Type 0
 Decides all place some =
-    (k : List ℕ) → (looks some (place ++ k) ≡ looks all (place ++ k)) × (finds some (place ++ k) ≡ finds all (place ++ k))
+    (k : List ℕ) → (looks some (place ++ k) ≡ looks all (place ++ k))
+    × (finds some (place ++ k) ≡ finds all (place ++ k))
 
 -- all below the place is searched
 abbrev pub covers : List ℕ → Searched → Bool
 covers place one = one.below && starts_with ◌==◌ place one.path
 
+-- those of a step decide from its place on; so do those of each step
 abbrev pub IsStep : List Searched → Step → Type 0
 IsStep all step = Decides all step.place step.met.items
 

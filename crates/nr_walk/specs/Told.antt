@@ -1,5 +1,6 @@
 -- What a node's text tells. This project's own.
-use Rattle.std.specs.Prelude.{ℕ, suc, ◌+◌, ◌*◌, ◌/◌, ◌%◌, ◌==◌, Bool, true, false, cond, List, [], ◌∷◌, ◌++◌, length, Option, Some, None}
+use Rattle.std.specs.Prelude.{ℕ, suc, ◌+◌, ◌*◌, ◌/◌, ◌%◌, ◌==◌, Bool, true, false, cond, List, [], ◌∷◌, ◌++◌, length}
+use Rattle.std.specs.Prelude.{Option, Some, None}
 use Rattle.std.specs.List.{flat_map}
 use Rattle.nr_ids.specs.declared.key.Hash32.{Hash32}
 use Rattle.nr_triedef.specs.Node.{nibbles}
@@ -55,7 +56,8 @@ spots_of place (Leaf part length hash usage) = []
 spots_of place (Extension part child usage) = spot (place ++ part_nibbles part) child ∷ []
 spots_of place (Branch value children usage) = spots_from place 0 children
 
--- the memory usage of a node without what is below it: 50 for the node, 2 for each byte of its part, and 50 and 1 for each byte of a value
+-- the memory usage of a node without what is below it: 50 for the node, 2 for each byte of its part, and 50 and 1 for
+-- each byte of a value
 abbrev pub own_usage : Node → ℕ
 own_usage (Leaf part size hash usage) = 100 + 2 * length part + size
 own_usage (Extension part child usage) = 50 + 2 * length part

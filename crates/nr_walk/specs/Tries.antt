@@ -27,7 +27,8 @@ top_of [] = leaf ([], [])
 top_of (p ∷ []) = leaf p
 top_of (p ∷ q ∷ ps) = top_over (front (p ∷ q ∷ ps)) (cut (p ∷ q ∷ ps))
 
--- the paths that a node of the trie stands over, from the whole trie on: behind an extension's front, and under a branch's nibbles
+-- the paths that a node of the trie stands over, from the whole trie on: behind an extension's front, and under a
+-- branch's nibbles
 pub data IsBelow (top : Paths) : Paths → Type 0 where
   Top : IsBelow top top
   Behind : (ps : Paths) → IsBelow top ps → 2 ≤ length ps → IsBelow top (cut ps)

@@ -1,5 +1,7 @@
--- The walk over a trie whose texts are held: which nodes are looked at, in which order, and what each adds. This project's own.
-use Rattle.std.specs.Prelude.{ℕ, zero, suc, ◌+◌, ◌-◌, ◌*◌, ◌%◌, ◌^◌, cond, List, [], ◌∷◌, ◌++◌, length, Option, Some, None, Result, Ok, Err}
+-- The walk over a trie whose texts are held: which nodes are looked at, in which order, and what each adds. This
+-- project's own.
+use Rattle.std.specs.Prelude.{ℕ, zero, suc, ◌+◌, ◌-◌, ◌*◌, ◌%◌, ◌^◌, cond, List, [], ◌∷◌, ◌++◌, length, Option, Some}
+use Rattle.std.specs.Prelude.{None, Result, Ok, Err}
 use Rattle.nr_bytes.specs.Reading.{◌>>=◌}
 use Rattle.nr_triedef.specs.Root.{Contents}
 use Rattle.nr_triedef.specs.declared.node.Node.{Node}
@@ -26,7 +28,8 @@ kept path known = record { path = path; known = known }
 -- a node beside the way, of which nothing below is known
 abbrev pub stub_of : Spot → Node → Kept
 stub_of spot (Leaf part size hash usage) = kept (spot.place ++ part_nibbles part) (Value size hash)
-stub_of spot (Extension part child usage) = kept (spot.place ++ part_nibbles part) (Trie child (usage - (50 + 2 * length part)))
+stub_of spot (Extension part child usage) =
+    kept (spot.place ++ part_nibbles part) (Trie child (usage - (50 + 2 * length part)))
 stub_of spot (Branch value children usage) = kept spot.place (Trie spot.hash usage)
 
 -- each two nibbles as a byte, the first one high
@@ -49,7 +52,8 @@ abbrev pub ended : Contents → List Searched → List ℕ → Option Ending →
 ended texts searched place None = Ok None
 ended texts searched place (Some ending) =
     let path = place ++ ending.step in
-    cond (finds searched path) (found_at texts path ending) (Ok (Some (Beside (kept path (Value ending.length ending.hash)))))
+    cond (finds searched path) (found_at texts path ending)
+    (Ok (Some (Beside (kept path (Value ending.length ending.hash)))))
 
 -- a node that is looked at for itself: its value, where its key is searched, and then all its children
 abbrev pub entered : Contents → List Searched → List ℕ → Node → Result Visit WalkFault

@@ -5,7 +5,8 @@ ghost use Rattle.std.specs.FinMap as map;
 ghost use Rattle.nr_bytes.specs.Answers.{Gives};
 ghost use Rattle.nr_triedef.specs.declared.node.Node.{Node as Nodes};
 ghost use Rattle.nr_walk.specs.Texts.{memory_fault, text_at, known};
-ghost use Rattle.nr_walk.specs.Looking.{node_in, is_branch_held, is_ended, is_joined, is_sum, is_summed, known_usage, sum_known, are_known, looked_at, value_text};
+ghost use Rattle.nr_walk.specs.Looking.{node_in, is_branch_held, is_ended, is_joined, is_sum, is_summed, known_usage};
+ghost use Rattle.nr_walk.specs.Looking.{sum_known, are_known, looked_at, value_text};
 
 use crate::fault::WalkFault;
 use crate::texts::Texts;
@@ -30,7 +31,8 @@ struct Tally {
 // The text that is held under a hash.
 #[tactic(auto, unfolding(crate::specs::Texts::text_at))]
 fn text_at<'a>(texts: &'a Texts, hash: &Hash32) -> Result<&'a [u8], WalkFault>
-    ensures { MatchResult result (λ text. text_at texts.now hash.now ≡ Ok text.now) (λ fault. text_at texts.now hash.now ≡ Err fault) }
+    ensures { MatchResult result (λ text. text_at texts.now hash.now ≡ Ok text.now)
+        (λ fault. text_at texts.now hash.now ≡ Err fault) }
 {
     match texts.get(hash) {
         Some(text) => Ok(text),
@@ -210,7 +212,8 @@ pub fn look_at(alloc: Global, texts: &Texts, spot: &Spot) -> Result<Node, WalkFa
 /// length.
 #[tactic(auto, unfolding(crate::specs::Looking::value_text))]
 pub fn value_text<'a>(texts: &'a Texts, length: u32, hash: &Hash32) -> Result<&'a [u8], WalkFault>
-    ensures { MatchResult result (λ text. value_text texts.now length hash.now ≡ Ok text.now) (λ fault. value_text texts.now length hash.now ≡ Err fault) }
+    ensures { MatchResult result (λ text. value_text texts.now length hash.now ≡ Ok text.now)
+        (λ fault. value_text texts.now length hash.now ≡ Err fault) }
 {
     let text = text_at(texts, hash)?;
     if text.len() != length as usize {

@@ -1,6 +1,7 @@
 //! What a walk searches, narrowed on its way to what is met there.
 
-ghost use Rattle.std.specs.Prelude.{◌≡◌, ◌==◌, ◌+◌, ◌++◌, ◌∷◌, [], true, filter, vec_len, List as Items, IfOk, IfSome, MatchOption, OnOk};
+ghost use Rattle.std.specs.Prelude.{◌≡◌, ◌==◌, ◌+◌, ◌++◌, ◌∷◌, [], true, filter, vec_len, List as Items, IfOk, IfSome};
+ghost use Rattle.std.specs.Prelude.{MatchOption, OnOk};
 ghost use Rattle.std.specs.List.{starts_with};
 ghost use Rattle.nr_walk.specs.Searched.{is_met, is_found, looks, finds};
 ghost use Rattle.nr_walk.specs.Sought.{AreSteps, Decides, IsStep, covers};
@@ -141,7 +142,8 @@ fn leads(step: &Step<'_>, place: &[u8]) -> bool
 // Those that decide from a place on, to which a step leads.
 fn met_behind<'a>(alloc: Global, step: &Step<'a>, place: &[u8]) -> Result<Vec<Met<'a>>, AllocError>
     requires { starts_with ◌==◌ place.now step.now.place ≡ true }
-    ensures { (searched : Items OneSearched) → IsStep searched step.now → IfOk result (λ met. Decides searched place.now met.items) }
+    ensures { (searched : Items OneSearched) → IsStep searched step.now
+        → IfOk result (λ met. Decides searched place.now met.items) }
 {
     let met = narrowed(alloc, &step.met, place)?;
     Ok(met)
@@ -162,15 +164,19 @@ fn found_behind(all: &[Met<'_>], step: &Step<'_>, key: &[u8]) -> bool
 // ---- the way
 
 fn pop_step<'a>(steps: &mut Vec<Step<'a>>) -> Option<Step<'a>>
-    ensures steps { (searched : Items OneSearched) → AreSteps searched steps.old.items → AreSteps searched steps.new.items }
-    ensures step { (searched : Items OneSearched) → AreSteps searched steps.old.items → IfSome result (λ step. IsStep searched step) }
-    ensures count { MatchOption result ((vec_len steps.old ≡ 0) × (vec_len steps.new ≡ 0)) (λ _. vec_len steps.new + 1 ≡ vec_len steps.old) }
+    ensures steps { (searched : Items OneSearched) → AreSteps searched steps.old.items
+        → AreSteps searched steps.new.items }
+    ensures step { (searched : Items OneSearched) → AreSteps searched steps.old.items
+        → IfSome result (λ step. IsStep searched step) }
+    ensures count { MatchOption result ((vec_len steps.old ≡ 0) × (vec_len steps.new ≡ 0))
+        (λ _. vec_len steps.new + 1 ≡ vec_len steps.old) }
 {
     steps.pop()
 }
 
 fn push_step<'a>(steps: &mut Vec<Step<'a>>, step: Step<'a>) -> Result<(), AllocError>
-    ensures { (searched : Items OneSearched) → IsStep searched step.entry → AreSteps searched steps.old.items → AreSteps searched steps.new.items }
+    ensures { (searched : Items OneSearched) → IsStep searched step.entry → AreSteps searched steps.old.items
+        → AreSteps searched steps.new.items }
 {
     steps.push(step)?;
     Ok(())
@@ -205,7 +211,8 @@ fn copied(alloc: Global, place: &[u8]) -> Result<Blob, AllocError>
 }
 
 fn step_to<'a>(alloc: Global, place: &[u8], met: Vec<Met<'a>>) -> Result<Step<'a>, AllocError>
-    ensures { (searched : Items OneSearched) → Decides searched place.now met.entry.items → IfOk result (λ step. IsStep searched step) }
+    ensures { (searched : Items OneSearched) → Decides searched place.now met.entry.items
+        → IfOk result (λ step. IsStep searched step) }
 {
     let place = copied(alloc, place)?;
     Ok(Step { place, met })

@@ -2,7 +2,8 @@
 //! the memory usage of the node alone.
 
 ghost use Rattle.std.specs.Prelude.{◌≡◌, ◌∷◌, ◌++◌, ◌<◌, ◌+◌, ◌*◌, ◌^◌, [], length, IfOk, OnOk, Some};
-ghost use Rattle.nr_walk.specs.Told.{part_nibbles, ending_of, children_of, own_usage, spots_of, spots_from, spot_at, is_branch};
+ghost use Rattle.nr_walk.specs.Told.{part_nibbles, ending_of, children_of, own_usage, spots_of, spots_from, spot_at};
+ghost use Rattle.nr_walk.specs.Told.{is_branch};
 
 use nr_bytes::{Blob, List};
 use nr_ids::Hash32;

@@ -55,7 +55,8 @@ pub fn walk(
     // Which answer it is.
     ensures exact { Gives memory_fault result (walk_of texts.now searched.now root.now) }
     // What it shows of each map that a store can hold, has this root and agrees with the texts.
-    ensures whole { IfOk result (λ gains. (m : Contents) → IsOf texts.now root.now m → Shows searched.now (paths (map.entries m)) gains (paths (map.entries m))) }
+    ensures whole { IfOk result (λ gains. (m : Contents) → IsOf texts.now root.now m
+        → Shows searched.now (paths (map.entries m)) gains (paths (map.entries m))) }
 {
     walk_exactly(alloc, texts, root, searched)
 }

@@ -1,3 +1,4 @@
+-- Lemmas behind the answers.
 pub mod OnLeb
 pub mod OnFields
 pub mod OnCode

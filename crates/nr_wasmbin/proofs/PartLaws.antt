@@ -24,7 +24,12 @@ use Rattle.nr_wasmtypes.specs.Opcodes.{op_of}
 use Rattle.nr_wasmtypes.specs.declared.opcode.Op.{Op}
 use Rattle.nr_wasmtypes.specs.declared.opcode.Op.TheVariants as op
 use Rattle.nr_wasmbin.specs.Fields.{Read, byte_at, u32_at, s32_at, s64_at, count_at, list_at, bytes_at, name_at}
-use Rattle.nr_wasmbin.specs.Parts.{val_type_of, val_type_at, is_byte, exact_at, result_of, result_at, func_type_at, limits_of, limits_at, table_at, mutable_of, mutable_at, global_type_at, import_kind_of, import_kind_at, import_of, import_at, wrong_op, constant_of, constant_at, end_of, end_at, const_expr_at, global_of, global_at, export_kind_of, export_kind_at, export_of, export_at, element_of, element_at, segment_of, segment_at, within, group_count_at, group_at, groups_at, locals_at}
+use Rattle.nr_wasmbin.specs.Parts.{val_type_of, val_type_at, is_byte, exact_at, result_of, result_at, func_type_at}
+use Rattle.nr_wasmbin.specs.Parts.{limits_of, limits_at, table_at, mutable_of, mutable_at, global_type_at}
+use Rattle.nr_wasmbin.specs.Parts.{import_kind_of, import_kind_at, import_of, import_at, wrong_op, constant_of}
+use Rattle.nr_wasmbin.specs.Parts.{constant_at, end_of, end_at, const_expr_at, global_of, global_at, export_kind_of}
+use Rattle.nr_wasmbin.specs.Parts.{export_kind_at, export_of, export_at, element_of, element_at, segment_of, segment_at}
+use Rattle.nr_wasmbin.specs.Parts.{within, group_count_at, group_at, groups_at, locals_at}
 use Rattle.nr_wasmbin.specs.Expressions.{block_type_of, block_type_at}
 use Rattle.nr_wasmbin.specs.Grammar.{Language, ◌▸◌, nothing, byte, opcode, u32, s32, s64, list, bytes, name, val_type, block_type, result, func_type, limits_with, limits, table, mutable, global_type, constant, const_expr, import_kind, import, global, export_kind, export, element, segment, group, groups, locals}
 use Rattle.nr_wasmbin.specs.declared.fault.DecodeFault.{DecodeFault}

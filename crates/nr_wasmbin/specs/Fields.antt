@@ -1,5 +1,7 @@
--- WebAssembly Core 1.0, "Binary Format", "Conventions" and "Values": each field read from the front of some bytes, or the first fault.
-use Rattle.std.specs.Prelude.{ℕ, ◌+◌, List, [], ◌∷◌, Bool, false, take, length, Result, Ok, Err, nat_lt, nat_le, ◌==◌, if◌then◌else◌}
+-- WebAssembly Core 1.0, "Binary Format", "Conventions" and "Values": each field read from the front of some bytes, or
+-- the first fault.
+use Rattle.std.specs.Prelude.{ℕ, ◌+◌, List, [], ◌∷◌, Bool, false, take, length, Result, Ok, Err, nat_lt, nat_le, ◌==◌}
+use Rattle.std.specs.Prelude.{if◌then◌else◌}
 use Rattle.std.specs.Str.{is_utf8}
 use Rattle.nr_bytes.specs.Answers.{GivesAs, GivesRead}
 use Rattle.nr_bytes.specs.Fields as fields

@@ -1,5 +1,6 @@
 -- WebAssembly Core 1.0, "Binary Format": which bytes are a module, and what it is.
-use Rattle.std.specs.Prelude.{◌≡◌, ℕ, zero, suc, ◌+◌, ◌<◌, ◌≤◌, ◌⊎◌, List, [], ◌∷◌, ◌++◌, length, min, replicate, Option, Some, None, Bool, true, false}
+use Rattle.std.specs.Prelude.{◌≡◌, ℕ, zero, suc, ◌+◌, ◌<◌, ◌≤◌, ◌⊎◌, List, [], ◌∷◌, ◌++◌, length, min, replicate}
+use Rattle.std.specs.Prelude.{Option, Some, None, Bool, true, false}
 use Rattle.std.specs.Str.{is_utf8}
 use Rattle.nr_wasmtypes.specs.declared.instr.ValType.{ValType}
 use Rattle.nr_wasmtypes.specs.declared.instr.ValType.TheVariants.{I32, I64}
@@ -189,16 +190,22 @@ abbrev pub IsOther : Bool → Language → Code → Language
 IsOther true Side other text = Side text
 IsOther false Side other text = (text ≡ []) × (other ≡ End)
 
--- The bytes are the sequence and its end, which is an `else` or not, inside so many blocks. At most 256 stand in one another.
+-- The bytes are the sequence and its end, which is an `else` or not, inside so many blocks. At most 256 stand in one
+-- another.
 abbrev pub IsSequence : ℕ → List ℕ → Code → Bool → Type 0
 IsSequence depth text End stands = (b : ℕ) × (text ≡ b ∷ []) × (op_of b ≡ end_op stands)
-IsSequence depth text (Then p rest) stands = (b : ℕ) × (x y : List ℕ) × (text ≡ b ∷ (x ++ y)) × ((op_of b ≡ plain_op p) × operands p x) × IsSequence depth y rest stands
+IsSequence depth text (Then p rest) stands =
+    (b : ℕ) × (x y : List ℕ) × (text ≡ b ∷ (x ++ y)) × ((op_of b ≡ plain_op p) × operands p x)
+    × IsSequence depth y rest stands
 IsSequence depth text (Block ty body rest) stands =
-    (b : ℕ) × (t x y : List ℕ) × (text ≡ b ∷ (t ++ (x ++ y))) × (op_of b ≡ op.Block) × (depth < 256) × block_type ty t × IsSequence (depth + 1) x body false × IsSequence depth y rest stands
+    (b : ℕ) × (t x y : List ℕ) × (text ≡ b ∷ (t ++ (x ++ y))) × (op_of b ≡ op.Block) × (depth < 256) × block_type ty t
+    × IsSequence (depth + 1) x body false × IsSequence depth y rest stands
 IsSequence depth text (Loop ty body rest) stands =
-    (b : ℕ) × (t x y : List ℕ) × (text ≡ b ∷ (t ++ (x ++ y))) × (op_of b ≡ op.Loop) × (depth < 256) × block_type ty t × IsSequence (depth + 1) x body false × IsSequence depth y rest stands
+    (b : ℕ) × (t x y : List ℕ) × (text ≡ b ∷ (t ++ (x ++ y))) × (op_of b ≡ op.Loop) × (depth < 256) × block_type ty t
+    × IsSequence (depth + 1) x body false × IsSequence depth y rest stands
 IsSequence depth text (Choice ty one other rest) stands =
-    (b : ℕ) × (t x z y : List ℕ) × (text ≡ b ∷ (t ++ (x ++ (z ++ y)))) × (op_of b ≡ op.If) × (depth < 256) × block_type ty t × (split : Bool) × IsSequence (depth + 1) x one split
+    (b : ℕ) × (t x z y : List ℕ) × (text ≡ b ∷ (t ++ (x ++ (z ++ y)))) × (op_of b ≡ op.If) × (depth < 256)
+    × block_type ty t × (split : Bool) × IsSequence (depth + 1) x one split
     × IsOther split (λ text. IsSequence (depth + 1) text other false) other z × IsSequence depth y rest stands
 
 abbrev pub expression : Code → Language
@@ -275,7 +282,8 @@ front m = section 1 (list func_type) m.types ▸ section 2 (list import) m.impor
 
 abbrev pub middle : Module → Language
 middle m =
-    section 4 (list table) m.tables ▸ section 5 (list limits) m.memories ▸ section 6 (list global) m.globals ▸ section 7 (list export) m.exports
+    section 4 (list table) m.tables ▸ section 5 (list limits) m.memories ▸ section 6 (list global) m.globals ▸ section
+    7 (list export) m.exports
     ▸ section 9 (list element) m.elements
 
 abbrev pub back : Module → Language
@@ -283,4 +291,5 @@ back m = section 10 (list body) m.bodies ▸ section 11 (list segment) m.segment
 
 -- a module, with as many bodies as functions
 abbrev pub IsModule : List ℕ → Module → Type 0
-IsModule text m = (length m.bodies ≡ length m.funcs) × (exactly magic ▸ exactly version ▸ front m ▸ middle m ▸ back m) text
+IsModule text m =
+    (length m.bodies ≡ length m.funcs) × (exactly magic ▸ exactly version ▸ front m ▸ middle m ▸ back m) text

@@ -1,3 +1,4 @@
+-- Definitions that the contracts cite.
 pub mod Leb
 pub mod Fields
 pub mod Parts

@@ -1,5 +1,7 @@
--- WebAssembly Core 1.0, "Binary Format", "Modules": sections in order, each filled, with custom sections anywhere between them.
-use Rattle.std.specs.Prelude.{ℕ, zero, suc, List, [], ◌∷◌, length, Option, Some, None, Result, Ok, Err, nat_lt, ◌==◌, if◌then◌else◌}
+-- WebAssembly Core 1.0, "Binary Format", "Modules": sections in order, each filled, with custom sections anywhere
+-- between them.
+use Rattle.std.specs.Prelude.{ℕ, zero, suc, List, [], ◌∷◌, length, Option, Some, None, Result, Ok, Err, nat_lt, ◌==◌}
+use Rattle.std.specs.Prelude.{if◌then◌else◌}
 use Rattle.std.specs.Str.{bytes_eq}
 use Rattle.nr_bytes.specs.Fields.{mapped, pair, items_at}
 use Rattle.nr_bytes.specs.Reading.{Input, past, ◌>>=◌}
@@ -14,7 +16,8 @@ use Rattle.nr_wasmtypes.specs.declared.module.Module.{Module}
 use Rattle.nr_wasmtypes.specs.Body.{Body}
 use Rattle.nr_wasmtypes.specs.Code.{Code}
 use Rattle.nr_wasmbin.specs.Fields.{Read, begins, u32_at, count_at, list_at, name_at, taken, sized_at, whole}
-use Rattle.nr_wasmbin.specs.Parts.{func_type_at, import_at, table_at, limits_at, global_at, export_at, element_at, segment_at, locals_at}
+use Rattle.nr_wasmbin.specs.Parts.{func_type_at, import_at, table_at, limits_at, global_at, export_at, element_at}
+use Rattle.nr_wasmbin.specs.Parts.{segment_at, locals_at}
 use Rattle.nr_wasmbin.specs.Expressions.{expression_at}
 use Rattle.nr_wasmbin.specs.declared.module.Front.{Front}
 use Rattle.nr_wasmbin.specs.declared.module.Middle.{Middle}
@@ -101,7 +104,9 @@ abbrev pub front_of : List FuncType × (List Import × List ℕ) → Front
 front_of f = record { types = f.0; imports = f.1.0; funcs = f.1.1 }
 
 unfoldable pub front_at : Input → Read Front
-front_at = mapped front_of (pair (section_at 1 (list_at func_type_at)) (pair (section_at 2 (list_at import_at)) (section_at 3 (list_at u32_at))))
+front_at =
+    mapped front_of (pair (section_at 1 (list_at func_type_at))
+    (pair (section_at 2 (list_at import_at)) (section_at 3 (list_at u32_at))))
 
 -- those from there to the code
 abbrev pub middle_of : List Limits × (List Limits × (List Global × (List Export × List Element))) → Middle
@@ -110,7 +115,8 @@ middle_of m = record { tables = m.0; memories = m.1.0; globals = m.1.1.0; export
 unfoldable pub middle_at : Input → Read Middle
 middle_at =
     mapped middle_of
-    (pair (section_at 4 (list_at table_at)) (pair (section_at 5 (list_at limits_at)) (pair (section_at 6 (list_at global_at))
+    (pair (section_at 4 (list_at table_at)) (pair (section_at 5 (list_at limits_at))
+    (pair (section_at 6 (list_at global_at))
     (pair (section_at 7 (list_at export_at)) (section_at 9 (list_at element_at))))))
 
 -- the code and the data, and the end

@@ -4,7 +4,8 @@ ghost use Rattle.std.specs.Prelude.{◌≡◌, ◌+◌, ◌<◌, ◌≤◌, ◌=
 ghost use Rattle.std.specs.Str.{is_utf8};
 ghost use Rattle.nr_bytes.specs.Answers.{GivesAs};
 ghost use Rattle.nr_bytes.specs.Reading.{past};
-ghost use Rattle.nr_wasmbin.specs.Fields.{Gives, begins, byte_at, u32_at, s32_at, s64_at, count_at, bytes_at, name_at, leb_fault, contents_at, sized_at, taken, filled};
+ghost use Rattle.nr_wasmbin.specs.Fields.{Gives, begins, byte_at, u32_at, s32_at, s64_at, count_at, bytes_at, name_at};
+ghost use Rattle.nr_wasmbin.specs.Fields.{leb_fault, contents_at, sized_at, taken, filled};
 ghost use Rattle.nr_wasmbin.specs.declared.fault.DecodeFault.TheVariants.{Memory};
 
 use crate::fault::DecodeFault;

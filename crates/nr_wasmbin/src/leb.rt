@@ -1,3 +1,5 @@
+//! Numbers in LEB128.
+
 ghost use Rattle.std.specs.Prelude.{◌≡◌, ◌≤◌, ◌<◌, ◌^◌, ℕ, List, ◌∷◌, length, IfOk};
 ghost use Rattle.nr_wasmbin.specs.Leb.{unsigned, signed};
 

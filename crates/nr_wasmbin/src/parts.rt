@@ -4,7 +4,10 @@ ghost use Rattle.std.specs.Prelude.{◌≡◌, ◌≤◌, ◌<◌, ◌∷◌, Ok
 ghost use Rattle.nr_bytes.specs.Answers.{GivesAs};
 ghost use Rattle.nr_bytes.specs.Reading.{Input};
 ghost use Rattle.nr_wasmbin.specs.Fields.{Gives, u32_at, byte_at, bytes_at};
-ghost use Rattle.nr_wasmbin.specs.Parts.{const_expr_at, constant_at, element_at, end_at, exact_at, export_at, export_kind_at, func_type_at, global_at, global_type_at, import_at, import_kind_at, limits_at, mutable_at, result_at, segment_at, table_at, val_type_at, val_type_of};
+ghost use Rattle.nr_wasmbin.specs.Parts.{const_expr_at, constant_at, element_at, end_at, exact_at, export_at};
+ghost use Rattle.nr_wasmbin.specs.Parts.{export_kind_at, func_type_at, global_at, global_type_at, import_at};
+ghost use Rattle.nr_wasmbin.specs.Parts.{import_kind_at, limits_at, mutable_at, result_at, segment_at, table_at};
+ghost use Rattle.nr_wasmbin.specs.Parts.{val_type_at, val_type_of};
 ghost use Rattle.nr_wasmbin.specs.declared.fault.DecodeFault.TheVariants.{Memory};
 
 use crate::cursor::Cursor;

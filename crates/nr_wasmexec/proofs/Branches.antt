@@ -31,7 +31,14 @@ landing_is : (have n : ℕ) (inner more values locals : List ℕ) (code : Code) 
 landing_is have n inner more values locals code around e =
     rw e (by_size (nat_lt (length inner) n) refl)
   where
-    by_size : (b : Bool) → nat_lt (length inner) n ≡ b → cond {A = Option Place} b None (Some (record { values = take n (inner ++ more) ++ values; code = code; locals = locals; contexts = around })) ≡ cond {A = Option Place} b None (Some (record { values = take n inner ++ values; code = code; locals = locals; contexts = around }))
+    by_size : (b : Bool) → nat_lt (length inner) n ≡ b
+        → cond {A = Option Place} b None (Some (record {
+          values = take n (inner ++ more) ++ values;
+          code = code;
+          locals = locals;
+          contexts = around;
+        })) ≡ cond {A = Option Place} b None
+        (Some (record { values = take n inner ++ values; code = code; locals = locals; contexts = around }))
     by_size true t = refl
     by_size false t = let le : n ≤ length inner = grind (arith) in rw take-append-le refl
 

@@ -1,3 +1,4 @@
+-- Lemmas behind the answers.
 pub mod Segments
 pub mod Branches
 pub mod Plugged

@@ -2,7 +2,11 @@
 use Rattle.std.proofs.Common.{◌≡◌, ℕ, zero, suc, ◌+◌, ◌≤◌, Bool, true, false, cond, List, [], ◌∷◌, ◌++◌, length, take, Option, Some, None, nat_lt, refl, sym, ap, subst, arith}
 use Rattle.nr_wasmtypes.specs.Code.{Code, End, after, begins}
 use Rattle.nr_wasmmem.specs.Meaning.{Answer, Gives, OutOfGas, Fails, HostMeaning, IsHost}
-use Rattle.nr_wasmexec.specs.Reduction.{Seq, Plain, Label, Frame, Stop, Trap, GasExceeded, HostFault, Effect, Goes, Writes, Opens, Invokes, Asks, Branches, Returns, Traps, Stuck, effect, Step, To, Over, Branching, Returning, Stopping, NoRule, Runtime, Rules, on_those, call_of, behind_call, answered, rewritten, left_over, in_label, in_frame, reduce, has_instr, frames_of, values_of, IsDead}
+use Rattle.nr_wasmexec.specs.Reduction.{Seq, Plain, Label, Frame, Stop, Trap, GasExceeded, HostFault, Effect, Goes}
+use Rattle.nr_wasmexec.specs.Reduction.{Writes, Opens, Invokes, Asks, Branches, Returns, Traps, Stuck, effect, Step, To}
+use Rattle.nr_wasmexec.specs.Reduction.{Over, Branching, Returning, Stopping, NoRule, Runtime, Rules, on_those, call_of}
+use Rattle.nr_wasmexec.specs.Reduction.{behind_call, answered, rewritten, left_over, in_label, in_frame, reduce}
+use Rattle.nr_wasmexec.specs.Reduction.{has_instr, frames_of, values_of, IsDead}
 use Rattle.nr_wasmexec.proofs.Branches.{some_is}
 use Rattle.nr_wasmexec.specs.Place.{Context, InLabel, InFrame, Place, plugged, whole_of, onward, branched, returned, left, arrived, Led, Leads, Halts, Nowhere, with_store, given, asked, led, frames_in, held_in}
 

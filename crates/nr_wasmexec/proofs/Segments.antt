@@ -147,7 +147,10 @@ cut_values k h ops within le =
     let e : length ops - k ≡ h + (length (drop h ops) - k) = omega arith in
     ap (λ m. reverse (drop h (take m ops))) e ∙ (ap reverse (drop-take h (length (drop h ops) - k) ops) ∙ sym (drop_reverse k (drop h ops) fits))
 
-pub cut_at : (k h m : ℕ) (ops ops' ls : List ℕ) (b : ℕ) (code : Code) (cs : List Control) (p : Place) → place_at ops ls h b code cs ≡ p → h ≤ length ops → k ≤ length p.values → m ≡ length ops → ops' ≡ take (m - k) ops → place_at ops' ls h b code cs ≡ record { values = drop k p.values; code = p.code; locals = p.locals; contexts = p.contexts }
+pub cut_at : (k h m : ℕ) (ops ops' ls : List ℕ) (b : ℕ) (code : Code) (cs : List Control) (p : Place)
+    → place_at ops ls h b code cs ≡ p → h ≤ length ops → k ≤ length p.values → m ≡ length ops
+    → ops' ≡ take (m - k) ops → place_at ops' ls h b code cs
+    ≡ record { values = drop k p.values; code = p.code; locals = p.locals; contexts = p.contexts }
 cut_at k h m ops ops' ls b code cs p is within held size shape =
     let held' : k ≤ length (reverse (drop h ops)) = subst (λ (p : Place). k ≤ length p.values) (sym is) held in
     let fits : k ≤ length ops - h = omega (arith, held', length-reverse (drop h ops), length-drop h ops) in
@@ -171,7 +174,10 @@ invoked_at k h m u ops ops' ls ls' more b n code body controls controls' at p is
     (rw (shape, shape', pushed, size, size', reverse-append controls (Frame h b n at ∷ []), nothing, all, drop-append_seam ls (drop (length ops - k) ops ++ more), take-append_seam ls (drop (length ops - k) ops ++ more), here, cut_values k h ops within fits, take_twice h (length ops - k) ops short inside, args) refl)
 
 -- a local of the innermost frame
-pub local_set_at : (n v m : ℕ) (ops ls : List ℕ) (h b : ℕ) (code : Code) (cs : List Control) (p : Place) → place_at ops ls h b code cs ≡ p → b ≤ length ls → m ≡ length ls → n < m - b → (n < length p.locals) × (place_at ops (set ls (b + n) v) h b code cs ≡ record { values = p.values; code = p.code; locals = slice_set p.locals n v; contexts = p.contexts })
+pub local_set_at : (n v m : ℕ) (ops ls : List ℕ) (h b : ℕ) (code : Code) (cs : List Control) (p : Place)
+    → place_at ops ls h b code cs ≡ p → b ≤ length ls → m ≡ length ls → n < m - b → (n < length p.locals)
+    × (place_at ops (set ls (b + n) v) h b code cs
+    ≡ record { values = p.values; code = p.code; locals = slice_set p.locals n v; contexts = p.contexts })
 local_set_at n v m ops ls h b code cs p is within size inside =
     let len : length (drop b ls) ≡ length ls - b = length-drop b ls in
     let here : n < length (drop b ls) = omega arith in

@@ -27,7 +27,12 @@ use Rattle.nr_wasmmem.specs.Bytes.{MemoryView, width_of_load, width_of_store, nu
 use Rattle.nr_wasmmem.specs.Meaning.{Answer, Gives, OutOfGas, Fails, HostMeaning, IsResult, IsHost}
 use Rattle.nr_wasmexec.specs.declared.program.Program.{Program}
 use Rattle.nr_wasmexec.specs.Functions.{Func, Hosted, Coded, sig_of, func_at}
-use Rattle.nr_wasmexec.specs.Reduction.{Plain, Frame, Trap, GasExceeded, Effect, Goes, Writes, Opens, Invokes, Asks, Branches, Returns, Traps, Stuck, with_value, computed, place_at, with_memory, read, written, grows, chosen, asks, called, called_as, called_at, plain_effect, effect, Step, To, Over, Branching, Returning, Stopping, NoRule, Runtime, Rules, call_of, behind_call, reduce, has_instr, is_too_large, paid, stepped, Config, Outcome, Halted, NeverFits, turn, runs, run_in, run_by}
+use Rattle.nr_wasmexec.specs.Reduction.{Plain, Frame, Trap, GasExceeded, Effect, Goes, Writes, Opens, Invokes, Asks}
+use Rattle.nr_wasmexec.specs.Reduction.{Branches, Returns, Traps, Stuck, with_value, computed, place_at, with_memory}
+use Rattle.nr_wasmexec.specs.Reduction.{read, written, grows, chosen, asks, called, called_as, called_at, plain_effect}
+use Rattle.nr_wasmexec.specs.Reduction.{effect, Step, To, Over, Branching, Returning, Stopping, NoRule, Runtime, Rules}
+use Rattle.nr_wasmexec.specs.Reduction.{call_of, behind_call, reduce, has_instr, is_too_large, paid, stepped, Config}
+use Rattle.nr_wasmexec.specs.Reduction.{Outcome, Halted, NeverFits, turn, runs, run_in, run_by}
 use Rattle.nr_wasmexec.specs.Place as place
 use Rattle.nr_wasmexec.specs.Place.{Place, InLabel, InFrame, whole_of, onward, branched, returned, left, arrived, Led, Leads, Halts, Nowhere, with_store, given, asked, led}
 use Rattle.nr_wasmexec.specs.Making.{is_method}
@@ -159,7 +164,11 @@ module _ (safe : (c : Context) (bs : List Open) (ts : List ValType) → NeverStu
         rw b (d, below, record { sigs = refl; funcs = refl; globals = refl; labels = refl }, one_arity sig.result, own, left_is, starts d fn_body.code (sound.fits f (Coded sig fn_body) at), k)
 
     -- a call that the table leads to
-    indirect_fits : (guest : Guest) → IsGuest p guest → (t : ℕ) (s : FuncType) (below : List ValType) (values : List ℕ) → slice_get c.types t ≡ Some s → length values ≡ length (reverse s.params ++ below) → GoesOn c bs rest (types s.result ++ below) → (k : ℕ) (o : Option (Option ℕ)) → slice_get guest.table k ≡ o → EffectFits p c bs rest (called_at p values t o)
+    indirect_fits : (guest : Guest) → IsGuest p guest
+        → (t : ℕ) (s : FuncType) (below : List ValType) (values : List ℕ) → slice_get c.types t ≡ Some s
+        → length values ≡ length (reverse s.params ++ below) → GoesOn c bs rest (types s.result ++ below)
+        → (k : ℕ) (o : Option (Option ℕ)) → slice_get guest.table k ≡ o
+        → EffectFits p c bs rest (called_at p values t o)
     indirect_fits guest whole t s below values at h go k None e = tt
     indirect_fits guest whole t s below values at h go k (Some None) e = tt
     indirect_fits guest whole t s below values at h go k (Some (Some f)) e =
@@ -335,7 +344,10 @@ stands : (prog : Program) (p : Place) (c : Context) (bs : List Open) (ts : List 
 stands prog p c bs ts body size h around = inr (c, bs, ts, body, size, h, around)
 
 -- where a frame is left, with operands of its result
-frame_left : (prog : Program) (c : Context) (values outer : List ℕ) (code : Code) (around : List place.Context) (more : List ℕ) (n : ℕ) (own : List ℕ) → Round prog c [] own (InFrame values n outer code ∷ around) → (below : List ValType) → length values ≡ length below → length more ≡ length (types c.result ++ below) → Stands prog (record { values = more; code = code; locals = outer; contexts = around })
+frame_left : (prog : Program) (c : Context) (values outer : List ℕ) (code : Code) (around : List place.Context)
+    (more : List ℕ) (n : ℕ) (own : List ℕ) → Round prog c [] own (InFrame values n outer code ∷ around)
+    → (below : List ValType) → length values ≡ length below → length more ≡ length (types c.result ++ below)
+    → Stands prog (record { values = more; code = code; locals = outer; contexts = around })
 frame_left prog c values outer code around more n own r below size e = by_round r.2
   where
     by_round : ((around ≡ []) × (code ≡ End)) ⊎ ((d : Context) × (bs : List Open) × (ts : List ValType) × IsBody prog d × (length values ≡ length ts) × GoesOn d bs code (types c.result ++ ts) × Round prog d bs outer around) → Stands prog (record { values = more; code = code; locals = outer; contexts = around })
@@ -369,7 +381,11 @@ module _ {S : Type 0} (prog : Program) where
       let all : length (take n inner ++ values) ≡ length (label ++ below) = omega (arith, e, size', length-take-le n inner le, length-append (take n inner) values, length-append label below) in
       rw (enough n (length inner) le) (whole, go (take n inner ++ values) all)
 
-  branch_fits : (s : Runtime S) → IsGuest prog s.guest → (c : Context) (body : IsBody prog c) (around : List place.Context) (bs : List Open) (depth : ℕ) (inner locals : List ℕ) (label : Types?) (others : List ValType) → length locals ≡ length c.locals → length inner ≡ length (types label ++ others) → law.Branches c bs depth label → Round prog c bs locals around → LedFits prog (with_store s (arrived (branched depth inner locals around)))
+  branch_fits : (s : Runtime S) → IsGuest prog s.guest
+      → (c : Context) (body : IsBody prog c) (around : List place.Context) (bs : List Open) (depth : ℕ)
+      (inner locals : List ℕ) (label : Types?) (others : List ValType) → length locals ≡ length c.locals
+      → length inner ≡ length (types label ++ others) → law.Branches c bs depth label → Round prog c bs locals around
+      → LedFits prog (with_store s (arrived (branched depth inner locals around)))
   branch_fits s whole c body [] bs depth inner locals label others sized size b r = absurd r
   branch_fits s whole c body (InLabel values n target code ∷ around) [] depth inner locals label others sized size b r = absurd r
   branch_fits s whole c body (InFrame values n outer code ∷ around) (o ∷ bs) depth inner locals label others sized size b r = absurd r
@@ -401,7 +417,10 @@ module _ {S : Type 0} (prog : Program) where
   asked_fits s whole ty OutOfGas p c bs ts is body size h r = tt
   asked_fits s whole ty (Fails k) p c bs ts is body size h r = tt
 
-  led_fits : (m : HostMeaning S) (host_law : IsHost m) (s : Runtime S) → IsGuest prog s.guest → (c : Context) (bs : List Open) (locals : List ℕ) (code : Code) (around : List place.Context) (e : Effect) → IsBody prog c → length locals ≡ length c.locals → Round prog c bs locals around → EffectFits prog c bs code e → LedFits prog (led m s locals code around e)
+  led_fits : (m : HostMeaning S) (host_law : IsHost m) (s : Runtime S) → IsGuest prog s.guest
+      → (c : Context) (bs : List Open) (locals : List ℕ) (code : Code) (around : List place.Context) (e : Effect)
+      → IsBody prog c → length locals ≡ length c.locals → Round prog c bs locals around → EffectFits prog c bs code e
+      → LedFits prog (led m s locals code around e)
   led_fits m host_law s whole c bs locals code around (Goes own values) body sized r f =
       (whole, stands prog (record { values = values; code = code; locals = own; contexts = around }) c bs f.1 body f.2 f.3 (reround prog c around bs locals own f.0 r))
   led_fits m host_law s whole c bs locals code around (Writes guest values) body sized r f =
@@ -411,7 +430,11 @@ module _ {S : Type 0} (prog : Program) where
   led_fits m host_law s whole c bs locals code around (Invokes values n own inner) body sized r f =
       (whole, stands prog (record { values = []; code = inner; locals = own; contexts = InFrame values n locals code ∷ around }) f.0 [] [] f.2 refl f.6 (f.3, f.4, inr (c, bs, f.1, body, f.5, f.7, r)))
   led_fits m host_law s whole c bs locals code around (Asks name args values) body sized r f =
-      asked_fits (behind_call s (call_of m s name args).store) (record { globals = whole.globals; table = whole.table }) (host_type name).result (call_of m s name args).answer (record { values = values; code = code; locals = locals; contexts = around }) c bs f.0 (host_law.result (record { host = s.host; memory = s.guest.memory.bytes }) name args) body f.1 f.2 r
+      asked_fits (behind_call s (call_of m s name args).store)
+      (record { globals = whole.globals; table = whole.table }) (host_type name).result
+      (call_of m s name args).answer (record { values = values; code = code; locals = locals; contexts = around })
+      c bs f.0 (host_law.result (record { host = s.host; memory = s.guest.memory.bytes }) name args) body f.1 f.2
+      r
   led_fits m host_law s whole c bs locals code around (Branches depth values) body sized r f =
       branch_fits s whole c body around bs depth values locals f.0 f.1 sized f.2 f.3 r
   led_fits m host_law s whole c bs locals code around (Returns values) body sized r f = return_fits s whole c around bs values locals f.0 f.1 r
@@ -451,7 +474,10 @@ module _ (safe : (c : Context) (bs : List Open) (ts : List ValType) → NeverStu
       (effect_fits safe starts w.program sound s.guest whole x.0 x.1 p.code x.2 p.locals p.values x.3 sized x.4 x.5 e))
 
   -- the end of a sequence
-  left_fits : (s : Runtime S) → IsGuest w.program s.guest → (p : Place) (c : Context) (bs : List Open) (ts : List ValType) (around : List place.Context) → p.code ≡ End → p.contexts ≡ around → IsBody w.program c → length p.values ≡ length ts → GoesOn c bs End ts → Round w.program c bs p.locals around → StepFits w.program (reduce w s (whole_of p).0 (whole_of p).1)
+  left_fits : (s : Runtime S) → IsGuest w.program s.guest
+      → (p : Place) (c : Context) (bs : List Open) (ts : List ValType) (around : List place.Context) → p.code ≡ End
+      → p.contexts ≡ around → IsBody w.program c → length p.values ≡ length ts → GoesOn c bs End ts
+      → Round w.program c bs p.locals around → StepFits w.program (reduce w s (whole_of p).0 (whole_of p).1)
   left_fits s whole p c bs ts [] e f body size h r = absurd r
   left_fits s whole p c [] ts (InLabel values n target code ∷ around) e f body size h r = absurd r
   left_fits s whole p c (o ∷ bs) ts (InFrame values n outer code ∷ around) e f body size h r = absurd r

@@ -1,5 +1,6 @@
 -- Of this project's own: what the calls that run an instruction answer.
-use Rattle.std.specs.Prelude.{◌≡◌, ℕ, Bool, true, false, ◌<◌, ◌≤◌, List, [], ◌∷◌, length, slice_set, Option, Some, None, Result, Ok, Err}
+use Rattle.std.specs.Prelude.{◌≡◌, ℕ, Bool, true, false, ◌<◌, ◌≤◌, List, [], ◌∷◌, length, slice_set, Option, Some, None}
+use Rattle.std.specs.Prelude.{Result, Ok, Err}
 use Rattle.nr_wasmtypes.specs.Code.{after}
 use Rattle.nr_wasmmem.specs.Meaning.{HostMeaning}
 use Rattle.nr_wasmexec.specs.declared.stop.Stop.{Stop}
@@ -40,7 +41,8 @@ with_guest guest Lost = Missing
 with_guest guest Elsewhere = Called
 
 abbrev pub changed : Guest → Place → Effect → Change
-changed guest p (Writes new values) = Becomes new (record { values = values; code = after p.code; locals = p.locals; contexts = p.contexts })
+changed guest p (Writes new values) =
+    Becomes new (record { values = values; code = after p.code; locals = p.locals; contexts = p.contexts })
 changed guest p e = with_guest guest (by p e)
 
 -- A call changes the guest so, unless memory runs out; a trap leaves the guest as it was.

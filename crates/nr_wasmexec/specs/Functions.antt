@@ -1,5 +1,6 @@
 -- WebAssembly Core 1.0, "Function Instances": the functions of a program by number, those of the host first.
-use Rattle.std.specs.Prelude.{ℕ, ◌-◌, nat_lt, if◌then◌else◌, List, length, Option, Some, None, option_and_then, slice_get}
+use Rattle.std.specs.Prelude.{ℕ, ◌-◌, nat_lt, if◌then◌else◌, List, length, Option, Some, None, option_and_then}
+use Rattle.std.specs.Prelude.{slice_get}
 use Rattle.std.specs.List.{filter_map}
 use Rattle.nr_wasmtypes.specs.declared.host.HostFn.{HostFn}
 use Rattle.nr_wasmtypes.specs.declared.module.FuncType.{FuncType}
@@ -52,4 +53,6 @@ own_func m k = coded (option_and_then (λ t. slice_get m.types t) (slice_get m.f
 
 -- the function with this number
 abbrev pub func_at : Program → ℕ → Option Func
-func_at p f = if nat_lt f (length p.hosts) then host_func p.code.types (slice_get p.hosts f) else own_func p.code (f - length p.hosts)
+func_at p f =
+    if nat_lt f (length p.hosts) then host_func p.code.types (slice_get p.hosts f) else own_func p.code
+    (f - length p.hosts)

@@ -1,3 +1,4 @@
+-- Definitions that the contracts cite.
 pub mod Functions
 pub mod Reduction
 pub mod Place

@@ -1,5 +1,6 @@
 -- Of this project's own: what the calls of a machine answer.
-use Rattle.std.specs.Prelude.{◌≡◌, ◌≢◌, ℕ, ◌+◌, ◌*◌, Bool, true, false, ◌||◌, nat_lt, List, length, Option, Some, None, Result, Ok, Err}
+use Rattle.std.specs.Prelude.{◌≡◌, ◌≢◌, ℕ, ◌+◌, ◌*◌, Bool, true, false, ◌||◌, nat_lt, List, length, Option, Some, None}
+use Rattle.std.specs.Prelude.{Result, Ok, Err}
 use Rattle.nr_wasmexec.specs.declared.stop.Stop.{Stop}
 use Rattle.nr_wasmexec.specs.declared.stop.Stop.TheVariants as stop
 use Rattle.nr_wasmexec.specs.declared.program.Limits.{Limits}
@@ -8,17 +9,26 @@ use Rattle.nr_wasmexec.specs.declared.stop.RunStop.TheVariants as end
 use Rattle.nr_wasmmem.specs.Meaning.{HostMeaning}
 use Rattle.nr_wasmmem.specs.declared.guest.Guest.{Guest}
 use Rattle.nr_wasmexec.specs.declared.program.Program.{Program}
-use Rattle.nr_wasmexec.specs.Reduction.{Trap, GasExceeded, HostFault, Step, To, Over, Stopping, IsDead, frames_of, values_of, turn, runs, Runtime, Rules, Config, Outcome, Done, Halted, NeverFits}
+use Rattle.nr_wasmexec.specs.Reduction.{Trap, GasExceeded, HostFault, Step, To, Over, Stopping, IsDead, frames_of}
+use Rattle.nr_wasmexec.specs.Reduction.{values_of, turn, runs, Runtime, Rules, Config, Outcome, Done, Halted, NeverFits}
 use Rattle.nr_wasmexec.specs.Place.{Place, whole_of}
 
 abbrev pub rules_of : {S : Type 0} → HostMeaning S → Program → Limits → Rules S
-rules_of m program limits = record { host = m; program = program; cost = limits.cost; max_frames = limits.max_frames; max_values = limits.max_values }
+rules_of m program limits =
+    record {
+      host = m;
+      program = program;
+      cost = limits.cost;
+      max_frames = limits.max_frames;
+      max_values = limits.max_values;
+    }
 
 abbrev pub runtime : {S : Type 0} → S → Guest → Runtime S
 runtime host guest = record { host = host; guest = guest }
 
 abbrev pub config_of : {S : Type 0} → S → Guest → Place → Config S
-config_of host guest p = record { store = record { host = host; guest = guest }; locals = (whole_of p).0; seq = (whole_of p).1 }
+config_of host guest p =
+    record { store = record { host = host; guest = guest }; locals = (whole_of p).0; seq = (whole_of p).1 }
 
 -- An instruction's step.
 abbrev pub Steps : {S : Type 0} → Result (Unit {0}) Stop → S → Guest → Place → Step S → Type 0
@@ -44,7 +54,8 @@ abbrev pub work_left : {S : Type 0} → HostMeaning S → S → Place → ℕ
 work_left m host p = 2 * m.gas host + length p.contexts
 
 abbrev pub is_too_large_at : ℕ → ℕ → Place → Bool
-is_too_large_at frames values p = nat_lt frames (frames_of (whole_of p).1) || nat_lt values (values_of (whole_of p).1 + length (whole_of p).0)
+is_too_large_at frames values p =
+    nat_lt frames (frames_of (whole_of p).1) || nat_lt values (values_of (whole_of p).1 + length (whole_of p).0)
 
 -- the run from a place
 abbrev pub run_at : {S : Type 0} → Rules S → Runtime S → Place → ℕ → Outcome S
@@ -55,7 +66,8 @@ abbrev pub Drives : {S : Type 0} → Result (Unit {0}) Stop → S → Guest → 
 Drives (Ok u) host guest outcome = (n : ℕ) × (outcome n ≡ Done (runtime host guest))
 Drives (Err (stop.Trap kind)) host guest outcome = (n : ℕ) × (outcome n ≡ Halted (runtime host guest) (Trap kind))
 Drives (Err stop.GasExceeded) host guest outcome = (n : ℕ) × (outcome n ≡ Halted (runtime host guest) GasExceeded)
-Drives (Err (stop.HostFault kind)) host guest outcome = (n : ℕ) × (outcome n ≡ Halted (runtime host guest) (HostFault kind))
+Drives (Err (stop.HostFault kind)) host guest outcome =
+    (n : ℕ) × (outcome n ≡ Halted (runtime host guest) (HostFault kind))
 Drives (Err stop.Lost) host guest outcome = (n : ℕ) × (outcome n ≡ NeverFits)
 Drives (Err stop.Memory) host guest outcome = Unit {0}
 
@@ -64,7 +76,8 @@ abbrev pub Ends : {S : Type 0} → Result (Unit {0}) RunStop → S → Guest →
 Ends (Ok u) host guest outcome = (n : ℕ) × (outcome n ≡ Done (runtime host guest))
 Ends (Err (end.Trap kind)) host guest outcome = (n : ℕ) × (outcome n ≡ Halted (runtime host guest) (Trap kind))
 Ends (Err end.GasExceeded) host guest outcome = (n : ℕ) × (outcome n ≡ Halted (runtime host guest) GasExceeded)
-Ends (Err (end.HostFault kind)) host guest outcome = (n : ℕ) × (outcome n ≡ Halted (runtime host guest) (HostFault kind))
+Ends (Err (end.HostFault kind)) host guest outcome =
+    (n : ℕ) × (outcome n ≡ Halted (runtime host guest) (HostFault kind))
 Ends (Err end.Memory) host guest outcome = Unit {0}
 
 -- it never comes to code that no rule fits

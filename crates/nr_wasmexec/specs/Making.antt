@@ -1,6 +1,9 @@
--- WebAssembly Core 1.0, "Instantiation" and "Invocation": the guest of a module before its first run, with its elements and
+-- WebAssembly Core 1.0, "Instantiation" and "Invocation": the guest of a module before its first run, with its
+-- elements and
 -- segments, and the functions that may be run by name.
-use Rattle.std.specs.Prelude.{◌≡◌, ℕ, ◌+◌, ◌≤◌, nat_le, nat_eq, if◌then◌else◌, Bool, false, not, ◌&&◌, List, [], ◌∷◌, length, map, min, replicate, find, Option, Some, None, is_some, option_and_then, Result, Ok, Err, slice_get, slice_set}
+use Rattle.std.specs.Prelude.{◌≡◌, ℕ, ◌+◌, ◌≤◌, nat_le, nat_eq, if◌then◌else◌, Bool, false, not, ◌&&◌, List, [], ◌∷◌}
+use Rattle.std.specs.Prelude.{length, map, min, replicate, find, Option, Some, None, is_some, option_and_then, Result}
+use Rattle.std.specs.Prelude.{Ok, Err, slice_get, slice_set}
 use Rattle.std.specs.Str.{bytes_eq}
 use Rattle.nr_config.specs.Config.{Config, regular_op_cost, max_pages, max_call_depth, max_stack_values}
 use Rattle.nr_wasmtypes.specs.declared.module.ConstExpr.{ConstExpr}
@@ -74,11 +77,13 @@ segment_into globals bytes s = put_over bytes (constant_of globals s.offset) s.b
 abbrev pub guest_with : List ℕ → ℕ → Option (List (Option ℕ)) → Option (List ℕ) → Option Guest
 guest_with globals most None bytes = None
 guest_with globals most (Some table) None = None
-guest_with globals most (Some table) (Some bytes) = Some (record { memory = record { bytes = bytes; most = most }; globals = globals; table = table })
+guest_with globals most (Some table) (Some bytes) =
+    Some (record { memory = record { bytes = bytes; most = most }; globals = globals; table = table })
 
 abbrev pub guest_over : List ℕ → MemoryView → Module → Option Guest
 guest_over globals memory m =
-    guest_with globals memory.most (all_into (element_into globals) (replicate (entries_of m.tables) None) m.elements) (all_into (segment_into globals) memory.bytes m.segments)
+    guest_with globals memory.most (all_into (element_into globals) (replicate (entries_of m.tables) None) m.elements)
+    (all_into (segment_into globals) memory.bytes m.segments)
 
 -- for a configuration that allows so many pages
 abbrev pub first_guest : ℕ → Module → Option Guest

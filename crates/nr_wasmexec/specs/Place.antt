@@ -1,8 +1,11 @@
 -- Of this project's own: where a thread stands in its code: the innermost sequence, and what stands round it.
-use Rattle.std.specs.Prelude.{ℕ, zero, suc, nat_lt, if◌then◌else◌, ◌+◌, List, [], ◌∷◌, ◌++◌, length, take, Option, Some, None}
+use Rattle.std.specs.Prelude.{ℕ, zero, suc, nat_lt, if◌then◌else◌, ◌+◌, List, [], ◌∷◌, ◌++◌, length, take, Option, Some}
+use Rattle.std.specs.Prelude.{None}
 use Rattle.nr_wasmtypes.specs.Code.{Code}
 use Rattle.nr_wasmmem.specs.Meaning.{Answer, Gives, OutOfGas, Fails, HostMeaning}
-use Rattle.nr_wasmexec.specs.Reduction.{Seq, Plain, Label, Frame, Stop, Trap, GasExceeded, HostFault, Effect, Goes, Writes, Opens, Invokes, Asks, Branches, Returns, Traps, Stuck, Runtime, call_of, behind_call, on_those}
+use Rattle.nr_wasmexec.specs.Reduction.{Seq, Plain, Label, Frame, Stop, Trap, GasExceeded, HostFault, Effect, Goes}
+use Rattle.nr_wasmexec.specs.Reduction.{Writes, Opens, Invokes, Asks, Branches, Returns, Traps, Stuck, Runtime, call_of}
+use Rattle.nr_wasmexec.specs.Reduction.{behind_call, on_those}
 
 -- what stands round a sequence
 pub data Context : Type 0 where
@@ -29,7 +32,8 @@ whole_of p = plugged p.contexts p.locals (Plain p.values p.code)
 -- on with so many operands of the inner sequence, or none where it has fewer
 abbrev pub onward : ℕ → List ℕ → List ℕ → List ℕ → Code → List Context → Option Place
 onward n inner values locals code around =
-    if nat_lt (length inner) n then None else Some (record { values = take n inner ++ values; code = code; locals = locals; contexts = around })
+    if nat_lt (length inner) n then None else Some
+    (record { values = take n inner ++ values; code = code; locals = locals; contexts = around })
 
 -- out of so many labels and one more
 abbrev pub branched : ℕ → List ℕ → List ℕ → List Context → Option Place
@@ -48,7 +52,12 @@ returned inner locals (InFrame values n outer code ∷ around) = onward n inner 
 -- the last step of both, where so many of the operands are of the innermost sequence
 abbrev pub landing : ℕ → ℕ → List ℕ → List ℕ → List ℕ → Code → List Context → Option Place
 landing have n inner values locals code around =
-    if nat_lt have n then None else Some (record { values = take n inner ++ values; code = code; locals = locals; contexts = around })
+    if nat_lt have n then None else Some (record {
+      values = take n inner ++ values;
+      code = code;
+      locals = locals;
+      contexts = around;
+    })
 
 abbrev pub landed : ℕ → List ℕ → List ℕ → List Context → Option Place
 landed have inner locals [] = None
@@ -58,14 +67,17 @@ landed have inner locals (InFrame values n outer code ∷ around) = landing have
 -- out of a label, with all operands, and with the code as it was
 abbrev pub out_of_label : Place → List Context → Option Place
 out_of_label p [] = None
-out_of_label p (InLabel values n again code ∷ around) = Some (record { values = p.values ++ values; code = p.code; locals = p.locals; contexts = around })
+out_of_label p (InLabel values n again code ∷ around) =
+    Some (record { values = p.values ++ values; code = p.code; locals = p.locals; contexts = around })
 out_of_label p (InFrame values n outer code ∷ around) = None
 
 -- out of a sequence that is over, with all its operands
 abbrev pub left : Place → List Context → Option Place
 left p [] = None
-left p (InLabel values n again code ∷ around) = Some (record { values = p.values ++ values; code = code; locals = p.locals; contexts = around })
-left p (InFrame values n outer code ∷ around) = Some (record { values = p.values ++ values; code = code; locals = outer; contexts = around })
+left p (InLabel values n again code ∷ around) =
+    Some (record { values = p.values ++ values; code = code; locals = p.locals; contexts = around })
+left p (InFrame values n outer code ∷ around) =
+    Some (record { values = p.values ++ values; code = code; locals = outer; contexts = around })
 
 -- where an effect leads that changes neither the guest nor the host
 pub data Move : Type 0 where
@@ -81,10 +93,13 @@ arrived (Some p) = At p
 
 -- from a place whose next instruction has this effect; `code` is what follows it
 abbrev pub moved : List ℕ → Code → List Context → Effect → Move
-moved locals code around (Goes own values) = At (record { values = values; code = code; locals = own; contexts = around })
+moved locals code around (Goes own values) =
+    At (record { values = values; code = code; locals = own; contexts = around })
 moved locals code around (Writes guest values) = Elsewhere
-moved locals code around (Opens values n again body) = At (record { values = []; code = body; locals = locals; contexts = InLabel values n again code ∷ around })
-moved locals code around (Invokes values n own body) = At (record { values = []; code = body; locals = own; contexts = InFrame values n locals code ∷ around })
+moved locals code around (Opens values n again body) =
+    At (record { values = []; code = body; locals = locals; contexts = InLabel values n again code ∷ around })
+moved locals code around (Invokes values n own body) =
+    At (record { values = []; code = body; locals = own; contexts = InFrame values n locals code ∷ around })
 moved locals code around (Asks name args values) = Elsewhere
 moved locals code around (Branches depth values) = arrived (branched depth values locals around)
 moved locals code around (Returns values) = arrived (returned values locals around)
@@ -114,7 +129,8 @@ asked s (Fails kind) p = Halts s (HostFault kind)
 
 abbrev pub led : {S : Type 0} → HostMeaning S → Runtime S → List ℕ → Code → List Context → Effect → Led S
 led m s locals code around (Asks name args values) =
-    asked (behind_call s (call_of m s name args).store) (call_of m s name args).answer (record { values = values; code = code; locals = locals; contexts = around })
+    asked (behind_call s (call_of m s name args).store) (call_of m s name args).answer
+    (record { values = values; code = code; locals = locals; contexts = around })
 led m s locals code around (Writes guest values) =
     Leads (record s { guest = guest }) (record { values = values; code = code; locals = locals; contexts = around })
 led m s locals code around e = with_store s (moved locals code around e)

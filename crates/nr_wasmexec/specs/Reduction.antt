@@ -1,6 +1,10 @@
--- WebAssembly Core 1.0, "Execution", "Instructions": running code by rewriting sequences of instructions, one row for each
--- instruction. The numbers of traps, gas and limits are this project's own: an instruction is paid for before its effect.
-use Rattle.std.specs.Prelude.{ℕ, zero, suc, ◌+◌, ◌-◌, ◌%◌, ◌^◌, ◌==◌, nat_lt, Bool, ◌||◌, if◌then◌else◌, List, [], ◌∷◌, ◌++◌, length, take, drop, reverse, replicate, Option, Some, None, Result, Ok, Err, slice_get, slice_set}
+-- WebAssembly Core 1.0, "Execution", "Instructions": running code by rewriting sequences of instructions, one row for
+-- each
+-- instruction. The numbers of traps, gas and limits are this project's own: an instruction is paid for before its
+-- effect.
+use Rattle.std.specs.Prelude.{ℕ, zero, suc, ◌+◌, ◌-◌, ◌%◌, ◌^◌, ◌==◌, nat_lt, Bool, ◌||◌, if◌then◌else◌, List, [], ◌∷◌}
+use Rattle.std.specs.Prelude.{◌++◌, length, take, drop, reverse, replicate, Option, Some, None, Result, Ok, Err}
+use Rattle.std.specs.Prelude.{slice_get, slice_set}
 use Rattle.nr_wasmtypes.specs.declared.instr.Plain.{Plain as Op}
 use Rattle.nr_wasmtypes.specs.declared.instr.Plain.TheVariants as op
 use Rattle.nr_wasmtypes.specs.declared.host.HostFn.{HostFn}
@@ -112,15 +116,19 @@ chosen (Some label) other = label
 
 -- a call: the arguments leave the operands
 abbrev pub asks : List ℕ → HostFn → ℕ → Effect
-asks values name params = if nat_lt (length values) params then Stuck else Asks name (reverse (take params values)) (drop params values)
+asks values name params =
+    if nat_lt (length values) params then Stuck else Asks name (reverse (take params values)) (drop params values)
 
 abbrev pub invoked : List ℕ → ℕ → ℕ → ℕ → Code → Effect
-invoked values params more arity body = if nat_lt (length values) params then Stuck else Invokes (drop params values) arity (reverse (take params values) ++ replicate more 0) body
+invoked values params more arity body =
+    if nat_lt (length values) params then Stuck else Invokes (drop params values) arity
+    (reverse (take params values) ++ replicate more 0) body
 
 abbrev pub called : List ℕ → Option Func → Effect
 called values None = Stuck
 called values (Some (Hosted sig name)) = asks values name (length (host_type name).params)
-called values (Some (Coded sig body)) = invoked values (length sig.params) (length body.locals) (arity_of sig.result) body.code
+called values (Some (Coded sig body)) =
+    invoked values (length sig.params) (length body.locals) (arity_of sig.result) body.code
 
 -- a function of the table, where it has the type that the call states
 abbrev pub called_as : List ℕ → Option FuncType → Option Func → Effect
@@ -138,28 +146,41 @@ abbrev pub plain_effect : Program → Guest → List ℕ → List ℕ → Op →
 plain_effect p guest locals values op.Unreachable = Traps 1
 plain_effect p guest locals values op.Nop = Goes locals values
 plain_effect p guest locals values (op.Br depth) = Branches depth values
-plain_effect p guest locals values (op.BrIf depth) = on_top values (λ v rest. if v == 0 then Goes locals rest else Branches depth rest)
-plain_effect p guest locals values (op.BrTable table) = on_top values (λ v rest. Branches (chosen (slice_get table.0 v) table.1) rest)
+plain_effect p guest locals values (op.BrIf depth) =
+    on_top values (λ v rest. if v == 0 then Goes locals rest else Branches depth rest)
+plain_effect p guest locals values (op.BrTable table) =
+    on_top values (λ v rest. Branches (chosen (slice_get table.0 v) table.1) rest)
 plain_effect p guest locals values op.Return = Returns values
 plain_effect p guest locals values (op.Call f) = called values (func_at p f)
-plain_effect p guest locals values (op.CallIndirect t) = on_top values (λ v rest. called_at p rest t (slice_get guest.table v))
+plain_effect p guest locals values (op.CallIndirect t) =
+    on_top values (λ v rest. called_at p rest t (slice_get guest.table v))
 plain_effect p guest locals values op.Drop = on_top values (λ v rest. Goes locals rest)
-plain_effect p guest locals values op.Select = on_three values (λ x y v rest. Goes locals ((if v == 0 then y else x) ∷ rest))
+plain_effect p guest locals values op.Select =
+    on_three values (λ x y v rest. Goes locals ((if v == 0 then y else x) ∷ rest))
 plain_effect p guest locals values (op.LocalGet n) = with_value (slice_get locals n) (λ v. Goes locals (v ∷ values))
-plain_effect p guest locals values (op.LocalSet n) = on_top values (λ v rest. if nat_lt n (length locals) then Goes (slice_set locals n v) rest else Stuck)
-plain_effect p guest locals values (op.LocalTee n) = on_top values (λ v rest. if nat_lt n (length locals) then Goes (slice_set locals n v) values else Stuck)
-plain_effect p guest locals values (op.GlobalGet n) = with_value (slice_get guest.globals n) (λ v. Goes locals (v ∷ values))
-plain_effect p guest locals values (op.GlobalSet n) = on_top values (λ v rest. if nat_lt n (length guest.globals) then Writes (record guest { globals = slice_set guest.globals n v }) rest else Stuck)
+plain_effect p guest locals values (op.LocalSet n) =
+    on_top values (λ v rest. if nat_lt n (length locals) then Goes (slice_set locals n v) rest else Stuck)
+plain_effect p guest locals values (op.LocalTee n) =
+    on_top values (λ v rest. if nat_lt n (length locals) then Goes (slice_set locals n v) values else Stuck)
+plain_effect p guest locals values (op.GlobalGet n) =
+    with_value (slice_get guest.globals n) (λ v. Goes locals (v ∷ values))
+plain_effect p guest locals values (op.GlobalSet n) =
+    on_top values (λ v rest. if nat_lt n (length guest.globals) then Writes
+    (record guest { globals = slice_set guest.globals n v }) rest else Stuck)
 plain_effect p guest locals values (op.Load what align offset) = on_top values (λ at rest. read (number_in guest.memory.bytes (place_at at offset) (width_of_load what)) (λ v. Goes locals (load_of what v ∷ rest)))
 plain_effect p guest locals values (op.Store what align offset) = on_two values (λ at v rest. written guest (number_over guest.memory.bytes (place_at at offset) (width_of_store what) v) rest)
 plain_effect p guest locals values op.MemorySize = Goes locals (pages_of guest.memory.bytes ∷ values)
-plain_effect p guest locals values op.MemoryGrow = on_top values (λ v rest. grows guest (grown guest.memory (v % 2 ^ 32)) rest)
+plain_effect p guest locals values op.MemoryGrow =
+    on_top values (λ v rest. grows guest (grown guest.memory (v % 2 ^ 32)) rest)
 plain_effect p guest locals values (op.Const32 n) = Goes locals (n ∷ values)
 plain_effect p guest locals values (op.Const64 n) = Goes locals (n ∷ values)
 plain_effect p guest locals values (op.IsZero t) = on_top values (λ v rest. Goes locals (zero_test_of t v ∷ rest))
-plain_effect p guest locals values (op.Count t how) = on_top values (λ v rest. Goes locals (bit_count_of t how v ∷ rest))
-plain_effect p guest locals values (op.Compare t how) = on_two values (λ x y rest. Goes locals (compare_of t how x y ∷ rest))
-plain_effect p guest locals values (op.Arith t how) = on_two values (λ x y rest. computed (arith_of t how x y) (λ v. Goes locals (v ∷ rest)))
+plain_effect p guest locals values (op.Count t how) =
+    on_top values (λ v rest. Goes locals (bit_count_of t how v ∷ rest))
+plain_effect p guest locals values (op.Compare t how) =
+    on_two values (λ x y rest. Goes locals (compare_of t how x y ∷ rest))
+plain_effect p guest locals values (op.Arith t how) =
+    on_two values (λ x y rest. computed (arith_of t how x y) (λ v. Goes locals (v ∷ rest)))
 plain_effect p guest locals values (op.Convert how) = on_top values (λ v rest. Goes locals (convert_of how v ∷ rest))
 
 -- The effect of the first instruction. A `loop` stands again where a branch to its label goes.
@@ -168,7 +189,8 @@ effect p guest locals values End = Stuck
 effect p guest locals values (Then instr rest) = plain_effect p guest locals values instr
 effect p guest locals values (Block ty body rest) = Opens values (arity_of ty) rest body
 effect p guest locals values (Loop ty body rest) = Opens values 0 (Loop ty body rest) body
-effect p guest locals values (Choice ty first other rest) = on_top values (λ v below. Opens below (arity_of ty) rest (if v == 0 then other else first))
+effect p guest locals values (Choice ty first other rest) =
+    on_top values (λ v below. Opens below (arity_of ty) rest (if v == 0 then other else first))
 
 -- ---- rewriting
 -- the host's state, and the memory and the globals
@@ -216,7 +238,8 @@ rewritten m s locals code (Goes more values) = To s more (Plain values code)
 rewritten m s locals code (Writes guest values) = To (record s { guest = guest }) locals (Plain values code)
 rewritten m s locals code (Opens values arity again body) = To s locals (Label values arity again (Plain [] body) code)
 rewritten m s locals code (Invokes values arity own body) = To s locals (Frame values arity own (Plain [] body) code)
-rewritten m s locals code (Asks name args values) = answered (behind_call s (call_of m s name args).store) (call_of m s name args).answer locals values code
+rewritten m s locals code (Asks name args values) =
+    answered (behind_call s (call_of m s name args).store) (call_of m s name args).answer locals values code
 rewritten m s locals code (Branches depth values) = Branching depth values
 rewritten m s locals code (Returns values) = Returning values
 rewritten m s locals code (Traps kind) = Stopping s (Trap kind)
@@ -224,7 +247,8 @@ rewritten m s locals code Stuck = NoRule
 
 -- so many of these operands, on those
 abbrev pub left_over : {S : Type 0} → Runtime S → List ℕ → ℕ → List ℕ → List ℕ → Code → Step S
-left_over s locals n inner values code = if nat_lt (length inner) n then NoRule else To s locals (Plain (take n inner ++ values) code)
+left_over s locals n inner values code =
+    if nat_lt (length inner) n then NoRule else To s locals (Plain (take n inner ++ values) code)
 
 -- what is rewritten inside a label
 abbrev pub in_label : {S : Type 0} → Runtime S → List ℕ → List ℕ → ℕ → Code → Code → Step S → Step S
@@ -248,7 +272,9 @@ in_frame s locals values n code NoRule = NoRule
 
 -- one rewriting, innermost
 abbrev pub reduce : {S : Type 0} → Rules S → Runtime S → List ℕ → Seq → Step S
-reduce w s locals (Plain values code) = if begins code then rewritten w.host s locals (after code) (effect w.program s.guest locals values code) else Over values
+reduce w s locals (Plain values code) =
+    if begins code then rewritten w.host s locals (after code) (effect w.program s.guest locals values code) else Over
+    values
 reduce w s locals (Label values n again inner code) = in_label s locals values n again code (reduce w s locals inner)
 reduce w s locals (Frame values n own inner code) = in_frame s locals values n code (reduce w s own inner)
 
@@ -286,7 +312,8 @@ paid w s = record s { host = burnt w.host s.host w.cost }
 abbrev pub stepped : {S : Type 0} → Rules S → Config S → Step S
 stepped w c =
     if has_instr c.seq
-    then (if nat_lt (w.host.gas c.store.host) w.cost then Stopping (paid w c.store) GasExceeded else reduce w (paid w c.store) c.locals c.seq)
+    then (if nat_lt (w.host.gas c.store.host) w.cost then Stopping (paid w c.store) GasExceeded else reduce w
+    (paid w c.store) c.locals c.seq)
     else reduce w c.store c.locals c.seq
 
 -- no rule fits, or a branch out of everything
@@ -308,7 +335,8 @@ pub data Outcome (S : Type 0) : Type 0 where
 
 -- what a step leads to: a configuration that is too large is a trap
 abbrev pub turn : {S : Type 0} → Rules S → Runtime S → Step S → (Config S → Outcome S) → Outcome S
-turn w s (To t locals seq) go = if is_too_large w locals seq then Halted t (Trap 8) else go (record { store = t; locals = locals; seq = seq })
+turn w s (To t locals seq) go =
+    if is_too_large w locals seq then Halted t (Trap 8) else go (record { store = t; locals = locals; seq = seq })
 turn w s (Over values) go = Done s
 turn w s (Branching depth values) go = NeverFits
 turn w s (Returning values) go = NeverFits

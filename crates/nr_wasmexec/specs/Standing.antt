@@ -22,7 +22,8 @@ FuncFits m (Coded sig body) = IsTyped (func_context m sig body) body.code
 
 -- each function that has a number is there, of the type of that number, and fits it
 pub record IsSound (p : Program) : Type 0 where
-  pub there : (f t : ℕ) → slice_get (func_indices p.code) f ≡ Some t → (func : Func) × (func_at p f ≡ Some func) × (slice_get p.code.types t ≡ Some (sig_of func))
+  pub there : (f t : ℕ) → slice_get (func_indices p.code) f ≡ Some t → (func : Func) × (func_at p f ≡ Some func)
+      × (slice_get p.code.types t ≡ Some (sig_of func))
   pub fits : (f : ℕ) (func : Func) → func_at p f ≡ Some func → FuncFits p.code func
 
 -- the globals of the module, and a table of functions that are there
@@ -42,15 +43,18 @@ abbrev pub Round : Program → Context → List Open → List ℕ → List place
 Round p c bs own [] = ⊥
 Round p c [] own (InLabel values n target code ∷ around) = ⊥
 Round p c (b ∷ bs) own (InLabel values n target code ∷ around) =
-    (n ≡ length (types b.label)) × (target ≡ b.target) × (code ≡ b.after) × (length values ≡ length b.below) × Round p c bs own around
+    (n ≡ length (types b.label)) × (target ≡ b.target) × (code ≡ b.after) × (length values ≡ length b.below)
+    × Round p c bs own around
 Round p c (b ∷ bs) own (InFrame values n outer code ∷ around) = ⊥
 Round p c [] own (InFrame values n outer code ∷ around) =
     (n ≡ length (types c.result)) × (length own ≡ length c.locals)
     × (((around ≡ []) × (code ≡ End))
-    ⊎ ((d : Context) × (bs : List Open) × (ts : List ValType) × IsBody p d × (length values ≡ length ts) × GoesOn d bs code (types c.result ++ ts) × Round p d bs outer around))
+    ⊎ ((d : Context) × (bs : List Open) × (ts : List ValType) × IsBody p d × (length values ≡ length ts)
+    × GoesOn d bs code (types c.result ++ ts) × Round p d bs outer around))
 
 -- Where a run of valid code stands: at its end, or where the code goes on with as many operands as there are.
 abbrev pub Stands : Program → Place → Type 0
 Stands p at =
     ((at.contexts ≡ []) × (at.code ≡ End))
-    ⊎ ((c : Context) × (bs : List Open) × (ts : List ValType) × IsBody p c × (length at.values ≡ length ts) × GoesOn c bs at.code ts × Round p c bs at.locals at.contexts)
+    ⊎ ((c : Context) × (bs : List Open) × (ts : List ValType) × IsBody p c × (length at.values ≡ length ts)
+    × GoesOn c bs at.code ts × Round p c bs at.locals at.contexts)

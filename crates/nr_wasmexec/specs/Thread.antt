@@ -1,5 +1,6 @@
 -- Of this project's own: the place that a thread's vectors stand for.
-use Rattle.std.specs.Prelude.{◌≡◌, ℕ, ◌+◌, ◌<◌, ◌≤◌, Bool, true, false, List, [], ◌∷◌, length, take, drop, reverse, Option, Some, None, slice_set}
+use Rattle.std.specs.Prelude.{◌≡◌, ℕ, ◌+◌, ◌<◌, ◌≤◌, Bool, true, false, List, [], ◌∷◌, length, take, drop, reverse}
+use Rattle.std.specs.Prelude.{Option, Some, None, slice_set}
 use Rattle.nr_wasmtypes.specs.Code.{Code, code_of, after}
 use Rattle.nr_wasmexec.specs.declared.control.Control.{Control}
 use Rattle.nr_wasmexec.specs.declared.control.Control.TheVariants.{Label, Frame}
@@ -14,9 +15,11 @@ target_at false at = after at
 abbrev pub contexts_of : List ℕ → List ℕ → List Control → List Context
 contexts_of operands locals [] = []
 contexts_of operands locals (Label height arity again at ∷ cs) =
-    InLabel (reverse (drop height operands)) arity (target_at again (code_of at.now)) (after (code_of at.now)) ∷ contexts_of (take height operands) locals cs
+    InLabel (reverse (drop height operands)) arity (target_at again (code_of at.now)) (after (code_of at.now))
+    ∷ contexts_of (take height operands) locals cs
 contexts_of operands locals (Frame height base arity at ∷ cs) =
-    InFrame (reverse (drop height operands)) arity (drop base locals) (after (code_of at.now)) ∷ contexts_of (take height operands) (take base locals) cs
+    InFrame (reverse (drop height operands)) arity (drop base locals) (after (code_of at.now))
+    ∷ contexts_of (take height operands) (take base locals) cs
 
 abbrev pub place_of : List ℕ → List ℕ → ℕ → ℕ → Code → List Control → Place
 place_of operands locals height base code controls =

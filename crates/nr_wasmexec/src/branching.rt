@@ -29,25 +29,31 @@ pub fn arity(kind: Option<ValType>) -> usize
     }
 }
 
+/// Opens a block that leaves so many values. A branch to it goes on behind the block, or at the block again
+/// (a loop). `Memory` is its one stop.
 pub fn enter<'a>(
     thread: &mut Thread<'a>,
     arity: usize,
     again: bool,
     body: &'a [Instr],
 ) -> Result<(), Stop>
-    ensures { Moves result thread.new (by thread.old (Opens thread.old.values arity (target_at again thread.old.code) (code_of body.now))) }
+    ensures { Moves result thread.new (by thread.old
+        (Opens thread.old.values arity (target_at again thread.old.code) (code_of body.now))) }
 {
     thread.enter(arity, again, body)?;
     Ok(())
 }
 
+/// Takes an i32 and opens the first body, or the other where it is zero. `Lost` where no operand is there.
 pub fn choose<'a>(
     thread: &mut Thread<'a>,
     arity: usize,
     first: &'a [Instr],
     other: &'a [Instr],
 ) -> Result<(), Stop>
-    ensures { Moves result thread.new (by thread.old (on_top thread.old.values (λ v rest. Opens rest arity (after thread.old.code) (if v == 0 then code_of other.now else code_of first.now)))) }
+    ensures { Moves result thread.new (by thread.old
+        (on_top thread.old.values (λ v rest. Opens rest arity (after thread.old.code)
+        (if v == 0 then code_of other.now else code_of first.now)))) }
 {
     let value = popped(thread)?;
     if value == 0 {
@@ -57,14 +63,17 @@ pub fn choose<'a>(
     }
 }
 
+/// Branches out of so many blocks and one more. `Lost` where there are not so many, or too few operands.
 pub fn branch(thread: &mut Thread, depth: u32) -> Result<(), Stop>
     ensures { Moves result thread.new (by thread.old (Branches depth thread.old.values)) }
 {
     reached(thread.branch(depth))
 }
 
+/// Takes an i32, and branches unless it is zero. `Lost` where it is not there, or as for `branch`.
 pub fn branch_if(thread: &mut Thread, depth: u32) -> Result<(), Stop>
-    ensures { Moves result thread.new (by thread.old (on_top thread.old.values (λ v rest. if v == 0 then Goes thread.old.locals rest else Branches depth rest))) }
+    ensures { Moves result thread.new (by thread.old
+        (on_top thread.old.values (λ v rest. if v == 0 then Goes thread.old.locals rest else Branches depth rest))) }
 {
     let value = popped(thread)?;
     if value == 0 {
@@ -75,8 +84,11 @@ pub fn branch_if(thread: &mut Thread, depth: u32) -> Result<(), Stop>
     }
 }
 
+/// Takes an i32, and branches to the label with this number, counted from 0, or to the one for every other.
+/// `Lost` where it is not there, or as for `branch`.
 pub fn branch_by(thread: &mut Thread, labels: &Labels) -> Result<(), Stop>
-    ensures { Moves result thread.new (by thread.old (on_top thread.old.values (λ v rest. Branches (chosen (slice_get labels.now.0 v) labels.now.1) rest))) }
+    ensures { Moves result thread.new (by thread.old
+        (on_top thread.old.values (λ v rest. Branches (chosen (slice_get labels.now.0 v) labels.now.1) rest))) }
 {
     let value = popped(thread)?;
     branch(thread, label_of(labels, value))
@@ -91,6 +103,7 @@ fn label_of(labels: &Labels, value: u64) -> u32
     }
 }
 
+/// Returns from the innermost frame with its function's result. `Lost` where there is no frame or no such operand.
 pub fn leave(thread: &mut Thread) -> Result<(), Stop>
     ensures { Moves result thread.new (by thread.old (Returns thread.old.values)) }
 {

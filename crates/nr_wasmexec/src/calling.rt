@@ -27,7 +27,8 @@ pub fn call<'a, H: Host>(
     guest: &mut Guest,
     f: u32,
 ) -> Result<(), Stop>
-    ensures goes { Ends result (H.state host.new) guest.new thread.new (led_to H.meaning (H.state host.old) guest.old thread.old (called thread.old.values (func_at program.now f))) }
+    ensures goes { Ends result (H.state host.new) guest.new thread.new
+        (led_to H.meaning (H.state host.old) guest.old thread.old (called thread.old.values (func_at program.now f))) }
     ensures shape { SameShape guest.old guest.new }
     ensures keeps { H.keeps host.old host.new }
 {
@@ -43,7 +44,9 @@ fn call_func<'a, H: Host>(
     guest: &mut Guest,
     func: Func<'a>,
 ) -> Result<(), Stop>
-    ensures goes { Ends result (H.state host.new) guest.new thread.new (led_to H.meaning (H.state host.old) guest.old thread.old (called thread.old.values (Some (func_of func.entry)))) }
+    ensures goes { Ends result (H.state host.new) guest.new thread.new
+        (led_to H.meaning (H.state host.old) guest.old thread.old
+        (called thread.old.values (Some (func_of func.entry)))) }
     ensures shape { SameShape guest.old guest.new }
     ensures keeps { H.keeps host.old host.new }
 {
@@ -61,7 +64,9 @@ pub fn call_indirect<'a, H: Host>(
     guest: &mut Guest,
     t: u32,
 ) -> Result<(), Stop>
-    ensures goes { Ends result (H.state host.new) guest.new thread.new (led_to H.meaning (H.state host.old) guest.old thread.old (on_top thread.old.values (λ v rest. called_at program.now rest t (slice_get guest.old.table v)))) }
+    ensures goes { Ends result (H.state host.new) guest.new thread.new
+        (led_to H.meaning (H.state host.old) guest.old thread.old
+        (on_top thread.old.values (λ v rest. called_at program.now rest t (slice_get guest.old.table v)))) }
     ensures shape { SameShape guest.old guest.new }
     ensures keeps { H.keeps host.old host.new }
 {
@@ -87,7 +92,9 @@ fn call_as<'a, H: Host>(
     t: u32,
     f: u32,
 ) -> Result<(), Stop>
-    ensures goes { Ends result (H.state host.new) guest.new thread.new (led_to H.meaning (H.state host.old) guest.old thread.old (called_as thread.old.values (slice_get program.now.code.types t) (func_at program.now f))) }
+    ensures goes { Ends result (H.state host.new) guest.new thread.new
+        (led_to H.meaning (H.state host.old) guest.old thread.old
+        (called_as thread.old.values (slice_get program.now.code.types t) (func_at program.now f))) }
     ensures shape { SameShape guest.old guest.new }
     ensures keeps { H.keeps host.old host.new }
 {
@@ -107,7 +114,9 @@ fn call_typed<'a, H: Host>(
     sig: &FuncType,
     func: Func<'a>,
 ) -> Result<(), Stop>
-    ensures goes { Ends result (H.state host.new) guest.new thread.new (led_to H.meaning (H.state host.old) guest.old thread.old (called_as thread.old.values (Some sig.now) (Some (func_of func.entry)))) }
+    ensures goes { Ends result (H.state host.new) guest.new thread.new
+        (led_to H.meaning (H.state host.old) guest.old thread.old
+        (called_as thread.old.values (Some sig.now) (Some (func_of func.entry)))) }
     ensures shape { SameShape guest.old guest.new }
     ensures keeps { H.keeps host.old host.new }
 {
@@ -139,7 +148,9 @@ fn is_same(sig: &FuncType, other: &FuncType) -> bool
 }
 
 fn invoke_body<'a>(thread: &mut Thread<'a>, sig: &FuncType, body: &'a FuncBody) -> Result<(), Stop>
-    ensures { Moves result thread.new (by thread.old (invoked thread.old.values (length sig.now.params) (length body.now.locals) (arity_of sig.now.result) body.now.code)) }
+    ensures { Moves result thread.new (by thread.old
+        (invoked thread.old.values (length sig.now.params) (length body.now.locals)
+        (arity_of sig.now.result) body.now.code)) }
 {
     invoke(
         thread,
@@ -172,7 +183,9 @@ fn ask<H: Host>(
     guest: &mut Guest,
     name: HostFn,
 ) -> Result<(), Stop>
-    ensures goes { Ends result (H.state host.new) guest.new thread.new (led_to H.meaning (H.state host.old) guest.old thread.old (asks thread.old.values name (length (host_type name).params))) }
+    ensures goes { Ends result (H.state host.new) guest.new thread.new
+        (led_to H.meaning (H.state host.old) guest.old thread.old
+        (asks thread.old.values name (length (host_type name).params))) }
     ensures shape { SameShape guest.old guest.new }
     ensures keeps { H.keeps host.old host.new }
 {

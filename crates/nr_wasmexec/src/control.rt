@@ -1,6 +1,7 @@
 //! What stands round a sequence of instructions.
 
-ghost use Rattle.std.specs.Prelude.{◌≡◌, ◌+◌, ◌-◌, ◌≤◌, [], ◌∷◌, ◌++◌, drop, take, reverse, replicate, length, OnOk, OnErr};
+ghost use Rattle.std.specs.Prelude.{◌≡◌, ◌+◌, ◌-◌, ◌≤◌, [], ◌∷◌, ◌++◌, drop, take, reverse, replicate, length, OnOk};
+ghost use Rattle.std.specs.Prelude.{OnErr};
 ghost use Rattle.nr_wasmexec.specs.Thread.{PopsControl, PopsLabel};
 
 use nr_wasmtypes::Instr;

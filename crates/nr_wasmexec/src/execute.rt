@@ -26,7 +26,8 @@ pub fn execute<'a, H: Host>(
     instr: &'a Instr,
 ) -> Result<(), Stop>
     requires { thread.old.code ≡ put instr.now (after thread.old.code) }
-    ensures goes { Ends result (H.state host.new) guest.new thread.new (led_by H.meaning program.now (H.state host.old) guest.old thread.old) }
+    ensures goes { Ends result (H.state host.new) guest.new thread.new
+        (led_by H.meaning program.now (H.state host.old) guest.old thread.old) }
     ensures shape { SameShape guest.old guest.new }
     ensures keeps { H.keeps host.old host.new }
 {
@@ -46,7 +47,9 @@ fn obey_plain<'a, H: Host>(
     guest: &mut Guest,
     plain: &Plain,
 ) -> Result<(), Stop>
-    ensures goes { Ends result (H.state host.new) guest.new thread.new (led_to H.meaning (H.state host.old) guest.old thread.old (plain_effect program.now guest.old thread.old.locals thread.old.values plain.now)) }
+    ensures goes { Ends result (H.state host.new) guest.new thread.new
+        (led_to H.meaning (H.state host.old) guest.old thread.old
+        (plain_effect program.now guest.old thread.old.locals thread.old.values plain.now)) }
     ensures shape { SameShape guest.old guest.new }
     ensures keeps { H.keeps host.old host.new }
 {

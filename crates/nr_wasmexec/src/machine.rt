@@ -1,6 +1,7 @@
 //! Machines.
 
-ghost use Rattle.std.specs.Prelude.{◌≡◌, ◌≤◌, ℕ, IfOk, IfSome, IsTrue, MatchOption, Some, None, length, find, nat_eq, is_some, not, ◌&&◌};
+ghost use Rattle.std.specs.Prelude.{◌≡◌, ◌≤◌, ℕ, IfOk, IfSome, IsTrue, MatchOption, Some, None, length, find, nat_eq};
+ghost use Rattle.std.specs.Prelude.{is_some, not, ◌&&◌};
 ghost use Rattle.std.specs.Str.{bytes_eq};
 ghost use Rattle.nr_bytes.specs.Answers.{Gives, GivesAs};
 ghost use Rattle.nr_config.specs.Config.{max_pages};
@@ -9,7 +10,9 @@ ghost use Rattle.nr_wasmexec.specs.declared.making.MakeFault.TheVariants as make
 ghost use Rattle.nr_wasmexec.specs.Functions.{func_at};
 ghost use Rattle.nr_wasmexec.specs.Reduction.{run_by};
 ghost use Rattle.nr_wasmexec.specs.Machine.{rules_of, runtime, Ends};
-ghost use Rattle.nr_wasmexec.specs.Making.{MachineView, IsMachine, FitsFirst, most_of, memory_of, guest_answer, first_guest, limits_of, machine_of, is_method, method_as, method_in, method_of};
+ghost use Rattle.nr_wasmexec.specs.Making.{MachineView, IsMachine, FitsFirst, most_of, memory_of, guest_answer};
+ghost use Rattle.nr_wasmexec.specs.Making.{first_guest, limits_of, machine_of, is_method, method_as, method_in};
+ghost use Rattle.nr_wasmexec.specs.Making.{method_of};
 
 use crate::making::{MakeFault, globals_of, links, put_elements, put_segments, table_of};
 use crate::program::{Func, Limits, Program, func_at};
@@ -42,7 +45,12 @@ impl Model for Machine {
 
     ghost Value = { MachineView };
 
-    ghost coded = { Prim.hlevel (codes, program_type.the_row.coded, limits_type.the_row.coded, guest_type.the_row.coded) };
+    ghost coded = { Prim.hlevel (
+      codes,
+      program_type.the_row.coded,
+      limits_type.the_row.coded,
+      guest_type.the_row.coded,
+    ) };
 
     ghost view = { λ m. record { program = m.program; limits = m.limits; guest = m.guest } };
 
@@ -99,7 +107,9 @@ impl Machine {
     #[tactic(auto, using(crate::proofs::Made::machine_stays))]
     pub fn run<H: Host>(&mut self, host: &mut H, func: u32) -> Result<(), RunStop>
         requires { IsTrue (is_method (func_at self.old.program func)) }
-        ensures ends { Ends result (H.state host.new) self.new.guest (run_by (rules_of H.meaning self.old.program self.old.limits) (runtime (H.state host.old) self.old.guest) func) }
+        ensures ends { Ends result (H.state host.new) self.new.guest
+            (run_by (rules_of H.meaning self.old.program self.old.limits) (runtime (H.state host.old) self.old.guest)
+            func) }
         ensures rest { self.new ≡ record self.old { guest = self.new.guest } }
         ensures keeps { H.keeps host.old host.new }
     {
@@ -172,7 +182,8 @@ fn most_of(most: Option<u32>, pages: u32) -> u32
 /// The first export of this name; a valid module has one at most.
 #[tactic(auto, using(crate::proofs::Named::found_here, crate::proofs::Named::found_later, crate::proofs::Named::found_none))]
 fn export_named<'a>(exports: &'a [Export], name: &[u8]) -> Option<&'a Export>
-    ensures { MatchOption result (find (λ e. bytes_eq e.name name.now) exports.now ≡ None) (λ e. find (λ e. bytes_eq e.name name.now) exports.now ≡ Some e.now) }
+    ensures { MatchOption result (find (λ e. bytes_eq e.name name.now) exports.now ≡ None)
+        (λ e. find (λ e. bytes_eq e.name name.now) exports.now ≡ Some e.now) }
 {
     for export in exports {
         if is_named(export, name) {

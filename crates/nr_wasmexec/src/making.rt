@@ -3,7 +3,8 @@
 ghost use Rattle.std.specs.Prelude.{◌≡◌, ◌≤◌, ◌+◌, IfOk, Some, None, length, replicate, slice_get};
 ghost use Rattle.nr_wasmmem.specs.Bytes.{put_over};
 ghost use Rattle.nr_wasmexec.specs.Functions.{link_as, links};
-ghost use Rattle.nr_wasmexec.specs.Making.{or_zero, constant_of, globals_of, entries_of, placed, put_funcs, all_into, element_into, segment_into};
+ghost use Rattle.nr_wasmexec.specs.Making.{or_zero, constant_of, globals_of, entries_of, placed, put_funcs, all_into};
+ghost use Rattle.nr_wasmexec.specs.Making.{element_into, segment_into};
 ghost use Rattle.nr_wasmexec.specs.Machine.{PutsInto};
 
 use crate::program::HostLink;
@@ -141,7 +142,8 @@ pub fn put_elements(table: &mut Vec<Option<u32>>, globals: &[u64], elements: &[E
 /// Puts all segments into a memory, in order. False where one doesn't fit.
 #[tactic(auto, using(crate::proofs::Putting::one_more, crate::proofs::Putting::one_fails, crate::proofs::Putting::all_done))]
 pub fn put_segments(memory: &mut Memory, globals: &[u64], segments: &[Segment]) -> bool
-    ensures bytes { PutsInto result memory.new.bytes (all_into (segment_into globals.now) memory.old.bytes segments.now) }
+    ensures bytes { PutsInto result memory.new.bytes
+        (all_into (segment_into globals.now) memory.old.bytes segments.now) }
     ensures most { memory.new.most ≡ memory.old.most }
 {
     for segment in segments {

@@ -34,8 +34,10 @@ pub fn popped(thread: &mut Thread) -> Result<u64, Stop>
     }
 }
 
+/// Drops the topmost operand. `Lost` where there is none.
 pub fn discard(thread: &mut Thread) -> Result<(), Stop>
-    ensures { Moves result thread.new (by thread.old (on_top thread.old.values (λ v rest. Goes thread.old.locals rest))) }
+    ensures { Moves result thread.new (by thread.old
+        (on_top thread.old.values (λ v rest. Goes thread.old.locals rest))) }
 {
     popped(thread)?;
     thread.advance();
@@ -44,7 +46,8 @@ pub fn discard(thread: &mut Thread) -> Result<(), Stop>
 
 /// Keeps the first of two operands, or the second where the third is zero.
 pub fn select(thread: &mut Thread) -> Result<(), Stop>
-    ensures { Moves result thread.new (by thread.old (on_three thread.old.values (λ x y v rest. Goes thread.old.locals ((if v == 0 then y else x) ∷ rest)))) }
+    ensures { Moves result thread.new (by thread.old
+        (on_three thread.old.values (λ x y v rest. Goes thread.old.locals ((if v == 0 then y else x) ∷ rest)))) }
 {
     let choice = popped(thread)?;
     let second = popped(thread)?;

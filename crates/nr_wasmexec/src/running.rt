@@ -1,10 +1,12 @@
 //! Runs of functions.
 
-ghost use Rattle.std.specs.Prelude.{◌≡◌, ◌≤◌, ◌<◌, ◌+◌, ◌∷◌, ◌||◌, drop, replicate, IsTrue, IfOk, OnOk, Some, None, MatchOption, IsSomeAnd, slice_get};
+ghost use Rattle.std.specs.Prelude.{◌≡◌, ◌≤◌, ◌<◌, ◌+◌, ◌∷◌, ◌||◌, drop, replicate, IsTrue, IfOk, OnOk, Some, None};
+ghost use Rattle.std.specs.Prelude.{MatchOption, IsSomeAnd, slice_get};
 ghost use Rattle.nr_wasmexec.specs.Reduction.{stepped, run_of, run_in, run_by};
 ghost use Rattle.nr_wasmtypes.specs.Code.{after, put, code_of};
 ghost use Rattle.nr_wasmexec.specs.Executing.{SameShape, func_of};
-ghost use Rattle.nr_wasmexec.specs.Machine.{rules_of, runtime, config_of, Steps, Turns, work_left, is_too_large_at, run_at, Drives, Ends, NeverStuck};
+ghost use Rattle.nr_wasmexec.specs.Machine.{rules_of, runtime, config_of, Steps, Turns, work_left, is_too_large_at};
+ghost use Rattle.nr_wasmexec.specs.Machine.{run_at, Drives, Ends, NeverStuck};
 ghost use Rattle.nr_wasmexec.specs.Making.{is_method};
 ghost use Rattle.nr_wasmexec.specs.Standing.{IsGuest};
 ghost use Rattle.nr_wasmexec.specs.Functions.{func_at, links};
@@ -29,8 +31,10 @@ fn obey<'a, H: Host>(
 ) -> Result<(), Stop>
     requires code { thread.old.code ≡ put instr.now (after thread.old.code) }
     requires cost { 1 ≤ limits.cost }
-    ensures step { Steps result (H.state host.new) guest.new thread.new (stepped (rules_of H.meaning program.now limits) (config_of (H.state host.old) guest.old thread.old)) }
-    ensures falls { OnOk result (work_left H.meaning (H.state host.new) thread.new < work_left H.meaning (H.state host.old) thread.old) }
+    ensures step { Steps result (H.state host.new) guest.new thread.new
+        (stepped (rules_of H.meaning program.now limits) (config_of (H.state host.old) guest.old thread.old)) }
+    ensures falls { OnOk result (work_left H.meaning (H.state host.new) thread.new
+        < work_left H.meaning (H.state host.old) thread.old) }
     ensures shape { SameShape guest.old guest.new }
     ensures keeps { H.keeps host.old host.new }
 {
@@ -49,8 +53,10 @@ fn turn<'a, H: Host>(
     guest: &mut Guest,
 ) -> Result<bool, Stop>
     requires { 1 ≤ limits.cost }
-    ensures turns { Turns result (H.state host.new) guest.new thread.new (runtime (H.state host.old) guest.old) (stepped (rules_of H.meaning program.now limits) (config_of (H.state host.old) guest.old thread.old)) }
-    ensures falls { IfOk result (λ on. IsTrue on → work_left H.meaning (H.state host.new) thread.new < work_left H.meaning (H.state host.old) thread.old) }
+    ensures turns { Turns result (H.state host.new) guest.new thread.new (runtime (H.state host.old) guest.old)
+        (stepped (rules_of H.meaning program.now limits) (config_of (H.state host.old) guest.old thread.old)) }
+    ensures falls { IfOk result (λ on. IsTrue on → work_left H.meaning (H.state host.new) thread.new
+        < work_left H.meaning (H.state host.old) thread.old) }
     ensures shape { SameShape guest.old guest.new }
     ensures keeps { H.keeps host.old host.new }
 {
@@ -88,7 +94,8 @@ fn drive<'a, H: Host>(
     guest: &mut Guest,
 ) -> Result<(), Stop>
     requires { 1 ≤ limits.cost }
-    ensures drives { Drives result (H.state host.new) guest.new (run_at (rules_of H.meaning program.now limits) (runtime (H.state host.old) guest.old) thread.old) }
+    ensures drives { Drives result (H.state host.new) guest.new
+        (run_at (rules_of H.meaning program.now limits) (runtime (H.state host.old) guest.old) thread.old) }
     ensures shape { SameShape guest.old guest.new }
     ensures keeps { H.keeps host.old host.new }
 {
@@ -115,7 +122,9 @@ fn start<H: Host>(
     body: &[Instr],
 ) -> Result<(), Stop>
     requires { 1 ≤ limits.cost }
-    ensures drives { Drives result (H.state host.new) guest.new (run_of (rules_of H.meaning program.now limits) (runtime (H.state host.old) guest.old) 0 (replicate locals 0) (code_of body.now)) }
+    ensures drives { Drives result (H.state host.new) guest.new
+        (run_of (rules_of H.meaning program.now limits) (runtime (H.state host.old) guest.old) 0 (replicate locals 0)
+        (code_of body.now)) }
     ensures shape { SameShape guest.old guest.new }
     ensures keeps { H.keeps host.old host.new }
 {
@@ -138,7 +147,9 @@ fn attempt<H: Host>(
     func: Func,
 ) -> Result<(), Stop>
     requires { 1 ≤ limits.cost }
-    ensures drives { Drives result (H.state host.new) guest.new (run_in (rules_of H.meaning program.now limits) (runtime (H.state host.old) guest.old) (Some (func_of func.entry))) }
+    ensures drives { Drives result (H.state host.new) guest.new
+        (run_in (rules_of H.meaning program.now limits) (runtime (H.state host.old) guest.old)
+        (Some (func_of func.entry))) }
     ensures shape { SameShape guest.old guest.new }
     ensures keeps { H.keeps host.old host.new }
 {
@@ -168,7 +179,8 @@ fn try_run<H: Host>(
     func: u32,
 ) -> Result<(), Stop>
     requires { 1 ≤ limits.cost }
-    ensures drives { Drives result (H.state host.new) guest.new (run_by (rules_of H.meaning program.now limits) (runtime (H.state host.old) guest.old) func) }
+    ensures drives { Drives result (H.state host.new) guest.new
+        (run_by (rules_of H.meaning program.now limits) (runtime (H.state host.old) guest.old) func) }
     ensures shape { SameShape guest.old guest.new }
     ensures keeps { H.keeps host.old host.new }
 {
@@ -191,7 +203,8 @@ pub fn run<H: Host>(
     requires hosts { program.now.hosts ≡ links program.now.code.imports }
     requires guest { IsGuest program.now guest.old }
     requires method { IsTrue (is_method (func_at program.now func)) }
-    ensures ends { Ends result (H.state host.new) guest.new (run_by (rules_of H.meaning program.now limits) (runtime (H.state host.old) guest.old) func) }
+    ensures ends { Ends result (H.state host.new) guest.new
+        (run_by (rules_of H.meaning program.now limits) (runtime (H.state host.old) guest.old) func) }
     ensures shape { SameShape guest.old guest.new }
     ensures keeps { H.keeps host.old host.new }
 {

@@ -26,8 +26,13 @@ fn low32(value: u64) -> u32
     (value % 0x1_0000_0000) as u32
 }
 
+/// Puts the number at an address, which is the topmost operand, in its place. Trap 2 where the access is not inside
+/// the memory; `Lost` where there is no operand.
 pub fn load(thread: &mut Thread, memory: &Memory, what: Load, offset: u32) -> Result<(), Stop>
-    ensures { Moves result thread.new (by thread.old (on_top thread.old.values (λ at rest. read (number_in memory.now.bytes (place_at at offset) (width_of_load what)) (λ v. Goes thread.old.locals (load_of what v ∷ rest))))) }
+    ensures { Moves result thread.new (by thread.old
+        (on_top thread.old.values (λ at rest. read
+        (number_in memory.now.bytes (place_at at offset) (width_of_load what))
+        (λ v. Goes thread.old.locals (load_of what v ∷ rest))))) }
 {
     let base = popped(thread)?;
     match memory.load(place_at(base, offset), load_width(what)) {
@@ -36,8 +41,13 @@ pub fn load(thread: &mut Thread, memory: &Memory, what: Load, offset: u32) -> Re
     }
 }
 
+/// Takes a number and then its address, and writes its lowest bytes. Trap 2 where the access is not inside the
+/// memory; `Lost` where there are fewer operands.
 pub fn store(thread: &mut Thread, guest: &mut Guest, what: Store, offset: u32) -> Result<(), Stop>
-    ensures goes { Changes result guest.old guest.new thread.new (changed guest.old thread.old (on_two thread.old.values (λ at v rest. written guest.old (number_over guest.old.memory.bytes (place_at at offset) (width_of_store what) v) rest))) }
+    ensures goes { Changes result guest.old guest.new thread.new
+        (changed guest.old thread.old (on_two thread.old.values
+        (λ at v rest. written guest.old (number_over guest.old.memory.bytes (place_at at offset)
+        (width_of_store what) v) rest))) }
     ensures shape { SameShape guest.old guest.new }
 {
     let value = popped(thread)?;
@@ -54,14 +64,21 @@ pub fn store(thread: &mut Thread, guest: &mut Guest, what: Store, offset: u32) -
     }
 }
 
+/// Puts how many pages of 64 KiB the memory has on top.
 pub fn memory_size(thread: &mut Thread, memory: &Memory) -> Result<(), Stop>
-    ensures { Moves result thread.new (by thread.old (Goes thread.old.locals (pages_of memory.now.bytes ∷ thread.old.values))) }
+    ensures { Moves result thread.new (by thread.old
+        (Goes thread.old.locals (pages_of memory.now.bytes ∷ thread.old.values))) }
 {
     push(thread, u64::from(memory.pages()))
 }
 
+/// Grows the memory by as many pages of 64 KiB as the topmost operand says, and puts how many there were in its
+/// place, or 2^32 - 1 where it may not grow so far. `Lost` where there is no operand; after want of memory the
+/// memory is as before.
 pub fn memory_grow(thread: &mut Thread, guest: &mut Guest) -> Result<(), Stop>
-    ensures goes { Changes result guest.old guest.new thread.new (changed guest.old thread.old (on_top thread.old.values (λ v rest. grows guest.old (grown guest.old.memory (v % 2 ^ 32)) rest))) }
+    ensures goes { Changes result guest.old guest.new thread.new
+        (changed guest.old thread.old (on_top thread.old.values
+        (λ v rest. grows guest.old (grown guest.old.memory (v % 2 ^ 32)) rest))) }
     ensures shape { SameShape guest.old guest.new }
 {
     let pages = popped(thread)?;

@@ -1,6 +1,7 @@
 //! Where a run stands in its code, with its operands and locals.
 
-ghost use Rattle.std.specs.Prelude.{◌≡◌, ℕ, ◌≤◌, ◌+◌, [], ◌∷◌, ◌++◌, length, drop, take, reverse, replicate, slice_get, IfOk, OnOk, MatchOption};
+ghost use Rattle.std.specs.Prelude.{◌≡◌, ℕ, ◌≤◌, ◌+◌, [], ◌∷◌, ◌++◌, length, drop, take, reverse, replicate, slice_get};
+ghost use Rattle.std.specs.Prelude.{IfOk, OnOk, MatchOption};
 ghost use Rattle.nr_wasmexec.specs.Place.{Place, InLabel, InFrame};
 ghost use Rattle.nr_wasmtypes.specs.Code.{End, code_of, put, after};
 ghost use Rattle.nr_wasmexec.specs.Thread.{target_at};
@@ -58,7 +59,12 @@ impl<'a> Thread<'a> {
         arity: usize,
         body: &'a [Instr],
     ) -> Result<Thread<'a>, AllocError>
-        ensures { IfOk result (λ t. t ≡ record { values = []; code = code_of body.now; locals = locals.items; contexts = InFrame [] arity [] End ∷ [] }) }
+        ensures { IfOk result (λ t. t ≡ record {
+          values = [];
+          code = code_of body.now;
+          locals = locals.items;
+          contexts = InFrame [] arity [] End ∷ [];
+        }) }
     {
         let mut controls = Vec::new(alloc);
         controls.push(Control::Frame {
@@ -92,6 +98,7 @@ impl<'a> Thread<'a> {
         self.code = after_first(self.code);
     }
 
+    /// Puts a number on top of the operands of the innermost sequence.
     pub fn push(&mut self, value: u64) -> Result<(), AllocError>
         ensures { OnOk result (self.new ≡ record self.old { values = value ∷ self.old.values }) }
     {
@@ -133,7 +140,13 @@ impl<'a> Thread<'a> {
 
     /// Enters a block whose instruction is the next one.
     pub fn enter(&mut self, arity: usize, again: bool, body: &'a [Instr]) -> Result<(), AllocError>
-        ensures { OnOk result (self.new ≡ record { values = []; code = code_of body.now; locals = self.old.locals; contexts = InLabel self.old.values arity (target_at again self.old.code) (after self.old.code) ∷ self.old.contexts }) }
+        ensures { OnOk result (self.new ≡ record {
+          values = [];
+          code = code_of body.now;
+          locals = self.old.locals;
+          contexts = InLabel self.old.values arity (target_at again self.old.code) (after self.old.code)
+              ∷ self.old.contexts;
+        }) }
     {
         let height = self.height;
         let at = self.code;
@@ -181,7 +194,13 @@ impl<'a> Thread<'a> {
         body: &'a [Instr],
     ) -> Result<(), AllocError>
         requires { params ≤ length self.old.values }
-        ensures { OnOk result (self.new ≡ record { values = []; code = code_of body.now; locals = reverse (take params self.old.values) ++ replicate more 0; contexts = InFrame (drop params self.old.values) arity self.old.locals (after self.old.code) ∷ self.old.contexts }) }
+        ensures { OnOk result (self.new ≡ record {
+          values = [];
+          code = code_of body.now;
+          locals = reverse (take params self.old.values) ++ replicate more 0;
+          contexts = InFrame (drop params self.old.values) arity self.old.locals (after self.old.code)
+              ∷ self.old.contexts;
+        }) }
     {
         let control = Control::Frame {
             height: self.height,

@@ -11,8 +11,10 @@ use crate::thread::Thread;
 use nr_bytes::List;
 use nr_wasmmem::Guest;
 
+/// Puts a local on top, by its number from 0. `Lost` where there is none.
 pub fn local_get(thread: &mut Thread, at: u32) -> Result<(), Stop>
-    ensures { Moves result thread.new (by thread.old (with_value (slice_get thread.old.locals at) (λ v. Goes thread.old.locals (v ∷ thread.old.values)))) }
+    ensures { Moves result thread.new (by thread.old
+        (with_value (slice_get thread.old.locals at) (λ v. Goes thread.old.locals (v ∷ thread.old.values)))) }
 {
     match thread.local(at) {
         None => Err(Stop::Lost),
@@ -20,24 +22,32 @@ pub fn local_get(thread: &mut Thread, at: u32) -> Result<(), Stop>
     }
 }
 
+/// Takes the topmost operand as a local, by its number from 0. `Lost` where either is not there.
 pub fn local_set(thread: &mut Thread, at: u32) -> Result<(), Stop>
-    ensures { Moves result thread.new (by thread.old (on_top thread.old.values (λ v rest. if nat_lt at (length thread.old.locals) then Goes (slice_set thread.old.locals at v) rest else Stuck))) }
+    ensures { Moves result thread.new (by thread.old
+        (on_top thread.old.values (λ v rest. if nat_lt at (length thread.old.locals) then Goes
+        (slice_set thread.old.locals at v) rest else Stuck))) }
 {
     let value = popped(thread)?;
     thread.advance();
     reached(thread.set_local(at, value))
 }
 
+/// Copies the topmost operand to a local, by its number from 0. `Lost` where either is not there.
 pub fn local_tee(thread: &mut Thread, at: u32) -> Result<(), Stop>
-    ensures { Moves result thread.new (by thread.old (on_top thread.old.values (λ v rest. if nat_lt at (length thread.old.locals) then Goes (slice_set thread.old.locals at v) thread.old.values else Stuck))) }
+    ensures { Moves result thread.new (by thread.old
+        (on_top thread.old.values (λ v rest. if nat_lt at (length thread.old.locals) then Goes
+        (slice_set thread.old.locals at v) thread.old.values else Stuck))) }
 {
     let value = popped(thread)?;
     reached(thread.set_local(at, value))?;
     push(thread, value)
 }
 
+/// Puts a global on top, by its number from 0. `Lost` where there is none.
 pub fn global_get(thread: &mut Thread, guest: &Guest, at: u32) -> Result<(), Stop>
-    ensures { Moves result thread.new (by thread.old (with_value (slice_get guest.now.globals at) (λ v. Goes thread.old.locals (v ∷ thread.old.values)))) }
+    ensures { Moves result thread.new (by thread.old
+        (with_value (slice_get guest.now.globals at) (λ v. Goes thread.old.locals (v ∷ thread.old.values)))) }
 {
     match global(&guest.globals, at) {
         None => Err(Stop::Lost),
@@ -51,8 +61,12 @@ fn global(globals: &List<u64>, at: u32) -> Option<u64>
     globals.inner().get(at as usize).copied()
 }
 
+/// Takes the topmost operand as a global, by its number from 0. `Lost` where either is not there.
 pub fn global_set(thread: &mut Thread, guest: &mut Guest, at: u32) -> Result<(), Stop>
-    ensures goes { Changes result guest.old guest.new thread.new (changed guest.old thread.old (on_top thread.old.values (λ v rest. if nat_lt at (length guest.old.globals) then Writes (record guest.old { globals = slice_set guest.old.globals at v }) rest else Stuck))) }
+    ensures goes { Changes result guest.old guest.new thread.new
+        (changed guest.old thread.old (on_top thread.old.values
+        (λ v rest. if nat_lt at (length guest.old.globals) then Writes
+        (record guest.old { globals = slice_set guest.old.globals at v }) rest else Stuck))) }
     ensures shape { SameShape guest.old guest.new }
 {
     let value = popped(thread)?;

@@ -1,5 +1,6 @@
 -- WebAssembly Core 1.0, "Memory Instances" and "Memory Instructions": a guest's memory as a list of bytes.
-use Rattle.std.specs.Prelude.{◌≡◌, ℕ, ◌+◌, ◌*◌, ◌/◌, ◌%◌, ◌^◌, ◌≤◌, ◌==◌, ◌||◌, nat_le, if◌then◌else◌, IsTrue, List, ◌++◌, length, take, drop, replicate, Option, Some, None, Result, Ok, Err}
+use Rattle.std.specs.Prelude.{◌≡◌, ℕ, ◌+◌, ◌*◌, ◌/◌, ◌%◌, ◌^◌, ◌≤◌, ◌==◌, ◌||◌, nat_le, if◌then◌else◌, IsTrue, List}
+use Rattle.std.specs.Prelude.{◌++◌, length, take, drop, replicate, Option, Some, None, Result, Ok, Err}
 use Rattle.std.specs.Option.{option_map}
 use Rattle.nr_bytes.specs.Numbers.{little, number}
 use Rattle.nr_wasmtypes.specs.declared.instr.Load.{Load}
@@ -51,7 +52,8 @@ number_over bytes at width value = put_over bytes at (little width value)
 
 -- one more time some pages of zeros, where there may be so many
 abbrev pub grown : MemoryView → ℕ → Option MemoryView
-grown m pages = if nat_le (pages_of m.bytes + pages) m.most then Some (record m { bytes = m.bytes ++ zeros pages }) else None
+grown m pages =
+    if nat_le (pages_of m.bytes + pages) m.most then Some (record m { bytes = m.bytes ++ zeros pages }) else None
 
 -- ---- how many bytes an access has
 

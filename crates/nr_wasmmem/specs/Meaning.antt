@@ -43,9 +43,12 @@ Burns m n (Err e) old new = (m.gas old < n) × (new ≡ burnt m old n)
 
 -- a call answers what it comes to, unless memory ran out
 abbrev pub AnswersCall : {S : Type 0} → Result (Option ℕ) HostStop → S → List ℕ → Called S → Type 0
-AnswersCall (Ok value) host memory called = called ≡ record { store = record { host = host; memory = memory }; answer = Gives value }
-AnswersCall (Err Gas) host memory called = called ≡ record { store = record { host = host; memory = memory }; answer = OutOfGas }
-AnswersCall (Err (Fault kind)) host memory called = called ≡ record { store = record { host = host; memory = memory }; answer = Fails kind }
+AnswersCall (Ok value) host memory called =
+    called ≡ record { store = record { host = host; memory = memory }; answer = Gives value }
+AnswersCall (Err Gas) host memory called =
+    called ≡ record { store = record { host = host; memory = memory }; answer = OutOfGas }
+AnswersCall (Err (Fault kind)) host memory called =
+    called ≡ record { store = record { host = host; memory = memory }; answer = Fails kind }
 AnswersCall (Err Memory) host memory called = Unit {0}
 
 -- the number that an answer gives is there exactly where the function has a result

@@ -1,3 +1,5 @@
+//! Why an access or a call of the host fails.
+
 /// A range of bytes isn't inside a memory.
 #[derive(Clone, Copy, Debug, PartialEq, Eq)]
 pub struct OutOfBounds;

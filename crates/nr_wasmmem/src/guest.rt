@@ -1,3 +1,5 @@
+//! What a guest has beside its code.
+
 use crate::memory::Memory;
 use nr_bytes::List;
 

@@ -46,7 +46,8 @@ pub trait Host {
         memory: &mut Memory,
     ) -> Result<Option<u64>, HostStop>
         requires { length args.now ≡ length (host_type f).params }
-        ensures answers { AnswersCall result (state self.new) memory.new.bytes (meaning.call (record { host = state self.old; memory = memory.old.bytes }) f args.now) }
+        ensures answers { AnswersCall result (state self.new) memory.new.bytes
+            (meaning.call (record { host = state self.old; memory = memory.old.bytes }) f args.now) }
         ensures gas { meaning.gas (state self.new) ≤ meaning.gas (state self.old) }
         ensures size { KeepsSize memory.old memory.new }
         ensures keeps { keeps self.old self.new };

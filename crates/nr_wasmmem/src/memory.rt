@@ -1,9 +1,11 @@
 //! The bytes of a guest.
 
-ghost use Rattle.std.specs.Prelude.{◌≡◌, ℕ, ◌+◌, ◌*◌, ◌≤◌, ◌<◌, [], length, IfOk, IfSome, Some, None, MatchResult, MatchOption};
+ghost use Rattle.std.specs.Prelude.{◌≡◌, ℕ, ◌+◌, ◌*◌, ◌≤◌, ◌<◌, [], length, IfOk, IfSome, Some, None, MatchResult};
+ghost use Rattle.std.specs.Prelude.{MatchOption};
 ghost use Rattle.std.specs.Option.{option_copied};
 ghost use Rattle.nr_bytes.specs.Numbers.{little, number};
-ghost use Rattle.nr_wasmmem.specs.Bytes.{MemoryView, IsMemory, IsWidth, pages_of, zeros, range_in, number_in, number_over, put_over, Finds, Puts, Grows};
+ghost use Rattle.nr_wasmmem.specs.Bytes.{MemoryView, IsMemory, IsWidth, pages_of, zeros, range_in, number_in};
+ghost use Rattle.nr_wasmmem.specs.Bytes.{number_over, put_over, Finds, Puts, Grows};
 
 use crate::fault::OutOfBounds;
 use std::alloc::{AllocError, Global};
@@ -75,7 +77,8 @@ impl Memory {
     #[inline]
     #[tactic(auto, unfolding(crate::specs::Bytes::range_in))]
     pub fn range(&self, at: u64, count: u64) -> Result<&[u8], OutOfBounds>
-        ensures value { MatchResult result (λ part. range_in self.now.bytes at count ≡ Some part.now) (λ e. range_in self.now.bytes at count ≡ None) }
+        ensures value { MatchResult result (λ part. range_in self.now.bytes at count ≡ Some part.now)
+            (λ e. range_in self.now.bytes at count ≡ None) }
         ensures len { IfOk result (λ part. length part.now ≡ count) }
     {
         match bounds(self.bytes.len(), at, count) {

@@ -1,8 +1,11 @@
 -- WebAssembly Core 1.0, "Numerics", "Integer Operations": what each operation gives. A number of a type of N bits is
 -- below 2 ^ N, and as a signed one it is read in two's complement. An operand counts modulo 2 ^ N, so that each
 -- operation is defined on every number.
-use Rattle.std.specs.Prelude.{ℕ, ◌+◌, ◌-◌, ◌*◌, ◌/◌, ◌%◌, ◌^◌, ◌==◌, ◌<◌, nat_lt, nat_le, if◌then◌else◌, Bool, not, ◌&&◌, Result, Ok, Err, ℤ, bit_and, bit_or, bit_xor, count_ones, int_div, int_rem, int_lt, int_le}
-use Rattle.std.specs.Int.{Width, w8, w16, w32, w64, cast_signed, cast_unsigned, int_shr, leading_zeros, trailing_zeros, rotate_left, rotate_right, from_bool}
+use Rattle.std.specs.Prelude.{ℕ, ◌+◌, ◌-◌, ◌*◌, ◌/◌, ◌%◌, ◌^◌, ◌==◌, ◌<◌, nat_lt, nat_le, if◌then◌else◌, Bool, not}
+use Rattle.std.specs.Prelude.{◌&&◌, Result, Ok, Err, ℤ, bit_and, bit_or, bit_xor, count_ones, int_div, int_rem, int_lt}
+use Rattle.std.specs.Prelude.{int_le}
+use Rattle.std.specs.Int.{Width, w8, w16, w32, w64, cast_signed, cast_unsigned, int_shr, leading_zeros, trailing_zeros}
+use Rattle.std.specs.Int.{rotate_left, rotate_right, from_bool}
 use Rattle.nr_wasmtypes.specs.declared.instr.ValType.{ValType}
 use Rattle.nr_wasmtypes.specs.declared.instr.ValType.TheVariants.{I32, I64}
 use Rattle.nr_wasmtypes.specs.declared.instr.Arith.{Arith}

@@ -47,13 +47,15 @@ pub sequences_parts : (code : Code) (others : List Part) → sequences (parts co
 sequences_parts End others = refl
 sequences_parts (Then p rest) others = ap (held (Does p)) (sequences_parts rest others)
 sequences_parts (Block ty body rest) others =
-    ap (held (Enters ty)) (sequences_parts body (parts rest others) ∙ ap (λ cs. body ∷ cs) (sequences_parts rest others))
+    ap (held (Enters ty)) (sequences_parts body (parts rest others) ∙ ap (λ cs. body ∷ cs)
+    (sequences_parts rest others))
 sequences_parts (Loop ty body rest) others =
     ap (held (Turns ty)) (sequences_parts body (parts rest others) ∙ ap (λ cs. body ∷ cs) (sequences_parts rest others))
 sequences_parts (Choice ty one other rest) others =
     ap (held (Chooses ty))
     (sequences_parts one (parts other (parts rest others))
-    ∙ ap (λ cs. one ∷ cs) (sequences_parts other (parts rest others) ∙ ap (λ cs. other ∷ cs) (sequences_parts rest others)))
+    ∙ ap (λ cs. one ∷ cs) (sequences_parts other (parts rest others) ∙ ap (λ cs. other ∷ cs)
+    (sequences_parts rest others)))
 
 abbrev pub first : List Code → Code
 first [] = End
@@ -88,4 +90,5 @@ coded_part plain val =
 
 abbrev pub coded_code : Coded Plain → Coded ValType → Coded Code
 coded_code plain val =
-    code_by (List Part) (coded_list (coded_part plain val)) (λ code. parts code []) (λ ps. first (sequences ps)) (λ code. ap first (sequences_parts code []))
+    code_by (List Part) (coded_list (coded_part plain val)) (λ code. parts code []) (λ ps. first (sequences ps))
+    (λ code. ap first (sequences_parts code []))

@@ -58,7 +58,8 @@ binding host.PromiseBatchActionDeployContract = takes (codes "promise_batch_acti
 binding host.PromiseBatchActionFunctionCall = takes (codes "promise_batch_action_function_call") 7
 binding host.PromiseBatchActionTransfer = takes (codes "promise_batch_action_transfer") 2
 binding host.PromiseBatchActionAddKeyWithFullAccess = takes (codes "promise_batch_action_add_key_with_full_access") 4
-binding host.PromiseBatchActionAddKeyWithFunctionCall = takes (codes "promise_batch_action_add_key_with_function_call") 9
+binding host.PromiseBatchActionAddKeyWithFunctionCall =
+    takes (codes "promise_batch_action_add_key_with_function_call") 9
 binding host.PromiseBatchActionDeleteKey = takes (codes "promise_batch_action_delete_key") 3
 binding host.PromiseBatchActionDeleteAccount = takes (codes "promise_batch_action_delete_account") 3
 binding host.PromiseResultsCount = gives (codes "promise_results_count") 0

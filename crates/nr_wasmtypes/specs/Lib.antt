@@ -1,3 +1,4 @@
+-- Definitions that the contracts cite.
 pub mod Code
 pub mod Coding
 pub mod Body

@@ -181,7 +181,8 @@ impl Instr {
         one: Vec<Instr>,
         other: Vec<Instr>,
     ) -> Result<Instr, AllocError>
-        ensures { IfOk result (λ i. (rest : Code) → put i rest ≡ Choice result_type (code_of one.items) (code_of other.items) rest) }
+        ensures { IfOk result (λ i. (rest : Code)
+            → put i rest ≡ Choice result_type (code_of one.items) (code_of other.items) rest) }
     {
         let arms = Box::new(alloc, (one, other))?;
         Ok(Instr::If(result_type, arms))

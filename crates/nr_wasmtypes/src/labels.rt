@@ -1,3 +1,5 @@
+//! The labels of `br_table`.
+
 ghost use Rattle.std.specs.Prelude.{◌≡◌, IfOk};
 
 use nr_bytes::List;

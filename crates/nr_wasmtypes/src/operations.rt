@@ -1,7 +1,8 @@
 //! What operations take and give.
 
 ghost use Rattle.std.specs.Prelude.{◌≡◌};
-ghost use Rattle.nr_wasmtypes.specs.Tables.{taken_by_convert, given_by_convert, given_by_load, taken_by_store, align_of_load, align_of_store};
+ghost use Rattle.nr_wasmtypes.specs.Tables.{taken_by_convert, given_by_convert, given_by_load, taken_by_store};
+ghost use Rattle.nr_wasmtypes.specs.Tables.{align_of_load, align_of_store};
 
 use crate::instr::{Convert, Load, Store, ValType};
 

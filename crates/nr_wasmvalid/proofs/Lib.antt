@@ -1,3 +1,4 @@
+-- Lemmas behind the answers.
 pub mod OnStacks
 pub mod OnShapes
 pub mod OnJudged

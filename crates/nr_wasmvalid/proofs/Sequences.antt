@@ -146,7 +146,10 @@ choice_exact : (c : Context) (n : ℕ) (ts : Types?) (one other rest : Code) (S 
     → (Some' (Condition S) → ExactBody (within ts c) (n + 1) one ts (Inside (Condition S)) (ended (n + 1 + count_of one) ts (judged (within ts c) (n + 1) one fresh)))
     → (Some' (First c ts one S) → ExactBody (within ts c) (n + 1 + count_of one) other ts (Inside (First c ts one S)) (ended (n + 1 + count_of one + count_of other) ts (judged (within ts c) (n + 1 + count_of one) other fresh)))
     → Rest c (n + 1 + count_of one + count_of other) rest (Given c ts one other S)
-    → ExactCode c n (Choice ts one other rest) S (placed n r >>= λ below. ended (n + 1 + count_of one) ts (judged (within ts c) (n + 1) one fresh) >>= λ first. ended (n + 1 + count_of one + count_of other) ts (judged (within ts c) (n + 1 + count_of one) other fresh) >>= λ second. judged c (n + 1 + count_of one + count_of other) rest (give_all (types ts) below))
+    → ExactCode c n (Choice ts one other rest) S
+    (placed n r >>= λ below. ended (n + 1 + count_of one) ts (judged (within ts c) (n + 1) one fresh) >>= λ first.
+    ended (n + 1 + count_of one + count_of other) ts (judged (within ts c) (n + 1 + count_of one) other fresh) >>=
+    λ second. judged c (n + 1 + count_of one + count_of other) rest (give_all (types ts) below))
 choice_exact c n ts one other rest S s same (Err kind) e first second others =
     (n, kind, refl, inl (refl, inl ((reached S s same, λ b a h o. e.1 b a ((same b).0 h) o), e.0)))
 choice_exact c n ts one other rest S s same (Ok below) e first second others =

@@ -40,7 +40,11 @@ label_of f = f.label
 -- the innermost block comes first
 abbrev pub frames_of : List Operand → Frame → List Frame → Frames
 frames_of operands f fs =
-    record { shape = shape_at operands f; labels = f.label ∷ map label_of fs; outer = shapes (take f.height operands) fs }
+    record {
+      shape = shape_at operands f;
+      labels = f.label ∷ map label_of fs;
+      outer = shapes (take f.height operands) fs;
+    }
 
 -- the blocks around stay, with their operands
 pub record SameAround (old new : Frames) : Type 0 where

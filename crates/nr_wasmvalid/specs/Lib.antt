@@ -1,3 +1,4 @@
+-- Definitions that the contracts cite.
 pub mod Faults
 pub mod Parts
 pub mod Modules

@@ -1,6 +1,9 @@
--- WebAssembly Core 1.0, "Validation", "Modules": what the parts of a module ask, apart from its functions' bodies, in the
+-- WebAssembly Core 1.0, "Validation", "Modules": what the parts of a module ask, apart from its functions' bodies, in
+-- the
 -- order in which a breach is looked for. The host's functions after the Nomicon, "Bindings Spec".
-use Rattle.std.specs.Prelude.{ℕ, ◌+◌, ◌-◌, ◌^◌, min, List, [], ◌∷◌, ◌++◌, length, take, Option, Some, None, is_some, slice_get, nat_le, nat_eq, Bool, true, false, not, ◌&&◌, Result, Ok, Err, if◌then◌else◌, codes}
+use Rattle.std.specs.Prelude.{ℕ, ◌+◌, ◌-◌, ◌^◌, min, List, [], ◌∷◌, ◌++◌, length, take, Option, Some, None, is_some}
+use Rattle.std.specs.Prelude.{slice_get, nat_le, nat_eq, Bool, true, false, not, ◌&&◌, Result, Ok, Err, if◌then◌else◌}
+use Rattle.std.specs.Prelude.{codes}
 use Rattle.std.specs.List.{list_all, list_any, filter_map}
 use Rattle.std.specs.Str.{bytes_eq}
 use Rattle.std.specs.Cmp.Lexicographic.{pointwise}
@@ -152,7 +155,8 @@ offset_asks gs n (constant.Get g) = offset_global n (slice_get gs g)
 abbrev pub element_asks : Module → List ℕ → ℕ → Element → List Demand
 element_asks m funcs n e =
     offset_asks m.globals n e.offset
-    ++ (exists n (is_some (slice_get m.tables e.table)) ∷ exists n (list_all (λ f. is_some (slice_get funcs f)) e.funcs) ∷ [])
+    ++ (exists n (is_some (slice_get m.tables e.table))
+    ∷ exists n (list_all (λ f. is_some (slice_get funcs f)) e.funcs) ∷ [])
 
 abbrev pub segment_asks : Module → ℕ → Segment → List Demand
 segment_asks m n s = offset_asks m.globals n s.offset ++ (exists n (is_some (slice_get m.memories s.memory)) ∷ [])

@@ -1,6 +1,7 @@
 -- WebAssembly Core 1.0, "Validation", "Instructions": what each instruction asks of the operands
 -- and of its context, in the order in which a breach is looked for.
-use Rattle.std.specs.Prelude.{◌≡◌, ℕ, List, [], ◌∷◌, ◌++◌, reverse, Option, Some, None, option_and_then, is_some, nat_le, Bool, true, false, ◌&&◌, IsTrue, slice_get}
+use Rattle.std.specs.Prelude.{◌≡◌, ℕ, List, [], ◌∷◌, ◌++◌, reverse, Option, Some, None, option_and_then, is_some}
+use Rattle.std.specs.Prelude.{nat_le, Bool, true, false, ◌&&◌, IsTrue, slice_get}
 use Rattle.nr_wasmtypes.specs.declared.instr.ValType.{ValType}
 use Rattle.nr_wasmtypes.specs.declared.instr.ValType.TheVariants.{I32, I64}
 use Rattle.nr_wasmtypes.specs.declared.module.FuncType.{FuncType}

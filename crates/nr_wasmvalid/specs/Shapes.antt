@@ -1,6 +1,7 @@
 -- WebAssembly Core 1.0, appendix "Validation Algorithm": operands of known and unknown types, above
 -- a bottom below which any may stand. What a sequence leaves of them, or its first fault.
-use Rattle.std.specs.Prelude.{ℕ, ◌+◌, List, [], ◌∷◌, Option, Some, None, Bool, true, false, Result, Ok, Err, if◌then◌else◌}
+use Rattle.std.specs.Prelude.{ℕ, ◌+◌, List, [], ◌∷◌, Option, Some, None, Bool, true, false, Result, Ok, Err}
+use Rattle.std.specs.Prelude.{if◌then◌else◌}
 use Rattle.nr_wasmtypes.specs.declared.instr.ValType.{ValType}
 use Rattle.nr_wasmtypes.specs.declared.instr.ValType.TheVariants.{I32}
 pub use Rattle.nr_bytes.specs.Reading.{◌>>=◌}
@@ -9,7 +10,8 @@ use Rattle.nr_wasmvalid.specs.declared.refusal.Refusal.{Refusal}
 use Rattle.nr_wasmvalid.specs.declared.refusal.Refusal.TheVariants as refusal
 use Rattle.nr_wasmvalid.specs.declared.refusal.BodyFault.{BodyFault}
 use Rattle.nr_wasmvalid.specs.Faults.{fault_at}
-use Rattle.nr_wasmvalid.specs.Rules.{Types?, types, Context, within, Ask, Take, Give, TakeAny, Alike, Empty, Leave, Must, same_type, rule, ending}
+use Rattle.nr_wasmvalid.specs.Rules.{Types?, types, Context, within, Ask, Take, Give, TakeAny, Alike, Empty, Leave}
+use Rattle.nr_wasmvalid.specs.Rules.{Must, same_type, rule, ending}
 
 -- a type, or none where it isn't known
 abbrev pub Operand : Type 0

@@ -7,7 +7,9 @@ ghost use Rattle.std.specs.Str.{bytes_eq};
 ghost use Rattle.nr_bytes.specs.Answers.{Gives};
 ghost use Rattle.nr_wasmtypes.specs.Host.{host_named, host_type};
 ghost use Rattle.nr_wasmvalid.specs.Rules.{same_type};
-ghost use Rattle.nr_wasmvalid.specs.Parts.{outcome, same_sig, has_sig, import_asks, func_asks, at_most, up_to, table_asks, memory_asks, global_asks, is_there, has_name, export_asks, offset_asks, element_asks, segment_asks};
+ghost use Rattle.nr_wasmvalid.specs.Parts.{outcome, same_sig, has_sig, import_asks, func_asks, at_most, up_to};
+ghost use Rattle.nr_wasmvalid.specs.Parts.{table_asks, memory_asks, global_asks, is_there, has_name, export_asks};
+ghost use Rattle.nr_wasmvalid.specs.Parts.{offset_asks, element_asks, segment_asks};
 ghost use Rattle.nr_wasmvalid.specs.declared.fault.ValidFault.TheVariants.{Memory};
 
 use crate::demand::{exists, fits, is_offered, within_limits};

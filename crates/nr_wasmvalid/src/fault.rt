@@ -1,3 +1,5 @@
+//! The first breach of a module.
+
 ghost use Rattle.std.specs.Prelude.{◌≡◌, ◌<◌, ◌^◌, Err};
 ghost use Rattle.nr_bytes.specs.Answers.{Gives};
 ghost use Rattle.nr_wasmvalid.specs.Modules.{in_func};

@@ -1,3 +1,5 @@
+//! An open block of the validation algorithm.
+
 use nr_wasmtypes::ValType;
 
 /// An open block: what a branch to it takes, how many operands stood before it, and whether any may

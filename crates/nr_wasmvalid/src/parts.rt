@@ -2,7 +2,9 @@
 
 ghost use Rattle.std.specs.Prelude.{◌≡◌, IfOk};
 ghost use Rattle.nr_bytes.specs.Answers.{Gives};
-ghost use Rattle.nr_wasmvalid.specs.Parts.{outcome, each, parts_outcome, func_indices, import_asks, func_asks, table_asks, memory_asks, global_asks, export_asks, element_asks, segment_asks, count_asks};
+ghost use Rattle.nr_wasmvalid.specs.Parts.{outcome, each, parts_outcome, func_indices, import_asks, func_asks};
+ghost use Rattle.nr_wasmvalid.specs.Parts.{table_asks, memory_asks, global_asks, export_asks, element_asks};
+ghost use Rattle.nr_wasmvalid.specs.Parts.{segment_asks, count_asks};
 ghost use Rattle.nr_wasmvalid.specs.declared.fault.ValidFault.TheVariants.{Memory};
 
 use crate::demand::exists;

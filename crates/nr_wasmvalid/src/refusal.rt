@@ -1,3 +1,5 @@
+//! Why an instruction is refused.
+
 ghost use Rattle.std.specs.Prelude.{◌≡◌};
 ghost use Rattle.nr_wasmvalid.specs.Faults.{fault_at};
 

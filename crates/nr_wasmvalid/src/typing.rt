@@ -1,3 +1,5 @@
+//! The typing of a body.
+
 ghost use Rattle.std.specs.Prelude.{◌≡◌, ℕ, [], Ok, Err};
 ghost use Rattle.nr_bytes.specs.Answers.{Gives};
 ghost use Rattle.nr_wasmtypes.specs.Code.{code_of};

@@ -1,5 +1,6 @@
 -- The commands of both programs. They are this project's own.
-use Rattle.std.specs.Prelude.{ℕ, List, [], ◌∷◌, Bool, cond, ◌==◌, nat_lt, Option, Some, None, codes, option_and_then, option_map}
+use Rattle.std.specs.Prelude.{ℕ, List, [], ◌∷◌, Bool, cond, ◌==◌, nat_lt, Option, Some, None, codes, option_and_then}
+use Rattle.std.specs.Prelude.{option_map}
 use Rattle.std.specs.Str.{bytes_eq}
 use Rattle.nr_words.specs.Forms.{Form, Place, Value, Text, Number, Digits, Choice, file, number, digits, one_of, read}
 use Rattle.nr_words.specs.Kinds.{kind_word}
@@ -10,16 +11,20 @@ use Rattle.nr_words.specs.declared.words.ChunkPlace.{ChunkPlace}
 use Rattle.nr_words.specs.declared.words.StatePart.{StatePart}
 pub use Rattle.nr_words.specs.Numbers.{has_no_leading_zero, is_digit, is_numeral, number_in}
 
--- the files of a replay: the configuration, the genesis and the blocks, and the schedule that drives it, where there is one
+-- the files of a replay: the configuration, the genesis and the blocks, and the schedule that drives it, where there
+-- is one
 pub record Names : Type 0 where
   pub config : List ℕ
   pub genesis : List ℕ
   pub blocks : List ℕ
   pub schedule : Option (List ℕ)
 
--- What the words ask for. A replay of blocks over a genesis under a configuration, or the run of a chain that three numbers
--- generate. The roots of a chain's chunks, the proof of an item, and whether a proof leads to a root. A part of a state,
--- whether a part is one of a root's, and whether all parts of a root make it up, in files of one prefix. What another run
+-- What the words ask for. A replay of blocks over a genesis under a configuration, or the run of a chain that three
+-- numbers
+-- generate. The roots of a chain's chunks, the proof of an item, and whether a proof leads to a root. A part of a
+-- state,
+-- whether a part is one of a root's, and whether all parts of a root make it up, in files of one prefix. What another
+-- run
 -- of one chunk needs, and that run from a configuration and a file.
 pub data Command : Type 0 where
   Replay : Names → Command
@@ -42,7 +47,8 @@ scheduled = file (codes "CONFIG") ∷ file (codes "GENESIS") ∷ file (codes "BL
 
 -- a start number of 64 bits, 1 to 16 shards and 1 to 256 blocks
 abbrev pub numbers : List Place
-numbers = number (codes "NUMBER") 0 18446744073709551615 ∷ number (codes "SHARDS") 1 16 ∷ number (codes "BLOCKS") 1 256 ∷ []
+numbers =
+    number (codes "NUMBER") 0 18446744073709551615 ∷ number (codes "SHARDS") 1 16 ∷ number (codes "BLOCKS") 1 256 ∷ []
 
 -- numbers of 64 and of 32 bits
 abbrev pub height_place : Place
@@ -56,10 +62,15 @@ count_place = number (codes "COUNT") 1 10000
 
 -- a place of 64 bits among the chunk's items of a kind
 abbrev pub item_places : List Place
-item_places = file (codes "CONFIG") ∷ file (codes "GENESIS") ∷ file (codes "BLOCKS") ∷ height_place ∷ shard_place ∷ one_of (codes "KIND") (kind_word Outcome ∷ kind_word Receipt ∷ []) ∷ number (codes "PLACE") 0 18446744073709551615 ∷ []
+item_places =
+    file (codes "CONFIG") ∷ file (codes "GENESIS") ∷ file (codes "BLOCKS") ∷ height_place ∷ shard_place
+    ∷ one_of (codes "KIND") (kind_word Outcome ∷ kind_word Receipt ∷ [])
+    ∷ number (codes "PLACE") 0 18446744073709551615 ∷ []
 
 abbrev pub part_places : List Place
-part_places = file (codes "CONFIG") ∷ file (codes "GENESIS") ∷ file (codes "BLOCKS") ∷ height_place ∷ shard_place ∷ count_place ∷ number (codes "NUMBER") 0 9999 ∷ []
+part_places =
+    file (codes "CONFIG") ∷ file (codes "GENESIS") ∷ file (codes "BLOCKS") ∷ height_place ∷ shard_place ∷ count_place
+    ∷ number (codes "NUMBER") 0 9999 ∷ []
 
 abbrev pub chunk_places : List Place
 chunk_places = file (codes "CONFIG") ∷ file (codes "GENESIS") ∷ file (codes "BLOCKS") ∷ height_place ∷ shard_place ∷ []
@@ -98,7 +109,8 @@ run_of (Text config ∷ Text genesis ∷ Text blocks ∷ []) = Some (Replay (nam
 run_of values = None
 
 abbrev pub check_of : List Value → Option Command
-check_of (Text config ∷ Text genesis ∷ Text blocks ∷ Text schedule ∷ []) = Some (Replay (record { config = config; genesis = genesis; blocks = blocks; schedule = Some schedule }))
+check_of (Text config ∷ Text genesis ∷ Text blocks ∷ Text schedule ∷ []) =
+    Some (Replay (record { config = config; genesis = genesis; blocks = blocks; schedule = Some schedule }))
 check_of values = None
 
 abbrev pub generate_of : List Value → Option Command
@@ -114,10 +126,12 @@ abbrev pub kind_of : ℕ → Option ProofKind
 kind_of k = cond (k == 0) (Some Outcome) (cond (k == 1) (Some Receipt) None)
 
 abbrev pub item_of : ℕ → ℕ → ℕ → ℕ → Option ChunkItem
-item_of height shard k place = option_map (λ kind. record { height = height; shard = shard; kind = kind; place = place }) (kind_of k)
+item_of height shard k place =
+    option_map (λ kind. record { height = height; shard = shard; kind = kind; place = place }) (kind_of k)
 
 abbrev pub prove_of : List Value → Option Command
-prove_of (Text config ∷ Text genesis ∷ Text blocks ∷ Number height ∷ Number shard ∷ Choice kind ∷ Number place ∷ []) = option_map (Prove (names_of config genesis blocks)) (item_of height shard kind place)
+prove_of (Text config ∷ Text genesis ∷ Text blocks ∷ Number height ∷ Number shard ∷ Choice kind ∷ Number place ∷ []) =
+    option_map (Prove (names_of config genesis blocks)) (item_of height shard kind place)
 prove_of values = None
 
 abbrev pub verify_of : List Value → Option Command
@@ -126,10 +140,12 @@ verify_of values = None
 
 -- a part has a number below the count of parts
 abbrev pub part_of : ℕ → ℕ → ℕ → ℕ → Option StatePart
-part_of height shard count k = cond (nat_lt k count) (Some (record { height = height; shard = shard; count = count; number = k })) None
+part_of height shard count k =
+    cond (nat_lt k count) (Some (record { height = height; shard = shard; count = count; number = k })) None
 
 abbrev pub cut_of : List Value → Option Command
-cut_of (Text config ∷ Text genesis ∷ Text blocks ∷ Number height ∷ Number shard ∷ Number count ∷ Number k ∷ []) = option_map (Cut (names_of config genesis blocks)) (part_of height shard count k)
+cut_of (Text config ∷ Text genesis ∷ Text blocks ∷ Number height ∷ Number shard ∷ Number count ∷ Number k ∷ []) =
+    option_map (Cut (names_of config genesis blocks)) (part_of height shard count k)
 cut_of values = None
 
 abbrev pub check_part_of : List Value → Option Command
@@ -141,7 +157,8 @@ join_parts_of (Digits root ∷ Number count ∷ Text prefix ∷ []) = Some (Join
 join_parts_of values = None
 
 abbrev pub gather_of : List Value → Option Command
-gather_of (Text config ∷ Text genesis ∷ Text blocks ∷ Number height ∷ Number shard ∷ []) = Some (Gather (names_of config genesis blocks) (record { height = height; shard = shard }))
+gather_of (Text config ∷ Text genesis ∷ Text blocks ∷ Number height ∷ Number shard ∷ []) =
+    Some (Gather (names_of config genesis blocks) (record { height = height; shard = shard }))
 gather_of values = None
 
 abbrev pub recheck_of : List Value → Option Command
@@ -168,9 +185,12 @@ replay_of found =
     (cond (bytes_eq found.0 (codes "gen")) (generate_of found.1) None)
 
 -- ---- commands
--- `run CONFIG GENESIS BLOCKS`, `check CONFIG GENESIS BLOCKS SCHEDULE`, `gen NUMBER SHARDS BLOCKS`, `roots CONFIG GENESIS
--- BLOCKS`, `prove CONFIG GENESIS BLOCKS HEIGHT SHARD KIND PLACE`, `verify ROOT PROOF`, `part CONFIG GENESIS BLOCKS HEIGHT
--- SHARD COUNT NUMBER`, `checkpart ROOT FILE`, `joinparts ROOT COUNT PREFIX`, `gather CONFIG GENESIS BLOCKS HEIGHT SHARD`
+-- `run CONFIG GENESIS BLOCKS`, `check CONFIG GENESIS BLOCKS SCHEDULE`, `gen NUMBER SHARDS BLOCKS`, `roots CONFIG
+-- GENESIS
+-- BLOCKS`, `prove CONFIG GENESIS BLOCKS HEIGHT SHARD KIND PLACE`, `verify ROOT PROOF`, `part CONFIG GENESIS BLOCKS
+-- HEIGHT
+-- SHARD COUNT NUMBER`, `checkpart ROOT FILE`, `joinparts ROOT COUNT PREFIX`, `gather CONFIG GENESIS BLOCKS HEIGHT
+-- SHARD`
 -- or `recheck CONFIG FILE`
 unfoldable pub command : List (List ℕ) → Option Command
 command words = option_and_then command_of (read serial_forms words)

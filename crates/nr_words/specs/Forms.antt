@@ -1,10 +1,12 @@
 -- Commands by a table of forms: for each its verb and its places. This project's own.
-use Rattle.std.specs.Prelude.{◌≡◌, ℕ, ◌<◌, ◌≤◌, List, [], ◌∷◌, Bool, true, false, cond, not, ◌&&◌, ◌||◌, Option, Some, None, IfSome, length, map, find, nat_le, ◌==◌, option_and_then, option_map, position}
+use Rattle.std.specs.Prelude.{◌≡◌, ℕ, ◌<◌, ◌≤◌, List, [], ◌∷◌, Bool, true, false, cond, not, ◌&&◌, ◌||◌, Option, Some}
+use Rattle.std.specs.Prelude.{None, IfSome, length, map, find, nat_le, ◌==◌, option_and_then, option_map, position}
 use Rattle.std.specs.List.{list_all, list_any}
 use Rattle.std.specs.Str.{bytes_eq}
 use Rattle.nr_words.specs.Numbers.{is_digit, number_in}
 
--- a place of a form, by its name: the name of a file or another word without a rule of its own, a number with its least and its most, 64 digits of base 16, or one of some words
+-- a place of a form, by its name: the name of a file or another word without a rule of its own, a number with its
+-- least and its most, 64 digits of base 16, or one of some words
 pub data Place : Type 0 where
   file : List ℕ → Place
   number : List ℕ → ℕ → ℕ → Place
@@ -81,7 +83,8 @@ abbrev pub are_distinct : List (List ℕ) → Bool
 are_distinct [] = true
 are_distinct (name ∷ names) = not (list_any (bytes_eq name) names) && are_distinct names
 
--- the names of a form's places differ, since a word is found by its place's name; they are at most 100, so that positions can be counted
+-- the names of a form's places differ, since a word is found by its place's name; they are at most 100, so that
+-- positions can be counted
 abbrev pub is_form : Form → Bool
 is_form form = are_distinct (map name_of form.places) && nat_le (length form.places) 100
 

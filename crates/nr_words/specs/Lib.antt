@@ -1,3 +1,4 @@
+-- Definitions that the contracts cite.
 pub mod Numbers
 pub mod Forms
 pub mod Kinds

@@ -18,4 +18,6 @@ is_numeral bytes = has_no_leading_zero bytes && list_all is_digit bytes
 
 -- the number that a word spells, where it is one of these
 abbrev pub number_in : ℕ → ℕ → List ℕ → Option ℕ
-number_in least most word = cond (is_numeral word && (nat_le least (digits_value 10 word) && nat_le (digits_value 10 word) most)) (Some (digits_value 10 word)) None
+number_in least most word =
+    cond (is_numeral word && (nat_le least (digits_value 10 word) && nat_le (digits_value 10 word) most))
+    (Some (digits_value 10 word)) None

@@ -31,12 +31,14 @@ table_app program table = fold with_form (forms_app program) table
 
 -- a form that a program takes as it stands
 abbrev pub IsForm : Parser → Type 0
-IsForm form = (old new : Parser) → AddsSubcommand old form new → app_of new ≡ with_subcommand (app_of old) (app_of form).top
+IsForm form =
+    (old new : Parser) → AddsSubcommand old form new → app_of new ≡ with_subcommand (app_of old) (app_of form).top
 
 -- ---- matches
 abbrev pub values_by : List Place → List Row → Option (List Value)
 values_by [] rows = Some []
-values_by (p ∷ places) rows = before (option_and_then (place_value p) (first_of (name_of p) rows)) (values_by places rows)
+values_by (p ∷ places) rows =
+    before (option_and_then (place_value p) (first_of (name_of p) rows)) (values_by places rows)
 
 abbrev pub found_by : List Form → List ℕ × List Row → Option (List ℕ × List Value)
 found_by table p = option_and_then (λ form. with_verb form (values_by form.places p.1)) (form_of table p.0)

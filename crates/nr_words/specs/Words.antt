@@ -4,8 +4,10 @@ use Rattle.std.specs.Global.{Global}
 use Rattle.std.specs.declared.string.String.{String}
 use Rattle.std.specs.declared.vec.Vec.{Vec}
 use Rattle.std.specs.Option.{option_copied}
-use Rattle.nr_words.specs.Command.{Command, Replay, Generate, Roots, Prove, Verify, Cut, CheckPart, JoinParts, Gather, Recheck, Names}
-use Rattle.nr_words.specs.Forms.{Form, Place, Value, file, number, digits, one_of, Text, Number, Digits, Choice, is_digest}
+use Rattle.nr_words.specs.Command.{Command, Replay, Generate, Roots, Prove, Verify, Cut, CheckPart, JoinParts, Gather}
+use Rattle.nr_words.specs.Command.{Recheck, Names}
+use Rattle.nr_words.specs.Forms.{Form, Place, Value, file, number, digits, one_of, Text, Number, Digits, Choice}
+use Rattle.nr_words.specs.Forms.{is_digest}
 use Rattle.nr_words.specs.declared.forms.Form.{Form as LentForm}
 use Rattle.nr_words.specs.declared.forms.Found.{Found}
 use Rattle.nr_words.specs.declared.forms.Place.{Place as LentPlace}
@@ -17,7 +19,9 @@ use Rattle.nr_words.specs.declared.words.ChunkPlace.{ChunkPlace}
 use Rattle.nr_words.specs.declared.words.FileNames.{FileNames}
 use Rattle.nr_words.specs.declared.words.StatePart.{StatePart}
 use Rattle.nr_words.specs.declared.words.Words.{Words}
-use Rattle.nr_words.specs.declared.words.Words.TheVariants.{ReplayFiles, GenerateInput, ChunkRoots, ProveItem, VerifyProof, CutPart, CheckPartFile, JoinPartFiles, GatherChunk, RecheckChunk}
+use Rattle.nr_words.specs.declared.words.Words.TheVariants.{ReplayFiles, GenerateInput, ChunkRoots, ProveItem}
+use Rattle.nr_words.specs.declared.words.Words.TheVariants.{VerifyProof, CutPart, CheckPartFile, JoinPartFiles}
+use Rattle.nr_words.specs.declared.words.Words.TheVariants.{GatherChunk, RecheckChunk}
 
 abbrev pub texts : List (String Global) → List (List ℕ)
 texts words = map (λ word. string_bytes word) words
@@ -53,7 +57,13 @@ abbrev pub found_in : Found → List ℕ × List Value
 found_in found = (found.verb.now, values_in found.values)
 
 abbrev pub names_in : FileNames → Names
-names_in n = record { config = n.config.now; genesis = n.genesis.now; blocks = n.blocks.now; schedule = option_copied n.schedule }
+names_in n =
+    record {
+      config = n.config.now;
+      genesis = n.genesis.now;
+      blocks = n.blocks.now;
+      schedule = option_copied n.schedule;
+    }
 
 -- the command that lent words are
 abbrev pub command_in : Words → Command

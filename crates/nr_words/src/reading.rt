@@ -132,8 +132,8 @@ fn matched<'a>(
 
 /// Reads words by a table of forms: which form they have, and what the word at each of its places is. Words that have
 /// none of the forms give nothing, nor do words of which one is empty or begins with a dash. The first form of a verb
-/// counts. The places of a form have names of their own, and there are at most 100. `program` is the name of the program
-/// that reads.
+/// counts. The places of a form have names of their own, and there are at most 100. `program` is the name of the
+/// program that reads.
 ///
 /// # Errors
 ///

@@ -1,3 +1,4 @@
+-- Lemmas behind the answers.
 pub mod Each
 pub mod Orders
 pub mod Takings

@@ -1,3 +1,4 @@
+-- Definitions that the contracts cite.
 pub mod Each
 pub mod Outcome
 pub mod Taking

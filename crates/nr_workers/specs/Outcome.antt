@@ -14,7 +14,8 @@ module _ {P W K L R : Type 0} (rules : P → Rules W K L R) (e : ExchangeView (S
     pub port_of : IsPortOf (serial_plan rules) e port
     pub shard_is : port.note.shard ≡ s
     pub published : port.note.number ≡ (rules e.run.0).heights
-    pub claimed : (t : ℕ) → t < (rules e.run.0).shards → (link port.note t).claimed ≡ last_present (rules e.run.0) t (rules e.run.0).heights
+    pub claimed : (t : ℕ) → t < (rules e.run.0).shards → (link port.note t).claimed
+        ≡ last_present (rules e.run.0) t (rules e.run.0).heights
 
   -- the ports of all shards, in order of number
   pub record HaveDoneAll (ports : List (PortView (Serial P W K L R))) : Type 0 where

@@ -15,7 +15,8 @@ pub record IsShareOf {P W K L R : Type 0} (rules : P → Rules W K L R) (e : Exc
   pub port_is : HasDoneAll rules e s share.port
   pub world_is : share.world ≡ world_after (rules e.run.0) s (rules e.run.0).heights
   pub reports_are : share.reports ≡ reports_to (rules e.run.0) s (rules e.run.0).heights
-  pub left_is : HasLeft (rules e.run.0) s (first_due (rules e.run.0) s (rules e.run.0).heights) (rules e.run.0).heights 0 share.left
+  pub left_is : HasLeft (rules e.run.0) s (first_due (rules e.run.0) s (rules e.run.0).heights)
+      (rules e.run.0).heights 0 share.left
 
 -- the lists of all shards that no chunk takes, in order of number
 abbrev pub HaveLeft : {W K L R : Type 0} → Rules W K L R → List (Left L) → Type 0

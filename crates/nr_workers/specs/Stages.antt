@@ -1,4 +1,5 @@
--- Where a worker stands: what it has in hand is what the serial run has. After the Nomicon, Chain Specification (Chunks and cross-shard receipts); the stages are this project's own.
+-- Where a worker stands: what it has in hand is what the serial run has. After the Nomicon, Chain Specification
+-- (Chunks and cross-shard receipts); the stages are this project's own.
 use Rattle.std.specs.Prelude.{◌≡◌, ℕ, ◌+◌, ◌<◌, ◌≤◌, true, List, Option, Some, None}
 use Rattle.nr_overlap.specs.Rules.{Rules}
 use Rattle.nr_overlap.specs.Serial.{first_due, worked, past_after, world_after}
@@ -26,9 +27,15 @@ module _ {W K L R : Type 0} (r : Rules W K L R) where
   -- a shard's stage after h heights
   abbrev pub IsStage : ℕ → ℕ → ℕ → ℕ → Stage W K L → Type 0
   IsStage s h done source (Idle w) = (w ≡ world_after r s h) × (done + 1 ≡ first_due r s h) × (source ≡ 0)
-  IsStage s h done source (Opened k) = (k ≡ worked r (past_after r h) h s (pairs_before r (first_due r s h) done source)) × (h < r.heights) × (r.present s (h + 1) ≡ true) × IsBetween (first_due r s h) h done source
-  IsStage s h done source (Sealed w lists) = (w ≡ world_after r s (h + 1)) × (lists ≡ (plan_of r).lists s (h + 1)) × (h < r.heights) × (r.present s (h + 1) ≡ true) × (h ≡ done) × (source ≡ 0)
-  IsStage s h done source (Ended w left) = (w ≡ world_after r s h) × (h ≡ r.heights) × HasLeft r s (first_due r s h) done source left × IsBetween (first_due r s h) h done source
+  IsStage s h done source (Opened k) =
+      (k ≡ worked r (past_after r h) h s (pairs_before r (first_due r s h) done source)) × (h < r.heights)
+      × (r.present s (h + 1) ≡ true) × IsBetween (first_due r s h) h done source
+  IsStage s h done source (Sealed w lists) =
+      (w ≡ world_after r s (h + 1)) × (lists ≡ (plan_of r).lists s (h + 1)) × (h < r.heights)
+      × (r.present s (h + 1) ≡ true) × (h ≡ done) × (source ≡ 0)
+  IsStage s h done source (Ended w left) =
+      (w ≡ world_after r s h) × (h ≡ r.heights) × HasLeft r s (first_due r s h) done source left
+      × IsBetween (first_due r s h) h done source
   IsStage s h done source Lost = ⊥
 
 -- the last height of a shard's reports. That of a chunk that is sealed is there before its lists are published

@@ -1,4 +1,5 @@
--- In which order a shard takes lists, and what a try to take one comes to. Between heights the order is this project's own.
+-- In which order a shard takes lists, and what a try to take one comes to. Between heights the order is this
+-- project's own.
 use Rattle.std.specs.Prelude.{◌≡◌, ℕ, ◌+◌, ◌<◌, ◌≤◌, nat_lt, cond, List, ◌++◌, map, filter}
 use Rattle.std.specs.List.{flat_map, range_with_len}
 use Rattle.nr_overlap.specs.Rules.{Rules}
@@ -27,14 +28,18 @@ module _ {W K L R : Type 0} (r : Rules W K L R) where
 
   -- the pairs of height and source before the next list, from a height on
   abbrev pub pairs_before : ℕ → ℕ → ℕ → List (ℕ × ℕ)
-  pairs_before first done source = flat_map (pairs_at r) (heights_between r first done) ++ map (λ t. (done + 1, t)) (filter (λ t. r.present t (done + 1)) (range_with_len 0 source))
+  pairs_before first done source =
+      flat_map (pairs_at r) (heights_between r first done) ++ map (λ t. (done + 1, t))
+      (filter (λ t. r.present t (done + 1)) (range_with_len 0 source))
 
   abbrev pub HasClaimed : {P : Type 0} → Note P → ℕ → ℕ → Type 0
   HasClaimed v done source = (t : ℕ) → t < r.shards → (link v t).claimed ≡ last_present r t (taken_to done source t)
 
   -- what a try to take the next list up to a height comes to, and where the next list stands then
   abbrev pub Finds : ℕ → ℕ → ℕ → ℕ → Found L → ℕ → ℕ → Type 0
-  Finds s last done source (Passed list) done' source' = (done < last) × (list ≡ list_to r (sealing_at r source (done + 1)) s) × (done' ≡ done_after r.shards done source) × (source' ≡ source_after r.shards source)
+  Finds s last done source (Passed list) done' source' =
+      (done < last) × (list ≡ list_to r (sealing_at r source (done + 1)) s)
+      × (done' ≡ done_after r.shards done source) × (source' ≡ source_after r.shards source)
   Finds s last done source Waits done' source' = (done < last) × (done' ≡ done) × (source' ≡ source)
   Finds s last done source All done' source' = (last ≤ done) × (done' ≡ done) × (source' ≡ source)
 

@@ -205,7 +205,8 @@ fn join<R: Threads, P: Phases>(
     started: Started<P>,
 ) -> Box<Worker<P>>
     requires { (s : ℕ) × IsStartedAs P.rules exchange.now s started }
-    ensures { (s : ℕ) → IsStartedAs P.rules exchange.now s started → IsWorkerOf P.rules exchange.now s (box_value result) }
+    ensures { (s : ℕ) → IsStartedAs P.rules exchange.now s started
+        → IsWorkerOf P.rules exchange.now s (box_value result) }
 {
     let _exchange = exchange;
     match started {

@@ -21,7 +21,8 @@ fn add<L: Drop>(
     dest: ShardId,
     list: Option<L>,
 ) -> Result<(), AllocError>
-    ensures { OnOk result (all.new.items ≡ all.old.items ++ option_to_list (option_map (λ l. (source, height, dest, l)) list)) }
+    ensures { OnOk result (all.new.items ≡ all.old.items
+        ++ option_to_list (option_map (λ l. (source, height, dest, l)) list)) }
 {
     if let Some(list) = list {
         all.push((source, height, dest, list))?;
@@ -38,9 +39,11 @@ fn gather_at<P: Phases>(
     all: &mut Vec<Sent<P::Parcel>>,
 ) -> Result<(), AllocError>
     requires count { vec_len lefts.old ≡ (P.rules phases.now).shards }
-    requires lists { (d : ℕ) → d < (P.rules phases.now).shards → slot_in lefts.old.items d source height ≡ left_list (P.rules phases.now) source height d }
+    requires lists { (d : ℕ) → d < (P.rules phases.now).shards → slot_in lefts.old.items d source height
+        ≡ left_list (P.rules phases.now) source height d }
     ensures count { vec_len lefts.new ≡ vec_len lefts.old }
-    ensures others { (d t h : ℕ) → (t ≡ source → h ≡ height → ⊥) → slot_in lefts.new.items d t h ≡ slot_in lefts.old.items d t h }
+    ensures others { (d t h : ℕ) → (t ≡ source → h ≡ height → ⊥) → slot_in lefts.new.items d t h
+        ≡ slot_in lefts.old.items d t h }
     ensures added { OnOk result (all.new.items ≡ all.old.items ++ left_by_height (P.rules phases.now) source height) }
 {
     if !phases.present(ShardId(source), Height(height)) {
@@ -61,7 +64,8 @@ fn gather_of<P: Phases>(
     all: &mut Vec<Sent<P::Parcel>>,
 ) -> Result<(), AllocError>
     requires count { vec_len lefts.old ≡ (P.rules phases.now).shards }
-    requires lists { (d h : ℕ) → d < (P.rules phases.now).shards → h ≤ (P.rules phases.now).heights → slot_in lefts.old.items d source h ≡ left_list (P.rules phases.now) source h d }
+    requires lists { (d h : ℕ) → d < (P.rules phases.now).shards → h ≤ (P.rules phases.now).heights
+        → slot_in lefts.old.items d source h ≡ left_list (P.rules phases.now) source h d }
     ensures count { vec_len lefts.new ≡ vec_len lefts.old }
     ensures others { (d t h : ℕ) → (t ≡ source → ⊥) → slot_in lefts.new.items d t h ≡ slot_in lefts.old.items d t h }
     ensures added { OnOk result (all.new.items ≡ all.old.items ++ left_by_source (P.rules phases.now) source) }
@@ -79,7 +83,8 @@ pub(crate) fn gather<P: Phases>(
     lefts: &mut Vec<Left<P::Parcel>>,
 ) -> Result<Vec<Sent<P::Parcel>>, AllocError>
     requires count { vec_len lefts.old ≡ (P.rules phases.now).shards }
-    requires lists { (d t h : ℕ) → d < (P.rules phases.now).shards → t < (P.rules phases.now).shards → h ≤ (P.rules phases.now).heights → slot_in lefts.old.items d t h ≡ left_list (P.rules phases.now) t h d }
+    requires lists { (d t h : ℕ) → d < (P.rules phases.now).shards → t < (P.rules phases.now).shards
+        → h ≤ (P.rules phases.now).heights → slot_in lefts.old.items d t h ≡ left_list (P.rules phases.now) t h d }
     ensures { IfOk result (λ all. all.items ≡ lists_left (P.rules phases.now)) }
 {
     let mut all = Vec::new(alloc);

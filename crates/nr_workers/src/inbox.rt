@@ -62,7 +62,8 @@ impl<P: Phases> Inbox<P> {
         ensures inbox { IfOk result (λ found. IsInbox P.rules exchange.now self.new) }
         ensures shard { IfOk result (λ found. self.new.port.note.shard ≡ self.old.port.note.shard) }
         ensures number { IfOk result (λ found. self.new.port.note.number ≡ self.old.port.note.number) }
-        ensures found { IfOk result (λ found. Finds (P.rules exchange.now.run.0) self.old.port.note.shard last self.old.done self.old.source found self.new.done self.new.source) }
+        ensures found { IfOk result (λ found. Finds (P.rules exchange.now.run.0) self.old.port.note.shard last
+            self.old.done self.old.source found self.new.done self.new.source) }
     {
         if self.done >= last {
             return Ok(Found::All);

@@ -48,7 +48,8 @@ pub fn run_shards<R: Threads + Wait + Sync, P: Phases + Sync, G: Gate + Sync>(
     gate: &G,
 ) -> Result<Finished<P>, AllocError>
     requires run { phases.now ≡ exchange.now.run.0 }
-    requires ports { AreMade exchange.now (P.rules exchange.now.run.0).shards (P.rules exchange.now.run.0).shards ports.items }
+    requires ports { AreMade exchange.now (P.rules exchange.now.run.0).shards (P.rules exchange.now.run.0).shards
+        ports.items }
     ensures worlds { IfOk result (λ done. done.worlds ≡ last_worlds (P.rules phases.now)) }
     ensures reports { IfOk result (λ done. done.reports ≡ reports_by_shard (P.rules phases.now)) }
     ensures left { IfOk result (λ done. done.left ≡ lists_left (P.rules phases.now)) }

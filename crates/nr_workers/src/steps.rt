@@ -390,8 +390,8 @@ fn try_turn<P: Phases, G: Gate>(
     }
 }
 
-/// Makes the next steps of a worker, up to so many. Where memory is wanting, or a source of a list or the shard at the end of a link
-/// without room has abandoned the run, the worker abandons it too.
+/// Makes the next steps of a worker, up to so many. Where memory is wanting, or a source of a list or the shard at
+/// the end of a link without room has abandoned the run, the worker abandons it too.
 pub(crate) fn make_turn<P: Phases, G: Gate>(
     alloc: Global,
     phases: &P,

@@ -11,6 +11,7 @@ use std::thread;
 /// How often a chunk looks for the other before it gives up.
 const TURNS: u64 = 100_000_000;
 
+/// A roll of two shards, with what each tells the other.
 #[derive(Drop)]
 pub struct Meeting {
     pub roll: Roll,

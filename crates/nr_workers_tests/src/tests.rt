@@ -1,3 +1,5 @@
+//! Runs by threads: reports, lists left, and shards that work beside each other.
+
 use crate::meeting::Meeting;
 use nr_bytes::List;
 use nr_exchange::{Serial, make_exchange};

@@ -1,3 +1,4 @@
+-- Lemmas behind the answers.
 pub mod AccountsTold
 pub mod Adding
 pub mod Fewer

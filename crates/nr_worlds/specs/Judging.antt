@@ -1,4 +1,5 @@
--- Which entries are the trie entries of a valid world, and which are those of a delayed queue and of nothing else. After the Nomicon, Data Structures, Merkle Proofs and Trie; the columns are this project's.
+-- Which entries are the trie entries of a valid world, and which are those of a delayed queue and of nothing else.
+-- After the Nomicon, Data Structures, Merkle Proofs and Trie; the columns are this project's.
 use Rattle.std.specs.Prelude.{ℕ, ◌&&◌, Bool, List}
 use Rattle.std.specs.FinMap.{entries}
 use Rattle.std.specs.Cmp.Lexicographic.{pointwise}
@@ -17,7 +18,9 @@ are_entries_of w es = pointwise same_pair (entries (flat w)) (pairs_of es)
 
 -- they are those of a valid world; what is read from bytes fits its fields, names are looked at apart
 unfoldable pub is_world : Config → List Entry → Bool
-is_world c es = are_entries_of (world_from es) es && names_fit (world_from es) && numbers_fit (world_from es) && is_valid_world c (world_from es)
+is_world c es =
+    are_entries_of (world_from es) es && names_fit (world_from es) && numbers_fit (world_from es)
+    && is_valid_world c (world_from es)
 
 -- what a world has of its delayed queue
 abbrev pub queue_of : World → World

@@ -1,3 +1,4 @@
+-- Definitions that the contracts cite.
 pub mod Answers
 pub mod Judging
 pub mod Laws

@@ -1,5 +1,7 @@
--- What is tested of the columns that entries stand for, one after the other. This project's own: the steps of the bodies, and no part of the rules.
-use Rattle.std.specs.Prelude.{◌≡◌, ◌⊎◌, ℕ, ◌+◌, ◌^◌, ◌<◌, ◌≤◌, ◌==◌, ◌&&◌, Bool, true, false, cond, not, List, [], ◌∷◌, length, Option, Some, None, is_some, sum_by, nat_le, nat_lt}
+-- What is tested of the columns that entries stand for, one after the other. This project's own: the steps of the
+-- bodies, and no part of the rules.
+use Rattle.std.specs.Prelude.{◌≡◌, ◌⊎◌, ℕ, ◌+◌, ◌^◌, ◌<◌, ◌≤◌, ◌==◌, ◌&&◌, Bool, true, false, cond, not, List, [], ◌∷◌}
+use Rattle.std.specs.Prelude.{length, Option, Some, None, is_some, sum_by, nat_le, nat_lt}
 use Rattle.std.specs.FinMap.{get, values}
 use Rattle.std.specs.List.{list_all}
 use Rattle.std.specs.Str.{bytes_eq}
@@ -46,7 +48,8 @@ Numbers q None = numbers_told q ≡ false
 Numbers q (Some n) = (numbers_told q ≡ true) × ((n.0 ≡ served_in q) × ((n.1 ≡ waiting_in q) × (n.0 + n.1 < 2 ^ 64)))
 
 abbrev pub queue_told : Columns → List Entry → Bool
-queue_told k es = numbers_told k.queue && count_in 7 es == waiting_in k.queue && length (delayed_in k) == waiting_in k.queue
+queue_told k es =
+    numbers_told k.queue && count_in 7 es == waiting_in k.queue && length (delayed_in k) == waiting_in k.queue
 
 -- ---- postponed receipts
 abbrev pub is_hash : Hash32 → Option Hash32 → Bool
@@ -67,7 +70,8 @@ is_lacking k r n = nat_lt 0 n && is_number n (get k.missing (r.receiver, r.recei
 
 unfoldable pub is_waiting : Columns → Receipt → Bool
 is_waiting k r =
-    is_act r.body && not (repeats_input r) && is_lacking k r (missing_inputs (world_in k) r) && are_awaited k r (inputs_of r.body)
+    is_act r.body && not (repeats_input r) && is_lacking k r (missing_inputs (world_in k) r)
+    && are_awaited k r (inputs_of r.body)
 
 abbrev pub inputs_count : List Receipt → ℕ
 inputs_count rs = sum_by (λ r. length (inputs_of r.body)) rs
@@ -120,11 +124,13 @@ Adds c before rs (Some n) = (list_all (is_bounded c) rs ≡ true) × (n ≡ befo
 Adds c before rs None = (list_all (is_bounded c) rs ≡ false) ⊎ (2 ^ 128 ≤ before + list_tokens c rs)
 
 abbrev pub tokens_of : Config → List Account → List Receipt → List Receipt → ℕ
-tokens_of c accounts postponed delayed = sum_by account_tokens accounts + list_tokens c postponed + list_tokens c delayed
+tokens_of c accounts postponed delayed =
+    sum_by account_tokens accounts + list_tokens c postponed + list_tokens c delayed
 
 abbrev pub are_bounded : Config → List Account → List Receipt → List Receipt → Bool
 are_bounded c accounts postponed delayed =
-    list_all (is_bounded c) postponed && list_all (is_bounded c) delayed && nat_le (tokens_of c accounts postponed delayed) (2 ^ 127)
+    list_all (is_bounded c) postponed && list_all (is_bounded c) delayed
+    && nat_le (tokens_of c accounts postponed delayed) (2 ^ 127)
 
 abbrev pub tokens_told : Config → Columns → Bool
 tokens_told c k = are_bounded c (values k.accounts) (values k.postponed) (delayed_in k)

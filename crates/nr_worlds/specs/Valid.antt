@@ -1,4 +1,5 @@
--- Tests of a world: whether its names fit, and whether it is valid. After the Nomicon, Data Structures (Account, Access Keys) and Runtime Specification (Receipts); the counts and the bounds are this project's.
+-- Tests of a world: whether its names fit, and whether it is valid. After the Nomicon, Data Structures (Account,
+-- Access Keys) and Runtime Specification (Receipts); the counts and the bounds are this project's.
 use Rattle.std.specs.Prelude.{ℕ, ◌+◌, ◌^◌, ◌==◌, ◌&&◌, ◌||◌, Bool, not, List, length, is_some, nat_le, nat_lt}
 use Rattle.std.specs.FinMap.{FinMap, get, entries}
 use Rattle.std.specs.List.{list_all, list_any}
@@ -21,7 +22,8 @@ use Rattle.nr_state.specs.World.{World}
 abbrev pub each : {K X : Type 0} {R : K → K → Ordering} → FinMap R X → (K → X → Bool) → Bool
 each m test = list_all (λ e. test e.0 e.1) (entries m)
 
--- ---- names: account ids, public keys, and the ids of data and of receipts; and the numbers of the delayed queue, of eight bytes
+-- ---- names: account ids, public keys, and the ids of data and of receipts; and the numbers of the delayed queue, of
+-- eight bytes
 abbrev pub accounts_named : World → Bool
 accounts_named w = each w.accounts (λ id account. is_id id)
 

@@ -131,7 +131,8 @@ fn account_entry_fits<S: Store>(
     id: &[u8],
     value: &[u8],
 ) -> Result<bool, AllocError>
-    ensures { IfOk result (λ fits. fits ≡ account_told config.now columns.now.columns (count_at (tree.get bytes_cmp counts.now) id.now) id.now value.now) }
+    ensures { IfOk result (λ fits. fits ≡ account_told config.now columns.now.columns
+        (count_at (tree.get bytes_cmp counts.now) id.now) id.now value.now) }
 {
     let owned = owned_by(alloc, counts, id)?;
     account_fits(alloc, config, columns, owned, id, value)
@@ -146,7 +147,8 @@ fn entry_fits<S: Store>(
     counts: &BTreeMap<Blob, u128>,
     entry: &Entry,
 ) -> Result<bool, AllocError>
-    ensures { IfOk result (λ fits. fits ≡ entry_fits config.now columns.now.columns (λ q. count_at (tree.get bytes_cmp counts.now) q) entry.now.key entry.now.value) }
+    ensures { IfOk result (λ fits. fits ≡ entry_fits config.now columns.now.columns
+        (λ q. count_at (tree.get bytes_cmp counts.now) q) entry.now.key entry.now.value) }
 {
     match entry.key.inner() {
         [0, id @ ..] => {
@@ -167,7 +169,9 @@ fn each_entry_fits<S: Store>(
     counts: &BTreeMap<Blob, u128>,
     entries: &[Entry],
 ) -> Result<bool, AllocError>
-    ensures { IfOk result (λ fit. fit ≡ list_all (λ e. entry_fits config.now columns.now.columns (λ q. count_at (tree.get bytes_cmp counts.now) q) e.key e.value) entries.now) }
+    ensures { IfOk result (λ fit. fit ≡ list_all
+        (λ e. entry_fits config.now columns.now.columns (λ q. count_at (tree.get bytes_cmp counts.now) q) e.key
+        e.value) entries.now) }
 {
     let mut rest = entries;
     while let [entry, after @ ..] = rest {

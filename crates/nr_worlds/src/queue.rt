@@ -55,7 +55,8 @@ fn delayed_after<S: Store>(
     waiting: u64,
 ) -> Result<Vec<Receipt>, AllocError>
     requires { served + waiting < 2 ^ 64 }
-    ensures { IfOk result (λ found. found.items ≡ flat_map (λ n. option_to_list (map.get columns.now.columns.delayed n)) (range_with_len served waiting)) }
+    ensures { IfOk result (λ found. found.items
+        ≡ flat_map (λ n. option_to_list (map.get columns.now.columns.delayed n)) (range_with_len served waiting)) }
 {
     let mut found = Vec::new(alloc);
     for behind in 0..waiting {
@@ -70,7 +71,8 @@ pub(crate) fn delayed_of<S: Store>(
     columns: &Columns<S>,
     entries: &[Entry],
 ) -> Result<Option<List<Receipt>>, AllocError>
-    ensures { IfOk result (λ found. found ≡ cond (queue_told columns.now.columns entries.now) (Some (delayed_in columns.now.columns)) None) }
+    ensures { IfOk result (λ found. found ≡ cond (queue_told columns.now.columns entries.now)
+        (Some (delayed_in columns.now.columns)) None) }
 {
     let Some((served, waiting)) = numbers_of(columns)? else {
         return Ok(None);
@@ -108,7 +110,8 @@ fn queue_of_entries(
     alloc: Global,
     entries: &List<Entry>,
 ) -> Result<Option<List<Receipt>>, AllocError>
-    ensures { IfOk result (λ found. found ≡ cond (is_queue entries.now) (Some (delayed_in (columns_in (contents_of entries.now)))) None) }
+    ensures { IfOk result (λ found. found ≡ cond (is_queue entries.now)
+        (Some (delayed_in (columns_in (contents_of entries.now)))) None) }
 {
     bytes_law(entries.inner());
     if !are_of_queue(entries.inner()) {

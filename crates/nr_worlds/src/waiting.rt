@@ -1,6 +1,7 @@
 //! Postponed receipts that wait for inputs of their own.
 
-ghost use Rattle.std.specs.Prelude.{◌≡◌, ◌<◌, ◌==◌, ◌||◌, ℕ, List, get_or, length, not, map as each, count_by, IfOk, OnOk};
+ghost use Rattle.std.specs.Prelude.{◌≡◌, ◌<◌, ◌==◌, ◌||◌, ℕ, List, get_or, length, not, map as each, count_by, IfOk};
+ghost use Rattle.std.specs.Prelude.{OnOk};
 ghost use Rattle.std.specs.FinMap as map;
 ghost use Rattle.std.specs.BTreeSet.{contains};
 ghost use Rattle.std.specs.List.{list_all};
@@ -29,7 +30,8 @@ const MISSING: u8 = 5;
 #[tactic(auto, using(crate::proofs::Repeated::seen_more))]
 fn add(seen: &mut BTreeSet<[u8; 32]>, id: &Hash32) -> Result<bool, AllocError>
     ensures fresh { IfOk result (λ fresh. fresh ≡ not (contains bytes_cmp seen.old id.now.0)) }
-    ensures more { OnOk result ((q : List ℕ) → contains bytes_cmp seen.new q ≡ (bytes_eq q id.now.0 || contains bytes_cmp seen.old q)) }
+    ensures more { OnOk result ((q : List ℕ) → contains bytes_cmp seen.new q
+        ≡ (bytes_eq q id.now.0 || contains bytes_cmp seen.old q)) }
 {
     Ok(seen.insert(id.0)?)
 }
@@ -65,7 +67,8 @@ fn count_missing<S: Store>(
     receiver: &AccountId,
     inputs: &[Hash32],
 ) -> Result<u64, AllocError>
-    ensures { IfOk result (λ count. count ≡ count_by (is_missing (world_in columns.now.columns) receiver.now) inputs.now) }
+    ensures { IfOk result (λ count. count ≡ count_by (is_missing (world_in columns.now.columns) receiver.now)
+        inputs.now) }
 {
     let mut count: u64 = 0;
     for input in inputs {

@@ -58,7 +58,8 @@ fn proved_by(
     height: u64,
     item: ChunkItem,
 ) -> Result<Blob, Stop<Status>>
-    ensures { Judges refuses (λ text. text) result (by_chunk item (result_at (chain_in outcome.now.chain) item.shard height)) }
+    ensures { Judges refuses (λ text. text) result
+        (by_chunk item (result_at (chain_in outcome.now.chain) item.shard height)) }
 {
     match outcome.report(ShardId(item.shard), Height(height)) {
         Some(chunk) => proved_in(alloc, chunk, item),

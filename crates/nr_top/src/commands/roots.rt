@@ -51,7 +51,8 @@ fn add_chunk(
     height: Height,
     text: &mut Blob,
 ) -> Result<(), AllocError>
-    ensures { OnOk result (text.new ≡ text.old ++ roots_told (result_at (chain_in outcome.now.chain) shard.0 height.0)) }
+    ensures { OnOk result (text.new ≡ text.old
+        ++ roots_told (result_at (chain_in outcome.now.chain) shard.0 height.0)) }
 {
     let Some(chunk) = outcome.report(shard, height) else {
         return Ok(());

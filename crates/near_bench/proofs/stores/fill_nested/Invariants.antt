@@ -1,3 +1,4 @@
+-- What holds at the loops of `stores::fill_nested`.
 use Rattle.std.proofs.Common.{◌≡◌}
 use Rattle.near_bench.proofs.stores.fill_nested.Given as goal
 

@@ -1,3 +1,4 @@
+-- What holds at the loops of `stores::root`.
 use Rattle.near_bench.proofs.stores.root.Given as goal
 
 abbrev pub ghosts-counted_root : goal.ghosts-counted_root

@@ -1,3 +1,4 @@
+-- What holds at the loops of `stores::set_many`.
 use Rattle.std.proofs.Common.{◌≡◌}
 use Rattle.near_bench.proofs.stores.set_many.Given as goal
 

@@ -1,3 +1,4 @@
+-- What holds at the loops of `stores::turns_of`.
 use Rattle.std.proofs.Common.{◌≡◌, []}
 use Rattle.near_bench.proofs.stores.turns_of.Given as goal
 

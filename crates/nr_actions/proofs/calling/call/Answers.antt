@@ -1,3 +1,4 @@
+-- The goals of `calling::call` that no tactic closes.
 use Rattle.std.proofs.Common.{sym, ◌∙◌}
 use Rattle.nr_actions.proofs.Standing.{room_for}
 use Rattle.nr_actions.proofs.calling.call.Goals as goal

@@ -1,3 +1,4 @@
+-- The goals of `laws::action_laws` that no tactic closes.
 use Rattle.nr_actions.proofs.Doing.{act_done}
 use Rattle.nr_actions.proofs.Failing.{failure_burns}
 use Rattle.nr_actions.proofs.Standing.{has_room}

@@ -1,3 +1,4 @@
+-- The goals of `transfer::transfer` that no tactic closes.
 use Rattle.std.proofs.Common.{sym, ◌∙◌}
 use Rattle.nr_actions.proofs.Standing.{room_for}
 use Rattle.nr_actions.proofs.transfer.transfer.Goals as goal

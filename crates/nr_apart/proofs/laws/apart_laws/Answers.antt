@@ -1,3 +1,4 @@
+-- The goals of `laws::apart_laws` that no tactic closes.
 use Rattle.nr_apart.proofs.Chunks.{stays_apart}
 use Rattle.nr_apart.proofs.Firsts.{cut_starts, genesis_starts}
 use Rattle.nr_apart.proofs.laws.apart_laws.Goals as goal

@@ -1,3 +1,4 @@
+-- The goals of `chunks::add_chunk` that no tactic closes.
 use Rattle.std.proofs.Common.{◌+◌, ap, ◌∙◌}
 use Rattle.nr_chunk.specs.Chain.{place_at}
 use Rattle.nr_chunk.specs.Runs.{chain_in}

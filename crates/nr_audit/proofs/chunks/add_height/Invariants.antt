@@ -1,3 +1,4 @@
+-- What holds at the loops of `chunks::add_height`.
 use Rattle.std.proofs.Common.{◌≡◌, ◌++◌}
 use Rattle.std.specs.List.{flat_map, range_with_len}
 use Rattle.nr_chunk.specs.Runs.{chain_in}

@@ -1,3 +1,4 @@
+-- The goals of `chunks::gather_height` that no tactic closes.
 use Rattle.std.proofs.Common.{◌+◌, refl}
 use Rattle.nr_chunk.specs.Runs.{chain_in}
 use Rattle.nr_overlap.proofs.Orders.{map_longer}

@@ -1,3 +1,4 @@
+-- What holds at the loops of `chunks::gather_height`.
 use Rattle.std.proofs.Common.{◌≡◌, map}
 use Rattle.std.specs.List.{range_with_len}
 use Rattle.nr_chunk.specs.Runs.{chain_in}

@@ -1,3 +1,4 @@
+-- The goals of `gathering::can_run` that no tactic closes.
 use Rattle.nr_contract.specs.Contract.{call}
 use Rattle.nr_contract.specs.LocalCalls.{call_is_local}
 use Rattle.nr_audit.proofs.gathering.can_run.Goals as goal

@@ -1,3 +1,4 @@
+-- The goals of `gathering::gather_text` that no tactic closes.
 use Rattle.nr_chainfiles.specs.declared.loading.ChainFiles.{ChainFiles}
 use Rattle.nr_shell.proofs.Leading.{make_follows, stop_follows, then_follows}
 use Rattle.nr_shell.specs.Plans.{Answer}

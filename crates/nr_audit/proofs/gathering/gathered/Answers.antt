@@ -1,3 +1,4 @@
+-- The goals of `gathering::gathered` that no tactic closes.
 use Rattle.std.proofs.Common.{◌≡◌, sym, ap, subst, ◌∙◌}
 use Rattle.nr_chunk.specs.Runs.{chain_in}
 use Rattle.nr_course.specs.Course.{CanRun, Course}

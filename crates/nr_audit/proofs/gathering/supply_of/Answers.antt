@@ -1,3 +1,4 @@
+-- The goals of `gathering::supply_of` that no tactic closes.
 use Rattle.std.proofs.Common.{sym, ◌∙◌}
 use Rattle.nr_audit.proofs.gathering.supply_of.Goals as goal
 

@@ -1,3 +1,4 @@
+-- The goals of `legs::add_heights` that no tactic closes.
 use Rattle.std.proofs.Common.{◌∙◌}
 use Rattle.nr_chunk.specs.Runs.{chain_in}
 use Rattle.nr_audit.specs.Archive.{height_files}

@@ -1,3 +1,4 @@
+-- What holds at the loops of `legs::add_heights`.
 use Rattle.std.proofs.Common.{◌≡◌, ◌++◌, false, replicate}
 use Rattle.std.specs.List.{flat_map, range_with_len}
 use Rattle.nr_chunk.specs.Chain.{rules_of}

@@ -1,3 +1,4 @@
+-- The goals of `legs::add_legs` that no tactic closes.
 use Rattle.nr_audit.proofs.Alike.{both_files, turn_same}
 use Rattle.nr_audit.proofs.legs.add_legs.Goals as goal
 

@@ -1,3 +1,4 @@
+-- The goals of `legs::add_next` that no tactic closes.
 use Rattle.std.proofs.Common.{arith}
 use Rattle.nr_audit.proofs.legs.add_next.Goals as goal
 

@@ -1,3 +1,4 @@
+-- The goals of `legs::add_turn` that no tactic closes.
 use Rattle.std.proofs.Common.{◌++◌, ap, ◌∙◌}
 use Rattle.std.specs.List.{flat_map}
 use Rattle.nr_chunk.specs.Chain.{Chain}

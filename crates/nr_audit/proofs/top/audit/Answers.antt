@@ -1,3 +1,4 @@
+-- The goals of `top::audit` that no tactic closes.
 use Rattle.std.proofs.Common.{refl}
 use Rattle.nr_shell.proofs.Leading.{begun}
 use Rattle.nr_audit.proofs.top.audit.Goals as goal

@@ -1,3 +1,4 @@
+-- The goals of `top::text_of` that no tactic closes.
 use Rattle.nr_shell.proofs.Leading.{make_follows}
 use Rattle.nr_audit.proofs.top.text_of.Goals as goal
 

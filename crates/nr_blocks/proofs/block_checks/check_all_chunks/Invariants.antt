@@ -1,3 +1,4 @@
+-- What holds at the loops of `block_checks::check_all_chunks`.
 use Rattle.nr_blocks.specs.Judging.{has_chunks}
 use Rattle.nr_blocks.proofs.Turns.{IsLeft}
 use Rattle.nr_blocks.proofs.block_checks.check_all_chunks.Given as goal

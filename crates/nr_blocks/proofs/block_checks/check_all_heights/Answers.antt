@@ -1,3 +1,4 @@
+-- The goals of `block_checks::check_all_heights` that no tactic closes.
 use Rattle.std.proofs.Common.{sym, ◌∙◌, arith}
 use Rattle.nr_blocks.specs.Judging.{has_height}
 use Rattle.std.proofs.lemmas.Result.{err_from_is_err_and}

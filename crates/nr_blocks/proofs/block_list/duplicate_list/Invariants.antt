@@ -1,3 +1,4 @@
+-- What holds at the loops of `block_list::duplicate_list`.
 use Rattle.std.proofs.Common.{◌≡◌, take}
 use Rattle.nr_blocks.proofs.block_list.duplicate_list.Given as goal
 

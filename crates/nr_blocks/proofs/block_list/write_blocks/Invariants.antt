@@ -1,3 +1,4 @@
+-- What holds at the loops of `block_list::write_blocks`.
 use Rattle.std.proofs.Common.{◌≡◌, ◌++◌, take}
 use Rattle.std.specs.List.{flat_map, AllByRecursion}
 use Rattle.nr_blocks.specs.BlocksFiles.{block_bytes, IsBlock}

@@ -1,3 +1,4 @@
+-- The goals of `entry_checks::check_hashes_in` that no tactic closes.
 use Rattle.std.proofs.Common.{sym, ◌∙◌, arith}
 use Rattle.std.specs.BTreeMap as tree
 use Rattle.nr_state.specs.World.{bytes_cmp}

@@ -1,3 +1,4 @@
+-- What holds at the loops of `entry_checks::check_hashes_in`.
 use Rattle.std.specs.Prelude.{unwrap_or}
 use Rattle.std.specs.BTreeMap as tree
 use Rattle.nr_state.specs.Usage.{zero_hash}

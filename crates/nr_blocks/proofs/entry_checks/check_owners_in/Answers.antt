@@ -1,3 +1,4 @@
+-- The goals of `entry_checks::check_owners_in` that no tactic closes.
 use Rattle.std.proofs.Common.{sym, arith}
 use Rattle.nr_blocks.specs.Genesis.{owner}
 use Rattle.nr_blocks.specs.Judging.{has_owner}

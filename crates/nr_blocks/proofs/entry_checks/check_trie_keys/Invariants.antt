@@ -1,3 +1,4 @@
+-- What holds at the loops of `entry_checks::check_trie_keys`.
 use Rattle.std.proofs.Common.{◌≡◌, ℕ, List, map, take}
 use Rattle.std.specs.BTreeSet.{contains}
 use Rattle.std.specs.List.{list_any}

@@ -1,3 +1,4 @@
+-- What holds at the loops of `entry_checks::check_usages_in`.
 use Rattle.std.specs.BTreeMap as tree
 use Rattle.std.specs.Map.{count_at}
 use Rattle.nr_state.specs.World.{bytes_cmp}

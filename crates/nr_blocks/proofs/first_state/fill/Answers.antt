@@ -1,3 +1,4 @@
+-- The goals of `first_state::fill` that no tactic closes.
 use Rattle.std.proofs.Common.{sym, subst}
 use Rattle.nr_state.specs.Valid.{IsValidWorld}
 use Rattle.nr_blocks.specs.Genesis.{entries_of}

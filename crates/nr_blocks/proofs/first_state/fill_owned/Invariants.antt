@@ -1,3 +1,4 @@
+-- What holds at the loops of `first_state::fill_owned`.
 use Rattle.std.proofs.Common.{◌≡◌, ◌≤◌, length, drop}
 use Rattle.nr_state.specs.View.{with_world}
 use Rattle.nr_blocks.specs.Filling.{laid, with_owned}

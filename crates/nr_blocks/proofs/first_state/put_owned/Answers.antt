@@ -1,3 +1,4 @@
+-- The goals of `first_state::put_owned` that no tactic closes.
 use Rattle.std.proofs.Common.{sym, subst}
 use Rattle.std.specs.Prelude.{IsSome}
 use Rattle.std.specs.FinMap as map

@@ -1,3 +1,4 @@
+-- The goals of `laws::first_world_laws` that no tactic closes.
 use Rattle.nr_blocks.proofs.Founded.{one_shard, all_tokens}
 use Rattle.nr_blocks.proofs.ValidFirst.{first_valid}
 use Rattle.nr_blocks.proofs.laws.first_world_laws.Goals as goal

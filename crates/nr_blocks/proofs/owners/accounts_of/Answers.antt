@@ -1,3 +1,4 @@
+-- The goals of `owners::accounts_of` that no tactic closes.
 use Rattle.std.proofs.Common.{◌≡◌, ◌-◌, ◌∷◌, drop, ap, sym, ◌∙◌, arith}
 use Rattle.std.specs.Prelude.{◌||◌}
 use Rattle.nr_blocks.specs.Genesis.{is_account}

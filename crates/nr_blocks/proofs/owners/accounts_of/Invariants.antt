@@ -1,3 +1,4 @@
+-- What holds at the loops of `owners::accounts_of`.
 use Rattle.std.proofs.Common.{◌≡◌, ◌≤◌, ℕ, List, length, drop}
 use Rattle.std.specs.BTreeSet.{contains}
 use Rattle.nr_state.specs.World.{bytes_cmp}

@@ -1,3 +1,4 @@
+-- The goals of `owners::add_id` that no tactic closes.
 use Rattle.std.proofs.Common.{ap, ◌∙◌}
 use Rattle.std.specs.Prelude.{◌||◌}
 use Rattle.std.specs.BTreeSet.{contains}

@@ -1,3 +1,4 @@
+-- What holds at the loops of `owners::usages_of`.
 use Rattle.std.proofs.Common.{◌≡◌, ◌≤◌, ℕ, List, length, drop}
 use Rattle.std.specs.BTreeMap as tree
 use Rattle.std.specs.Map.{count_at}

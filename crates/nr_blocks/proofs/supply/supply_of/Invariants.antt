@@ -1,3 +1,4 @@
+-- What holds at the loops of `supply::supply_of`.
 use Rattle.std.proofs.Common.{◌≡◌, ◌≤◌, ◌-◌, ◌^◌, length, drop}
 use Rattle.std.specs.Prelude.{min}
 use Rattle.nr_blocks.specs.Genesis.{supply}

@@ -1,3 +1,4 @@
+-- What holds at the loops of `file_shelf::append_rest`.
 use Rattle.nr_bytes.specs.Files.{Begun}
 use Rattle.nr_bytes.proofs.file_shelf.append_rest.Given as goal
 

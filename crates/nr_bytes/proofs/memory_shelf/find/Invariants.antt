@@ -1,3 +1,4 @@
+-- What holds at the loops of `memory_shelf::find`.
 use Rattle.std.proofs.Common.{◌≡◌, drop}
 use Rattle.nr_bytes.specs.Memory.{held_in}
 use Rattle.nr_bytes.proofs.memory_shelf.find.Given as goal

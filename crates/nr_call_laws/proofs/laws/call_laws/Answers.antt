@@ -1,3 +1,4 @@
+-- The goals of `laws::call_laws` that no tactic closes.
 use Rattle.nr_call_laws.proofs.Keeping.{chunk_keeps, open_keeps, seal_keeps, take_keeps}
 use Rattle.nr_call_laws.proofs.laws.call_laws.Goals as goal
 

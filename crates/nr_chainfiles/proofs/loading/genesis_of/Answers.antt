@@ -1,3 +1,4 @@
+-- The goals of `loading::genesis_of` that no tactic closes.
 use Rattle.std.proofs.Common.{sym}
 use Rattle.nr_shell.proofs.Leading.{read_follows, stop_follows}
 use Rattle.nr_chainfiles.specs.Plans.{by_genesis_bytes}

@@ -1,3 +1,4 @@
+-- The goals of `loading::load_chain` that no tactic closes.
 use Rattle.nr_shell.proofs.Leading.{stop_follows, then_follows}
 use Rattle.nr_chainfiles.specs.Plans.{by_config}
 use Rattle.nr_words.specs.Words.{names_in}

@@ -1,3 +1,4 @@
+-- The goals of `loading::with_genesis` that no tactic closes.
 use Rattle.nr_shell.proofs.Leading.{stop_follows, then_follows}
 use Rattle.nr_chainfiles.specs.Plans.{by_genesis}
 use Rattle.nr_words.specs.Words.{names_in}

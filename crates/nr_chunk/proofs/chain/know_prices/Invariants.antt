@@ -1,3 +1,4 @@
+-- What holds at the loops of `chain::know_prices`.
 use Rattle.std.proofs.Common.{take}
 use Rattle.std.specs.List.{AllByRecursion}
 use Rattle.nr_blocks.specs.BlocksFiles.{FitsPrice}

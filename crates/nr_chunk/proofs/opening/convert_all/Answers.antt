@@ -1,3 +1,4 @@
+-- The goals of `opening::convert_all` that no tactic closes.
 use Rattle.std.proofs.Common.{◌≡◌, ◌+◌, drop, sym, ap, subst, ◌∙◌}
 use Rattle.std.specs.Prelude.{fold}
 use Rattle.nr_chunk.specs.Chunk.{Opening, convert_next}

@@ -1,3 +1,4 @@
+-- What holds at the loops of `opening::convert_all`.
 use Rattle.std.proofs.Common.{◌≡◌, drop, length}
 use Rattle.std.specs.Prelude.{fold}
 use Rattle.nr_chunk.specs.Chunk.{Opening, convert_next, convert_all}

@@ -1,3 +1,4 @@
+-- The goals of `opening::convert_next` that no tactic closes.
 use Rattle.std.proofs.Common.{◌≡◌, ap, ◌∙◌}
 use Rattle.nr_chunk.specs.Chunk.{with_line}
 use Rattle.nr_chunk.specs.Refused.{refused}

@@ -1,3 +1,4 @@
+-- The goals of `opening::open` that no tactic closes.
 use Rattle.std.proofs.Common.{ap, ◌∙◌}
 use Rattle.nr_chunk.specs.Chunk.{convert_all}
 use Rattle.nr_chunk.specs.Views.{Working}

@@ -1,3 +1,4 @@
+-- What holds at the loops of `sealing::with_sent`.
 use Rattle.std.proofs.Common.{◌≡◌, ◌++◌, take, map}
 use Rattle.nr_chunk.specs.Chunk.{sent}
 use Rattle.nr_chunk.proofs.sealing.with_sent.Given as goal

@@ -1,3 +1,4 @@
+-- The goals of `serving::offer_to` that no tactic closes.
 use Rattle.std.proofs.Common.{◌≡◌, ◌∷◌, [], sym, ap, subst, ◌∙◌}
 use Rattle.nr_chunk.specs.Chunk.{told}
 use Rattle.nr_chunk.specs.Serving.{CanServe}

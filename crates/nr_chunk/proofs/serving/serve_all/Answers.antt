@@ -1,3 +1,4 @@
+-- The goals of `serving::serve_all` that no tactic closes.
 use Rattle.std.proofs.Common.{◌≡◌, ◌∷◌, List, sym, ap, subst, ◌∙◌}
 use Rattle.std.specs.Vec.Iter.{into_iter_items}
 use Rattle.nr_chunk.specs.Chunk.{serve_all}

@@ -1,3 +1,4 @@
+-- What holds at the loops of `serving::serve_all`.
 use Rattle.std.proofs.Common.{◌≡◌}
 use Rattle.std.specs.Vec.Iter.{into_iter_items}
 use Rattle.nr_chunk.specs.Chunk.{serve_all}

@@ -1,3 +1,4 @@
+-- The goals of `serving::serve_delayed` that no tactic closes.
 use Rattle.std.proofs.Common.{◌≡◌, ◌<◌, ◌∷◌, [], length, sym, ap, subst, ◌∙◌}
 use Rattle.nr_chunk.specs.Chunk.{serve_delayed, serve}
 use Rattle.nr_chunk.specs.Serving.{CanServe}

@@ -1,3 +1,4 @@
+-- What holds at the loops of `serving::serve_delayed`.
 use Rattle.std.proofs.Common.{◌≡◌, [], length}
 use Rattle.nr_chunk.specs.Chunk.{serve_delayed}
 use Rattle.nr_chunk.specs.Serving.{CanServe}

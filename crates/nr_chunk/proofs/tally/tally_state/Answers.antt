@@ -1,3 +1,4 @@
+-- The goals of `tally::tally_state` that no tactic closes.
 use Rattle.std.proofs.Common.{List, length, sym, ap, subst, ◌∙◌}
 use Rattle.std.specs.Prelude.{sum_by}
 use Rattle.nr_chunk.specs.Chain.{AreBounded}

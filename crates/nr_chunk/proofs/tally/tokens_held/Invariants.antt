@@ -1,3 +1,4 @@
+-- What holds at the loops of `tally::tokens_held`.
 use Rattle.std.proofs.Common.{◌≡◌, ◌+◌, drop}
 use Rattle.std.specs.Prelude.{sum_by}
 use Rattle.nr_chunk.proofs.tally.tokens_held.Given as goal

@@ -1,3 +1,4 @@
+-- What holds at the loops of `tally::tokens_in`.
 use Rattle.std.proofs.Common.{◌≡◌, ◌+◌, drop}
 use Rattle.nr_chunk.specs.Chain.{AreBounded}
 use Rattle.nr_chunk.proofs.tally.tokens_in.Given as goal

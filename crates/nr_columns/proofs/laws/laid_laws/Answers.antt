@@ -1,3 +1,4 @@
+-- The goals of `laws::laid_laws` that no tactic closes.
 use Rattle.std.proofs.Common.{◌≡◌, List, [], ◌∷◌, ap, map, subst}
 use Rattle.std.specs.List.{AllByRecursion}
 use Rattle.nr_triedef.specs.Root.{Contents}

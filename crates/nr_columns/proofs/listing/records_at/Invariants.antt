@@ -1,3 +1,4 @@
+-- What holds at the loops of `listing::records_at`.
 use Rattle.std.proofs.Common.{◌≡◌, take}
 use Rattle.std.specs.List.{flat_map}
 use Rattle.std.specs.Option.{option_and_then, option_to_list}

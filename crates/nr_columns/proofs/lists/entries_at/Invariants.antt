@@ -1,3 +1,4 @@
+-- What holds at the loops of `lists::entries_at`.
 use Rattle.std.proofs.Common.{◌≡◌}
 use Rattle.std.specs.List.{flat_map}
 use Rattle.nr_columns.specs.Entries.{pairs_of, pair_at}

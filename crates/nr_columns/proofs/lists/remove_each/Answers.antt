@@ -1,3 +1,4 @@
+-- The goals of `lists::remove_each` that no tactic closes.
 use Rattle.std.proofs.Common.{sym, subst, take, ◌∙◌}
 use Rattle.nr_columns.specs.View.{IsLaid}
 use Rattle.nr_columns.proofs.KeyLists.{laid_fold}

@@ -1,3 +1,4 @@
+-- What holds at the loops of `lists::remove_each`.
 use Rattle.std.proofs.Common.{◌≡◌, take}
 use Rattle.std.specs.FinMap as map
 use Rattle.std.specs.List.{fold}

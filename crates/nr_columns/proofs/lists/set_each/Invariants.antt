@@ -1,3 +1,4 @@
+-- What holds at the loops of `lists::set_each`.
 use Rattle.std.proofs.Common.{◌≡◌, ◌≤◌, length, drop}
 use Rattle.nr_columns.specs.Entries.{contents_of}
 use Rattle.nr_columns.proofs.lists.set_each.Given as goal

@@ -1,3 +1,4 @@
+-- The goals of `reading::json_of` that no tactic closes.
 use Rattle.std.proofs.Common.{◌≡◌, true, sym, ◌∙◌}
 use Rattle.serde_json.specs.View.{view}
 use Rattle.nr_config.proofs.Objects.{object_found, no_text}

@@ -1,3 +1,4 @@
+-- The goals of `reading::numbers_by` that no tactic closes.
 use Rattle.std.proofs.Common.{arith, sym, ◌∙◌, length-set}
 use Rattle.serde_json.specs.View.{view}
 use Rattle.nr_config.proofs.Loop.{goes_on, is_done}

@@ -1,3 +1,4 @@
+-- What holds at the loops of `reading::numbers_by`.
 use Rattle.std.proofs.Common.{◌≡◌, length}
 use Rattle.serde_json.specs.View.{view}
 use Rattle.nr_config.proofs.Loop.{HasRead}

@@ -1,3 +1,4 @@
+-- What holds at the loops of `table::free_numbers`.
 use Rattle.std.proofs.Common.{◌≡◌, map, take, length}
 use Rattle.nr_config.specs.declared.table.Row as code
 use Rattle.nr_config.proofs.table.free_numbers.Given as goal

@@ -1,3 +1,4 @@
+-- The goals of `table::generated_numbers` that no tactic closes.
 use Rattle.std.proofs.Common.{arith, length-set, ◌∙◌}
 use Rattle.nr_config.specs.declared.table.Row as code
 use Rattle.nr_config.proofs.Loop.{column_more, column_done}

@@ -1,3 +1,4 @@
+-- The goals of `loading::config_of` that no tactic closes.
 use Rattle.std.proofs.Common.{◌≡◌, true, false, sym, ap}
 use Rattle.nr_config.specs.Config.{Config}
 use Rattle.nr_shell.specs.Plans.{Answer}

@@ -1,3 +1,4 @@
+-- The goals of `caller::drive` that no tactic closes.
 use Rattle.std.proofs.Common.{[], sym, ◌∙◌}
 use Rattle.nr_hostctx.specs.Host.{with_guest}
 use Rattle.nr_hostctx.specs.State.{state_of}

@@ -1,3 +1,4 @@
+-- The goals of `caller::run_method` that no tactic closes.
 use Rattle.std.proofs.Common.{◌≡◌, rules, sym, ◌∙◌}
 use Rattle.nr_contract.proofs.Ending.{ran, stops}
 use Rattle.nr_contract.proofs.caller.run_method.Goals as goal

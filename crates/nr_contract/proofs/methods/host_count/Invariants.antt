@@ -1,3 +1,4 @@
+-- What holds at the loops of `methods::host_count`.
 use Rattle.std.proofs.Common.{◌≡◌, ◌≤◌, ◌+◌, drop, length}
 use Rattle.nr_wasmexec.specs.Functions.{links}
 use Rattle.nr_contract.proofs.methods.host_count.Given as goal

@@ -1,3 +1,4 @@
+-- The goals of `preparing::prepare_module` that no tactic closes.
 use Rattle.nr_config.specs.Config.{max_pages}
 use Rattle.nr_contract.proofs.Making.{runs_over}
 use Rattle.nr_contract.proofs.preparing.prepare_module.Goals as goal

@@ -1,3 +1,4 @@
+-- The goals of `threads::callers` that no tactic closes.
 use denote.Exit.{yes}
 use denote.Param.{arg}
 use mir.Syntax.{ty_ptr}

@@ -1,3 +1,4 @@
+-- The goals of `laws::decoding_laws` that no tactic closes.
 use Rattle.nr_contract_laws.proofs.Decoding.{one}
 use Rattle.nr_wasmbin.proofs.ModuleLaws.{decoded_is, is_decoded}
 use Rattle.nr_contract_laws.proofs.laws.decoding_laws.Goals as goal

@@ -1,3 +1,4 @@
+-- The goals of `laws::ending_laws` that no tactic closes.
 use Rattle.nr_contract_laws.proofs.Ending.{comes, ends, kinds}
 use Rattle.nr_contract_laws.proofs.laws.ending_laws.Goals as goal
 

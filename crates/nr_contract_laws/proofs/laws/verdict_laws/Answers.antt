@@ -1,3 +1,4 @@
+-- The goals of `laws::verdict_laws` that no tactic closes.
 use Rattle.nr_contract.proofs.Judging.{is_valid}
 use Rattle.nr_contract_laws.proofs.Verdict.{breach_is, is_breach, valid_is}
 use Rattle.nr_contract_laws.proofs.laws.verdict_laws.Goals as goal

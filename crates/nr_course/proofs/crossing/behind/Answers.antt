@@ -1,3 +1,4 @@
+-- The goals of `crossing::behind` that no tactic closes.
 use Rattle.std.proofs.Common.{sym, ap, subst, ◌∙◌}
 use Rattle.nr_chunk.specs.Chain.{Chain}
 use Rattle.nr_chunk.specs.Runs.{chain_in}

@@ -1,3 +1,4 @@
+-- The goals of `crossing::cross` that no tactic closes.
 use Rattle.std.proofs.Common.{sym, ap, subst, ◌∙◌}
 use Rattle.nr_chunk.specs.Chain.{Chain, rules_of}
 use Rattle.nr_chunk.specs.Runs.{chain_in}

@@ -1,3 +1,4 @@
+-- What holds at the loops of `crossing::entries_of`.
 use Rattle.std.proofs.Common.{◌≡◌, map, take}
 use Rattle.std.specs.List.{AllByRecursion}
 use Rattle.nr_chunk.specs.Views.{Kept}

@@ -1,3 +1,4 @@
+-- What holds at the loops of `crossing::lists_of`.
 use Rattle.std.proofs.Common.{◌≡◌, ◌++◌, map}
 use Rattle.std.specs.Vec.Iter.{into_iter_items}
 use Rattle.nr_legs.specs.Legs.{left_of}

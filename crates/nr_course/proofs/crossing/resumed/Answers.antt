@@ -1,3 +1,4 @@
+-- The goals of `crossing::resumed` that no tactic closes.
 use Rattle.std.proofs.Common.{ap, ◌∙◌}
 use Rattle.nr_cut.specs.Cut.{carried}
 use Rattle.nr_course.proofs.Ends.{resumes}

@@ -1,3 +1,4 @@
+-- The goals of `crossing::tokens_of` that no tactic closes.
 use Rattle.std.proofs.Common.{arith}
 use Rattle.nr_chunk.specs.Runs.{chain_in}
 use Rattle.nr_course.proofs.Ends.{tokens_fit, tokens_on}

@@ -1,3 +1,4 @@
+-- The goals of `laws::course_laws` that no tactic closes.
 use Rattle.nr_course.proofs.Ends.{second_is}
 use Rattle.nr_course.proofs.Files.{can_run}
 use Rattle.nr_course.proofs.Sums.{adds_up, nothing_past}

@@ -1,3 +1,4 @@
+-- The goals of `carrying::carry` that no tactic closes.
 use Rattle.std.proofs.Common.{◌++◌, List, sym, ap, ◌∙◌, append_assoc}
 use Rattle.std.specs.List.{flat_map}
 use Rattle.std.specs.Vec.Iter.{into_iter_items}

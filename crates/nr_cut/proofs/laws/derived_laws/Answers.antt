@@ -1,3 +1,4 @@
+-- The goals of `laws::derived_laws` that no tactic closes.
 use Rattle.nr_cut.proofs.Derived.{awaited_of_both, awaited_of_part, missing_of_both, missing_of_part}
 use Rattle.nr_cut.proofs.laws.derived_laws.Goals as goal
 

@@ -1,3 +1,4 @@
+-- The goals of `laws::list_laws` that no tactic closes.
 use Rattle.nr_cut.proofs.Cuts.{keeps_lists}
 use Rattle.nr_cut.proofs.laws.list_laws.Goals as goal
 

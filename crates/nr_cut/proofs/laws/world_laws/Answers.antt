@@ -1,3 +1,4 @@
+-- The goals of `laws::world_laws` that no tactic closes.
 use Rattle.nr_cut.proofs.Cuts.{keeps_worlds}
 use Rattle.nr_cut.proofs.laws.world_laws.Goals as goal
 

@@ -1,3 +1,4 @@
+-- The goals of `order::bytes_law` that no tactic closes.
 use Rattle.std.proofs.Common.{◌≡◌, ◌-◌, ◌∷◌, drop, sym, subst, arith}
 use Rattle.nr_entries.specs.Told.{AreBytes}
 use Rattle.nr_entries.proofs.Counts.{front_of}

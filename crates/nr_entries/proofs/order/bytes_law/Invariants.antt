@@ -1,3 +1,4 @@
+-- What holds at the loops of `order::bytes_law`.
 use Rattle.std.proofs.Common.{◌≤◌, length, drop}
 use Rattle.nr_entries.specs.Told.{AreBytes}
 use Rattle.nr_entries.proofs.order.bytes_law.Given as goal

@@ -1,3 +1,4 @@
+-- What holds at the loops of `order::rises`.
 use Rattle.std.proofs.Common.{◌≡◌, length}
 use Rattle.nr_entries.specs.Order.{rises}
 use Rattle.nr_entries.proofs.order.rises.Given as goal

@@ -1,3 +1,4 @@
+-- What holds at the loops of `told::are_told`.
 use Rattle.std.proofs.Common.{◌≡◌, length}
 use Rattle.nr_entries.specs.Told.{are_told}
 use Rattle.nr_entries.proofs.told.are_told.Given as goal

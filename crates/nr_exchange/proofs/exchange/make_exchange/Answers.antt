@@ -1,3 +1,4 @@
+-- The goals of `exchange::make_exchange` that no tactic closes.
 use Rattle.std.proofs.Common.{◌≡◌, ◌+◌, ◌*◌, ℕ, List, replicate, sym, ap, ◌∙◌, subst, arith}
 use Rattle.atomic_table.specs.Table.{opening}
 use Rattle.nr_exchange.specs.Notes.{fresh}

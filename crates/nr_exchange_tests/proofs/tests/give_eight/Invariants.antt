@@ -1,3 +1,4 @@
+-- What holds at the loops of `tests::give_eight`.
 use Rattle.std.proofs.Common.{◌≡◌, ◌+◌}
 use Rattle.nr_exchange.specs.Plan.{plan_of}
 use Rattle.nr_exchange.specs.Notes.{link}

@@ -1,3 +1,4 @@
+-- What holds at the loops of `tests::words`.
 use Rattle.std.proofs.Common.{◌≡◌, ℕ, ◌-◌, ◌<◌, false, get_or}
 use Rattle.std.specs.Mem.Slots.{slots_filled, slots_len}
 use Rattle.std.specs.Mem.Slots.Ownership.{Filled}

@@ -1,3 +1,4 @@
+-- The goals of `entries::nth_entry` that no tactic closes.
 use Rattle.std.proofs.Common.{arith}
 use Rattle.nr_explain.specs.Coded.{bounds_in}
 use Rattle.nr_explain.proofs.NthEntry.{an_entry, past_entries}

@@ -1,3 +1,4 @@
+-- The goals of `explaining::spaced` that no tactic closes.
 use Rattle.std.proofs.Common.{◌++◌, ap, ◌∙◌}
 use Rattle.std.specs.Prelude.{string_bytes}
 use Rattle.nr_explain.proofs.Spacing.{spaced_whole}

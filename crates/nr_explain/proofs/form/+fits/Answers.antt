@@ -1,3 +1,4 @@
+-- The goals of `form::fits` that no tactic closes.
 use Rattle.nr_explain.specs.Coded.{field_of}
 use Rattle.nr_explain.proofs.FirstForm.{no_fields}
 use Rattle.nr_explain.proofs.form.+fits.Goals as goal

@@ -1,3 +1,4 @@
+-- What holds at the loops of `form::fits`.
 use Rattle.std.proofs.Common.{length}
 use Rattle.nr_explain.proofs.form.+fits.Given as goal
 

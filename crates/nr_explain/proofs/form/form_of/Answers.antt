@@ -1,3 +1,4 @@
+-- The goals of `form::form_of` that no tactic closes.
 use Rattle.std.proofs.Common.{sym, ◌∙◌, arith}
 use Rattle.nr_explain.specs.Words.{pieces}
 use Rattle.nr_explain.specs.Coded.{form_in}

@@ -1,3 +1,4 @@
+-- What holds at the loops of `form::form_of`.
 use Rattle.std.proofs.Common.{◌≡◌, map, drop}
 use Rattle.nr_explain.specs.Words.{pieces}
 use Rattle.nr_explain.specs.Forms.{form_of}

@@ -1,3 +1,4 @@
+-- The goals of `lines::put_members` that no tactic closes.
 use Rattle.nr_explain.specs.Coded.{field_of}
 use Rattle.nr_explain.proofs.Rows.{members_put}
 use Rattle.nr_explain.proofs.lines.+put_members.Goals as goal

@@ -1,3 +1,4 @@
+-- What holds at the loops of `lines::put_members`.
 use Rattle.std.proofs.Common.{length}
 use Rattle.nr_explain.proofs.lines.+put_members.Given as goal
 

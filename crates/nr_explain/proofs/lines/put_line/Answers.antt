@@ -1,3 +1,4 @@
+-- The goals of `lines::put_line` that no tactic closes.
 use Rattle.nr_explain.specs.Coded.{form_in}
 use Rattle.nr_explain.proofs.Rows.{no_object}
 use Rattle.nr_explain.proofs.lines.put_line.Goals as goal

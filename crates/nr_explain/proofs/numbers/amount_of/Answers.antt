@@ -1,3 +1,4 @@
+-- The goals of `numbers::amount_of` that no tactic closes.
 use Rattle.std.proofs.Common.{◌^◌}
 use Rattle.nr_explain.proofs.Numerals.{no_text}
 use Rattle.nr_explain.proofs.numbers.amount_of.Goals as goal

@@ -1,3 +1,4 @@
+-- The goals of `numbers::number_of` that no tactic closes.
 use Rattle.std.proofs.Common.{◌^◌}
 use Rattle.nr_explain.proofs.Numerals.{no_text}
 use Rattle.nr_explain.proofs.numbers.number_of.Goals as goal

@@ -1,3 +1,4 @@
+-- The goals of `numbers::small_number` that no tactic closes.
 use Rattle.std.proofs.Common.{◌≡◌, ◌^◌, true}
 use Rattle.nr_explain.specs.Words.{is_numeral}
 use Rattle.nr_explain.proofs.Numerals.{too_large}

@@ -1,3 +1,4 @@
+-- The goals of `report::show_report` that no tactic closes.
 use Rattle.std.proofs.Common.{sym, ap, ◌∙◌, arith, Ok}
 use Rattle.nr_explain.specs.Words.{pieces}
 use Rattle.nr_explain.specs.Report.{objects_from, report_json}

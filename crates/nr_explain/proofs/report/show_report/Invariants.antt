@@ -1,3 +1,4 @@
+-- What holds at the loops of `report::show_report`.
 use Rattle.std.proofs.Common.{◌≡◌, ◌+◌, ◌≤◌, length}
 use Rattle.nr_explain.specs.Words.{pieces}
 use Rattle.nr_explain.specs.Report.{objects_from, report_json}

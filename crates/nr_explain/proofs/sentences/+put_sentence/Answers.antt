@@ -1,3 +1,4 @@
+-- The goals of `sentences::put_sentence` that no tactic closes.
 use Rattle.nr_explain.specs.Coded.{field_of}
 use Rattle.nr_explain.proofs.Rows.{phrases_put}
 use Rattle.nr_explain.proofs.sentences.+put_sentence.Goals as goal

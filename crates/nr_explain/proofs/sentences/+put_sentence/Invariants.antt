@@ -1,3 +1,4 @@
+-- What holds at the loops of `sentences::put_sentence`.
 use Rattle.std.proofs.Common.{length}
 use Rattle.nr_explain.proofs.sentences.+put_sentence.Given as goal
 

@@ -1,3 +1,4 @@
+-- What holds at the loops of `accounts::add_receivers`.
 use Rattle.std.proofs.Common.{◌≡◌, ◌++◌, map, take}
 use Rattle.nr_records.specs.declared.receipt.Receipt.{Receipt}
 use Rattle.nr_extract.proofs.accounts.add_receivers.Given as goal

@@ -1,3 +1,4 @@
+-- What holds at the loops of `accounts::add_signers`.
 use Rattle.std.proofs.Common.{◌≡◌, ◌++◌, map, take}
 use Rattle.nr_records.specs.declared.transaction.Transaction.{Transaction}
 use Rattle.nr_extract.proofs.accounts.add_signers.Given as goal

@@ -1,3 +1,4 @@
+-- The goals of `extracting::chunk_of` that no tactic closes.
 use Rattle.std.proofs.Common.{ap, ◌∙◌}
 use Rattle.std.specs.FinMap.{entries}
 use Rattle.std.specs.Option.{option_copied}

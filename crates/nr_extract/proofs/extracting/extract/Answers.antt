@@ -1,3 +1,4 @@
+-- The goals of `extracting::extract` that no tactic closes.
 use Rattle.std.proofs.Common.{arith}
 use Rattle.nr_extract.proofs.extracting.extract.Goals as goal
 

@@ -1,3 +1,4 @@
+-- The goals of `extracting::texts_of` that no tactic closes.
 use Rattle.std.proofs.Common.{length, ap, arith, subst, ◌∙◌}
 use Rattle.nr_state.specs.Flat.{flat}
 use Rattle.nr_state.specs.Worlds.{IsWorld}

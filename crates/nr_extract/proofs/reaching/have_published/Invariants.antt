@@ -1,3 +1,4 @@
+-- What holds at the loops of `reaching::have_published`.
 use Rattle.std.proofs.Common.{ℕ, ◌<◌, ◌≤◌}
 use Rattle.nr_overlap.specs.Positions.{at}
 use Rattle.nr_extract.proofs.reaching.have_published.Given as goal

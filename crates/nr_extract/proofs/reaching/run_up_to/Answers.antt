@@ -1,3 +1,4 @@
+-- The goals of `reaching::run_up_to` that no tactic closes.
 use Rattle.nr_extract.proofs.Nearing.{nears_arrived, nears_first, nears_step}
 use Rattle.nr_extract.proofs.reaching.run_up_to.Goals as goal
 

@@ -1,3 +1,4 @@
+-- What holds at the loops of `reaching::run_up_to`.
 use Rattle.nr_overlap.specs.Next.{left}
 use Rattle.nr_extract.specs.Reaching.{Nears}
 use Rattle.nr_extract.proofs.reaching.run_up_to.Given as goal

@@ -1,3 +1,4 @@
+-- The goals of `receipts::add_each_due` that no tactic closes.
 use Rattle.std.proofs.Common.{◌<◌, length, arith}
 use Rattle.std.proofs.lemmas.Option.{slice_get-get_or}
 use Rattle.nr_chunk.specs.Chain.{rules_of}

@@ -1,3 +1,4 @@
+-- What holds at the loops of `receipts::add_each_due`.
 use Rattle.std.proofs.Common.{◌≡◌, ◌++◌, take}
 use Rattle.std.specs.List.{flat_map}
 use Rattle.nr_chunk.specs.Runs.{chain_in}

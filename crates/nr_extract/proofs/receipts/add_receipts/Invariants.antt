@@ -1,3 +1,4 @@
+-- What holds at the loops of `receipts::add_receipts`.
 use Rattle.std.proofs.Common.{◌≡◌, ◌++◌, take}
 use Rattle.nr_extract.proofs.receipts.add_receipts.Given as goal
 

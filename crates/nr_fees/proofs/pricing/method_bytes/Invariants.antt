@@ -1,3 +1,4 @@
+-- What holds at the loops of `pricing::method_bytes`.
 use Rattle.std.proofs.Common.{◌≡◌, ◌≤◌, ◌*◌, ◌^◌, take}
 use Rattle.nr_fees.specs.Fees.{method_bytes}
 use Rattle.nr_fees.proofs.pricing.method_bytes.Given as goal

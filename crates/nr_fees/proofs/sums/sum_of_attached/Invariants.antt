@@ -1,3 +1,4 @@
+-- What holds at the loops of `sums::sum_of_attached`.
 use Rattle.std.proofs.Common.{◌≡◌, ◌<◌, ◌^◌, sum_by, take}
 use Rattle.nr_fees.specs.Fees.{attached}
 use Rattle.nr_fees.proofs.sums.sum_of_attached.Given as goal

@@ -1,3 +1,4 @@
+-- What holds at the loops of `sums::sum_of_deposits`.
 use Rattle.std.proofs.Common.{◌≡◌, ◌<◌, ◌^◌, sum_by, take}
 use Rattle.nr_fees.specs.Fees.{deposit_of}
 use Rattle.nr_fees.proofs.sums.sum_of_deposits.Given as goal

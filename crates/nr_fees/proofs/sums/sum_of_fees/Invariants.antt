@@ -1,3 +1,4 @@
+-- What holds at the loops of `sums::sum_of_fees`.
 use Rattle.std.proofs.Common.{◌≡◌, ◌<◌, ◌^◌, sum_by, take}
 use Rattle.nr_fees.specs.Fees.{action_fee}
 use Rattle.nr_fees.proofs.sums.sum_of_fees.Given as goal

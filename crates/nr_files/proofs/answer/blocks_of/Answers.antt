@@ -1,3 +1,4 @@
+-- The goals of `answer::blocks_of` that no tactic closes.
 use Rattle.nr_records.specs.declared.fault.RecordFault.TheVariants.{Memory}
 use Rattle.nr_files.specs.Damage.{blocks_line}
 use Rattle.nr_files.specs.Versions.{blocks_read}

@@ -1,3 +1,4 @@
+-- The goals of `answer::gathered_of` that no tactic closes.
 use Rattle.nr_gathered.specs.Files.{gathered_in}
 use Rattle.nr_gathered.specs.declared.fault.GatheredFault.TheVariants.{Memory}
 use Rattle.nr_files.specs.Lines.{gathered_line}

@@ -1,3 +1,4 @@
+-- The goals of `answer::genesis_in` that no tactic closes.
 use Rattle.nr_blocks.specs.Judging.{genesis_read}
 use Rattle.nr_blocks.specs.declared.fault.GenesisFault.TheVariants.{Memory}
 use Rattle.nr_files.specs.Lines.{genesis_line}

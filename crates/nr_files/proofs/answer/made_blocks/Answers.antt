@@ -1,3 +1,4 @@
+-- The goals of `answer::made_blocks` that no tactic closes.
 use Rattle.serde_json.specs.View.{view}
 use Rattle.nr_files.proofs.Steps.{made}
 use Rattle.nr_files.proofs.answer.made_blocks.Goals as goal

@@ -1,3 +1,4 @@
+-- The goals of `answer::made_genesis` that no tactic closes.
 use Rattle.std.proofs.Common.{subst}
 use Rattle.serde_json.specs.View.{view}
 use Rattle.nr_files.specs.Answers.{AnswersAs, output_in}

@@ -1,3 +1,4 @@
+-- The goals of `answer::part_of` that no tactic closes.
 use Rattle.nr_parts.specs.Files.{part_in}
 use Rattle.nr_parts.specs.declared.fault.PartFault.TheVariants.{Memory}
 use Rattle.nr_files.specs.Lines.{part_line}

@@ -1,3 +1,4 @@
+-- The goals of `answer::proof_of` that no tactic closes.
 use Rattle.nr_outproof.specs.Texts.{proof_read}
 use Rattle.nr_outproof.specs.declared.fault.ProofFault.TheVariants.{Memory}
 use Rattle.nr_files.specs.Lines.{proof_line}

@@ -1,3 +1,4 @@
+-- The goals of `answer::record_in` that no tactic closes.
 use Rattle.serde_json.specs.View.{view}
 use Rattle.nr_json.specs.declared.fault.JsonFault.TheVariants.{Memory}
 use Rattle.nr_files.specs.Lines.{fault_line}

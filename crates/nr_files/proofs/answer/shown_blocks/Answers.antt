@@ -1,3 +1,4 @@
+-- The goals of `answer::shown_blocks` that no tactic closes.
 use Rattle.serde_json.specs.View.{view}
 use Rattle.nr_files.proofs.Steps.{shown}
 use Rattle.nr_files.proofs.answer.shown_blocks.Goals as goal

@@ -1,3 +1,4 @@
+-- The goals of `answer::shown_gathered` that no tactic closes.
 use Rattle.serde_json.specs.View.{view}
 use Rattle.nr_files.proofs.Steps.{gathered_shown}
 use Rattle.nr_files.proofs.answer.shown_gathered.Goals as goal

@@ -1,3 +1,4 @@
+-- The goals of `answer::shown_genesis` that no tactic closes.
 use Rattle.serde_json.specs.View.{view}
 use Rattle.nr_files.proofs.Steps.{genesis_shown}
 use Rattle.nr_files.proofs.answer.shown_genesis.Goals as goal

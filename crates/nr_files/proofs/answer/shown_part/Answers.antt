@@ -1,3 +1,4 @@
+-- The goals of `answer::shown_part` that no tactic closes.
 use Rattle.serde_json.specs.View.{view}
 use Rattle.nr_files.proofs.Steps.{part_shown}
 use Rattle.nr_files.proofs.answer.shown_part.Goals as goal

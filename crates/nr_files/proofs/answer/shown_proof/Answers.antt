@@ -1,3 +1,4 @@
+-- The goals of `answer::shown_proof` that no tactic closes.
 use Rattle.serde_json.specs.View.{view}
 use Rattle.nr_files.proofs.Steps.{proof_shown}
 use Rattle.nr_files.proofs.answer.shown_proof.Goals as goal

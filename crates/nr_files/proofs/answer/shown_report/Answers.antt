@@ -1,3 +1,4 @@
+-- The goals of `answer::shown_report` that no tactic closes.
 use Rattle.nr_files.proofs.Steps.{report_refused, report_shown}
 use Rattle.nr_files.proofs.answer.shown_report.Goals as goal
 

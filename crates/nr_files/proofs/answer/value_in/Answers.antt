@@ -1,3 +1,4 @@
+-- The goals of `answer::value_in` that no tactic closes.
 use Rattle.std.proofs.Common.{◌≡◌, ℕ, List, true, subst}
 use Rattle.serde_json.specs.View.{view}
 use Rattle.nr_files.specs.Answers.{Tells}

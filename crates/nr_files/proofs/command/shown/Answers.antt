@@ -1,3 +1,4 @@
+-- The goals of `command::shown` that no tactic closes.
 use Rattle.std.proofs.Common.{◌≡◌, ◌∙◌, None, Some, ap, option_map, sym}
 use Rattle.nr_words.specs.Forms.{read}
 use Rattle.nr_words.specs.Words.{found_in, table_in, texts}

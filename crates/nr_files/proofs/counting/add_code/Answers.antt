@@ -1,3 +1,4 @@
+-- The goals of `counting::add_code` that no tactic closes.
 use Rattle.std.proofs.Common.{ℕ, List, ap, ◌∙◌, cond}
 use Rattle.std.specs.Prelude.{unwrap_or}
 use Rattle.std.specs.BTreeMap as tree

@@ -1,3 +1,4 @@
+-- The goals of `counting::add_entry` that no tactic closes.
 use Rattle.std.proofs.Common.{ℕ, ◌+◌, List, ◌∙◌, cond}
 use Rattle.std.specs.BTreeMap as tree
 use Rattle.std.specs.Map.{count_at}

@@ -1,3 +1,4 @@
+-- The goals of `counting::hashes_of` that no tactic closes.
 use Rattle.std.proofs.Common.{◌≡◌, ◌-◌, ◌∷◌, drop, map, ap, sym, ◌∙◌, arith}
 use Rattle.nr_blocks.specs.Genesis.{code_hash_in}
 use Rattle.nr_blocks.specs.Parts.{hash_with}

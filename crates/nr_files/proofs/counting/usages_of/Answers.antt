@@ -1,3 +1,4 @@
+-- The goals of `counting::usages_of` that no tactic closes.
 use Rattle.std.proofs.Common.{◌≡◌, ◌-◌, ◌∷◌, drop, map, ap, sym, ◌∙◌, arith}
 use Rattle.nr_blocks.specs.Genesis.{usage_in}
 use Rattle.nr_files.specs.Filling.{plain, usage_with}

@@ -1,3 +1,4 @@
+-- The goals of `damage::stop_of` that no tactic closes.
 use Rattle.std.proofs.Common.{arith}
 use Rattle.nr_files.proofs.Stops.{stop_end, stop_next}
 use Rattle.nr_files.proofs.damage.stop_of.Goals as goal

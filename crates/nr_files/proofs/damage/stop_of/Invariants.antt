@@ -1,3 +1,4 @@
+-- What holds at the loops of `damage::stop_of`.
 use Rattle.std.proofs.Common.{◌≡◌}
 use Rattle.nr_files.specs.Damage.{stop_of}
 use Rattle.nr_files.proofs.damage.stop_of.Given as goal

@@ -1,3 +1,4 @@
+-- What holds at the loops of `filling::boundaries_of`.
 use Rattle.std.proofs.Common.{◌≡◌, take}
 use Rattle.nr_files.proofs.filling.boundaries_of.Given as goal
 

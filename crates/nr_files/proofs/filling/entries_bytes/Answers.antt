@@ -1,3 +1,4 @@
+-- The goals of `filling::entries_bytes` that no tactic closes.
 use Rattle.std.proofs.Common.{◌∙◌, ◌++◌, ap, List}
 use Rattle.std.specs.List.{flat_map}
 use Rattle.nr_blocks.specs.GenesisFiles.{entry_bytes}

@@ -1,3 +1,4 @@
+-- What holds at the loops of `filling::stated_entries`.
 use Rattle.std.proofs.Common.{◌≡◌, ◌++◌, map}
 use Rattle.std.specs.Vec.Iter.{into_iter_items}
 use Rattle.nr_files.specs.Filling.{stated_entry}

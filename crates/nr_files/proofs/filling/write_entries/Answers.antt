@@ -1,3 +1,4 @@
+-- The goals of `filling::write_entries` that no tactic closes.
 use Rattle.std.proofs.Common.{arith}
 use Rattle.std.specs.Prelude.{unwrap_or}
 use Rattle.std.specs.BTreeMap as tree

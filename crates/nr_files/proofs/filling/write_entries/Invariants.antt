@@ -1,3 +1,4 @@
+-- What holds at the loops of `filling::write_entries`.
 use Rattle.std.proofs.Common.{◌≡◌, ◌++◌, map, take}
 use Rattle.std.specs.Prelude.{unwrap_or}
 use Rattle.std.specs.BTreeMap as tree

@@ -1,3 +1,4 @@
+-- The goals of `top::of_asked` that no tactic closes.
 use Rattle.std.proofs.Common.{refl}
 use Rattle.nr_shell.proofs.Leading.{judge_follows}
 use Rattle.nr_files.proofs.top.of_asked.Goals as goal

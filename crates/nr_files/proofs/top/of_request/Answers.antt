@@ -1,3 +1,4 @@
+-- The goals of `top::of_request` that no tactic closes.
 use Rattle.nr_shell.proofs.Leading.{stop_follows, then_follows}
 use Rattle.nr_files.specs.Command.{request_in}
 use Rattle.nr_files.specs.Plans.{by_config}

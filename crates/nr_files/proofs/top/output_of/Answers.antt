@@ -1,3 +1,4 @@
+-- The goals of `top::output_of` that no tactic closes.
 use Rattle.nr_shell.proofs.Leading.{judge_follows}
 use Rattle.nr_files.proofs.top.output_of.Goals as goal
 

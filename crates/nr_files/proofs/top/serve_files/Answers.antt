@@ -1,3 +1,4 @@
+-- The goals of `top::serve_files` that no tactic closes.
 use Rattle.nr_files.specs.Command.{meant}
 use Rattle.nr_files.specs.Plans.{plan}
 use Rattle.nr_words.specs.Words.{texts}

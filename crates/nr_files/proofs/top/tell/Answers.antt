@@ -1,3 +1,4 @@
+-- The goals of `top::tell` that no tactic closes.
 use Rattle.std.proofs.Common.{ℕ, List, refl, sym, subst}
 use Rattle.nr_shell.specs.Plans.{Answer}
 use Rattle.nr_files.specs.Answers.{output_in}

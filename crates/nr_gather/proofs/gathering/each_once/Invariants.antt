@@ -1,3 +1,4 @@
+-- What holds at the loops of `gathering::each_once`.
 use Rattle.std.proofs.Common.{◌≡◌, ◌++◌, reverse, vec_len}
 use Rattle.std.specs.FinMap.{empty}
 use Rattle.nr_gather.specs.Gathered.{once}

@@ -1,3 +1,4 @@
+-- The goals of `gathering::gather` that no tactic closes.
 use Rattle.std.proofs.Common.{ℕ, ap, ◌∙◌, List, subst}
 use Rattle.nr_triedef.specs.Root.{paths}
 use Rattle.nr_store.specs.Tries.{CanWalk}

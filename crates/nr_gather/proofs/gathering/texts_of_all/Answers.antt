@@ -1,3 +1,4 @@
+-- The goals of `gathering::texts_of_all` that no tactic closes.
 use Rattle.std.proofs.Common.{sym, ◌∙◌}
 use Rattle.nr_triedef.specs.Root.{paths}
 use Rattle.nr_gather.specs.Entries.{pairs_of}

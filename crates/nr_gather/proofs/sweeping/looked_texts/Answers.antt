@@ -1,3 +1,4 @@
+-- The goals of `sweeping::looked_texts` that no tactic closes.
 use Rattle.std.proofs.Common.{◌-◌, ◌+◌, ap, ◌∙◌, arith}
 use Rattle.nr_triedef.specs.Node.{IsNode}
 use Rattle.nr_triedef.specs.Root.{paths}

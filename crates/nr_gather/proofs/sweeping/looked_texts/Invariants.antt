@@ -1,3 +1,4 @@
+-- What holds at the loops of `sweeping::looked_texts`.
 use Rattle.std.proofs.Common.{◌≡◌, ◌≤◌, ◌+◌, ◌*◌, ◌++◌, ◌∷◌, [], drop}
 use Rattle.std.specs.List.{AllByRecursion}
 use Rattle.nr_triedef.specs.Node.{IsNode}

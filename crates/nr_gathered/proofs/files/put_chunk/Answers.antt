@@ -1,3 +1,4 @@
+-- The goals of `files::put_chunk` that no tactic closes.
 use Rattle.nr_gathered.proofs.Filed.{joined}
 use Rattle.nr_gathered.proofs.files.put_chunk.Goals as goal
 

@@ -1,3 +1,4 @@
+-- The goals of `files::read_gathered` that no tactic closes.
 use Rattle.std.proofs.Common.{ap, subst, ◌∙◌, arith}
 use Rattle.nr_bytes.specs.Answers.{Gives}
 use Rattle.nr_gathered.specs.Files.{gathered_in}

@@ -1,3 +1,4 @@
+-- The goals of `files::write_gathered` that no tactic closes.
 use Rattle.nr_gathered.proofs.Filed.{gathered_again, sure}
 use Rattle.nr_gathered.proofs.files.write_gathered.Goals as goal
 

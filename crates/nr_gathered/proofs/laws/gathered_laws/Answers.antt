@@ -1,3 +1,4 @@
+-- The goals of `laws::gathered_laws` that no tactic closes.
 use Rattle.nr_gathered.proofs.Filed.{gathered_again, gathered_only}
 use Rattle.nr_gathered.proofs.laws.gathered_laws.Goals as goal
 

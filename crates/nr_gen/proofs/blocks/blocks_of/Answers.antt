@@ -1,3 +1,4 @@
+-- The goals of `blocks::blocks_of` that no tactic closes.
 use Rattle.std.proofs.Common.{◌≡◌, ℕ, List, length, replicate, ap, ◌∙◌}
 use Rattle.std.proofs.lemmas.List.{length-replicate}
 use Rattle.nr_gen.proofs.Lists.{turns_begin, turns_grow}

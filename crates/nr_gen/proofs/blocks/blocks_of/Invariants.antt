@@ -1,3 +1,4 @@
+-- What holds at the loops of `blocks::blocks_of`.
 use Rattle.std.proofs.Common.{◌≡◌, length, replicate}
 use Rattle.nr_gen.specs.Chain.{block_of}
 use Rattle.nr_gen.specs.Turns.{in_turn}

@@ -1,3 +1,4 @@
+-- The goals of `blocks::chunks` that no tactic closes.
 use Rattle.nr_gen.proofs.Lists.{turns_begin, turns_grow}
 use Rattle.nr_gen.specs.Chain.{chunk_of}
 use Rattle.nr_gen.proofs.blocks.chunks.Goals as goal

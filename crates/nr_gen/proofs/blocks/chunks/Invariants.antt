@@ -1,3 +1,4 @@
+-- What holds at the loops of `blocks::chunks`.
 use Rattle.std.proofs.Common.{◌≡◌, length}
 use Rattle.nr_gen.specs.Chain.{chunk_of}
 use Rattle.nr_gen.specs.Turns.{in_turn}

@@ -1,3 +1,4 @@
+-- The goals of `blocks::transactions` that no tactic closes.
 use Rattle.nr_gen.proofs.Lists.{turns_begin, turns_grow}
 use Rattle.nr_gen.specs.Chain.{transaction_of}
 use Rattle.nr_gen.proofs.blocks.transactions.Goals as goal

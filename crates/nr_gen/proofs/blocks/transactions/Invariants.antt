@@ -1,3 +1,4 @@
+-- What holds at the loops of `blocks::transactions`.
 use Rattle.std.proofs.Common.{◌≡◌}
 use Rattle.nr_gen.specs.Chain.{transaction_of}
 use Rattle.nr_gen.specs.Turns.{in_turn}

@@ -1,3 +1,4 @@
+-- The goals of `code::put_bodies` that no tactic closes.
 use Rattle.nr_gen.proofs.Modules.{bodies_whole}
 use Rattle.nr_gen.proofs.code.put_bodies.Goals as goal
 

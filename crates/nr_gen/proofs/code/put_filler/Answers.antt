@@ -1,3 +1,4 @@
+-- The goals of `code::put_filler` that no tactic closes.
 use Rattle.std.proofs.Common.{◌≡◌, arith}
 use Rattle.nr_gen.specs.Code.{addition}
 use Rattle.nr_gen.proofs.Lists.{joined_begins, joined_grows}

@@ -1,3 +1,4 @@
+-- What holds at the loops of `code::put_filler`.
 use Rattle.std.proofs.Common.{◌≡◌, ◌++◌}
 use Rattle.nr_gen.specs.Code.{addition}
 use Rattle.nr_gen.specs.Turns.{joined_below}

@@ -1,3 +1,4 @@
+-- The goals of `code::put_fillers` that no tactic closes.
 use Rattle.nr_gen.specs.Code.{filler_body}
 use Rattle.nr_gen.proofs.Lists.{joined_begins, joined_grows}
 use Rattle.nr_gen.proofs.code.put_fillers.Goals as goal

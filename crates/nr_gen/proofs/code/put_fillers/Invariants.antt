@@ -1,3 +1,4 @@
+-- What holds at the loops of `code::put_fillers`.
 use Rattle.std.proofs.Common.{◌≡◌, ◌++◌}
 use Rattle.nr_gen.specs.Code.{filler_body}
 use Rattle.nr_gen.specs.Turns.{joined_below}

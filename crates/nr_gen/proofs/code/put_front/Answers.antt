@@ -1,3 +1,4 @@
+-- The goals of `code::put_front` that no tactic closes.
 use Rattle.nr_gen.proofs.Modules.{front_whole}
 use Rattle.nr_gen.proofs.code.put_front.Goals as goal
 

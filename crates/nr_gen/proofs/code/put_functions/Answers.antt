@@ -1,3 +1,4 @@
+-- The goals of `code::put_functions` that no tactic closes.
 use Rattle.std.proofs.Common.{◌≡◌, arith}
 use Rattle.nr_gen.proofs.Lists.{copies_begin, copies_grow}
 use Rattle.nr_gen.proofs.Modules.{functions_whole}

@@ -1,3 +1,4 @@
+-- What holds at the loops of `code::put_functions`.
 use Rattle.std.proofs.Common.{◌≡◌, ◌++◌, replicate}
 use Rattle.nr_gen.proofs.code.put_functions.Given as goal
 

@@ -1,3 +1,4 @@
+-- The goals of `generated::generate` that no tactic closes.
 use Rattle.std.proofs.Common.{sym, subst}
 use Rattle.std.specs.List.{AllByRecursion}
 use Rattle.nr_blocks.specs.BlocksFiles.{FitsPrice}

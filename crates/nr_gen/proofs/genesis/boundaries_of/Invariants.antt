@@ -1,3 +1,4 @@
+-- What holds at the loops of `genesis::boundaries_of`.
 use Rattle.std.proofs.Common.{◌≡◌, ◌+◌, map}
 use Rattle.std.specs.List.{range_with_len}
 use Rattle.nr_gen.specs.Names.{shard_name}

@@ -1,3 +1,4 @@
+-- The goals of `genesis::entries_of` that no tactic closes.
 use Rattle.nr_gen.specs.Founding.{shard_entries}
 use Rattle.nr_gen.proofs.Lists.{joined_none, joined_all}
 use Rattle.nr_gen.proofs.genesis.entries_of.Goals as goal

@@ -1,3 +1,4 @@
+-- What holds at the loops of `genesis::entries_of`.
 use Rattle.std.proofs.Common.{◌≡◌}
 use Rattle.nr_gen.specs.Founding.{shard_entries}
 use Rattle.nr_gen.specs.Turns.{joined_below}

@@ -1,3 +1,4 @@
+-- The goals of `genesis::layout_of` that no tactic closes.
 use Rattle.std.proofs.Common.{◌≡◌, ap, ◌∙◌}
 use Rattle.nr_layout.specs.Reading.{layout_bytes}
 use Rattle.nr_gen.proofs.Layouts.{fits_layout, given}

@@ -1,3 +1,4 @@
+-- The goals of `genesis::push_users` that no tactic closes.
 use Rattle.nr_gen.specs.Founding.{user_entries}
 use Rattle.nr_gen.proofs.Lists.{joined_begins, joined_grows}
 use Rattle.nr_gen.proofs.genesis.push_users.Goals as goal

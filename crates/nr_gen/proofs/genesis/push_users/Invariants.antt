@@ -1,3 +1,4 @@
+-- What holds at the loops of `genesis::push_users`.
 use Rattle.std.proofs.Common.{◌≡◌, ◌++◌}
 use Rattle.nr_gen.specs.Founding.{user_entries}
 use Rattle.nr_gen.specs.Turns.{joined_below}

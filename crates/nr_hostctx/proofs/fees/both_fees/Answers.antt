@@ -1,3 +1,4 @@
+-- The goals of `fees::both_fees` that no tactic closes.
 use Rattle.std.proofs.Common.{arith}
 use Rattle.nr_fees.specs.declared.table.Payment.TheVariants.{Execute}
 use Rattle.nr_hostctx.proofs.Limits.{fee_bound}

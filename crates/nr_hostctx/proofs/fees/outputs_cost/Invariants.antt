@@ -1,3 +1,4 @@
+-- What holds at the loops of `fees::outputs_cost`.
 use Rattle.std.proofs.Common.{◌≡◌, ◌<◌, ◌^◌, take}
 use Rattle.nr_hostctx.specs.Logs.{outputs_cost}
 use Rattle.nr_hostctx.proofs.fees.outputs_cost.Given as goal

@@ -1,3 +1,4 @@
+-- What holds at the loops of `promise_arguments::copy_texts`.
 use Rattle.std.proofs.Common.{◌≡◌, take, map}
 use Rattle.nr_hostctx.proofs.promise_arguments.copy_texts.Given as goal
 

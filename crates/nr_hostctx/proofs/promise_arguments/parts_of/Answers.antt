@@ -1,3 +1,4 @@
+-- The goals of `promise_arguments::parts_of` that no tactic closes.
 use Rattle.std.proofs.Math.Dec.{lit<}
 use Rattle.std.proofs.lemmas.Iterator.Consumers.{map_from_collect}
 use Rattle.std.proofs.lemmas.Iterator.Splits.{YieldsList-from_str_split}

@@ -1,3 +1,4 @@
+-- The goals of `texts::is_text` that no tactic closes.
 use Rattle.std.proofs.Common.{sym}
 use Rattle.nr_bytes.proofs.Texts.{text_ok, text_bad}
 use Rattle.nr_hostctx.proofs.texts.is_text.Goals as goal

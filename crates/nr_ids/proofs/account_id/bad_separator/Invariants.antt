@@ -1,3 +1,4 @@
+-- What holds at the loops of `account_id::bad_separator`.
 use Rattle.std.proofs.Common.{◌≡◌, None}
 use Rattle.nr_ids.specs.Grammar.{first_below, is_bad_separator}
 use Rattle.nr_ids.proofs.account_id.bad_separator.Given as goal

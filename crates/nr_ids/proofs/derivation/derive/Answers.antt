@@ -1,3 +1,4 @@
+-- The goals of `derivation::derive` that no tactic closes.
 use Rattle.std.proofs.Common.{◌≡◌, ℕ, List, [], ◌++◌, refl, sym}
 use Rattle.std.specs.Int.{w64, to_le_bytes}
 use Rattle.sha2.specs.Sha256.{sha256}

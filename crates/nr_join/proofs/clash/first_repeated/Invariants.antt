@@ -1,3 +1,4 @@
+-- What holds at the loops of `clash::first_repeated`.
 use Rattle.std.proofs.Common.{◌≡◌, length}
 use Rattle.nr_join.specs.Offering.{first_repeated}
 use Rattle.nr_join.proofs.clash.first_repeated.Given as goal

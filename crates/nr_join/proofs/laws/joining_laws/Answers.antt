@@ -1,3 +1,4 @@
+-- The goals of `laws::joining_laws` that no tactic closes.
 use Rattle.nr_join.proofs.Moves.{offering_keeps, delaying_keeps, serving_keeps}
 use Rattle.nr_join.proofs.laws.joining_laws.Goals as goal
 

@@ -1,3 +1,4 @@
+-- The goals of `offering::is_complete` that no tactic closes.
 use Rattle.std.proofs.Common.{sym, ◌∙◌}
 use Rattle.std.specs.FinMap.{get}
 use Rattle.nr_join.proofs.Cases.{counted}

@@ -1,3 +1,4 @@
+-- The goals of `offering::offer` that no tactic closes.
 use Rattle.std.proofs.Common.{refl, sym, ap, ◌∙◌}
 use Rattle.std.specs.Prelude.{is_some}
 use Rattle.nr_join.proofs.Cases.{of_actions, of_stored, arrived}

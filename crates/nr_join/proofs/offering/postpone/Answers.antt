@@ -1,3 +1,4 @@
+-- The goals of `offering::postpone` that no tactic closes.
 use Rattle.nr_join.proofs.Inputs.{distinct_inputs, unawaited_inputs}
 use Rattle.nr_join.proofs.offering.postpone.Goals as goal
 

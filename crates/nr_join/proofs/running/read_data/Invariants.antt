@@ -1,3 +1,4 @@
+-- What holds at the loops of `running::read_data`.
 use Rattle.std.proofs.Common.{◌≡◌, ◌++◌, length}
 use Rattle.std.specs.List.{list_any}
 use Rattle.nr_join.specs.Offering.{data_for}

@@ -1,3 +1,4 @@
+-- What holds at the loops of `running::remove_data`.
 use Rattle.std.proofs.Common.{◌≡◌, drop, true}
 use Rattle.nr_join.specs.Offering.{without_data}
 use Rattle.nr_state.specs.View.{with_world}

@@ -1,3 +1,4 @@
+-- The goals of `block::all_have_price` that no tactic closes.
 use Rattle.std.proofs.Common.{arith}
 use Rattle.std.proofs.lemmas.Result.{err_from_is_err_and}
 use Rattle.nr_blocks.proofs.Turns.{each_goes_on, each_stops}

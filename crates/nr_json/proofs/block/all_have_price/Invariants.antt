@@ -1,3 +1,4 @@
+-- What holds at the loops of `block::all_have_price`.
 use Rattle.nr_blocks.proofs.Turns.{IsLeft}
 use Rattle.nr_json.specs.Blocks.{has_price}
 use Rattle.nr_json.proofs.block.all_have_price.Given as goal

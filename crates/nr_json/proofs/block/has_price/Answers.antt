@@ -1,3 +1,4 @@
+-- The goals of `block::has_price` that no tactic closes.
 use Rattle.std.proofs.Common.{refl}
 use Rattle.std.specs.Prelude.{codes}
 use Rattle.nr_json.specs.Faults.{item_step, member_step}

@@ -1,3 +1,4 @@
+-- The goals of `lists::items_of` that no tactic closes.
 use Rattle.std.specs.Prelude.{◌≢◌}
 use Rattle.nr_json.specs.Faults.{item_step}
 use Rattle.nr_json.specs.declared.fault.JsonFault.TheVariants.{Memory}

@@ -1,3 +1,4 @@
+-- What holds at the loops of `lists::items_of`.
 use Rattle.nr_json.proofs.Loops.{HasRead}
 use Rattle.nr_json.proofs.lists.items_of.Given as goal
 

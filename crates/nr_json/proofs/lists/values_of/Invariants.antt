@@ -1,3 +1,4 @@
+-- What holds at the loops of `lists::values_of`.
 use Rattle.std.proofs.Common.{◌≡◌, map, take}
 use Rattle.serde_json.specs.View.{view}
 use Rattle.nr_json.proofs.lists.values_of.Given as goal

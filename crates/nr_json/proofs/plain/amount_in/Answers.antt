@@ -1,3 +1,4 @@
+-- The goals of `plain::amount_in` that no tactic closes.
 use Rattle.std.proofs.Common.{◌≡◌, true}
 use Rattle.nr_json.specs.Plain.{is_numeral}
 use Rattle.nr_json.proofs.Amounts.{too_large}

@@ -1,3 +1,4 @@
+-- The goals of `variants::only_member` that no tactic closes.
 use Rattle.std.proofs.Common.{sym, ◌∙◌}
 use Rattle.nr_json.proofs.Only.{not_one, the_one}
 use Rattle.nr_json.proofs.variants.only_member.Goals as goal

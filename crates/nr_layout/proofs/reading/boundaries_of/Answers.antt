@@ -1,3 +1,4 @@
+-- The goals of `reading::boundaries_of` that no tactic closes.
 use Rattle.std.proofs.Common.{None}
 use Rattle.std.proofs.lemmas.Result.{err_from_is_err_and}
 use Rattle.nr_layout.specs.Reading.{boundaries_at}

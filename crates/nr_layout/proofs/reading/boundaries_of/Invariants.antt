@@ -1,3 +1,4 @@
+-- What holds at the loops of `reading::boundaries_of`.
 use Rattle.std.proofs.Common.{◌≡◌, ◌-◌, None}
 use Rattle.nr_layout.specs.Reading.{boundaries_at}
 use Rattle.nr_bytes.proofs.Items.{with_front}

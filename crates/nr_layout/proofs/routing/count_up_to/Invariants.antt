@@ -1,3 +1,4 @@
+-- What holds at the loops of `routing::count_up_to`.
 use Rattle.std.proofs.Common.{◌≡◌, ◌≤◌, take}
 use Rattle.nr_layout.specs.Layout.{shard_of}
 use Rattle.nr_layout.proofs.routing.count_up_to.Given as goal

@@ -1,3 +1,4 @@
+-- What holds at the loops of `routing::empty_lists`.
 use Rattle.std.proofs.Common.{◌≡◌, []}
 use Rattle.nr_layout.specs.Layout.{parts}
 use Rattle.nr_layout.proofs.routing.empty_lists.Given as goal

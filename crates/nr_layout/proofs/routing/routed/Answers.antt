@@ -1,3 +1,4 @@
+-- The goals of `routing::routed` that no tactic closes.
 use Rattle.std.proofs.Common.{◌≡◌, ◌∷◌, [], ◌++◌, List, sym, ap, ◌∙◌, append_assoc}
 use Rattle.std.specs.Vec.Iter.{into_iter_items}
 use Rattle.nr_records.specs.declared.receipt.Receipt.{Receipt}

@@ -1,3 +1,4 @@
+-- What holds at the loops of `routing::routed`.
 use Rattle.std.proofs.Common.{◌≡◌, ◌+◌, ◌++◌, length}
 use Rattle.std.specs.Vec.Iter.{into_iter_items}
 use Rattle.nr_layout.specs.Layout.{parts}

@@ -1,3 +1,4 @@
+-- The goals of `laws::going_on_laws` that no tactic closes.
 use Rattle.nr_legs.proofs.Going.{can_go_on, starts_on}
 use Rattle.nr_legs.proofs.laws.going_on_laws.Goals as goal
 

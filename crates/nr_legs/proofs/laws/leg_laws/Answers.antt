@@ -1,3 +1,4 @@
+-- The goals of `laws::leg_laws` that no tactic closes.
 use Rattle.nr_legs.proofs.Ends.{goes_on, holds_across}
 use Rattle.nr_legs.proofs.Left.{leaves_last}
 use Rattle.nr_legs.proofs.laws.leg_laws.Goals as goal

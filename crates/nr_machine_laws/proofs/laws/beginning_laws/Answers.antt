@@ -1,3 +1,4 @@
+-- The goals of `laws::beginning_laws` that no tactic closes.
 use Rattle.nr_machine_laws.proofs.Constants.{spelled}
 use Rattle.nr_machine_laws.proofs.Machines.{first}
 use Rattle.nr_machine_laws.proofs.laws.beginning_laws.Goals as goal

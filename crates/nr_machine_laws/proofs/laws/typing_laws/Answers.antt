@@ -1,3 +1,4 @@
+-- The goals of `laws::typing_laws` that no tactic closes.
 use Rattle.std.proofs.Common.{◌+◌, ◌≡◌, ap, ◌∙◌, arith}
 use Rattle.nr_wasmexec.specs.Reduction.{run_by}
 use Rattle.nr_wasmexec.specs.Machine.{rules_of, runtime}

@@ -1,3 +1,4 @@
+-- The goals of `laws::listing_law` that no tactic closes.
 use Rattle.nr_module.proofs.Listed.{good_kind}
 use Rattle.nr_module.proofs.Methods.{method_runs}
 use Rattle.nr_module.proofs.laws.listing_law.Goals as goal

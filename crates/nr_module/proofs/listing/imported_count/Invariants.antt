@@ -1,3 +1,4 @@
+-- What holds at the loops of `listing::imported_count`.
 use Rattle.std.proofs.Common.{◌≡◌, ◌≤◌, take}
 use Rattle.std.specs.Prelude.{count_by}
 use Rattle.nr_wasmtypes.specs.declared.module.Import.{Import}

@@ -1,3 +1,4 @@
+-- What holds at the loops of `listing::name_word`.
 use Rattle.std.proofs.Common.{◌≡◌, string_bytes, take}
 use Rattle.std.specs.List.{flat_map}
 use Rattle.nr_module.specs.Listing.{name_byte}

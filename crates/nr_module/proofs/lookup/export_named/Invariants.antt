@@ -1,3 +1,4 @@
+-- What holds at the loops of `lookup::export_named`.
 use Rattle.std.proofs.Common.{◌≡◌, drop}
 use Rattle.std.specs.Prelude.{find}
 use Rattle.std.specs.Str.{bytes_eq}

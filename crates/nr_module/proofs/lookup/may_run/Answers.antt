@@ -1,3 +1,4 @@
+-- The goals of `lookup::may_run` that no tactic closes.
 use Rattle.std.proofs.Common.{◌∙◌, ap}
 use Rattle.nr_wasmtypes.specs.declared.module.Module.{Module}
 use Rattle.nr_module.proofs.Methods.{method_runs}

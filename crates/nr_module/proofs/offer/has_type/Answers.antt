@@ -1,3 +1,4 @@
+-- The goals of `offer::has_type` that no tactic closes.
 use Rattle.std.proofs.Common.{◌∙◌, ap}
 use Rattle.nr_wasmexec.proofs.Signatures.{decides_same}
 use Rattle.nr_wasmtypes.specs.declared.module.FuncType.{FuncType}

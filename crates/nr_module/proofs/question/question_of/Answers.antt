@@ -1,3 +1,4 @@
+-- The goals of `question::question_of` that no tactic closes.
 use Rattle.nr_shell.proofs.Leading.{stop_follows, then_follows}
 use Rattle.nr_module.specs.Command.{names_in}
 use Rattle.nr_module.specs.Plans.{by_config}

@@ -1,3 +1,4 @@
+-- The goals of `question::with_file` that no tactic closes.
 use Rattle.std.proofs.Common.{ℕ, List, refl}
 use Rattle.nr_shell.specs.Plans.{Plan, Answer}
 use Rattle.nr_shell.proofs.Leading.{judge_follows, stop_follows, then_follows}

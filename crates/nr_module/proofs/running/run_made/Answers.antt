@@ -1,3 +1,4 @@
+-- The goals of `running::run_made` that no tactic closes.
 use Rattle.nr_module.proofs.Runs.{made_runs}
 use Rattle.nr_module.proofs.running.run_made.Goals as goal
 

@@ -1,3 +1,4 @@
+-- The goals of `telling::verdict_line` that no tactic closes.
 use Rattle.nr_module.proofs.telling.verdict_line.Goals as goal
 
 pub returns : goal.returns

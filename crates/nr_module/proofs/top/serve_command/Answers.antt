@@ -1,3 +1,4 @@
+-- The goals of `top::serve_command` that no tactic closes.
 use Rattle.nr_shell.proofs.Leading.{stays}
 use Rattle.nr_module.proofs.Ending.{told_end}
 use Rattle.nr_module.proofs.top.serve_command.Goals as goal

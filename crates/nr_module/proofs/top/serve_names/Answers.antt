@@ -1,3 +1,4 @@
+-- The goals of `top::serve_names` that no tactic closes.
 use Rattle.nr_shell.specs.Plans.{Answer}
 use Rattle.nr_module.specs.Command.{names_in}
 use Rattle.nr_module.specs.Plans.{due_in, module_plan}

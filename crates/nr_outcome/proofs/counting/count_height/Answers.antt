@@ -1,3 +1,4 @@
+-- The goals of `counting::count_height` that no tactic closes.
 use Rattle.std.proofs.Common.{arith}
 use Rattle.nr_outcome.specs.Reports.{report_in}
 use Rattle.nr_outcome.specs.Texts.{one_if_there}

@@ -1,3 +1,4 @@
+-- What holds at the loops of `counting::count_height`.
 use Rattle.std.proofs.Common.{◌≡◌, ◌≤◌}
 use Rattle.nr_overlap.specs.Balance.{sum_below}
 use Rattle.nr_outcome.specs.Reports.{report_in}

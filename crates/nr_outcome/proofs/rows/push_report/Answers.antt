@@ -1,3 +1,4 @@
+-- The goals of `rows::push_report` that no tactic closes.
 use Rattle.std.proofs.Common.{◌∷◌, ◌++◌, [], Some, ap, ◌∙◌}
 use Rattle.std.specs.Prelude.{box_value}
 use Rattle.std.specs.Option.{option_map}

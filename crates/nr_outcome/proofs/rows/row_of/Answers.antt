@@ -1,3 +1,4 @@
+-- The goals of `rows::row_of` that no tactic closes.
 use Rattle.std.proofs.Common.{◌≡◌, ◌+◌, ◌<◌, None, sym, ap, ◌∙◌, true, false, arith}
 use Rattle.std.specs.Prelude.{box_value}
 use Rattle.std.specs.Option.{option_map}

@@ -1,3 +1,4 @@
+-- What holds at the loops of `rows::row_of`.
 use Rattle.std.proofs.Common.{◌≡◌, ◌+◌, ◌-◌, map}
 use Rattle.std.specs.List.{flat_map, range_with_len}
 use Rattle.std.specs.Vec.Iter.{into_iter_items}

@@ -1,3 +1,4 @@
+-- The goals of `rows::rows_of` that no tactic closes.
 use Rattle.std.proofs.Common.{arith, ap, map, ◌∙◌}
 use Rattle.std.specs.Vec.Iter.{into_iter_items}
 use Rattle.nr_overlap.specs.Outcome.{reports_to}

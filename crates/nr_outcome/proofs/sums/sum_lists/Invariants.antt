@@ -1,3 +1,4 @@
+-- What holds at the loops of `sums::sum_lists`.
 use Rattle.std.proofs.Common.{◌≡◌, ◌≤◌, ◌^◌, drop}
 use Rattle.std.specs.List.{AllByRecursion}
 use Rattle.nr_chunk.specs.Chain.{AreBounded}

@@ -1,3 +1,4 @@
+-- What holds at the loops of `sums::sum_reports`.
 use Rattle.std.proofs.Common.{◌≡◌}
 use Rattle.nr_outcome.specs.Reports.{report_in}
 use Rattle.nr_outcome.specs.Sums.{table_tally}

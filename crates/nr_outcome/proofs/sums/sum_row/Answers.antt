@@ -1,3 +1,4 @@
+-- The goals of `sums::sum_row` that no tactic closes.
 use Rattle.std.proofs.Common.{◌+◌, ap}
 use Rattle.nr_places.specs.Totals.{report_tally}
 use Rattle.nr_outcome.specs.Reports.{report_in}

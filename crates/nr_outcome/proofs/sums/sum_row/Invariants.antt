@@ -1,3 +1,4 @@
+-- What holds at the loops of `sums::sum_row`.
 use Rattle.std.proofs.Common.{◌≡◌}
 use Rattle.nr_outcome.specs.Reports.{report_in}
 use Rattle.nr_outcome.specs.Sums.{row_tally}

@@ -1,3 +1,4 @@
+-- The goals of `text::add_height` that no tactic closes.
 use Rattle.std.proofs.Common.{◌++◌, ap, ◌∙◌}
 use Rattle.nr_outcome.specs.Reports.{report_in}
 use Rattle.nr_outcome.specs.Texts.{report_text}

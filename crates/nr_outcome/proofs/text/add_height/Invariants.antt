@@ -1,3 +1,4 @@
+-- What holds at the loops of `text::add_height`.
 use Rattle.std.proofs.Common.{◌≡◌, ◌++◌}
 use Rattle.nr_outcome.specs.Reports.{report_in}
 use Rattle.nr_outcome.specs.Texts.{report_text, text_below}

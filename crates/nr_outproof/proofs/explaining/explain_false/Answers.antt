@@ -1,3 +1,4 @@
+-- The goals of `explaining::explain_false` that no tactic closes.
 use Rattle.std.proofs.Common.{◌≡◌, rules}
 use Rattle.nr_outproof.specs.Proofs.{stated_text, chunk_text}
 use Rattle.nr_outproof.proofs.Differing.{root_is}

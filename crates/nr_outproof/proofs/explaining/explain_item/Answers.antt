@@ -1,3 +1,4 @@
+-- The goals of `explaining::explain_item` that no tactic closes.
 use Rattle.std.proofs.Common.{sym, ◌∙◌}
 use Rattle.nr_outproof.proofs.FalseProofs.{item_is_there}
 use Rattle.nr_outproof.proofs.explaining.explain_item.Goals as goal

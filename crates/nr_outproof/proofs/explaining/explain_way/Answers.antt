@@ -1,3 +1,4 @@
+-- The goals of `explaining::explain_way` that no tactic closes.
 use Rattle.std.proofs.Common.{◌≡◌, ◌∙◌, rules}
 use Rattle.nr_outproof.specs.Tree.{leaf_top, leaf_text}
 use Rattle.nr_outproof.proofs.FalseProofs.{leaf_collides, own_long_at, own_leads_at, explained_at}

@@ -1,3 +1,4 @@
+-- The goals of `explaining::meeting` that no tactic closes.
 use Rattle.std.proofs.Common.{◌≡◌, ◌≢◌, rules}
 use Rattle.std.proofs.lemmas.List.{take_rest}
 use Rattle.nr_outproof.proofs.Ascending.{apart_above, apart_meets, apart_end}

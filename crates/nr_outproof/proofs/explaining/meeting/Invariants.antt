@@ -1,3 +1,4 @@
+-- What holds at the loops of `explaining::meeting`.
 use Rattle.std.proofs.Common.{length}
 use Rattle.nr_outproof.specs.Meeting.{Apart}
 use Rattle.nr_outproof.proofs.explaining.meeting.Given as goal

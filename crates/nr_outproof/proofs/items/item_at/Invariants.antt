@@ -1,3 +1,4 @@
+-- What holds at the loops of `items::item_at`.
 use Rattle.std.proofs.Common.{◌≡◌, length}
 use Rattle.std.specs.List.{flat_map, slice_get}
 use Rattle.nr_outproof.specs.Items.{item_in, items}

@@ -1,3 +1,4 @@
+-- What holds at the loops of `levels::climb`.
 use Rattle.std.proofs.Common.{◌≡◌, length}
 use Rattle.nr_outproof.specs.Tree.{climb}
 use Rattle.nr_outproof.proofs.levels.climb.Given as goal

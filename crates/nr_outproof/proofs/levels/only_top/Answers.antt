@@ -1,3 +1,4 @@
+-- The goals of `levels::only_top` that no tactic closes.
 use Rattle.nr_outproof.proofs.Tops.{top_empty, top_front}
 use Rattle.nr_outproof.proofs.levels.only_top.Goals as goal
 

@@ -1,3 +1,4 @@
+-- What holds at the loops of `levels::paired`.
 use Rattle.std.proofs.Common.{◌≡◌, ◌++◌, length}
 use Rattle.nr_outproof.specs.Levels.{paired}
 use Rattle.nr_outproof.proofs.levels.paired.Given as goal

@@ -1,3 +1,4 @@
+-- The goals of `levels::path_of` that no tactic closes.
 use Rattle.std.proofs.Common.{◌≡◌, ◌<◌, length, ap, ◌∙◌, rules, arith}
 use Rattle.nr_outproof.specs.Levels.{paired}
 use Rattle.nr_outproof.proofs.Tops.{length-paired}

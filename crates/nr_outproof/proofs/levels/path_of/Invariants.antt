@@ -1,3 +1,4 @@
+-- What holds at the loops of `levels::path_of`.
 use Rattle.std.proofs.Common.{◌≡◌, ◌<◌, ◌++◌, length}
 use Rattle.nr_outproof.specs.Tree.{path_of}
 use Rattle.nr_outproof.proofs.levels.path_of.Given as goal

@@ -1,3 +1,4 @@
+-- What holds at the loops of `levels::top_of`.
 use Rattle.std.proofs.Common.{◌≡◌, length}
 use Rattle.nr_outproof.specs.Tree.{top_of}
 use Rattle.nr_outproof.proofs.levels.top_of.Given as goal

@@ -1,3 +1,4 @@
+-- The goals of `levels::way_of` that no tactic closes.
 use Rattle.std.proofs.Common.{refl, arith}
 use Rattle.nr_outproof.proofs.Ways.{way_goes, way_done}
 use Rattle.nr_outproof.proofs.levels.way_of.Goals as goal

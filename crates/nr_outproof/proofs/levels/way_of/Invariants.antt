@@ -1,3 +1,4 @@
+-- What holds at the loops of `levels::way_of`.
 use Rattle.std.proofs.Common.{◌≡◌, ◌<◌, ◌++◌}
 use Rattle.nr_outproof.specs.Tree.{way_of}
 use Rattle.nr_outproof.proofs.levels.way_of.Given as goal

@@ -1,3 +1,4 @@
+-- What holds at the loops of `proving::add_leaves`.
 use Rattle.std.proofs.Common.{◌≡◌, ◌++◌, take}
 use Rattle.std.specs.List.{AllByRecursion, flat_map}
 use Rattle.nr_outproof.specs.Fitting.{FitsKind}

@@ -1,3 +1,4 @@
+-- The goals of `proving::prove` that no tactic closes.
 use Rattle.nr_outproof.proofs.Accepting.{answer_accepted}
 use Rattle.nr_outproof.proofs.proving.prove.Goals as goal
 

@@ -1,3 +1,4 @@
+-- The goals of `reading::behind_head` that no tactic closes.
 use Rattle.std.proofs.Common.{Ok, sym, ap, ◌∙◌}
 use Rattle.nr_outproof.proofs.TextLines.{path_given, path_refused}
 use Rattle.nr_outproof.proofs.reading.behind_head.Goals as goal

@@ -1,3 +1,4 @@
+-- The goals of `reading::cut` that no tactic closes.
 use Rattle.std.proofs.Common.{◌+◌, ◌∷◌, take, sym, ap, ◌∙◌}
 use Rattle.std.proofs.lemmas.List.{take_rest}
 use Rattle.nr_outproof.specs.Texts.{pieces}

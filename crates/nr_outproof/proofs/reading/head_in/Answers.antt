@@ -1,3 +1,4 @@
+-- The goals of `reading::head_in` that no tactic closes.
 use Rattle.std.proofs.Common.{sym}
 use Rattle.nr_outproof.proofs.TextLines.{seven_words}
 use Rattle.nr_outproof.proofs.reading.head_in.Goals as goal

@@ -1,3 +1,4 @@
+-- The goals of `reading::path_in` that no tactic closes.
 use Rattle.std.proofs.Common.{sym, ◌∙◌, arith}
 use Rattle.nr_outproof.proofs.TextLines.{line_read, line_refused, read_in_part, read_whole}
 use Rattle.nr_outproof.proofs.reading.path_in.Goals as goal

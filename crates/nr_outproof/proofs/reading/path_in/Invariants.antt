@@ -1,3 +1,4 @@
+-- What holds at the loops of `reading::path_in`.
 use Rattle.std.proofs.Common.{◌≡◌, ◌+◌, ◌≤◌, length}
 use Rattle.nr_outproof.specs.Texts.{path_from, pieces}
 use Rattle.nr_outproof.proofs.TextLines.{behind}

@@ -1,3 +1,4 @@
+-- The goals of `reading::read_proof` that no tactic closes.
 use Rattle.std.proofs.Common.{sym, ◌∙◌}
 use Rattle.nr_outproof.proofs.TextLines.{head_is_none, head_missing, head_given}
 use Rattle.nr_outproof.proofs.reading.read_proof.Goals as goal

@@ -1,3 +1,4 @@
+-- The goals of `reading::word_behind` that no tactic closes.
 use Rattle.std.proofs.Common.{sym}
 use Rattle.nr_outproof.proofs.TextLines.{three_words}
 use Rattle.nr_outproof.proofs.reading.word_behind.Goals as goal

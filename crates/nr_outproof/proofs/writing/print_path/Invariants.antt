@@ -1,3 +1,4 @@
+-- What holds at the loops of `writing::print_path`.
 use Rattle.std.proofs.Common.{◌≡◌, ◌++◌, take}
 use Rattle.std.specs.List.{flat_map}
 use Rattle.std.specs.String.{string_bytes}

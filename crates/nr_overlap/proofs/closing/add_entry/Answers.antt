@@ -1,3 +1,4 @@
+-- The goals of `closing::add_entry` that no tactic closes.
 use Rattle.nr_overlap.proofs.Last.{none_sealed}
 use Rattle.nr_overlap.proofs.closing.add_entry.Goals as goal
 

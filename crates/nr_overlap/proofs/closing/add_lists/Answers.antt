@@ -1,3 +1,4 @@
+-- The goals of `closing::add_lists` that no tactic closes.
 use Rattle.std.proofs.Common.{◌≡◌, ◌<◌, ◌++◌, sym, ap, ◌∙◌, arith}
 use Rattle.nr_overlap.specs.Held.{cell}
 use Rattle.nr_overlap.specs.Outcome.{left_list, left_at, sent}

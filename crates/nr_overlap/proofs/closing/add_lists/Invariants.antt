@@ -1,3 +1,4 @@
+-- What holds at the loops of `closing::add_lists`.
 use Rattle.std.proofs.Common.{◌≡◌, ◌<◌, ◌≤◌, ◌++◌, ℕ}
 use Rattle.std.specs.List.{flat_map, range_with_len}
 use Rattle.nr_overlap.specs.Held.{cell}

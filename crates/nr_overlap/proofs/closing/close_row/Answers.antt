@@ -1,3 +1,4 @@
+-- The goals of `closing::close_row` that no tactic closes.
 use Rattle.std.proofs.Common.{◌≡◌, ◌<◌, ◌+◌, ◌-◌, ◌++◌, [], ap, ◌∙◌, arith}
 use Rattle.std.specs.Option.{option_to_list}
 use Rattle.nr_overlap.specs.Held.{row_report, row_slot}

@@ -1,3 +1,4 @@
+-- What holds at the loops of `closing::close_row`.
 use Rattle.std.proofs.Common.{◌≡◌, ◌<◌, ◌≤◌, ◌+◌, ◌++◌, ℕ, length}
 use Rattle.std.specs.List.{flat_map, range_with_len}
 use Rattle.nr_overlap.specs.Held.{row_entry, row_report, row_slot}

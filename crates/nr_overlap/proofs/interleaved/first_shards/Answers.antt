@@ -1,3 +1,4 @@
+-- The goals of `interleaved::first_shards` that no tactic closes.
 use Rattle.std.proofs.Common.{◌≡◌, ◌++◌, ◌∷◌, [], None, ap, ◌∙◌, subst, arith}
 use Rattle.nr_overlap.proofs.Founding.{first_serial, first_more, AreFirst}
 use Rattle.nr_overlap.proofs.interleaved.first_shards.Goals as goal

@@ -1,3 +1,4 @@
+-- What holds at the loops of `interleaved::first_shards`.
 use Rattle.nr_overlap.proofs.Founding.{AreFirst}
 use Rattle.nr_overlap.proofs.interleaved.first_shards.Given as goal
 

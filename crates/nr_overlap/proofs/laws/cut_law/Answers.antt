@@ -1,3 +1,4 @@
+-- The goals of `laws::cut_law` that no tactic closes.
 use Rattle.nr_overlap.proofs.Cutting.{cuts_are_serial}
 use Rattle.nr_overlap.proofs.laws.cut_law.Goals as goal
 

@@ -1,3 +1,4 @@
+-- The goals of `laws::next_law` that no tactic closes.
 use Rattle.nr_overlap.proofs.Onward.{next_is_next}
 use Rattle.nr_overlap.proofs.laws.next_law.Goals as goal
 

@@ -1,3 +1,4 @@
+-- The goals of `laws::reached_law` that no tactic closes.
 use Rattle.nr_overlap.proofs.Leading.{reached_are_led}
 use Rattle.nr_overlap.proofs.laws.reached_law.Goals as goal
 

@@ -1,3 +1,4 @@
+-- The goals of `next::behind_of` that no tactic closes.
 use Rattle.std.proofs.Common.{arith}
 use Rattle.nr_overlap.proofs.Last.{none_behind, one_behind}
 use Rattle.nr_overlap.proofs.next.behind_of.Goals as goal

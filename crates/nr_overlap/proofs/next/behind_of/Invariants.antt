@@ -1,3 +1,4 @@
+-- What holds at the loops of `next::behind_of`.
 use Rattle.std.proofs.Common.{◌≡◌, ◌<◌, ℕ}
 use Rattle.nr_overlap.specs.Positions.{at}
 use Rattle.nr_overlap.proofs.next.behind_of.Given as goal

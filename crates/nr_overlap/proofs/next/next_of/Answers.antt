@@ -1,3 +1,4 @@
+-- The goals of `next::next_of` that no tactic closes.
 use Rattle.std.proofs.Common.{arith}
 use Rattle.nr_overlap.proofs.Ending.{next_shown, ended_shown}
 use Rattle.nr_overlap.proofs.next.next_of.Goals as goal

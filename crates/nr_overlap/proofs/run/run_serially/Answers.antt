@@ -1,3 +1,4 @@
+-- The goals of `run::run_serially` that no tactic closes.
 use Rattle.std.proofs.Common.{[], ◌∷◌, ◌++◌, ap, ◌∙◌}
 use Rattle.nr_overlap.specs.CoreView.{CoreView}
 use Rattle.nr_overlap.proofs.Running.{one_more}

@@ -1,3 +1,4 @@
+-- What holds at the loops of `run::run_serially`.
 use Rattle.std.proofs.Common.{◌≡◌, false, List}
 use Rattle.nr_overlap.specs.Next.{left}
 use Rattle.nr_overlap.specs.Run.{run_of}

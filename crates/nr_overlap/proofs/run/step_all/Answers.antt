@@ -1,3 +1,4 @@
+-- The goals of `run::step_all` that no tactic closes.
 use Rattle.std.proofs.Common.{◌<◌, length, ap, ◌∙◌, arith}
 use Rattle.std.proofs.lemmas.Option.{slice_get-get_or}
 use Rattle.nr_overlap.specs.CoreView.{CoreView}

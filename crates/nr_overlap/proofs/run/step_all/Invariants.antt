@@ -1,3 +1,4 @@
+-- What holds at the loops of `run::step_all`.
 use Rattle.std.proofs.Common.{◌≡◌, false, drop, take}
 use Rattle.nr_overlap.specs.Inside.{AreInside}
 use Rattle.nr_overlap.specs.Run.{run_of}

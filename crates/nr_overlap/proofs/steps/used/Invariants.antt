@@ -1,3 +1,4 @@
+-- What holds at the loops of `steps::used`.
 use Rattle.std.proofs.Common.{◌≡◌, ◌≤◌, ℕ, None, length}
 use Rattle.nr_overlap.specs.Held.{cell}
 use Rattle.nr_overlap.proofs.steps.used.Given as goal

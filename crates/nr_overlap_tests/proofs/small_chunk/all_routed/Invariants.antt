@@ -1,3 +1,4 @@
+-- What holds at the loops of `small_chunk::all_routed`.
 use Rattle.std.proofs.Common.{◌≡◌}
 use Rattle.nr_overlap_tests.specs.Small.{lists_to}
 use Rattle.nr_overlap_tests.proofs.small_chunk.all_routed.Given as goal

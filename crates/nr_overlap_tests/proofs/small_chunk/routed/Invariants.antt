@@ -1,3 +1,4 @@
+-- What holds at the loops of `small_chunk::routed`.
 use Rattle.std.proofs.Common.{◌≡◌, ◌++◌, drop}
 use Rattle.nr_overlap_tests.specs.Small.{out_to}
 use Rattle.nr_overlap_tests.proofs.small_chunk.routed.Given as goal

@@ -1,3 +1,4 @@
+-- What holds at the loops of `small_chunk::spend_all`.
 use Rattle.std.proofs.Common.{◌≡◌, drop}
 use Rattle.std.specs.Prelude.{fold}
 use Rattle.nr_overlap_tests.specs.Small.{spend}

@@ -1,3 +1,4 @@
+-- The goals of `sums::everything_adds_up` that no tactic closes.
 use Rattle.nr_overlap_tests.specs.Amounts.{tokens, receipts}
 use Rattle.nr_overlap_tests.specs.SmallLaws.{tokens_kept, receipts_kept}
 use Rattle.nr_overlap_tests.proofs.sums.everything_adds_up.Goals as goal

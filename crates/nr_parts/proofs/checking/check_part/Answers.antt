@@ -1,3 +1,4 @@
+-- The goals of `checking::check_part` that no tactic closes.
 use Rattle.nr_parts.proofs.Accepted.{accepted_always}
 use Rattle.nr_parts.proofs.checking.check_part.Goals as goal
 

@@ -1,3 +1,4 @@
+-- The goals of `checking::first_other` that no tactic closes.
 use Rattle.std.proofs.Common.{◌≡◌, length, drop, ◌-◌, inl, inr, sym, ◌∙◌, length-drop, arith}
 use Rattle.nr_parts.proofs.Others.{unequal}
 use Rattle.nr_parts.proofs.checking.first_other.Goals as goal

@@ -1,3 +1,4 @@
+-- What holds at the loops of `checking::first_other`.
 use Rattle.std.proofs.Common.{◌≡◌, ◌≤◌, ◌-◌, length, drop}
 use Rattle.nr_parts.specs.Checking.{first_other}
 use Rattle.nr_parts.proofs.checking.first_other.Given as goal

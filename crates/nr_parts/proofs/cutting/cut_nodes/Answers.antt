@@ -1,3 +1,4 @@
+-- The goals of `cutting::cut_nodes` that no tactic closes.
 use Rattle.std.proofs.Common.{sym, ◌∙◌}
 use Rattle.nr_columns.specs.Entries.{pairs_of}
 use Rattle.nr_parts.proofs.Cuts.{owns_pairs, form_pairs, cut_whole}

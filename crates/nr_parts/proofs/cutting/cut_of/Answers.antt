@@ -1,3 +1,4 @@
+-- The goals of `cutting::cut_of` that no tactic closes.
 use Rattle.std.proofs.Common.{List, ℕ, sym, ap, ◌∙◌}
 use Rattle.nr_columns.specs.Entries.{pairs_of}
 use Rattle.nr_parts.specs.Cutting.{part_cut}

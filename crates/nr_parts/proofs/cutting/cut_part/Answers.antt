@@ -1,3 +1,4 @@
+-- The goals of `cutting::cut_part` that no tactic closes.
 use Rattle.nr_parts.proofs.Agreed.{cut_fine}
 use Rattle.nr_parts.proofs.cutting.cut_part.Goals as goal
 

@@ -1,3 +1,4 @@
+-- The goals of `cutting::empty_part` that no tactic closes.
 use Rattle.std.proofs.Common.{refl, ◌∙◌}
 use Rattle.nr_parts.proofs.Cuts.{cut_none}
 use Rattle.nr_parts.proofs.cutting.empty_part.Goals as goal

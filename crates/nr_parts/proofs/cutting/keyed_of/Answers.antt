@@ -1,3 +1,4 @@
+-- The goals of `cutting::keyed_of` that no tactic closes.
 use Rattle.std.proofs.Common.{List, ap, ◌∙◌, arith}
 use Rattle.std.proofs.lemmas.List.{take_all}
 use Rattle.nr_triedef.specs.Root.{paths}

@@ -1,3 +1,4 @@
+-- What holds at the loops of `cutting::keyed_of`.
 use Rattle.std.proofs.Common.{◌≡◌, ℕ, List, take}
 use Rattle.std.specs.List.{AllByRecursion}
 use Rattle.nr_triedef.specs.Node.{IsNibbles}

@@ -1,3 +1,4 @@
+-- What holds at the loops of `cutting::own_entries`.
 use Rattle.std.proofs.Common.{◌≡◌, ◌+◌, ◌++◌, drop}
 use Rattle.nr_parts.specs.Sweeping.{swept_entries, owns}
 use Rattle.nr_parts.proofs.cutting.own_entries.Given as goal

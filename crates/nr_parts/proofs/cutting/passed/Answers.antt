@@ -1,3 +1,4 @@
+-- The goals of `cutting::passed` that no tactic closes.
 use Rattle.std.proofs.Common.{ap, ◌∙◌, drop, add-one}
 use Rattle.nr_parts.proofs.Passing.{drop_suc}
 use Rattle.nr_parts.proofs.cutting.passed.Goals as goal

@@ -1,3 +1,4 @@
+-- The goals of `files::part_in` that no tactic closes.
 use Rattle.std.proofs.lemmas.Result.{err_from_is_err_and}
 use Rattle.nr_parts.proofs.Unread.{part_stops}
 use Rattle.nr_parts.proofs.files.part_in.Goals as goal

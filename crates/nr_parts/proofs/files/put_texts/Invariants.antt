@@ -1,3 +1,4 @@
+-- What holds at the loops of `files::put_texts`.
 use Rattle.std.proofs.Common.{◌≡◌, ◌++◌, take}
 use Rattle.std.specs.List.{AllByRecursion, flat_map}
 use Rattle.nr_bytes.specs.Spelling.{IsCounted}

@@ -1,3 +1,4 @@
+-- The goals of `files::read_part` that no tactic closes.
 use Rattle.std.proofs.Common.{sym, ap, subst, ◌∙◌, arith}
 use Rattle.nr_bytes.specs.Answers.{Gives}
 use Rattle.nr_parts.specs.Checking.{memory_fault}

@@ -1,3 +1,4 @@
+-- The goals of `files::write_part` that no tactic closes.
 use Rattle.nr_parts.proofs.Filed.{part_again, sure}
 use Rattle.nr_parts.proofs.files.write_part.Goals as goal
 

@@ -1,3 +1,4 @@
+-- What holds at the loops of `joining::check_each`.
 use Rattle.std.proofs.Common.{◌≡◌, drop}
 use Rattle.nr_parts.specs.Joining.{each_checked}
 use Rattle.nr_parts.proofs.joining.check_each.Given as goal

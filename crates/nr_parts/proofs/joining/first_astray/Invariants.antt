@@ -1,3 +1,4 @@
+-- What holds at the loops of `joining::first_astray`.
 use Rattle.std.proofs.Common.{◌≡◌, ◌≤◌, ◌-◌, length, drop}
 use Rattle.nr_parts.specs.Joining.{first_astray}
 use Rattle.nr_parts.proofs.joining.first_astray.Given as goal

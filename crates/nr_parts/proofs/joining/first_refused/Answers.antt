@@ -1,3 +1,4 @@
+-- The goals of `joining::first_refused` that no tactic closes.
 use Rattle.std.proofs.Common.{◌≡◌, ℕ, List, Option, subst}
 use Rattle.std.specs.Prelude.{IfOk}
 use Rattle.nr_parts.specs.Joining.{first_refused}

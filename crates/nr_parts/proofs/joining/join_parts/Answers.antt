@@ -1,3 +1,4 @@
+-- The goals of `joining::join_parts` that no tactic closes.
 use Rattle.nr_parts.proofs.Sets.{joined_always}
 use Rattle.nr_parts.proofs.Together.{joined_wholes}
 use Rattle.nr_parts.proofs.joining.join_parts.Goals as goal

@@ -1,3 +1,4 @@
+-- What holds at the loops of `joining::joined`.
 use Rattle.std.proofs.Common.{◌≡◌, take}
 use Rattle.nr_parts.specs.Joining.{joined}
 use Rattle.nr_parts.proofs.joining.joined.Given as goal

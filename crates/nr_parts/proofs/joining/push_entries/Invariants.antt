@@ -1,3 +1,4 @@
+-- What holds at the loops of `joining::push_entries`.
 use Rattle.std.proofs.Common.{◌≡◌, ◌++◌, take}
 use Rattle.nr_parts.proofs.joining.push_entries.Given as goal
 

@@ -1,3 +1,4 @@
+-- What holds at the loops of `joining::set_entries`.
 use Rattle.std.proofs.Common.{◌≡◌, drop}
 use Rattle.nr_parts.specs.Joining.{set_all}
 use Rattle.nr_parts.proofs.joining.set_entries.Given as goal

@@ -1,3 +1,4 @@
+-- The goals of `joining::set_parts` that no tactic closes.
 use Rattle.nr_parts.proofs.Sets.{parts_more}
 use Rattle.nr_parts.proofs.joining.set_parts.Goals as goal
 

@@ -1,3 +1,4 @@
+-- What holds at the loops of `joining::set_parts`.
 use Rattle.std.proofs.Common.{◌≡◌, drop}
 use Rattle.nr_parts.specs.Joining.{set_all, joined}
 use Rattle.nr_parts.proofs.joining.set_parts.Given as goal

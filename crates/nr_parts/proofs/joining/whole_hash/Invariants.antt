@@ -1,3 +1,4 @@
+-- What holds at the loops of `joining::whole_hash`.
 use Rattle.nr_parts.proofs.joining.whole_hash.Given as goal
 
 abbrev pub ghosts-counted_hash : goal.ghosts-counted_hash

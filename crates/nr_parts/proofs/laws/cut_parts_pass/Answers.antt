@@ -1,3 +1,4 @@
+-- The goals of `laws::cut_parts_pass` that no tactic closes.
 use Rattle.nr_parts.proofs.Agreed.{cut_accepted}
 use Rattle.nr_parts.proofs.laws.cut_parts_pass.Goals as goal
 

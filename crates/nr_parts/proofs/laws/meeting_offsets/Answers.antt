@@ -1,3 +1,4 @@
+-- The goals of `laws::meeting_offsets` that no tactic closes.
 use Rattle.nr_parts.proofs.Shares.{met, meeting}
 use Rattle.nr_parts.proofs.laws.meeting_offsets.Goals as goal
 

@@ -1,3 +1,4 @@
+-- The goals of `laws::parts_in_turn` that no tactic closes.
 use Rattle.nr_parts.proofs.Whole.{parts_whole}
 use Rattle.nr_parts.proofs.laws.parts_in_turn.Goals as goal
 

@@ -1,3 +1,4 @@
+-- What holds at the loops of `waiting::push_spots`.
 use Rattle.std.proofs.Common.{◌≡◌, ◌++◌, length}
 use Rattle.std.specs.Prelude.{reverse}
 use Rattle.nr_parts.proofs.waiting.push_spots.Given as goal

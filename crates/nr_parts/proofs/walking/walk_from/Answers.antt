@@ -1,3 +1,4 @@
+-- The goals of `walking::walk_from` that no tactic closes.
 use Rattle.std.proofs.Common.{◌≡◌, [], List, Ok, arith, sym, ap, ◌∙◌}
 use Rattle.std.proofs.lemmas.Result.{err_from_is_err_and}
 use Rattle.nr_parts.specs.declared.walking.Claim.{Claim}
@@ -14,7 +15,11 @@ returns-in_err-visit c =
 
 pub loop-spot-preserved : goal.loop-spot-preserved
 loop-spot-preserved c = record {
-  so_far = goes_on c.args.texts.now c.args.share c.loop-spot.left c.loop-spot.at c.loop-spot.waiting c.pop.new.self c.put-in-Some.new.self c.in-Some.spot c.loop-spot.claims.items c.push_claim.new.claims.items c.in_ok-visit.visit _ c.in-Some.ensures (omega arith) c.in_ok-visit.ensures.value c.in_ok-push_claim.ensures c.in_ok-put-2.ensures c.loop-spot.invariant.so_far;
+  so_far =
+      goes_on c.args.texts.now c.args.share c.loop-spot.left c.loop-spot.at c.loop-spot.waiting c.pop.new.self
+      c.put-in-Some.new.self c.in-Some.spot c.loop-spot.claims.items c.push_claim.new.claims.items c.in_ok-visit.visit
+      _ c.in-Some.ensures (omega arith) c.in_ok-visit.ensures.value c.in_ok-push_claim.ensures c.in_ok-put-2.ensures
+      c.loop-spot.invariant.so_far;
   low = omega (arith, c.in_ok-visit.ensures.further, c.loop-spot.invariant.low, c.if-left-eq0.false);
 }
 

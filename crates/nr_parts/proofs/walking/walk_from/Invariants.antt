@@ -1,3 +1,4 @@
+-- What holds at the loops of `walking::walk_from`.
 use Rattle.std.proofs.Common.{◌≡◌, ◌≤◌, ◌+◌, ◌-◌, ◌*◌, ◌^◌}
 use Rattle.nr_parts.specs.Walking.{walk_from, most_nodes}
 use Rattle.nr_parts.proofs.Turns.{with_claims}

@@ -1,3 +1,4 @@
+-- What holds at the loops of `states::is_below`.
 use Rattle.std.proofs.Common.{length}
 use Rattle.nr_parts_tests.proofs.states.+is_below.Given as goal
 

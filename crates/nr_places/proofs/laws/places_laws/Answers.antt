@@ -1,3 +1,4 @@
+-- The goals of `laws::places_laws` that no tactic closes.
 use Rattle.nr_chunk.specs.Promised.{promise_of}
 use Rattle.nr_places.proofs.Founded.{genesis_receipts}
 use Rattle.nr_places.proofs.Kept.{places_kept}

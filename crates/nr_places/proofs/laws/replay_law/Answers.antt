@@ -1,3 +1,4 @@
+-- The goals of `laws::replay_law` that no tactic closes.
 use Rattle.nr_places.proofs.Replay.{holds_in, holds_over, holds_reached}
 use Rattle.nr_places.proofs.laws.replay_law.Goals as goal
 

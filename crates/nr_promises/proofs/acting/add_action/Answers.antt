@@ -1,3 +1,4 @@
+-- The goals of `acting::add_action` that no tactic closes.
 use Rattle.nr_promises.proofs.Outputs.{set_with}
 use Rattle.nr_promises.specs.Book.{body_with_action}
 use Rattle.nr_promises.proofs.acting.add_action.Goals as goal

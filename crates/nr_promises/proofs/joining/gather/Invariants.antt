@@ -1,3 +1,4 @@
+-- What holds at the loops of `joining::gather`.
 use Rattle.std.proofs.Common.{◌≡◌, ◌≤◌, length, take}
 use Rattle.nr_promises.specs.Book.{all_places}
 use Rattle.nr_promises.proofs.joining.gather.Given as goal

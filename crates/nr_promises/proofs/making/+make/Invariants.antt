@@ -1,3 +1,4 @@
+-- What holds at the loops of `making::make`.
 use Rattle.std.proofs.Common.{length}
 use Rattle.nr_promises.proofs.making.+make.Given as goal
 

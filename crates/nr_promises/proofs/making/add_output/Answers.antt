@@ -1,3 +1,4 @@
+-- The goals of `making::add_output` that no tactic closes.
 use Rattle.nr_promises.proofs.Outputs.{set_with}
 use Rattle.nr_promises.specs.Book.{body_with_output}
 use Rattle.nr_promises.proofs.making.add_output.Goals as goal

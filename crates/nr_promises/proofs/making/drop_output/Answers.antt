@@ -1,3 +1,4 @@
+-- The goals of `making::drop_output` that no tactic closes.
 use Rattle.nr_promises.proofs.Outputs.{set_with}
 use Rattle.nr_promises.specs.Making.{body_without_output}
 use Rattle.nr_promises.proofs.making.drop_output.Goals as goal

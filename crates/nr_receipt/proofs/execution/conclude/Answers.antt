@@ -1,3 +1,4 @@
+-- The goals of `execution::conclude` that no tactic closes.
 use Rattle.nr_receipt.specs.Frames.{burning_price}
 use Rattle.nr_receipt.proofs.Concluding.{room_less}
 use Rattle.nr_receipt.proofs.execution.conclude.Goals as goal

@@ -1,3 +1,4 @@
+-- The goals of `execution::execute` that no tactic closes.
 use Rattle.std.proofs.Common.{refl}
 use Rattle.nr_receipt.proofs.Whole.{executes, ready}
 use Rattle.nr_receipt.proofs.execution.execute.Goals as goal

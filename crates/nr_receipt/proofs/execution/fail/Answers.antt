@@ -1,3 +1,4 @@
+-- The goals of `execution::fail` that no tactic closes.
 use Rattle.nr_receipt.specs.Execution.{dropped}
 use Rattle.nr_receipt.specs.Drawing.{deposits_back, given_up}
 use Rattle.nr_receipt.proofs.Concluding.{conclude_same, same_dropped, same_given, same_on}

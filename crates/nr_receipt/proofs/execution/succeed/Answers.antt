@@ -1,3 +1,4 @@
+-- The goals of `execution::succeed` that no tactic closes.
 use Rattle.std.proofs.Common.{length, ap, ◌∙◌}
 use Rattle.nr_receipt.specs.Frames.{burnt_gas}
 use Rattle.nr_receipt.specs.Drawing.{with_result}

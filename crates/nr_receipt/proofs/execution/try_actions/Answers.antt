@@ -1,3 +1,4 @@
+-- The goals of `execution::try_actions` that no tactic closes.
 use Rattle.std.proofs.Common.{refl}
 use Rattle.nr_receipt.proofs.Concluding.{keeps, undoes}
 use Rattle.nr_receipt.proofs.Stepping.{can_begin}
@@ -17,5 +18,8 @@ pub returns-in-Err-Failed : goal.returns-in-Err-Failed
 returns-in-Err-Failed g c =
     let laws = laws_for c.args.config.now (g.C.Caller.config c.args.caller.now) (g.C.Caller.meaning c.args.caller.now) c.requires.caller (g.met.C.Caller.law c.args.caller.now) c.action_laws.ensures.done c.action_laws.ensures.failed in
     let runs = rw c.in-Err-Failed.field-0-is at c.in-Err-Failed.ensures in
-    undoes c.args.config.now c.args.state.now.world c.args.frame.now c.requires.ready (g.C.Caller.meaning c.args.caller.now) laws c.args.state.now c.make_checkpoint.new.state c.run_actions.new.state c.back.new.self refl c.in_ok-make_checkpoint.ensures c.run_actions.new.frame c.in-Err-Failed.index c.in-Err-Failed.kind c.in-Err-Failed.part
+    undoes c.args.config.now c.args.state.now.world c.args.frame.now c.requires.ready
+    (g.C.Caller.meaning c.args.caller.now) laws c.args.state.now c.make_checkpoint.new.state
+    c.run_actions.new.state c.back.new.self refl c.in_ok-make_checkpoint.ensures c.run_actions.new.frame
+    c.in-Err-Failed.index c.in-Err-Failed.kind c.in-Err-Failed.part
     runs.0 runs.1 (λ id deposit h. c.action_laws.ensures.room c.args.config.now c.args.state.now.world id deposit h) c.back.ensures.marks c.back.ensures.spare c.back.ensures.config c.back.ensures.whole

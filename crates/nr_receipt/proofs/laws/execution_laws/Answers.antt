@@ -1,3 +1,4 @@
+-- The goals of `laws::execution_laws` that no tactic closes.
 use Rattle.nr_receipt.proofs.Executing.{has_small_calls, is_executed, is_settled}
 use Rattle.nr_receipt.proofs.Underway.{laws_for}
 use Rattle.nr_receipt.proofs.laws.execution_laws.Goals as goal

@@ -1,3 +1,4 @@
+-- The goals of `results::give_data` that no tactic closes.
 use Rattle.std.proofs.Common.{◌<◌, length, ap, ◌∙◌, arith}
 use Rattle.nr_receipt.specs.Drawing.{with_data}
 use Rattle.nr_receipt.proofs.Giving.{data_on}

@@ -1,3 +1,4 @@
+-- What holds at the loops of `results::give_data`.
 use Rattle.std.proofs.Common.{◌≡◌, drop, fold}
 use Rattle.nr_receipt.specs.Drawing.{with_datum, with_data}
 use Rattle.nr_receipt.proofs.results.give_data.Given as goal

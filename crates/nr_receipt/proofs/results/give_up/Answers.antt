@@ -1,3 +1,4 @@
+-- The goals of `results::give_up` that no tactic closes.
 use Rattle.std.proofs.Common.{None}
 use Rattle.nr_receipt.proofs.Giving.{data_act}
 use Rattle.nr_receipt.proofs.results.give_up.Goals as goal

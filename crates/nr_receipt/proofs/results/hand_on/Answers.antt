@@ -1,3 +1,4 @@
+-- The goals of `results::hand_on` that no tactic closes.
 use Rattle.std.proofs.Common.{◌<◌, length, sym, ap, ◌∙◌, arith}
 use Rattle.nr_receipt.specs.Drawing.{handed_on}
 use Rattle.nr_receipt.proofs.Handing.{handed_at, handed_none}

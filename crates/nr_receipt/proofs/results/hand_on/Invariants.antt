@@ -1,3 +1,4 @@
+-- What holds at the loops of `results::hand_on`.
 use Rattle.std.proofs.Common.{◌≡◌, ℕ, ◌<◌, get_or, false}
 use Rattle.std.specs.Str.{bytes_eq}
 use Rattle.nr_receipt.proofs.results.hand_on.Given as goal

@@ -1,3 +1,4 @@
+-- The goals of `reward::reward_gas` that no tactic closes.
 use Rattle.std.proofs.Common.{◌≤◌, arith, lit≤}
 use Rattle.nr_config.specs.Config.{entry, least}
 use Rattle.nr_config.specs.Table.{table}

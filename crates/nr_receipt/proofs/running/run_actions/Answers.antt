@@ -1,3 +1,4 @@
+-- The goals of `running::run_actions` that no tactic closes.
 use Rattle.std.proofs.Common.{◌≡◌, true, cond, length, sym, ap, ◌∙◌}
 use Rattle.nr_receipt.specs.Running.{Broken, Done, fails_storage}
 use Rattle.nr_receipt.proofs.running.run_actions.Goals as goal

@@ -1,3 +1,4 @@
+-- The goals of `running::run_all` that no tactic closes.
 use Rattle.std.proofs.Common.{◌<◌, ◌≤◌, length, sym, ◌∙◌, arith}
 use Rattle.std.proofs.lemmas.Result.{err_from_is_err_and}
 use Rattle.nr_receipt.proofs.Stepping.{fails_all, run_out, runs_on, stands_at}

@@ -1,3 +1,4 @@
+-- What holds at the loops of `running::run_all`.
 use Rattle.std.proofs.Common.{◌≡◌, drop}
 use Rattle.nr_receipt.specs.Parts.{CanRun}
 use Rattle.nr_receipt.specs.Running.{run_from, run_actions}

@@ -1,3 +1,4 @@
+-- The goals of `running::step` that no tactic closes.
 use Rattle.nr_receipt.proofs.Stepping.{room_at, goes_on_at}
 use Rattle.nr_receipt.proofs.Underway.{laws_for}
 use Rattle.nr_receipt.proofs.running.step.Goals as goal

@@ -1,3 +1,4 @@
+-- The goals of `settlement::settle` that no tactic closes.
 use Rattle.nr_receipt.proofs.Concluding.{same_given}
 use Rattle.nr_receipt.proofs.Giving.{failure_given}
 use Rattle.nr_receipt.specs.Drawing.{deposits_back, given_up}

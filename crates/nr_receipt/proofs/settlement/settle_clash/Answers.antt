@@ -1,3 +1,4 @@
+-- The goals of `settlement::settle_clash` that no tactic closes.
 use Rattle.std.proofs.Common.{◌≡◌, [], refl, subst, rules}
 use Rattle.std.proofs.lemmas.Result.{IfOk-weaker}
 use Rattle.nr_receipt.specs.Execution.{OfActions}

@@ -1,3 +1,4 @@
+-- The goals of `setting::empty_state` that no tactic closes.
 use Rattle.std.proofs.Common.{ap, arith}
 use Rattle.nr_state.specs.Tokens.{world_tokens}
 use Rattle.nr_receipt_tests.proofs.Sounding.{nothing_held}

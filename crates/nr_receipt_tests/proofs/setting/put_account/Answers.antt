@@ -1,3 +1,4 @@
+-- The goals of `setting::put_account` that no tactic closes.
 use Rattle.std.proofs.Common.{sym, ap, ◌∙◌}
 use Rattle.nr_state.specs.View.{with_world}
 use Rattle.nr_state.specs.World.{with_account}

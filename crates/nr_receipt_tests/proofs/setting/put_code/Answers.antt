@@ -1,3 +1,4 @@
+-- The goals of `setting::put_code` that no tactic closes.
 use Rattle.nr_receipt_tests.proofs.Sounding.{code_put}
 use Rattle.nr_receipt_tests.proofs.setting.put_code.Goals as goal
 

@@ -1,3 +1,4 @@
+-- The goals of `bounds::is_within` that no tactic closes.
 use Rattle.std.proofs.Common.{◌≡◌, ◌+◌, ◌^◌, List, length, sym, ap, subst, ◌∙◌}
 use Rattle.std.specs.Prelude.{◌&&◌, nat_le, sum_by}
 use Rattle.nr_fees.specs.Fees.{FitsIn}

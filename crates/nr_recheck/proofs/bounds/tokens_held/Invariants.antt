@@ -1,3 +1,4 @@
+-- What holds at the loops of `bounds::tokens_held`.
 use Rattle.std.proofs.Common.{◌≡◌, ◌<◌, ◌^◌, sum_by, take}
 use Rattle.nr_state.specs.World.{account_tokens}
 use Rattle.nr_recheck.proofs.bounds.tokens_held.Given as goal

@@ -1,3 +1,4 @@
+-- What holds at the loops of `bounds::tokens_in`.
 use Rattle.std.proofs.Common.{◌≡◌, ◌<◌, ◌^◌, true, take}
 use Rattle.nr_state.specs.Tokens.{list_tokens}
 use Rattle.nr_recheck.specs.Bounds.{are_bounded}

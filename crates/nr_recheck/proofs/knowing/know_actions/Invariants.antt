@@ -1,3 +1,4 @@
+-- What holds at the loops of `knowing::know_actions`.
 use Rattle.std.proofs.Common.{◌<◌, ◌^◌, take}
 use Rattle.std.specs.List.{AllByRecursion}
 use Rattle.nr_fees.specs.Fees.{attached}

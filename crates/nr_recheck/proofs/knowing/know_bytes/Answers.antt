@@ -1,3 +1,4 @@
+-- The goals of `knowing::know_bytes` that no tactic closes.
 use Rattle.std.proofs.Common.{arith}
 use Rattle.nr_recheck.proofs.knowing.know_bytes.Goals as goal
 

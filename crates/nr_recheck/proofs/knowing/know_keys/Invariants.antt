@@ -1,3 +1,4 @@
+-- What holds at the loops of `knowing::know_keys`.
 use Rattle.std.proofs.Common.{ℕ, List, take}
 use Rattle.std.specs.List.{AllByRecursion}
 use Rattle.nr_bytes.specs.Numbers.{IsBytes}

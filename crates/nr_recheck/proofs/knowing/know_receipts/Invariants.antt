@@ -1,3 +1,4 @@
+-- What holds at the loops of `knowing::know_receipts`.
 use Rattle.std.proofs.Common.{take}
 use Rattle.std.specs.List.{AllByRecursion}
 use Rattle.nr_receipt.specs.Keeping.{HasSmallCalls}

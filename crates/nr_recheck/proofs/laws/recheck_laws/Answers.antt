@@ -1,3 +1,4 @@
+-- The goals of `laws::recheck_laws` that no tactic closes.
 use Rattle.nr_recheck.proofs.Answering.{answered}
 use Rattle.nr_recheck.proofs.Telling.{told_chunk}
 use Rattle.nr_recheck.proofs.laws.recheck_laws.Goals as goal

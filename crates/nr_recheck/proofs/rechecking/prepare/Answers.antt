@@ -1,3 +1,4 @@
+-- The goals of `rechecking::prepare` that no tactic closes.
 use Rattle.std.proofs.Common.{◌≡◌, true, List, sym, ap, subst, ◌∙◌}
 use Rattle.std.specs.List.{AllByRecursion}
 use Rattle.nr_entries.specs.Told.{AreBytes}

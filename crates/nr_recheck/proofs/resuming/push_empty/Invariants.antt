@@ -1,3 +1,4 @@
+-- What holds at the loops of `resuming::push_empty`.
 use Rattle.std.proofs.Common.{◌≡◌, ◌++◌, [], replicate}
 use Rattle.nr_recheck.proofs.resuming.push_empty.Given as goal
 

@@ -1,3 +1,4 @@
+-- What holds at the loops of `resuming::push_missing`.
 use Rattle.std.proofs.Common.{◌≡◌, ◌++◌, None, replicate}
 use Rattle.nr_recheck.proofs.resuming.push_missing.Given as goal
 

@@ -1,3 +1,4 @@
+-- The goals of `resuming::resume` that no tactic closes.
 use Rattle.std.proofs.Common.{◌≡◌, ◌-◌, ◌++◌, ◌∷◌, [], ℕ, List, length, replicate, refl, ap, ◌∙◌, arith}
 use Rattle.nr_columns.specs.declared.entry.Entry.{Entry}
 use Rattle.nr_records.specs.declared.receipt.Receipt.{Receipt}

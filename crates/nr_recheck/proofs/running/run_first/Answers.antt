@@ -1,3 +1,4 @@
+-- The goals of `running::run_first` that no tactic closes.
 use Rattle.std.proofs.Common.{◌≡◌, ap, ◌∙◌}
 use Rattle.nr_chunk.specs.Chain.{Chain, rules_of}
 use Rattle.nr_chunk.specs.Runs.{chain_in}

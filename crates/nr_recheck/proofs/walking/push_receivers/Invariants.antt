@@ -1,3 +1,4 @@
+-- What holds at the loops of `walking::push_receivers`.
 use Rattle.std.proofs.Common.{◌≡◌, ◌++◌, map, take}
 use Rattle.nr_records.specs.declared.receipt.Receipt.{Receipt}
 use Rattle.nr_recheck.proofs.walking.push_receivers.Given as goal

@@ -1,3 +1,4 @@
+-- What holds at the loops of `walking::push_signers`.
 use Rattle.std.proofs.Common.{◌≡◌, ◌++◌, map, take}
 use Rattle.nr_records.specs.declared.transaction.Transaction.{Transaction}
 use Rattle.nr_recheck.proofs.walking.push_signers.Given as goal

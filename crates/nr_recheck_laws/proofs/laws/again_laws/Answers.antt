@@ -1,3 +1,4 @@
+-- The goals of `laws::again_laws` that no tactic closes.
 use Rattle.nr_extract.specs.Chunk.{gathered_chunk}
 use Rattle.nr_recheck_laws.proofs.Serially.{gathered_for, goes_with, serial_report}
 use Rattle.nr_recheck_laws.specs.Again.{state}

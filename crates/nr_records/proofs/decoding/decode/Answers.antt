@@ -1,3 +1,4 @@
+-- The goals of `decoding::decode` that no tactic closes.
 use Rattle.std.proofs.Common.{ap, subst, ◌∙◌, arith}
 use Rattle.nr_records.specs.Reading.{all_of}
 use Rattle.nr_bytes.specs.Answers.{Gives}

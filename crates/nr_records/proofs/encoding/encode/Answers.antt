@@ -1,3 +1,4 @@
+-- The goals of `encoding::encode` that no tactic closes.
 use Rattle.std.proofs.Common.{rules, ◌≡◌, ap, ◌∙◌}
 use Rattle.nr_records.specs.Reading.{all_of}
 use Rattle.nr_bytes.proofs.Whole.{whole_again}

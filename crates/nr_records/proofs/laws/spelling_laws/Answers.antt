@@ -1,3 +1,4 @@
+-- The goals of `laws::spelling_laws` that no tactic closes.
 use Rattle.nr_bytes.proofs.Steps.{IsRead-front}
 use Rattle.nr_bytes.proofs.Whole.{whole_again}
 use Rattle.nr_records.specs.Fault.{record_fault}

@@ -1,3 +1,4 @@
+-- What holds at the loops of `lists::write_items`.
 use Rattle.std.proofs.Common.{◌≡◌, ◌++◌, take}
 use Rattle.std.specs.List.{flat_map, AllByRecursion}
 use Rattle.nr_records.proofs.lists.write_items.Given as goal

@@ -1,3 +1,4 @@
+-- What holds at the loops of `merging::all_kept`.
 use Rattle.std.proofs.Common.{◌≡◌, take}
 use Rattle.nr_triedef.specs.Root.{paths}
 use Rattle.nr_remake.specs.Merging.{marks_of, marked, pairs_of}

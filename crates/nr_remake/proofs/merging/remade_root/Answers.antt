@@ -1,3 +1,4 @@
+-- The goals of `merging::remade_root` that no tactic closes.
 use Rattle.nr_remake.proofs.Changed.{changed_root}
 use Rattle.nr_remake.proofs.merging.remade_root.Goals as goal
 

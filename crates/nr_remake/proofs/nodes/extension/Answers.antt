@@ -1,3 +1,4 @@
+-- The goals of `nodes::extension` that no tactic closes.
 use Rattle.nr_triedef.proofs.Parts.{extension_is_node}
 use Rattle.nr_remake.proofs.nodes.extension.Goals as goal
 

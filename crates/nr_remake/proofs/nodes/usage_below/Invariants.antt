@@ -1,3 +1,4 @@
+-- What holds at the loops of `nodes::usage_below`.
 use Rattle.std.proofs.Common.{◌≡◌, take, sum_by}
 use Rattle.nr_triedef.specs.Root.{usage_below}
 use Rattle.nr_remake.proofs.nodes.usage_below.Given as goal

@@ -1,3 +1,4 @@
+-- What holds at the loops of `rests::behind`.
 use Rattle.std.proofs.Common.{◌≡◌, take}
 use Rattle.nr_triedef.specs.Root.{behind}
 use Rattle.nr_remake.proofs.rests.behind.Given as goal

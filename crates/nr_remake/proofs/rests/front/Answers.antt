@@ -1,3 +1,4 @@
+-- The goals of `rests::front` that no tactic closes.
 use Rattle.nr_remake.proofs.MarkedLevels.{folded_first}
 use Rattle.nr_remake.proofs.rests.front.Goals as goal
 

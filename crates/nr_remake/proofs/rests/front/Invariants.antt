@@ -1,3 +1,4 @@
+-- What holds at the loops of `rests::front`.
 use Rattle.std.proofs.Common.{◌≡◌, drop}
 use Rattle.nr_triedef.specs.Root.{front}
 use Rattle.nr_remake.specs.Marks.{folded}

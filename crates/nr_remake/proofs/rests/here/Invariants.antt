@@ -1,3 +1,4 @@
+-- What holds at the loops of `rests::here`.
 use Rattle.std.proofs.Common.{◌≡◌, drop}
 use Rattle.nr_triedef.specs.Root.{value_here}
 use Rattle.nr_remake.proofs.rests.here.Given as goal

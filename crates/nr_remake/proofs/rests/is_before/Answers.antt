@@ -1,3 +1,4 @@
+-- The goals of `rests::is_before` that no tactic closes.
 use Rattle.std.proofs.Common.{arith}
 use Rattle.nr_remake.proofs.MarkedLevels.{none_before}
 use Rattle.nr_remake.proofs.rests.is_before.Goals as goal

@@ -1,3 +1,4 @@
+-- What holds at the loops of `rests::is_before`.
 use Rattle.std.proofs.Common.{◌≡◌, length}
 use Rattle.nr_remake.specs.Merging.{is_before}
 use Rattle.nr_remake.proofs.rests.is_before.Given as goal

@@ -1,3 +1,4 @@
+-- What holds at the loops of `rests::merged`.
 use Rattle.std.proofs.Common.{◌≡◌, ◌++◌, drop}
 use Rattle.nr_remake.specs.Merging.{marks_of, merge}
 use Rattle.nr_remake.proofs.rests.merged.Given as goal

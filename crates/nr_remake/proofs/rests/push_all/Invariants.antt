@@ -1,3 +1,4 @@
+-- What holds at the loops of `rests::push_all`.
 use Rattle.std.proofs.Common.{◌≡◌, ◌++◌, take}
 use Rattle.nr_remake.specs.Merging.{marks_of}
 use Rattle.nr_remake.proofs.rests.push_all.Given as goal

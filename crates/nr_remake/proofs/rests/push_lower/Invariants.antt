@@ -1,3 +1,4 @@
+-- What holds at the loops of `rests::push_lower`.
 use Rattle.std.proofs.Common.{◌≡◌, ◌++◌, length}
 use Rattle.nr_remake.specs.Merging.{marks_of, lower, upper}
 use Rattle.nr_remake.proofs.rests.push_lower.Given as goal

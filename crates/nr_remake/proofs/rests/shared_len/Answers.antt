@@ -1,3 +1,4 @@
+-- The goals of `rests::shared_len` that no tactic closes.
 use Rattle.std.proofs.Common.{arith}
 use Rattle.nr_remake.proofs.MarkedLevels.{ended}
 use Rattle.nr_remake.proofs.rests.shared_len.Goals as goal

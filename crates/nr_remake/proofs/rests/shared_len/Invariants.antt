@@ -1,3 +1,4 @@
+-- What holds at the loops of `rests::shared_len`.
 use Rattle.std.proofs.Common.{◌≡◌, ◌+◌, ◌-◌, ◌≤◌, length, drop}
 use Rattle.nr_triedef.specs.Root.{common}
 use Rattle.nr_remake.proofs.rests.shared_len.Given as goal

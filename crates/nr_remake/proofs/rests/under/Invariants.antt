@@ -1,3 +1,4 @@
+-- What holds at the loops of `rests::under`.
 use Rattle.std.proofs.Common.{◌≡◌, ◌++◌, drop}
 use Rattle.nr_triedef.specs.Root.{under}
 use Rattle.nr_remake.proofs.rests.under.Given as goal

@@ -1,3 +1,4 @@
+-- The goals of `trie::few` that no tactic closes.
 use Rattle.std.proofs.Common.{sym, arith}
 use Rattle.nr_remake.proofs.MarkedLevels.{marked_none, one_found}
 use Rattle.nr_remake.proofs.trie.few.Goals as goal

@@ -1,3 +1,4 @@
+-- The goals of `hashing::hash_of` that no tactic closes.
 use Rattle.std.proofs.Common.{ℕ, List, ◌++◌, ap, sym, ◌∙◌}
 use Rattle.sha2.specs.Sha256.{sha256}
 use Rattle.nr_replay.proofs.hashing.hash_of.Goals as goal

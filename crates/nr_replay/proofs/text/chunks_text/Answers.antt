@@ -1,3 +1,4 @@
+-- The goals of `text::chunks_text` that no tactic closes.
 use Rattle.std.proofs.Common.{◌∙◌, arith}
 use Rattle.nr_replay.proofs.Stretches.{next_text, none_before}
 use Rattle.nr_replay.proofs.text.chunks_text.Goals as goal

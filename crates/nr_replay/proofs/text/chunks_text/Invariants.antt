@@ -1,3 +1,4 @@
+-- What holds at the loops of `text::chunks_text`.
 use Rattle.std.proofs.Common.{◌≡◌}
 use Rattle.nr_outcome.specs.Reports.{report_in}
 use Rattle.nr_outcome.specs.Texts.{heights_text}

@@ -1,3 +1,4 @@
+-- The goals of `top::replay` that no tactic closes.
 use Rattle.std.proofs.Common.{refl}
 use Rattle.nr_shell.proofs.Leading.{begun}
 use Rattle.nr_replay.proofs.top.replay.Goals as goal

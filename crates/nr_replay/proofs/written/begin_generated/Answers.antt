@@ -1,3 +1,4 @@
+-- The goals of `written::begin_generated` that no tactic closes.
 use Rattle.std.proofs.Common.{sym, ◌∙◌}
 use Rattle.nr_chunk.specs.Start.{start_tokens}
 use Rattle.nr_chunk.specs.StartSums.{supply_is}

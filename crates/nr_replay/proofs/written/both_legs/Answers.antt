@@ -1,3 +1,4 @@
+-- The goals of `written::both_legs` that no tactic closes.
 use Rattle.std.proofs.Common.{sym, ap, ◌∙◌}
 use Rattle.nr_course.specs.Texts.{leg_text}
 use Rattle.nr_replay.specs.Chains.{chain_in}

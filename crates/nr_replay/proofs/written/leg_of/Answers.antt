@@ -1,3 +1,4 @@
+-- The goals of `written::leg_of` that no tactic closes.
 use denote.Exit.{yes}
 use denote.Param.Send.{param_send, param_sync, arg_send, arg_sync}
 use Rattle.nr_contract.specs.contracts.caller.ContractCaller as C

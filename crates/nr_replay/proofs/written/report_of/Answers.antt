@@ -1,3 +1,4 @@
+-- The goals of `written::report_of` that no tactic closes.
 use Rattle.std.proofs.Common.{sym, ap, ◌∙◌}
 use Rattle.nr_chunk.specs.Start.{start_tokens}
 use Rattle.nr_course.specs.Texts.{leg_text}

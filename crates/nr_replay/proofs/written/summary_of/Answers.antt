@@ -1,3 +1,4 @@
+-- The goals of `written::summary_of` that no tactic closes.
 use Rattle.std.proofs.Common.{List, ℕ, ◌++◌, ap, subst, sym, ◌∙◌}
 use Rattle.sha2.specs.Sha256.{sha256}
 use Rattle.nr_course.specs.Texts.{leg_text}

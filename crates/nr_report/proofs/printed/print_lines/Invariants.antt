@@ -1,3 +1,4 @@
+-- What holds at the loops of `printed::print_lines`.
 use Rattle.std.proofs.Common.{◌≡◌, ◌++◌, string_bytes, take}
 use Rattle.std.specs.List.{flat_map}
 use Rattle.nr_report.specs.Lines.{line_text}

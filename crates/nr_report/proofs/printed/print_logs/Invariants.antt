@@ -1,3 +1,4 @@
+-- What holds at the loops of `printed::print_logs`.
 use Rattle.std.proofs.Common.{◌≡◌, ◌++◌, string_bytes, take}
 use Rattle.std.specs.List.{flat_map}
 use Rattle.nr_report.specs.Lines.{log_line}

@@ -1,3 +1,4 @@
+-- The goals of `block_list::blocks_of` that no tactic closes.
 use Rattle.std.proofs.lemmas.Result.{err_from_is_err_and}
 use Rattle.nr_blocks.specs.BlocksFiles.{block_at}
 use Rattle.nr_blocks.specs.declared.version.Version.TheVariants.{Two}

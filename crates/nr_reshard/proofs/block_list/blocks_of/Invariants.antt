@@ -1,3 +1,4 @@
+-- What holds at the loops of `block_list::blocks_of`.
 use Rattle.std.proofs.Common.{◌≡◌, ◌-◌}
 use Rattle.nr_blocks.specs.BlocksFiles.{block_at}
 use Rattle.nr_blocks.specs.declared.version.Version.TheVariants.{Two}

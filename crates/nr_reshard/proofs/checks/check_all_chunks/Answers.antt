@@ -1,3 +1,4 @@
+-- The goals of `checks::check_all_chunks` that no tactic closes.
 use Rattle.std.proofs.Common.{sym, ◌∙◌, arith}
 use Rattle.std.proofs.lemmas.Result.{err_from_is_err_and}
 use Rattle.nr_blocks.proofs.Turns.{each_goes_on, each_stops}

@@ -1,3 +1,4 @@
+-- What holds at the loops of `checks::check_all_chunks`.
 use Rattle.nr_blocks.proofs.Turns.{IsLeft}
 use Rattle.nr_reshard.proofs.checks.check_all_chunks.Given as goal
 use Rattle.nr_reshard.specs.Judging.{has_chunks_by, shards_at}

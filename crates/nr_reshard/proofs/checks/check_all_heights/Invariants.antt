@@ -1,3 +1,4 @@
+-- What holds at the loops of `checks::check_all_heights`.
 use Rattle.nr_blocks.proofs.Turns.{IsLeft}
 use Rattle.nr_blocks.specs.Judging.{has_height}
 use Rattle.nr_reshard.proofs.checks.check_all_heights.Given as goal

@@ -1,3 +1,4 @@
+-- The goals of `reading::third_file` that no tactic closes.
 use Rattle.std.proofs.Common.{arith}
 use Rattle.nr_reshard.proofs.Sound.{third_before, third_found, third_gives, third_only, third_priced, third_whole}
 use Rattle.nr_reshard.proofs.reading.third_file.Goals as goal

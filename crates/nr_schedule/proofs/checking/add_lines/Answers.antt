@@ -1,3 +1,4 @@
+-- The goals of `checking::add_lines` that no tactic closes.
 use Rattle.std.proofs.Common.{◌<◌, length, refl, arith}
 use Rattle.std.specs.Prelude.{fold}
 use Rattle.std.proofs.lemmas.Option.{slice_get-get_or}

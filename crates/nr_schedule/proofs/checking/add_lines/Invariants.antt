@@ -1,3 +1,4 @@
+-- What holds at the loops of `checking::add_lines`.
 use Rattle.std.proofs.Common.{◌≡◌, drop}
 use Rattle.std.specs.Prelude.{fold}
 use Rattle.nr_schedule.specs.Checking.{by_line}

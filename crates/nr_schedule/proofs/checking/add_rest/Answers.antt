@@ -1,3 +1,4 @@
+-- The goals of `checking::add_rest` that no tactic closes.
 use Rattle.nr_schedule.specs.Driving.{standing_of}
 use Rattle.nr_schedule.proofs.Onward.{none_told, rest_crossed, rest_ended, some_told}
 use Rattle.nr_schedule.proofs.checking.add_rest.Goals as goal

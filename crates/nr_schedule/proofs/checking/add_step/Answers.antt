@@ -1,3 +1,4 @@
+-- The goals of `checking::add_step` that no tactic closes.
 use Rattle.std.proofs.Common.{◌++◌, refl, sym, ap, subst, ◌∙◌}
 use Rattle.nr_chunk.specs.Chain.{rules_of}
 use Rattle.nr_chunk.specs.Runs.{chain_in}

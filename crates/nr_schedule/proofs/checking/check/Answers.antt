@@ -1,3 +1,4 @@
+-- The goals of `checking::check` that no tactic closes.
 use Rattle.std.proofs.Common.{ap, ◌∙◌}
 use Rattle.std.specs.Prelude.{fold}
 use Rattle.nr_chunk.specs.Runs.{chain_in}

@@ -1,3 +1,4 @@
+-- The goals of `checking::crossed` that no tactic closes.
 use Rattle.std.proofs.Common.{sym, ap, subst, ◌∙◌}
 use Rattle.nr_chunk.specs.Chain.{IsChain}
 use Rattle.nr_chunk.specs.Runs.{chain_in}

@@ -1,3 +1,4 @@
+-- The goals of `checking::names_there` that no tactic closes.
 use Rattle.nr_schedule.proofs.Within.{told_there}
 use Rattle.nr_schedule.proofs.checking.names_there.Goals as goal
 

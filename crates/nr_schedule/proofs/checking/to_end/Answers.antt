@@ -1,3 +1,4 @@
+-- The goals of `checking::to_end` that no tactic closes.
 use Rattle.nr_schedule.specs.Driving.{standing_of}
 use Rattle.nr_schedule.proofs.Onward.{goes_closer, goes_first, goes_next, goes_to_end}
 use Rattle.nr_schedule.proofs.checking.to_end.Goals as goal

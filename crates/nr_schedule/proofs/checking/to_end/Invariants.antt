@@ -1,3 +1,4 @@
+-- What holds at the loops of `checking::to_end`.
 use Rattle.nr_schedule.specs.Driving.{IsDriven, standing_of}
 use Rattle.nr_schedule.proofs.Onward.{Goes, steps_left}
 use Rattle.nr_schedule.proofs.checking.to_end.Given as goal

@@ -1,3 +1,4 @@
+-- The goals of `laws::schedule_laws` that no tactic closes.
 use Rattle.nr_schedule.specs.Checking.{standing_after}
 use Rattle.nr_schedule.proofs.Courses.{adds_there, enabled_there, on_course, rest_over, supply_there}
 use Rattle.nr_schedule.proofs.laws.schedule_laws.Goals as goal

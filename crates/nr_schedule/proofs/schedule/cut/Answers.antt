@@ -1,3 +1,4 @@
+-- The goals of `schedule::cut` that no tactic closes.
 use Rattle.std.proofs.Common.{◌+◌, ◌∷◌, take, sym, ap, ◌∙◌, arith, length-drop}
 use Rattle.std.proofs.lemmas.List.{take_rest}
 use Rattle.nr_schedule.specs.Schedule.{pieces}

@@ -1,3 +1,4 @@
+-- The goals of `schedule::line_of` that no tactic closes.
 use Rattle.nr_schedule.proofs.Pieces.{five_words}
 use Rattle.nr_schedule.proofs.schedule.line_of.Goals as goal
 

@@ -1,3 +1,4 @@
+-- The goals of `schedule::read_schedule` that no tactic closes.
 use Rattle.std.proofs.Common.{◌+◌, sym, ap, ◌∙◌, arith}
 use Rattle.nr_schedule.specs.Schedule.{lines_from, pieces, schedule_read}
 use Rattle.nr_schedule.proofs.Pieces.{behind, from_first, line_read, line_refused, read_in_part, read_whole}

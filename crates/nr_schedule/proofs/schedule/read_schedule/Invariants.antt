@@ -1,3 +1,4 @@
+-- What holds at the loops of `schedule::read_schedule`.
 use Rattle.std.proofs.Common.{◌≡◌, ◌+◌, ◌≤◌, length}
 use Rattle.nr_schedule.specs.Schedule.{lines_from, pieces, schedule_read}
 use Rattle.nr_schedule.proofs.Pieces.{behind}

@@ -1,3 +1,4 @@
+-- What holds at the loops of `tally::all_sealed_by`.
 use Rattle.std.proofs.Common.{◌≡◌, ◌+◌}
 use Rattle.nr_places.specs.Totals.{sealed_by, tally_below}
 use Rattle.nr_chunk.specs.Runs.{chain_in}

@@ -1,3 +1,4 @@
+-- The goals of `tally::flying` that no tactic closes.
 use Rattle.std.proofs.Common.{◌≤◌, ◌^◌, sym, ap, subst, ◌∙◌}
 use Rattle.std.specs.Option.{option_copied}
 use Rattle.nr_chunk.specs.Chain.{AreBounded}

@@ -1,3 +1,4 @@
+-- The goals of `tally::flying_from` that no tactic closes.
 use Rattle.nr_chunk.specs.Chain.{rules_of}
 use Rattle.nr_overlap.specs.Moment.{flight_at}
 use Rattle.nr_places.specs.Totals.{list_tally}

@@ -1,3 +1,4 @@
+-- What holds at the loops of `tally::flying_from`.
 use Rattle.std.proofs.Common.{◌≡◌}
 use Rattle.nr_chunk.specs.Chain.{rules_of}
 use Rattle.nr_overlap.specs.Moment.{flight_at}

@@ -1,3 +1,4 @@
+-- The goals of `tally::held_by` that no tactic closes.
 use Rattle.std.proofs.Common.{sym, ap, subst, ◌∙◌, ◌≡◌, ◌≤◌, ◌^◌, true}
 use Rattle.std.specs.Option.{option_copied}
 use Rattle.nr_chunk.specs.Chain.{AreBounded, IsCountable, rules_of, working_tokens}

@@ -1,3 +1,4 @@
+-- The goals of `tally::sealed_by` that no tactic closes.
 use Rattle.std.proofs.Common.{◌∙◌}
 use Rattle.std.specs.Option.{option_copied}
 use Rattle.nr_places.specs.Totals.{plus, report_tally}

@@ -1,3 +1,4 @@
+-- What holds at the loops of `tally::tally_at`.
 use Rattle.std.proofs.Common.{◌≡◌}
 use Rattle.nr_places.specs.Totals.{tally_of, tally_below}
 use Rattle.nr_chunk.specs.Runs.{chain_in}

@@ -1,3 +1,4 @@
+-- The goals of `laws::running_law` that no tactic closes.
 use Rattle.nr_chunk.specs.Runs.{chain_in}
 use Rattle.nr_settle.proofs.Moments.{holds_while_running}
 use Rattle.nr_settle.proofs.laws.running_law.Goals as goal

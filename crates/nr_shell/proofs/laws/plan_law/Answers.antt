@@ -1,3 +1,4 @@
+-- The goals of `laws::plan_law` that no tactic closes.
 use Rattle.nr_shell.proofs.Ends.{one_end}
 use Rattle.nr_shell.proofs.laws.plan_law.Goals as goal
 

@@ -1,3 +1,4 @@
+-- The goals of `loading::load` that no tactic closes.
 use Rattle.nr_shell.proofs.Loaded.{has_counted, has_stopped, was_read}
 use Rattle.nr_shell.proofs.loading.load.Goals as goal
 

@@ -1,3 +1,4 @@
+-- The goals of `writing::write_all` that no tactic closes.
 use Rattle.std.proofs.Common.{arith}
 use Rattle.nr_shell.proofs.Growth.{grew_on}
 use Rattle.nr_shell.proofs.writing.write_all.Goals as goal

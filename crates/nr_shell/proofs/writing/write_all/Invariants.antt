@@ -1,3 +1,4 @@
+-- What holds at the loops of `writing::write_all`.
 use Rattle.std.proofs.Common.{◌≤◌, length}
 use Rattle.nr_shell.specs.Writing.{GrewSoFar}
 use Rattle.nr_shell.proofs.writing.write_all.Given as goal

@@ -1,3 +1,4 @@
+-- What holds at the loops of `values::values_of`.
 use Rattle.std.proofs.Common.{◌≡◌, map, take}
 use Rattle.serde_json.specs.View.{view}
 use Rattle.nr_shown.proofs.values.values_of.Given as goal

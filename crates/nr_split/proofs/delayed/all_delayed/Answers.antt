@@ -1,3 +1,4 @@
+-- The goals of `delayed::all_delayed` that no tactic closes.
 use Rattle.std.proofs.Common.{arith}
 use Rattle.nr_split.proofs.Steps.{delayed_step}
 use Rattle.nr_split.proofs.delayed.all_delayed.Goals as goal

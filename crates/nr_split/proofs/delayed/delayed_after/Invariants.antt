@@ -1,3 +1,4 @@
+-- What holds at the loops of `delayed::delayed_after`.
 use Rattle.std.proofs.Common.{◌≡◌}
 use Rattle.std.specs.FinMap.{get}
 use Rattle.std.specs.List.{flat_map, range_with_len}

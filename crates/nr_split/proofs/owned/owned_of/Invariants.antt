@@ -1,3 +1,4 @@
+-- What holds at the loops of `owned::owned_of`.
 use Rattle.std.proofs.Common.{◌≡◌, take}
 use Rattle.nr_cut.specs.Cut.{lives_in}
 use Rattle.nr_split.specs.Owned.{owned_of}

@@ -1,3 +1,4 @@
+-- What holds at the loops of `owners::shard_of`.
 use Rattle.std.proofs.Common.{◌≡◌, ◌≤◌, take}
 use Rattle.nr_layout.specs.Layout.{shard_of}
 use Rattle.nr_split.proofs.owners.shard_of.Given as goal

@@ -1,3 +1,4 @@
+-- What holds at the loops of `splitting::all_cut`.
 use Rattle.std.proofs.Common.{◌≡◌, map}
 use Rattle.std.specs.List.{range_with_len}
 use Rattle.nr_cut.specs.Cut.{lives_in}

@@ -1,3 +1,4 @@
+-- The goals of `splitting::cut_at` that no tactic closes.
 use Rattle.std.proofs.Common.{◌≡◌, ◌+◌, List, length, get_or, subst, ap, ◌∙◌, arith}
 use Rattle.std.specs.Prelude.{IfOk}
 use Rattle.nr_cut.specs.Cut.{lives_in}

@@ -1,3 +1,4 @@
+-- The goals of `splitting::cut_world` that no tactic closes.
 use Rattle.nr_cut.specs.Cut.{lives_in}
 use Rattle.nr_split.proofs.Steps.{cut_answer}
 use Rattle.nr_split.proofs.splitting.cut_world.Goals as goal

@@ -1,3 +1,4 @@
+-- The goals of `splitting::put_receipts` that no tactic closes.
 use Rattle.std.proofs.Common.{arith}
 use Rattle.nr_split.proofs.Steps.{receipts_step}
 use Rattle.nr_split.proofs.splitting.put_receipts.Goals as goal

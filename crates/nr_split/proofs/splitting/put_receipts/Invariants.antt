@@ -1,3 +1,4 @@
+-- What holds at the loops of `splitting::put_receipts`.
 use Rattle.std.proofs.Common.{◌≡◌, take}
 use Rattle.nr_split.specs.Split.{with_receipts}
 use Rattle.nr_split.proofs.splitting.put_receipts.Given as goal

@@ -1,3 +1,4 @@
+-- The goals of `splitting::split_worlds` that no tactic closes.
 use Rattle.nr_split.proofs.Split.{answer_whole, answer_worlds}
 use Rattle.nr_split.proofs.splitting.split_worlds.Goals as goal
 

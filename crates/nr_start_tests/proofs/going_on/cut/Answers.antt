@@ -1,3 +1,4 @@
+-- The goals of `going_on::cut` that no tactic closes.
 use Rattle.std.proofs.Common.{[], ◌∷◌, ap, ◌∙◌}
 use Rattle.nr_records.specs.declared.receipt.Receipt.{Receipt}
 use Rattle.nr_start_tests.proofs.Sound.{is_sound}

@@ -1,3 +1,4 @@
+-- The goals of `laws::entry_laws` that no tactic closes.
 use Rattle.nr_state.proofs.EntryWorlds.{entries_again, entries_whole, flat_again, none_again, none_whole}
 use Rattle.nr_state.proofs.EntryWorlds.{pairs_again, read_again, world_fits, world_postponed}
 use Rattle.nr_state.proofs.laws.entry_laws.Goals as goal

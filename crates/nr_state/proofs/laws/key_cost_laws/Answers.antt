@@ -1,3 +1,4 @@
+-- The goals of `laws::key_cost_laws` that no tactic closes.
 use Rattle.nr_state.proofs.KeyCosts.{nonce_free, allowance_free}
 use Rattle.nr_state.proofs.laws.key_cost_laws.Goals as goal
 

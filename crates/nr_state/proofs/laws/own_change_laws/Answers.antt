@@ -1,3 +1,4 @@
+-- The goals of `laws::own_change_laws` that no tactic closes.
 use Rattle.std.proofs.Common.{refl}
 use Rattle.nr_state.proofs.ValidCalls.{changes_nothing, changes_chained, changes_account, changes_datum, changes_no_datum}
 use Rattle.nr_state.proofs.laws.own_change_laws.Goals as goal

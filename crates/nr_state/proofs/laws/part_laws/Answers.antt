@@ -1,3 +1,4 @@
+-- The goals of `laws::part_laws` that no tactic closes.
 use Rattle.nr_state.proofs.OverEntries.{entries_over, entries_of_part, read_part}
 use Rattle.nr_state.proofs.ValidPart.{part_fits, part_valid}
 use Rattle.nr_state.proofs.WorldsRead.{world_read}

@@ -1,3 +1,4 @@
+-- The goals of `laws::receipt_laws` that no tactic closes.
 use Rattle.nr_state.proofs.ValidTokens.{moves_receipts, owns_apart}
 use Rattle.nr_state.proofs.laws.receipt_laws.Goals as goal
 

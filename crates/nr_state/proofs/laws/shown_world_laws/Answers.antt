@@ -1,3 +1,4 @@
+-- The goals of `laws::shown_world_laws` that no tactic closes.
 use Rattle.nr_state.proofs.ShownWorlds.{world_shown, worlds_saved, world_told, worlds_told}
 use Rattle.nr_state.proofs.laws.shown_world_laws.Goals as goal
 

@@ -1,3 +1,4 @@
+-- The goals of `laws::token_laws` that no tactic closes.
 use Rattle.nr_state.proofs.ValidTokens.{moves_tokens}
 use Rattle.nr_state.proofs.laws.token_laws.Goals as goal
 

@@ -1,3 +1,4 @@
+-- The goals of `laws::valid_world_laws` that no tactic closes.
 use Rattle.nr_state.proofs.ValidQueues.{empty_valid, received_kept, used_kept, postponed_kept, released_kept, delayed_kept, served_kept}
 use Rattle.nr_state.proofs.ValidWorlds.{set_key_kept, key_again_kept, key_alike, removed_key_kept, set_code_kept, set_datum_kept, removed_datum_kept, with_account_kept, account_made_kept, without_account_kept}
 use Rattle.nr_state.proofs.laws.valid_world_laws.Goals as goal

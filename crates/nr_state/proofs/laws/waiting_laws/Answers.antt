@@ -1,3 +1,4 @@
+-- The goals of `laws::waiting_laws` that no tactic closes.
 use Rattle.nr_state.proofs.OwnInputs.{own_unawaited, unawaited_own, waits_lacking, still_waits}
 use Rattle.nr_state.proofs.laws.waiting_laws.Goals as goal
 

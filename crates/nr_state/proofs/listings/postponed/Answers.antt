@@ -1,3 +1,4 @@
+-- The goals of `listings::postponed` that no tactic closes.
 use Rattle.std.proofs.Common.{ap, ◌∙◌}
 use Rattle.nr_state.proofs.ShownWorlds.{receivers_named}
 use Rattle.nr_state.proofs.listings.postponed.Goals as goal

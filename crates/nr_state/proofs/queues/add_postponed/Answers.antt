@@ -1,3 +1,4 @@
+-- The goals of `queues::add_postponed` that no tactic closes.
 use Rattle.nr_state.specs.Changes.{with_postponed}
 use Rattle.nr_state.specs.Queues.{more_postponed}
 use Rattle.nr_state.proofs.WorldChanges.{Shows, are_postponed, fits_shown, moved}

@@ -1,3 +1,4 @@
+-- The goals of `queues::missing` that no tactic closes.
 use Rattle.std.proofs.Common.{◌≡◌, ap, ◌∙◌}
 use Rattle.std.specs.FinMap as map
 use Rattle.std.specs.Option.{option_map}

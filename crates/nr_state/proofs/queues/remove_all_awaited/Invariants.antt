@@ -1,3 +1,4 @@
+-- What holds at the loops of `queues::remove_all_awaited`.
 use Rattle.std.proofs.Common.{◌≡◌, drop}
 use Rattle.nr_columns.specs.View.{with_columns}
 use Rattle.nr_state.specs.Queues.{none_awaited}

@@ -1,3 +1,4 @@
+-- The goals of `queues::remove_received` that no tactic closes.
 use Rattle.std.specs.FinMap as map
 use Rattle.nr_state.specs.Changes.{without_received}
 use Rattle.nr_state.specs.Queues.{less_received}

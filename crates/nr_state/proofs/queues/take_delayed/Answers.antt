@@ -1,3 +1,4 @@
+-- The goals of `queues::take_delayed` that no tactic closes.
 use Rattle.std.proofs.Common.{ap, ◌∙◌}
 use Rattle.nr_state.specs.Changes.{served_front}
 use Rattle.nr_state.specs.Queues.{front_in, less_delayed}

@@ -1,3 +1,4 @@
+-- The goals of `queues::take_postponed` that no tactic closes.
 use Rattle.std.specs.FinMap as map
 use Rattle.nr_state.specs.Changes.{without_postponed}
 use Rattle.nr_state.specs.Queues.{less_postponed}

@@ -1,3 +1,4 @@
+-- What holds at the loops of `states::root`.
 use Rattle.nr_state_tests.proofs.states.root.Given as goal
 
 abbrev pub ghosts-counted_root : goal.ghosts-counted_root

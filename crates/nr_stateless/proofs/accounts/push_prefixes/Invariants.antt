@@ -1,3 +1,4 @@
+-- What holds at the loops of `accounts::push_prefixes`.
 use Rattle.std.proofs.Common.{◌≡◌, ◌++◌, map, take}
 use Rattle.nr_stateless.specs.Accounts.{all_below}
 use Rattle.nr_stateless.proofs.accounts.push_prefixes.Given as goal

@@ -1,3 +1,4 @@
+-- What holds at the loops of `accounts::searched_of`.
 use Rattle.std.proofs.Common.{◌≡◌, ◌∷◌, take}
 use Rattle.std.specs.List.{flat_map}
 use Rattle.nr_columns.specs.Keys.{queue_key}

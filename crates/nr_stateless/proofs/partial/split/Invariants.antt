@@ -1,3 +1,4 @@
+-- What holds at the loops of `partial::split`.
 use Rattle.std.proofs.Common.{◌≡◌}
 use Rattle.nr_remake.specs.Merging.{kept_in, found_in}
 use Rattle.nr_stateless.proofs.partial.split.Given as goal

@@ -1,3 +1,4 @@
+-- The goals of `partial::walked` that no tactic closes.
 use Rattle.nr_stateless.proofs.FoundEntries.{parts_shown}
 use Rattle.nr_stateless.proofs.partial.walked.Goals as goal
 

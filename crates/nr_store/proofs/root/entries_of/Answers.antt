@@ -1,3 +1,4 @@
+-- The goals of `root::entries_of` that no tactic closes.
 use Rattle.nr_store.specs.Plain.{held_in}
 use Rattle.nr_store.proofs.Listed.{entries_walked, walk_whole}
 use Rattle.nr_store.proofs.root.entries_of.Goals as goal

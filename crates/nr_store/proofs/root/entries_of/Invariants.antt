@@ -1,3 +1,4 @@
+-- What holds at the loops of `root::entries_of`.
 use Rattle.std.proofs.Common.{◌≡◌, ◌++◌}
 use Rattle.std.specs.List.{AllByRecursion}
 use Rattle.nr_triedef.specs.Node.{IsNibbles}

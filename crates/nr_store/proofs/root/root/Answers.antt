@@ -1,3 +1,4 @@
+-- The goals of `root::root` that no tactic closes.
 use Rattle.std.proofs.Common.{sym, ap, ◌∙◌, Option}
 use Rattle.nr_triedef.specs.declared.hash.Summary.{Summary}
 use Rattle.nr_triedef.specs.Root.{summary_of}

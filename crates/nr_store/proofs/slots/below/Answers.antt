@@ -1,3 +1,4 @@
+-- The goals of `slots::below` that no tactic closes.
 use Rattle.std.proofs.Common.{◌≡◌, ◌∷◌, ◌++◌, [], false, sym, ap, subst, ◌∙◌}
 use Rattle.std.specs.declared.ops.Bound.TheVariants.{Included, Unbounded}
 use Rattle.std.specs.BTreeMap.Range.{entries_between}

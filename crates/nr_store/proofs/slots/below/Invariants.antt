@@ -1,3 +1,4 @@
+-- What holds at the loops of `slots::below`.
 use Rattle.std.proofs.Common.{◌≡◌, ◌++◌}
 use Rattle.nr_store.proofs.Prefixes.{Rises, keys_in}
 use Rattle.nr_store.proofs.slots.below.Given as goal

@@ -1,3 +1,4 @@
+-- The goals of `slots::clear` that no tactic closes.
 use Rattle.std.proofs.Common.{sym, ap, ◌∙◌}
 use Rattle.std.specs.Option.{option_map}
 use Rattle.nr_store.specs.Plain.{held_in, text_of, put_back}

@@ -1,3 +1,4 @@
+-- What holds at the loops of `slots::drop_empty_slots`.
 use Rattle.std.proofs.Common.{◌≡◌}
 use Rattle.nr_store.specs.Plain.{held_in}
 use Rattle.nr_store.proofs.slots.drop_empty_slots.Given as goal

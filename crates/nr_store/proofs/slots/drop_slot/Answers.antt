@@ -1,3 +1,4 @@
+-- The goals of `slots::drop_slot` that no tactic closes.
 use Rattle.std.proofs.Common.{ap, ◌∙◌}
 use Rattle.nr_store.specs.Plain.{held_in}
 use Rattle.nr_store.proofs.Held.{held_in-remove, HasSlot-remove}

@@ -1,3 +1,4 @@
+-- The goals of `slots::fits` that no tactic closes.
 use Rattle.std.proofs.Common.{◌≡◌, cond, true, ℕ, sym, ap, ◌∙◌, arith}
 use Rattle.std.specs.Prelude.{is_some}
 use Rattle.nr_store.specs.Plain.{slot_at}

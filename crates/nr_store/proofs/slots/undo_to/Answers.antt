@@ -1,3 +1,4 @@
+-- The goals of `slots::undo_to` that no tactic closes.
 use Rattle.std.proofs.Common.{◌≡◌, ◌≤◌, ◌∷◌, ◌++◌, [], take, drop, sym, ap, ◌∙◌, subst, arith, length, length-append}
 use Rattle.std.proofs.lemmas.List.{take-append-le}
 use Rattle.nr_store.specs.Plain.{held_in, HaveSlots, AreApart, rewound}

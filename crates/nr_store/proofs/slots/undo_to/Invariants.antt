@@ -1,3 +1,4 @@
+-- What holds at the loops of `slots::undo_to`.
 use Rattle.std.proofs.Common.{◌≡◌, ℕ, ◌≤◌, take, drop, vec_len}
 use Rattle.nr_store.specs.Plain.{held_in, HaveSlots, AreApart, rewound}
 use Rattle.nr_store.proofs.slots.undo_to.Given as goal

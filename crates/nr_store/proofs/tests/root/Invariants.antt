@@ -1,3 +1,4 @@
+-- What holds at the loops of `tests::root`.
 use Rattle.nr_store.proofs.tests.root.Given as goal
 
 abbrev pub ghosts-counted_root : goal.ghosts-counted_root

@@ -1,3 +1,4 @@
+-- The goals of `trie::few` that no tactic closes.
 use Rattle.std.proofs.Common.{Some, sym, ap, ◌∙◌, arith}
 use Rattle.nr_triedef.specs.declared.hash.Summary.{Summary}
 use Rattle.nr_store.proofs.Levels.{whole_none, whole_one}

@@ -1,3 +1,4 @@
+-- The goals of `trie::several` that no tactic closes.
 use Rattle.std.proofs.Common.{◌<◌, ◌∷◌, length, subst, sym, ap, ◌∙◌, List, arith}
 use Rattle.nr_triedef.specs.Root.{Paths}
 use Rattle.nr_store.specs.Tries.{Branching, whole}

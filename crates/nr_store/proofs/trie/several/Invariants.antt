@@ -1,3 +1,4 @@
+-- What holds at the loops of `trie::several`.
 use Rattle.std.proofs.Common.{◌+◌, length}
 use Rattle.nr_store.proofs.Waiting.{Wait, work, works}
 use Rattle.nr_store.proofs.trie.several.Given as goal

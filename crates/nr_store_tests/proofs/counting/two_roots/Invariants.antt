@@ -1,3 +1,4 @@
+-- What holds at the loops of `counting::two_roots`.
 use Rattle.nr_store_tests.proofs.counting.two_roots.Given as goal
 
 abbrev pub ghosts-counted : goal.ghosts-counted

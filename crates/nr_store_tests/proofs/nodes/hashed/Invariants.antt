@@ -1,3 +1,4 @@
+-- What holds at the loops of `nodes::hashed`.
 use Rattle.nr_store_tests.proofs.nodes.hashed.Given as goal
 
 abbrev pub ghosts-counted : goal.ghosts-counted

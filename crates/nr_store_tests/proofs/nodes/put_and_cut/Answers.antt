@@ -1,3 +1,4 @@
+-- The goals of `nodes::put_and_cut` that no tactic closes.
 use Rattle.std.proofs.Common.{Some}
 use Rattle.nr_store_tests.proofs.nodes.put_and_cut.Goals as goal
 

@@ -1,3 +1,4 @@
+-- What holds at the loops of `roots::root`.
 use Rattle.nr_store_tests.proofs.roots.root.Given as goal
 
 abbrev pub ghosts-counted_root : goal.ghosts-counted_root

@@ -1,3 +1,4 @@
+-- The goals of `chain::load_course` that no tactic closes.
 use Rattle.std.proofs.Common.{refl}
 use Rattle.nr_shell.specs.Plans.{Answer}
 use Rattle.nr_shell.proofs.Leading.{judge_follows, stop_follows, then_follows}

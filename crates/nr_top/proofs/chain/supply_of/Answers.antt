@@ -1,3 +1,4 @@
+-- The goals of `chain::supply_of` that no tactic closes.
 use Rattle.std.proofs.Common.{sym, ◌∙◌}
 use Rattle.nr_top.proofs.chain.supply_of.Goals as goal
 

@@ -1,3 +1,4 @@
+-- The goals of `commands::text_of` that no tactic closes.
 use Rattle.nr_shell.proofs.Leading.{make_follows}
 use Rattle.nr_top.proofs.commands.text_of.Goals as goal
 

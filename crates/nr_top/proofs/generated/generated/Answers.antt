@@ -1,3 +1,4 @@
+-- The goals of `generated::generated` that no tactic closes.
 use Rattle.std.proofs.Common.{List, ℕ, ◌++◌, ap, ◌∙◌}
 use Rattle.nr_chunk.specs.Runs.{chain_in}
 use Rattle.nr_course.specs.Texts.{leg_text}

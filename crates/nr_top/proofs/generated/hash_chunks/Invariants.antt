@@ -1,3 +1,4 @@
+-- What holds at the loops of `generated::hash_chunks`.
 use Rattle.sha2.specs.Hashers.{Holds256}
 use Rattle.nr_chunk.specs.Chain.{rules_of}
 use Rattle.nr_chunk.specs.Runs.{chain_in}

@@ -1,3 +1,4 @@
+-- The goals of `generated::hash_with` that no tactic closes.
 use Rattle.std.proofs.Common.{List, ℕ, ◌++◌, ap, ◌∙◌}
 use Rattle.sha2.specs.Sha256.{sha256}
 use Rattle.nr_top.proofs.generated.hash_with.Goals as goal

@@ -1,3 +1,4 @@
+-- The goals of `laws::asked_law` that no tactic closes.
 use Rattle.nr_shell.proofs.Ends.{answer_asks, way_asks}
 use Rattle.nr_top.specs.Plans.{files_of, plan}
 use Rattle.nr_top.proofs.Asking.{plan_asks}

@@ -1,3 +1,4 @@
+-- The goals of `laws::chunks_law` that no tactic closes.
 use Rattle.nr_top.proofs.Named.{results_name}
 use Rattle.nr_top.proofs.Present.{chunks_have_results}
 use Rattle.nr_top.proofs.laws.chunks_law.Goals as goal

@@ -1,3 +1,4 @@
+-- The goals of `laws::totals_law` that no tactic closes.
 use Rattle.std.proofs.Common.{◌≡◌, ◌∙◌}
 use Rattle.nr_blocks.specs.Genesis.{AreSoundEntries, supply}
 use Rattle.nr_blocks.specs.declared.genesis.Genesis.{Genesis}

@@ -1,3 +1,4 @@
+-- The goals of `legs::later_leg` that no tactic closes.
 use Rattle.std.proofs.Common.{◌≡◌, ◌+◌, true, false, sym, subst}
 use Rattle.std.specs.Prelude.{IfOk, nat_lt}
 use Rattle.nr_chunk.specs.Chain.{Chain, rules_of}

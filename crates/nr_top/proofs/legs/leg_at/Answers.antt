@@ -1,3 +1,4 @@
+-- The goals of `legs::leg_at` that no tactic closes.
 use Rattle.std.proofs.Common.{◌∙◌}
 use Rattle.nr_chunk.specs.Runs.{chain_in}
 use Rattle.nr_course.specs.Course.{leg_by}

@@ -1,3 +1,4 @@
+-- The goals of `legs::second_leg` that no tactic closes.
 use Rattle.std.proofs.Common.{ap, ◌∙◌}
 use Rattle.nr_chunk.specs.Runs.{chain_in}
 use Rattle.nr_course.specs.Course.{second}

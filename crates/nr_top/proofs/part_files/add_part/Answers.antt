@@ -1,3 +1,4 @@
+-- The goals of `part_files::add_part` that no tactic closes.
 use Rattle.std.proofs.Common.{[], ◌∷◌, ◌++◌, List, sym, ap}
 use Rattle.nr_parts.specs.declared.part.Part.{Part}
 use Rattle.nr_shell.specs.Plans.{Answer}

@@ -1,3 +1,4 @@
+-- The goals of `part_files::load_named` that no tactic closes.
 use Rattle.nr_shell.proofs.Leading.{judge_follows}
 use Rattle.nr_top.proofs.part_files.load_named.Goals as goal
 

@@ -1,3 +1,4 @@
+-- The goals of `part_files::load_part` that no tactic closes.
 use Rattle.std.proofs.Common.{refl}
 use Rattle.nr_parts.specs.declared.part.Part.{Part}
 use Rattle.nr_shell.proofs.Leading.{read_follows, stop_follows}

@@ -1,3 +1,4 @@
+-- The goals of `part_files::load_parts` that no tactic closes.
 use Rattle.std.proofs.Common.{arith}
 use Rattle.nr_top.proofs.PartLoading.{on_first, on_last, on_next, on_stop}
 use Rattle.nr_top.proofs.part_files.load_parts.Goals as goal

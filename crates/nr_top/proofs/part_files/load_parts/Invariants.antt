@@ -1,3 +1,4 @@
+-- What holds at the loops of `part_files::load_parts`.
 use Rattle.nr_top.specs.StateParts.{part_names, parts_plan}
 use Rattle.nr_top.proofs.PartLoading.{LeadsOn, names_left, rest_plan}
 use Rattle.nr_top.proofs.part_files.load_parts.Given as goal

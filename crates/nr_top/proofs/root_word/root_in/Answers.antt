@@ -1,3 +1,4 @@
+-- The goals of `root_word::root_in` that no tactic closes.
 use Rattle.std.proofs.Common.{◌≡◌, ℕ, List, [], Result, true, false, sym, ap, ◌∙◌, unwrap_or}
 use Rattle.std.specs.Result.{result_ok}
 use Rattle.hex.specs.declared.error.FromHexError.{FromHexError}

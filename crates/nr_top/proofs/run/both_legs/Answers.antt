@@ -1,3 +1,4 @@
+-- The goals of `run::both_legs` that no tactic closes.
 use Rattle.std.proofs.Common.{ap, ◌∙◌}
 use Rattle.nr_chunk.specs.Runs.{chain_in}
 use Rattle.nr_top.proofs.BothLegs.{both_is}

@@ -1,3 +1,4 @@
+-- The goals of `run::leg_text` that no tactic closes.
 use Rattle.std.proofs.Common.{ap, ◌∙◌}
 use Rattle.nr_chunk.specs.Chain.{rules_of}
 use Rattle.nr_chunk.specs.Runs.{chain_in}

@@ -1,3 +1,4 @@
+-- The goals of `run::report` that no tactic closes.
 use Rattle.std.proofs.Common.{sym, ap, subst, ◌∙◌}
 use Rattle.nr_chunk.specs.Runs.{chain_in}
 use Rattle.nr_chunk.specs.Start.{start_tokens}

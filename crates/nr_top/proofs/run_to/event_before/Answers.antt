@@ -1,3 +1,4 @@
+-- The goals of `run_to::event_before` that no tactic closes.
 use Rattle.std.proofs.Common.{sym}
 use Rattle.nr_top.proofs.Arrival.{next_before}
 use Rattle.nr_top.proofs.run_to.event_before.Goals as goal

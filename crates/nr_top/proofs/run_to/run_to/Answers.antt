@@ -1,3 +1,4 @@
+-- The goals of `run_to::run_to` that no tactic closes.
 use Rattle.nr_top.proofs.Arrival.{nears_first, nears_step}
 use Rattle.nr_top.proofs.run_to.run_to.Goals as goal
 

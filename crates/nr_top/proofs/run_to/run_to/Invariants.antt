@@ -1,3 +1,4 @@
+-- What holds at the loops of `run_to::run_to`.
 use Rattle.nr_overlap.specs.Next.{left}
 use Rattle.nr_top.specs.Arriving.{Nears}
 use Rattle.nr_top.proofs.run_to.run_to.Given as goal

@@ -1,3 +1,4 @@
+-- The goals of `state_after::entries_after` that no tactic closes.
 use Rattle.std.proofs.Common.{◌≡◌, ℕ, ◌<◌, List, Some, sym, ap, subst, ◌∙◌}
 use Rattle.std.specs.Prelude.{IfOk}
 use Rattle.std.specs.FinMap.{entries}

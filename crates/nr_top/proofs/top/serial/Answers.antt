@@ -1,3 +1,4 @@
+-- The goals of `top::serial` that no tactic closes.
 use Rattle.std.proofs.Common.{refl}
 use Rattle.nr_shell.proofs.Leading.{begun}
 use Rattle.nr_top.proofs.top.serial.Goals as goal

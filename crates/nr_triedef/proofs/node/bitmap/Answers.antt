@@ -1,3 +1,4 @@
+-- The goals of `node::bitmap` that no tactic closes.
 use Rattle.std.proofs.Common.{◌≤◌, true, false, arith}
 use mir.Val.{bool_byte}
 use Rattle.nr_triedef.proofs.Parts.{bitmap_fits}

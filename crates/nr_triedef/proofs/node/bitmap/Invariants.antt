@@ -1,3 +1,4 @@
+-- What holds at the loops of `node::bitmap`.
 use Rattle.std.proofs.Common.{◌≡◌, drop}
 use Rattle.nr_triedef.specs.Node.{bitmap}
 use Rattle.nr_triedef.proofs.node.bitmap.Given as goal

@@ -1,3 +1,4 @@
+-- What holds at the loops of `node::put_each`.
 use Rattle.std.proofs.Common.{◌≡◌, ◌++◌, take}
 use Rattle.std.specs.List.{flat_map}
 use Rattle.nr_triedef.specs.Node.{child_bytes}

@@ -1,3 +1,4 @@
+-- The goals of `part::first_byte` that no tactic closes.
 use Rattle.std.proofs.Common.{◌≡◌, ◌%◌, cond, length, arith}
 use Rattle.nr_triedef.proofs.Parts.{part_odd, part_even}
 use Rattle.nr_triedef.proofs.part.first_byte.Goals as goal

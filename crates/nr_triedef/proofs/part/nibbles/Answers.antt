@@ -1,3 +1,4 @@
+-- The goals of `part::nibbles` that no tactic closes.
 use Rattle.std.proofs.Common.{◌≡◌, arith, append_assoc}
 use Rattle.std.proofs.lemmas.Grind.{common_steps}
 use Rattle.nr_bytes.specs.Numbers.{IsBytes}

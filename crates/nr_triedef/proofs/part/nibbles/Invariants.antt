@@ -1,3 +1,4 @@
+-- What holds at the loops of `part::nibbles`.
 use Rattle.std.proofs.Common.{◌≡◌, take}
 use Rattle.nr_triedef.specs.Node.{nibbles}
 use Rattle.nr_triedef.proofs.part.nibbles.Given as goal

@@ -1,3 +1,4 @@
+-- What holds at the loops of `part::push_pairs`.
 use Rattle.std.proofs.Common.{◌≡◌, ◌++◌, ◌*◌, drop}
 use Rattle.nr_triedef.specs.Node.{paired}
 use Rattle.nr_triedef.proofs.part.push_pairs.Given as goal

@@ -1,3 +1,4 @@
+-- The goals of `read::read_each` that no tactic closes.
 use Rattle.std.proofs.Common.{◌≡◌, ◌<◌, ◌+◌, length, ◌++◌, ◌∷◌, [], take, arith}
 use Rattle.std.proofs.Math.ListN.{set, length-set}
 use Rattle.std.proofs.lemmas.List.{take_more_set}

@@ -1,3 +1,4 @@
+-- What holds at the loops of `read::read_each`.
 use Rattle.std.proofs.Common.{◌≡◌, ◌-◌, length, take}
 use Rattle.nr_triedef.specs.Reading.{each_at}
 use Rattle.nr_bytes.proofs.Items.{with_front}

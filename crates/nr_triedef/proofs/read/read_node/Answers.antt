@@ -1,3 +1,4 @@
+-- The goals of `read::read_node` that no tactic closes.
 use Rattle.std.proofs.Common.{ap, subst, ◌∙◌, arith}
 use Rattle.nr_bytes.specs.Answers.{Gives}
 use Rattle.nr_triedef.specs.declared.fault.NodeFault.TheVariants.{Memory}

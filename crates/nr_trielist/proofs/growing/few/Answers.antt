@@ -1,3 +1,4 @@
+-- The goals of `growing::few` that no tactic closes.
 use Rattle.std.proofs.Common.{Some, [], ◌∷◌, ◌++◌, List, sym, ap, ◌∙◌, append-nil, arith}
 use Rattle.std.specs.Prelude.{reverse}
 use Rattle.nr_triedef.specs.declared.hash.Summary.{Summary}

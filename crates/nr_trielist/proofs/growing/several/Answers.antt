@@ -1,3 +1,4 @@
+-- The goals of `growing::several` that no tactic closes.
 use Rattle.std.proofs.lemmas.Bool.{eqb-true}
 use Rattle.std.proofs.Common.{◌≡◌, ◌<◌, ◌∷◌, ◌++◌, length, refl, subst, sym, ap, ◌∙◌, List, append-nil, arith}
 use Rattle.nr_triedef.specs.Root.{Paths}

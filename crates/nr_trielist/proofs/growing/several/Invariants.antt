@@ -1,3 +1,4 @@
+-- What holds at the loops of `growing::several`.
 use Rattle.std.proofs.Common.{◌≡◌, ◌+◌, ◌-◌, ◌++◌, length}
 use Rattle.nr_trielist.proofs.Listing.{Wait, work, works, gained, gained_all}
 use Rattle.nr_trielist.proofs.growing.several.Given as goal

@@ -1,3 +1,4 @@
+-- The goals of `making::extension` that no tactic closes.
 use Rattle.nr_triedef.proofs.Parts.{extension_is_node}
 use Rattle.nr_trielist.proofs.making.extension.Goals as goal
 

@@ -1,3 +1,4 @@
+-- The goals of `making::leaf` that no tactic closes.
 use Rattle.std.proofs.Common.{true}
 use Rattle.nr_triedef.proofs.Parts.{part_of_nibbles}
 use Rattle.nr_trielist.proofs.making.leaf.Goals as goal

@@ -1,3 +1,4 @@
+-- What holds at the loops of `making::usage_below`.
 use Rattle.std.proofs.Common.{◌≡◌, take, sum_by}
 use Rattle.nr_triedef.specs.Root.{usage_below}
 use Rattle.nr_trielist.proofs.making.usage_below.Given as goal

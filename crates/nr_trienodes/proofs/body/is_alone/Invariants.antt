@@ -1,3 +1,4 @@
+-- What holds at the loops of `body::is_alone`.
 use Rattle.std.proofs.Common.{◌≡◌, ◌<◌, ℕ, get_or, None}
 use Rattle.nr_trienodes.proofs.body.is_alone.Given as goal
 

@@ -1,3 +1,4 @@
+-- The goals of `cutting::cut_below` that no tactic closes.
 use Rattle.std.proofs.Common.{◌+◌, ◌*◌, length, None, subst, ◌∙◌, arith}
 use Rattle.nr_triedef.specs.Node.{nibbles}
 use Rattle.nr_trienodes.specs.Shape.{shape_at}

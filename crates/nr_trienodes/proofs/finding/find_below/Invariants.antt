@@ -1,3 +1,4 @@
+-- What holds at the loops of `finding::find_below`.
 use Rattle.std.proofs.Common.{◌≡◌, ◌<◌, length}
 use Rattle.nr_triedef.specs.Node.{nibbles}
 use Rattle.nr_trienodes.specs.Tries.{found}

@@ -1,3 +1,4 @@
+-- The goals of `hashing::gather` that no tactic closes.
 use Rattle.std.proofs.Common.{◌≡◌, ◌+◌, ◌<◌, ◌++◌, length, get_or, refl, ap, ◌∙◌, arith}
 use Rattle.nr_trienodes.specs.Shape.{shape_at}
 use Rattle.nr_trienodes.specs.Hashing.{cold}

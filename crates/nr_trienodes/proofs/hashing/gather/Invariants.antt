@@ -1,3 +1,4 @@
+-- What holds at the loops of `hashing::gather`.
 use Rattle.std.proofs.Common.{drop}
 use Rattle.std.specs.Prelude.{sum_by}
 use Rattle.nr_trienodes.specs.Tries.{cost_at}

@@ -1,3 +1,4 @@
+-- The goals of `hashing::hash_below` that no tactic closes.
 use Rattle.std.proofs.Common.{◌<◌, sym, ap, ◌∙◌, subst}
 use Rattle.nr_triedef.specs.declared.hash.Summary.{Summary}
 use Rattle.nr_trienodes.proofs.Hashed.{warm_refl, kept_is, summary_same}

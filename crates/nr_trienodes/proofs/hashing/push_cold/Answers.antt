@@ -1,3 +1,4 @@
+-- The goals of `hashing::push_cold` that no tactic closes.
 use Rattle.std.proofs.Common.{◌≡◌, ◌+◌, length, refl, ap, ◌∙◌, arith}
 use Rattle.nr_trienodes.proofs.Rows.{in_row}
 use Rattle.nr_trienodes.proofs.Settled.{row_back}

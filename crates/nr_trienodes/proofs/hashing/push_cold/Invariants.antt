@@ -1,3 +1,4 @@
+-- What holds at the loops of `hashing::push_cold`.
 use Rattle.nr_trienodes.proofs.Queues.{Pushed}
 use Rattle.nr_trienodes.proofs.hashing.push_cold.Given as goal
 

@@ -1,3 +1,4 @@
+-- The goals of `hashing::warm` that no tactic closes.
 use Rattle.std.proofs.Common.{arith}
 use Rattle.nr_trienodes.proofs.Queues.{next_warm, warming_next, left_weights}
 use Rattle.nr_trienodes.proofs.hashing.warm.Goals as goal

@@ -1,3 +1,4 @@
+-- What holds at the loops of `hashing::warm`.
 use Rattle.std.proofs.Common.{◌≤◌, ◌+◌, length}
 use Rattle.std.specs.Prelude.{sum_by}
 use Rattle.nr_trienodes.specs.Hashing.{weight_at}

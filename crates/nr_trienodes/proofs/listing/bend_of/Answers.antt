@@ -1,3 +1,4 @@
+-- The goals of `listing::bend_of` that no tactic closes.
 use Rattle.std.proofs.Common.{◌+◌, Some, ap, sym, refl, ◌∙◌}
 use Rattle.std.specs.Prelude.{List, ℕ}
 use Rattle.nr_trienodes.specs.Turns.{left}

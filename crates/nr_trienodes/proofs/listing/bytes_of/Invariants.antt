@@ -1,3 +1,4 @@
+-- What holds at the loops of `listing::bytes_of`.
 use Rattle.std.proofs.Common.{◌≡◌, ◌++◌, ◌*◌, drop}
 use Rattle.nr_triedef.specs.Node.{paired}
 use Rattle.nr_trienodes.proofs.listing.bytes_of.Given as goal

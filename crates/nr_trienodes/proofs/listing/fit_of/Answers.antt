@@ -1,3 +1,4 @@
+-- The goals of `listing::fit_of` that no tactic closes.
 use Rattle.std.proofs.Common.{◌≡◌, ◌≢◌, get_or, arith}
 use Rattle.nr_trienodes.proofs.Keys.{along_more}
 use Rattle.nr_trienodes.proofs.Begins.{fit_ends, fit_leaves}

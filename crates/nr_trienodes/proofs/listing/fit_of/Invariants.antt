@@ -1,3 +1,4 @@
+-- What holds at the loops of `listing::fit_of`.
 use Rattle.nr_trienodes.proofs.Keys.{Along}
 use Rattle.nr_trienodes.proofs.listing.fit_of.Given as goal
 

@@ -1,3 +1,4 @@
+-- The goals of `listing::keys_of` that no tactic closes.
 use Rattle.std.proofs.Common.{◌++◌, ap, sym, ◌∙◌, arith}
 use Rattle.nr_triedef.specs.Root.{Paths}
 use Rattle.nr_trienodes.specs.Listing.{keys_in}

@@ -1,3 +1,4 @@
+-- What holds at the loops of `listing::keys_of`.
 use Rattle.std.proofs.Common.{◌≡◌, ◌++◌}
 use Rattle.nr_trienodes.specs.Listing.{keys_in, paths_of, place_paths, count_of, ArePlaces, AreWhole}
 use Rattle.nr_trienodes.proofs.listing.keys_of.Given as goal

@@ -1,3 +1,4 @@
+-- The goals of `listing::list_key` that no tactic closes.
 use Rattle.std.proofs.Common.{ap, sym, ◌∙◌}
 use Rattle.std.specs.Option.{is_some}
 use Rattle.nr_trienodes.proofs.Pushing.{own_none, copied_some}

@@ -1,3 +1,4 @@
+-- The goals of `listing::list_place` that no tactic closes.
 use Rattle.std.proofs.Common.{◌≡◌, ◌++◌, ap, sym, subst, ◌∙◌}
 use Rattle.std.specs.Prelude.{List, ℕ}
 use Rattle.nr_trienodes.specs.Shape.{shape_at}

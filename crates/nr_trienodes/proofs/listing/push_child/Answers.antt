@@ -1,3 +1,4 @@
+-- The goals of `listing::push_child` that no tactic closes.
 use Rattle.std.proofs.Common.{◌∷◌, ◌++◌, [], ap, sym, subst, refl, ◌∙◌}
 use Rattle.std.specs.Prelude.{List, ℕ, Option}
 use Rattle.nr_trienodes.specs.Listing.{PushesSo}

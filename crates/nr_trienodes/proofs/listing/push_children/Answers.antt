@@ -1,3 +1,4 @@
+-- The goals of `listing::push_children` that no tactic closes.
 use Rattle.std.proofs.Common.{arith}
 use Rattle.nr_trienodes.proofs.Pushing.{row_down}
 use Rattle.nr_trienodes.proofs.listing.push_children.Goals as goal

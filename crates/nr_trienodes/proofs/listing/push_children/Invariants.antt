@@ -1,3 +1,4 @@
+-- What holds at the loops of `listing::push_children`.
 use Rattle.std.proofs.Common.{◌≤◌}
 use Rattle.nr_trienodes.specs.Listing.{RowPushed}
 use Rattle.nr_trienodes.proofs.listing.push_children.Given as goal

@@ -1,3 +1,4 @@
+-- The goals of `listing::top_of` that no tactic closes.
 use Rattle.std.proofs.Common.{◌≡◌, ◌∷◌, ◌++◌, [], ap, sym, ◌∙◌, arith}
 use Rattle.std.specs.Prelude.{List, ℕ}
 use Rattle.nr_triedef.specs.Node.{nibbles}

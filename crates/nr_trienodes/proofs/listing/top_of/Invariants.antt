@@ -1,3 +1,4 @@
+-- What holds at the loops of `listing::top_of`.
 use Rattle.std.proofs.Common.{◌≡◌, ◌<◌, length}
 use Rattle.nr_triedef.specs.Node.{nibbles, IsNibbles}
 use Rattle.nr_trienodes.specs.Tries.{in_front, paths_at}

@@ -1,3 +1,4 @@
+-- The goals of `making::hashes` that no tactic closes.
 use Rattle.std.proofs.Common.{arith}
 use Rattle.nr_trienodes.proofs.Hashed.{each_hash}
 use Rattle.nr_trienodes.proofs.making.hashes.Goals as goal

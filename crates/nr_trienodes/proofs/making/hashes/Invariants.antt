@@ -1,3 +1,4 @@
+-- What holds at the loops of `making::hashes`.
 use Rattle.std.proofs.Common.{◌≡◌, ◌<◌, ℕ, length, get_or, None}
 use Rattle.nr_triedef.specs.Root.{hash_below}
 use Rattle.nr_trienodes.proofs.making.hashes.Given as goal

@@ -1,3 +1,4 @@
+-- The goals of `making::inner` that no tactic closes.
 use Rattle.std.proofs.Common.{sym, ap, ◌∙◌, List, Option, ℕ, map}
 use Rattle.nr_triedef.specs.Node.{summary}
 use Rattle.nr_triedef.specs.Root.{branch, with_front}

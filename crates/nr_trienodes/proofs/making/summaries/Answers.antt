@@ -1,3 +1,4 @@
+-- The goals of `making::summaries` that no tactic closes.
 use Rattle.std.proofs.Common.{arith}
 use Rattle.std.specs.Option.{option_map}
 use Rattle.nr_trienodes.specs.Tries.{summary_at}

@@ -1,3 +1,4 @@
+-- What holds at the loops of `making::summaries`.
 use Rattle.std.proofs.Common.{◌≡◌, ◌<◌, ℕ, length, get_or, None}
 use Rattle.std.specs.Option.{option_map}
 use Rattle.nr_trienodes.specs.Tries.{summary_at}

@@ -1,3 +1,4 @@
+-- The goals of `making::summary_of` that no tactic closes.
 use Rattle.std.proofs.Common.{◌≡◌, ◌==◌, true, List, Option, ℕ, sym, ap, ◌∙◌, arith}
 use Rattle.std.specs.Prelude.{is_some, count_by}
 use Rattle.std.specs.Option.{option_copied}

@@ -1,3 +1,4 @@
+-- What holds at the loops of `node_bytes::short`.
 use Rattle.std.proofs.Common.{◌≡◌, ◌<◌, ℕ, length, get_or}
 use Rattle.nr_trienodes.proofs.node_bytes.short.Given as goal
 

@@ -1,3 +1,4 @@
+-- What holds at the loops of `nodes::drop_behind`.
 use Rattle.std.proofs.Common.{◌≡◌, take}
 use Rattle.nr_trienodes.proofs.nodes.drop_behind.Given as goal
 

@@ -1,3 +1,4 @@
+-- The goals of `nodes::move_node` that no tactic closes.
 use Rattle.std.proofs.Common.{◌∙◌, ap, map}
 use Rattle.nr_trienodes.specs.Naming.{renamed}
 use Rattle.nr_trienodes.specs.Shape.{Shape, child}

@@ -1,3 +1,4 @@
+-- The goals of `nodes::rename_node` that no tactic closes.
 use Rattle.std.proofs.Common.{◌∙◌, ap, sym, map, List}
 use Rattle.std.specs.Prelude.{Option, ℕ}
 use Rattle.nr_trienodes.specs.Bodies.{row_of}

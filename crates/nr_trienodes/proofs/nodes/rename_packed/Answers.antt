@@ -1,3 +1,4 @@
+-- The goals of `nodes::rename_packed` that no tactic closes.
 use Rattle.std.proofs.Common.{◌∙◌, ◌≡◌, ◌<◌, ap, sym, subst, set, length, None, arith}
 use Rattle.std.specs.Prelude.{Option, ℕ}
 use Rattle.nr_trienodes.specs.Views.{IsIn}

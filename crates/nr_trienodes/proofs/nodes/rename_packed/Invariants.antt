@@ -1,3 +1,4 @@
+-- What holds at the loops of `nodes::rename_packed`.
 use Rattle.std.proofs.Common.{◌≡◌, ◌++◌, ◌<◌, length, map, take, drop}
 use Rattle.nr_trienodes.specs.Naming.{renamed}
 use Rattle.nr_trienodes.proofs.nodes.rename_packed.Given as goal

@@ -1,3 +1,4 @@
+-- The goals of `nodes::slide_one` that no tactic closes.
 use Rattle.std.proofs.lemmas.List.{get_or-set_other}
 use Rattle.std.proofs.Common.{◌∙◌, ◌+◌, ◌<◌, Some, None, ap, sym, subst, arith}
 use Rattle.nr_trienodes.specs.Naming.{Names, new_name, IsSlid, Slides}

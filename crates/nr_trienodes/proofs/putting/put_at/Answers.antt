@@ -1,3 +1,4 @@
+-- The goals of `putting::put_at` that no tactic closes.
 use Rattle.std.proofs.Common.{subst}
 use Rattle.nr_trienodes.specs.Shape.{shape_at}
 use Rattle.nr_trienodes.specs.Turns.{StopsSo, left}

@@ -1,3 +1,4 @@
+-- The goals of `putting::put_below` that no tactic closes.
 use Rattle.std.proofs.Common.{◌+◌, ◌*◌, length, Some, arith}
 use Rattle.nr_triedef.specs.Node.{nibbles}
 use Rattle.nr_trienodes.specs.Turns.{left}

@@ -1,3 +1,4 @@
+-- The goals of `putting::room_for` that no tactic closes.
 use Rattle.std.proofs.Common.{arith, length}
 use Rattle.nr_trienodes.proofs.Changed.{full_there, room_there}
 use Rattle.nr_trienodes.proofs.putting.room_for.Goals as goal

@@ -1,3 +1,4 @@
+-- The goals of `settling::climb` that no tactic closes.
 use Rattle.std.proofs.Common.{ap, arith, length}
 use Rattle.nr_trienodes.proofs.Sets.{extends_trans}
 use Rattle.nr_trienodes.proofs.Climbing.{risen, climbed, first_step, steps_more}

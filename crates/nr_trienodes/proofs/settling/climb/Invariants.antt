@@ -1,3 +1,4 @@
+-- What holds at the loops of `settling::climb`.
 use Rattle.std.proofs.Common.{◌≤◌, ◌+◌, length}
 use Rattle.nr_trienodes.specs.Views.{IsIn}
 use Rattle.nr_trienodes.specs.Turns.{Extends, AreSteps}

@@ -1,3 +1,4 @@
+-- The goals of `settling::front_of` that no tactic closes.
 use Rattle.std.proofs.Common.{ap, arith, length}
 use Rattle.std.proofs.lemmas.List.{length-take}
 use Rattle.nr_trienodes.proofs.settling.front_of.Goals as goal

@@ -1,3 +1,4 @@
+-- What holds at the loops of `settling::links_of`.
 use Rattle.nr_trienodes.proofs.Settled.{LinksBelow}
 use Rattle.nr_trienodes.proofs.settling.links_of.Given as goal
 

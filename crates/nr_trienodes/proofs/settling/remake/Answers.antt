@@ -1,3 +1,4 @@
+-- The goals of `settling::remake` that no tactic closes.
 use Rattle.std.proofs.Common.{length}
 use Rattle.nr_trienodes.proofs.Settled.{back_set, row_back}
 use Rattle.nr_trienodes.proofs.settling.remake.Goals as goal

@@ -1,3 +1,4 @@
+-- The goals of `settling::sprout` that no tactic closes.
 use Rattle.std.proofs.Common.{ℕ, List, subst}
 use Rattle.nr_trienodes.specs.Turns.{Sprouts}
 use Rattle.nr_trienodes.proofs.Settled.{adds_sprouts}

@@ -1,3 +1,4 @@
+-- What holds at the loops of `shared_bytes::short`.
 use Rattle.std.proofs.Common.{◌≡◌, ◌<◌, ℕ, length, get_or}
 use Rattle.nr_trienodes.proofs.shared_bytes.short.Given as goal
 

@@ -1,3 +1,4 @@
+-- The goals of `trimming::mark_below` that no tactic closes.
 use Rattle.std.proofs.Common.{◌∙◌, ◌≡◌, sym, subst, arith}
 use Rattle.nr_trienodes.specs.Naming.{BelowMarked}
 use Rattle.nr_trienodes.proofs.Marking.{below_on}

@@ -1,3 +1,4 @@
+-- What holds at the loops of `trimming::mark_below`.
 use Rattle.std.proofs.Common.{◌≤◌, length}
 use Rattle.nr_trienodes.specs.Naming.{BelowMarked}
 use Rattle.nr_trienodes.proofs.trimming.mark_below.Given as goal

@@ -1,3 +1,4 @@
+-- The goals of `trimming::mark_roots` that no tactic closes.
 use Rattle.std.proofs.Common.{◌∙◌, ap}
 use Rattle.std.specs.Prelude.{Option, ℕ}
 use Rattle.nr_trienodes.specs.Naming.{marked}

@@ -1,3 +1,4 @@
+-- What holds at the loops of `trimming::mark_roots`.
 use Rattle.std.proofs.Common.{take}
 use Rattle.nr_trienodes.specs.Naming.{RootsMarked}
 use Rattle.nr_trienodes.proofs.trimming.mark_roots.Given as goal

@@ -1,3 +1,4 @@
+-- The goals of `trimming::mark_row` that no tactic closes.
 use Rattle.std.proofs.Common.{◌∙◌, ap, sym, subst, refl, arith}
 use Rattle.std.specs.Prelude.{ℕ, Option}
 use Rattle.nr_trienodes.specs.Naming.{marked}

@@ -1,3 +1,4 @@
+-- What holds at the loops of `trimming::mark_row`.
 use Rattle.std.proofs.Common.{take}
 use Rattle.nr_trienodes.specs.Naming.{RowMarked}
 use Rattle.nr_trienodes.specs.Shape.{shape_at}

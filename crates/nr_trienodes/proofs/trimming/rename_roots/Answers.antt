@@ -1,3 +1,4 @@
+-- The goals of `trimming::rename_roots` that no tactic closes.
 use Rattle.std.proofs.Common.{◌∙◌, ap, set, None}
 use Rattle.std.specs.Prelude.{Option}
 use Rattle.nr_trienodes.specs.Naming.{new_root}

@@ -1,3 +1,4 @@
+-- What holds at the loops of `trimming::rename_roots`.
 use Rattle.std.proofs.Common.{◌≡◌, ◌++◌, map, take, drop}
 use Rattle.nr_trienodes.specs.Naming.{new_root}
 use Rattle.nr_trienodes.proofs.trimming.rename_roots.Given as goal

@@ -1,3 +1,4 @@
+-- The goals of `trimming::trim_to` that no tactic closes.
 use Rattle.std.proofs.Common.{◌∙◌, sym, subst, arith}
 use Rattle.std.specs.Prelude.{is_some}
 use Rattle.std.proofs.lemmas.List.Sums.{count_by-le-length}

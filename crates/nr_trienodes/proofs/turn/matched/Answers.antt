@@ -1,3 +1,4 @@
+-- The goals of `turn::matched` that no tactic closes.
 use Rattle.std.proofs.Common.{◌≡◌, get_or, arith}
 use Rattle.nr_trienodes.proofs.Keys.{along_more}
 use Rattle.nr_trienodes.proofs.turn.matched.Goals as goal

@@ -1,3 +1,4 @@
+-- What holds at the loops of `turn::matched`.
 use Rattle.nr_trienodes.proofs.Keys.{Along}
 use Rattle.nr_trienodes.proofs.turn.matched.Given as goal
 

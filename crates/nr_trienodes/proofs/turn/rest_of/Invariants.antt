@@ -1,3 +1,4 @@
+-- What holds at the loops of `turn::rest_of`.
 use Rattle.std.proofs.Common.{◌≡◌, ◌++◌, length}
 use Rattle.nr_triedef.specs.Node.{IsNibbles}
 use Rattle.nr_trienodes.specs.Turns.{left}

@@ -1,3 +1,4 @@
+-- What holds at the loops of `turn::walk`.
 use Rattle.std.proofs.Common.{◌<◌, ◌≤◌, ◌+◌, length}
 use Rattle.nr_triedef.specs.Node.{nibbles}
 use Rattle.nr_trienodes.specs.Turns.{left, Leads, AreSteps}

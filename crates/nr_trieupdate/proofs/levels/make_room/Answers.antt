@@ -1,3 +1,4 @@
+-- The goals of `levels::make_room` that no tactic closes.
 use Rattle.std.proofs.Common.{◌≡◌, length, arith}
 use Rattle.nr_trieupdate.proofs.Standing.{all_roots, renamed, both_moved, few_between}
 use Rattle.nr_trieupdate.proofs.levels.make_room.Goals as goal

@@ -1,3 +1,4 @@
+-- The goals of `levels::put` that no tactic closes.
 use Rattle.std.proofs.Common.{Err, ap}
 use Rattle.nr_trieupdate.proofs.Standing.{never_full}
 use Rattle.nr_trieupdate.proofs.levels.put.Goals as goal

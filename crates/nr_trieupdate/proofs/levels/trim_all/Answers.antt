@@ -1,3 +1,4 @@
+-- The goals of `levels::trim_all` that no tactic closes.
 use Rattle.std.proofs.Common.{◌≤◌, length, arith}
 use Rattle.nr_trieupdate.proofs.Standing.{all_roots, renamed, few_nodes}
 use Rattle.nr_trieupdate.proofs.levels.trim_all.Goals as goal

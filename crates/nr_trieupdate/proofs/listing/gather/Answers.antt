@@ -1,3 +1,4 @@
+-- The goals of `listing::gather` that no tactic closes.
 use Rattle.std.proofs.Common.{◌++◌, ℕ, List, sym, subst, arith, drop}
 use Rattle.std.proofs.Math.Seq.{drop-length}
 use Rattle.nr_trieupdate.specs.Overlays.{over, IsGathered}

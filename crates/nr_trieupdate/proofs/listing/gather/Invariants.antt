@@ -1,3 +1,4 @@
+-- What holds at the loops of `listing::gather`.
 use Rattle.std.proofs.Common.{◌≤◌, ◌++◌, ℕ, List, length, drop}
 use Rattle.nr_trieupdate.specs.Overlays.{over, IsGathered}
 use Rattle.nr_trieupdate.proofs.listing.gather.Given as goal

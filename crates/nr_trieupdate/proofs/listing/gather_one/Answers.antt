@@ -1,3 +1,4 @@
+-- The goals of `listing::gather_one` that no tactic closes.
 use Rattle.std.proofs.Common.{ap, sym, ◌∙◌}
 use Rattle.std.specs.Option.{option_copied}
 use Rattle.nr_trieupdate.specs.Overlays.{over}

@@ -1,3 +1,4 @@
+-- The goals of `listing::keys_over` that no tactic closes.
 use Rattle.std.proofs.Common.{◌++◌, [], sym, ◌∙◌, length}
 use Rattle.std.proofs.lemmas.Bool.{eqb-true}
 use Rattle.std.proofs.lemmas.List.{nil_from_length}

@@ -1,3 +1,4 @@
+-- The goals of `listing::value_at` that no tactic closes.
 use Rattle.std.proofs.Common.{ap, sym, ◌∙◌}
 use Rattle.std.specs.Option.{option_copied}
 use Rattle.nr_trieupdate.proofs.Stored.{found_new, found_held}

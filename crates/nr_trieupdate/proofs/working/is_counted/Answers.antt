@@ -1,3 +1,4 @@
+-- The goals of `working::is_counted` that no tactic closes.
 use Rattle.std.proofs.Common.{ap, sym, ◌∙◌}
 use Rattle.std.specs.Option.{is_some}
 use Rattle.nr_trieupdate.proofs.Counting.{copied_some}

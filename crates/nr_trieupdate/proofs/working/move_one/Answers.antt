@@ -1,3 +1,4 @@
+-- The goals of `working::move_one` that no tactic closes.
 use Rattle.std.proofs.Common.{◌≡◌, ◌∷◌, refl, ap, sym, ◌∙◌, arith, drop}
 use Rattle.nr_trieupdate.proofs.Moved.{stays, kept, marks_gone}
 use Rattle.nr_trieupdate.proofs.working.move_one.Goals as goal

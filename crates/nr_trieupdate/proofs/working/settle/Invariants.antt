@@ -1,3 +1,4 @@
+-- What holds at the loops of `working::settle`.
 use Rattle.std.proofs.Common.{length}
 use Rattle.nr_trieupdate.specs.Moving.{Moves}
 use Rattle.nr_trieupdate.proofs.Overlays.{WaitsAt}

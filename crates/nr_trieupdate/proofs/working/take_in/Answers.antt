@@ -1,3 +1,4 @@
+-- The goals of `working::take_in` that no tactic closes.
 use Rattle.std.proofs.Common.{◌≡◌, refl, ap, ◌∙◌, arith, length}
 use Rattle.std.specs.FinMap as map
 use Rattle.nr_triedef.specs.Root.{Contents}

@@ -1,3 +1,4 @@
+-- The goals of `working::work_in` that no tactic closes.
 use Rattle.std.proofs.Common.{◌≡◌, ◌∷◌, ◌-◌, refl, ap, sym, ◌∙◌, subst, arith, drop}
 use Rattle.std.specs.Prelude.{sum_by}
 use Rattle.std.proofs.Math.Seq.{drop-length}

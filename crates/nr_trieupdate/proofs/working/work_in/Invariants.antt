@@ -1,3 +1,4 @@
+-- What holds at the loops of `working::work_in`.
 use Rattle.std.proofs.Common.{◌≡◌, ◌≤◌, ◌+◌, length, drop}
 use Rattle.std.specs.Prelude.{sum_by}
 use Rattle.nr_trieupdate.specs.Overlays.{weight}

@@ -1,3 +1,4 @@
+-- The goals of `working::work_in_one` that no tactic closes.
 use Rattle.std.proofs.Common.{ap, sym, ◌∙◌, arith}
 use Rattle.std.specs.Option.{option_copied}
 use Rattle.nr_trieupdate.proofs.Overlays.{debt_absent, debt_taken}

@@ -1,3 +1,4 @@
+-- The goals of `conversion::convert_hashed` that no tactic closes.
 use Rattle.std.proofs.Common.{refl, sym, ◌∙◌}
 use Rattle.nr_txconvert.proofs.Converting.{no_signer, no_key, refuses, converts}
 use Rattle.nr_txconvert.proofs.conversion.convert_hashed.Goals as goal

@@ -1,3 +1,4 @@
+-- The goals of `laws::conversion_laws` that no tactic closes.
 use Rattle.nr_txconvert.proofs.Paying.{conversion_pays}
 use Rattle.nr_txconvert.proofs.laws.conversion_laws.Goals as goal
 

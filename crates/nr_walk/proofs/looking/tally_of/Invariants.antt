@@ -1,3 +1,4 @@
+-- What holds at the loops of `looking::tally_of`.
 use Rattle.std.proofs.Common.{◌≡◌, take}
 use Rattle.nr_walk.specs.Looking.{sum_known, are_known}
 use Rattle.nr_walk.proofs.looking.tally_of.Given as goal

@@ -1,3 +1,4 @@
+-- What holds at the loops of `sought::all_met`.
 use Rattle.std.proofs.Common.{◌≡◌, take}
 use Rattle.nr_walk.proofs.sought.all_met.Given as goal
 

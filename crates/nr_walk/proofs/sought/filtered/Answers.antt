@@ -1,3 +1,4 @@
+-- The goals of `sought::filtered` that no tactic closes.
 use Rattle.nr_walk.specs.Searched.{is_met}
 use Rattle.nr_walk.proofs.Narrowing.{met_listed}
 use Rattle.nr_walk.proofs.sought.filtered.Goals as goal

@@ -1,3 +1,4 @@
+-- What holds at the loops of `sought::filtered`.
 use Rattle.std.proofs.Common.{◌≡◌, ◌++◌, drop}
 use Rattle.std.specs.Prelude.{filter}
 use Rattle.nr_walk.specs.Searched.{is_met}

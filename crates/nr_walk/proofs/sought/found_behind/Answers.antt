@@ -1,3 +1,4 @@
+-- The goals of `sought::found_behind` that no tactic closes.
 use Rattle.std.proofs.Common.{◌≡◌, ◌==◌, true, List, ap, ◌∙◌}
 use Rattle.std.specs.List.{starts_with}
 use Rattle.nr_walk.specs.declared.searched.Searched.{Searched}

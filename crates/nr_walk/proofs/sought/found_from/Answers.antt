@@ -1,3 +1,4 @@
+-- The goals of `sought::found_from` that no tactic closes.
 use Rattle.std.proofs.Common.{◌-◌, length, sym}
 use Rattle.nr_walk.proofs.Narrowing.{met_there}
 use Rattle.nr_walk.proofs.sought.found_from.Goals as goal

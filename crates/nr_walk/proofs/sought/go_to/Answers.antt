@@ -1,3 +1,4 @@
+-- The goals of `sought::go_to` that no tactic closes.
 use Rattle.std.proofs.Common.{List, ap, ◌∙◌}
 use Rattle.nr_walk.specs.declared.searched.Searched.{Searched}
 use Rattle.nr_walk.specs.Searched.{looks}

@@ -1,3 +1,4 @@
+-- The goals of `sought::met_at` that no tactic closes.
 use Rattle.nr_walk.proofs.sought.met_at.Goals as goal
 
 pub loop-step-preserved : goal.loop-step-preserved

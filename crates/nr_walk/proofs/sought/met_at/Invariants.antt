@@ -1,3 +1,4 @@
+-- What holds at the loops of `sought::met_at`.
 use Rattle.std.proofs.Common.{vec_len}
 use Rattle.nr_walk.specs.Sought.{AreSteps}
 use Rattle.nr_walk.proofs.sought.met_at.Given as goal

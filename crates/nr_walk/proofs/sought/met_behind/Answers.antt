@@ -1,3 +1,4 @@
+-- The goals of `sought::met_behind` that no tactic closes.
 use Rattle.std.proofs.Common.{List, subst}
 use Rattle.nr_walk.specs.declared.searched.Searched.{Searched}
 use Rattle.nr_walk.specs.Sought.{Decides}

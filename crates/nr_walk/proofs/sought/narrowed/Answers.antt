@@ -1,3 +1,4 @@
+-- The goals of `sought::narrowed` that no tactic closes.
 use Rattle.std.proofs.Common.{◌≡◌, true}
 use Rattle.nr_walk.specs.Sought.{covers}
 use Rattle.nr_walk.proofs.Narrowing.{met_decide, one_decides}

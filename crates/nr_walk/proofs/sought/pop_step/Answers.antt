@@ -1,3 +1,4 @@
+-- The goals of `sought::pop_step` that no tactic closes.
 use Rattle.nr_walk.proofs.Narrowing.{popped_met}
 use Rattle.nr_walk.proofs.sought.pop_step.Goals as goal
 

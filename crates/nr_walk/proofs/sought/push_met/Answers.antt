@@ -1,3 +1,4 @@
+-- The goals of `sought::push_met` that no tactic closes.
 use Rattle.std.proofs.Common.{◌≡◌, ◌++◌, true, false, List, sym, ap, ◌∙◌, append-nil}
 use Rattle.nr_walk.specs.declared.searched.Searched.{Searched}
 use Rattle.nr_walk.specs.Searched.{is_met}

@@ -1,3 +1,4 @@
+-- The goals of `sought::step_to` that no tactic closes.
 use Rattle.std.proofs.Common.{ℕ, List, sym, subst}
 use Rattle.nr_walk.specs.Sought.{Decides}
 use Rattle.nr_walk.proofs.sought.step_to.Goals as goal

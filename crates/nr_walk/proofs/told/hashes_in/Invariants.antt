@@ -1,3 +1,4 @@
+-- What holds at the loops of `told::hashes_in`.
 use Rattle.std.proofs.Common.{◌≡◌, take}
 use Rattle.std.specs.List.{flat_map}
 use Rattle.nr_walk.specs.Told.{option_list}

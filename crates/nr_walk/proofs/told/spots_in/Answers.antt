@@ -1,3 +1,4 @@
+-- The goals of `told::spots_in` that no tactic closes.
 use Rattle.std.proofs.Common.{arith}
 use Rattle.nr_walk.proofs.Spots.{spots_more, spots_all}
 use Rattle.nr_walk.proofs.told.spots_in.Goals as goal

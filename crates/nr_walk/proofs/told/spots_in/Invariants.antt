@@ -1,3 +1,4 @@
+-- What holds at the loops of `told::spots_in`.
 use Rattle.std.proofs.Common.{◌≡◌, ◌++◌, drop}
 use Rattle.nr_walk.specs.Told.{spots_from}
 use Rattle.nr_walk.proofs.told.spots_in.Given as goal

@@ -1,3 +1,4 @@
+-- The goals of `walking::packed` that no tactic closes.
 use Rattle.std.proofs.Common.{◌∙◌, arith}
 use Rattle.nr_walk.proofs.Couples.{packed_more, packed_all}
 use Rattle.nr_walk.proofs.walking.packed.Goals as goal

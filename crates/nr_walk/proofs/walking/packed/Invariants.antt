@@ -1,3 +1,4 @@
+-- What holds at the loops of `walking::packed`.
 use Rattle.std.proofs.Common.{◌≡◌, ◌++◌, ◌*◌, drop}
 use Rattle.nr_walk.specs.Walking.{packed}
 use Rattle.nr_walk.proofs.walking.packed.Given as goal

@@ -1,3 +1,4 @@
+-- The goals of `walking::push_spots` that no tactic closes.
 use Rattle.nr_walk.proofs.Walks.{waits_more, emptied, waits_all}
 use Rattle.nr_walk.proofs.walking.push_spots.Goals as goal
 

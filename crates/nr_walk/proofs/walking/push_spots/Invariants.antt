@@ -1,3 +1,4 @@
+-- What holds at the loops of `walking::push_spots`.
 use Rattle.std.proofs.Common.{◌≡◌, ◌++◌, reverse, vec_len}
 use Rattle.nr_walk.proofs.walking.push_spots.Given as goal
 

@@ -1,3 +1,4 @@
+-- The goals of `walking::walk_from` that no tactic closes.
 use Rattle.std.proofs.Common.{List, Ok, Err, sym, ap, subst, ◌≡◌, ◌∙◌, arith}
 use Rattle.std.proofs.lemmas.Result.{err_from_is_err_and}
 use Rattle.nr_walk.specs.declared.searched.Searched.{Searched}

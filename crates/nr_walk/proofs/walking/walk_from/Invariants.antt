@@ -1,3 +1,4 @@
+-- What holds at the loops of `walking::walk_from`.
 use Rattle.std.proofs.Common.{◌≡◌, ◌∷◌, [], reverse}
 use Rattle.nr_walk.specs.Walking.{walk_from, most_nodes}
 use Rattle.nr_walk.proofs.Walks.{after}

@@ -1,3 +1,4 @@
+-- The goals of `whole::walk` that no tactic closes.
 use Rattle.nr_walk.proofs.ShownMaps.{all_maps}
 use Rattle.nr_walk.proofs.whole.walk.Goals as goal
 

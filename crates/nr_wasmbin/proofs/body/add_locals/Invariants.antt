@@ -1,3 +1,4 @@
+-- What holds at the loops of `body::add_locals`.
 use Rattle.std.proofs.Common.{◌≡◌, ◌++◌, replicate}
 use Rattle.nr_wasmbin.proofs.body.add_locals.Given as goal
 

@@ -1,3 +1,4 @@
+-- The goals of `body::read_groups` that no tactic closes.
 use Rattle.std.proofs.Common.{◌≡◌, ◌+◌, ◌-◌, ◌++◌, length, replicate, arith, ap, ◌∙◌, List}
 use Rattle.std.proofs.lemmas.List.{length-append, length-replicate}
 use Rattle.std.proofs.lemmas.Result.{err_from_is_err_and}

@@ -1,3 +1,4 @@
+-- What holds at the loops of `body::read_groups`.
 use Rattle.std.proofs.Common.{◌≡◌, ◌-◌, ◌≤◌, length}
 use Rattle.nr_bytes.proofs.Items.{with_front}
 use Rattle.nr_wasmbin.specs.Parts.{groups_at}

@@ -1,3 +1,4 @@
+-- The goals of `cursor::utf8` that no tactic closes.
 use Rattle.std.proofs.Common.{ap, refl, Some, List, ℕ}
 use Rattle.nr_bytes.proofs.Texts.{text_ok, text_bad}
 use Rattle.nr_wasmbin.proofs.cursor.utf8.Goals as goal

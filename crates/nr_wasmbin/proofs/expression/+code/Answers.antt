@@ -1,3 +1,4 @@
+-- The goals of `expression::code` that no tactic closes.
 use Rattle.std.proofs.Common.{List, refl, sym, ap, ◌∙◌, arith}
 use Rattle.std.proofs.lemmas.Result.{err_from_is_err_and}
 use Rattle.nr_wasmtypes.specs.declared.instr.Instr.{Instr}

@@ -1,3 +1,4 @@
+-- What holds at the loops of `expression::code`.
 use Rattle.std.proofs.Common.{◌≡◌, ℕ, ◌+◌, ◌*◌, ◌≤◌, length}
 use Rattle.nr_wasmbin.specs.Expressions.{code_at, front, onto}
 use Rattle.nr_wasmbin.proofs.expression.+code.Given as goal

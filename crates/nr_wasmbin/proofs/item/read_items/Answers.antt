@@ -1,3 +1,4 @@
+-- The goals of `item::read_items` that no tactic closes.
 use Rattle.std.proofs.Common.{arith}
 use Rattle.std.proofs.lemmas.Result.{err_from_is_err_and}
 use Rattle.nr_bytes.specs.Fields.{items_at}

@@ -1,3 +1,4 @@
+-- What holds at the loops of `item::read_items`.
 use Rattle.std.proofs.Common.{◌≡◌, ◌-◌, ◌≤◌, length}
 use Rattle.nr_bytes.specs.Fields.{items_at}
 use Rattle.nr_bytes.proofs.Items.{with_front}

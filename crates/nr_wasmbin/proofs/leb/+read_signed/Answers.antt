@@ -1,3 +1,4 @@
+-- The goals of `leb::read_signed` that no tactic closes.
 use Rattle.std.proofs.Common.{◌∷◌, sym, ap, ◌∙◌, arith}
 use Rattle.std.proofs.lemmas.Result.{err_from_is_err_and}
 use Rattle.nr_wasmbin.specs.Leb.{signed}

@@ -1,3 +1,4 @@
+-- What holds at the loops of `leb::read_signed`.
 use Rattle.std.proofs.Common.{length}
 use Rattle.nr_wasmbin.proofs.leb.+read_signed.Given as goal
 

@@ -1,3 +1,4 @@
+-- The goals of `leb::read_unsigned` that no tactic closes.
 use Rattle.std.proofs.Common.{◌∷◌, sym, ap, ◌∙◌, arith}
 use Rattle.std.proofs.lemmas.Result.{err_from_is_err_and}
 use Rattle.nr_wasmbin.proofs.OnLeb.{wide, most, seven_more, above, below, unsigned_none, unsigned_last, unsigned_unused, unsigned_long, unsigned_more}

@@ -1,3 +1,4 @@
+-- The goals of `leb::last_signed` that no tactic closes.
 use Rattle.std.proofs.Common.{◌<◌, ◌-◌, ◌*◌, ◌%◌, ◌^◌, ◌∷◌, refl, sym, ap, ◌∙◌, arith}
 use Rattle.nr_wasmbin.proofs.OnLeb.{half_is, value_is, found, signed_last, signed_unused, signed_negative, signed_unused_negative}
 use Rattle.nr_wasmbin.proofs.leb.last_signed.Goals as goal

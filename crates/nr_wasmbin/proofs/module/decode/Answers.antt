@@ -1,3 +1,4 @@
+-- The goals of `module::decode` that no tactic closes.
 use Rattle.std.proofs.Common.{◌≤◌, length, sym, subst}
 use Rattle.nr_wasmbin.proofs.ModuleLaws.{is_spelled, is_found}
 use Rattle.nr_wasmbin.proofs.module.decode.Goals as goal

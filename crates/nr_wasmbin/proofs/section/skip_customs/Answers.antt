@@ -1,3 +1,4 @@
+-- The goals of `section::skip_customs` that no tactic closes.
 use Rattle.std.proofs.Common.{sym, ◌∙◌}
 use Rattle.std.proofs.lemmas.Result.{err_from_is_err_and}
 use Rattle.nr_wasmbin.proofs.OnModules.{customs_go_on, customs_stop, customs_end}

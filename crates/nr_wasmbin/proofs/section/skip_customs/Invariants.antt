@@ -1,3 +1,4 @@
+-- What holds at the loops of `section::skip_customs`.
 use Rattle.std.proofs.Common.{◌≡◌, ℕ, ◌≤◌, length}
 use Rattle.nr_wasmbin.specs.Modules.{customs_at, skipped}
 use Rattle.nr_wasmbin.proofs.section.skip_customs.Given as goal

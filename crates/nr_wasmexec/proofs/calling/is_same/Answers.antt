@@ -1,3 +1,4 @@
+-- The goals of `calling::is_same` that no tactic closes.
 use Rattle.nr_wasmexec.proofs.Signatures.{decides_same}
 use Rattle.nr_wasmexec.proofs.calling.is_same.Goals as goal
 

@@ -1,3 +1,4 @@
+-- What holds at the loops of `control::add_locals`.
 use Rattle.std.proofs.Common.{◌≡◌, ◌++◌, replicate}
 use Rattle.nr_wasmexec.proofs.control.add_locals.Given as goal
 

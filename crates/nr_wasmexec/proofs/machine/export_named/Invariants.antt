@@ -1,3 +1,4 @@
+-- What holds at the loops of `machine::export_named`.
 use Rattle.std.proofs.Common.{◌≡◌, drop}
 use Rattle.std.specs.Prelude.{find}
 use Rattle.std.specs.Str.{bytes_eq}

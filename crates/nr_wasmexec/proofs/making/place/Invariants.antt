@@ -1,3 +1,4 @@
+-- What holds at the loops of `making::place`.
 use Rattle.std.proofs.Common.{◌≡◌, ◌+◌, drop, length}
 use Rattle.nr_wasmexec.specs.Making.{placed}
 use Rattle.nr_wasmexec.proofs.making.place.Given as goal

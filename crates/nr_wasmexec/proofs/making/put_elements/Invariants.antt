@@ -1,3 +1,4 @@
+-- What holds at the loops of `making::put_elements`.
 use Rattle.std.proofs.Common.{◌≡◌, drop}
 use Rattle.nr_wasmexec.specs.Making.{all_into, element_into}
 use Rattle.nr_wasmexec.proofs.making.put_elements.Given as goal

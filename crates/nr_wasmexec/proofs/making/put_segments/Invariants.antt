@@ -1,3 +1,4 @@
+-- What holds at the loops of `making::put_segments`.
 use Rattle.std.proofs.Common.{◌≡◌, drop}
 use Rattle.nr_wasmexec.specs.Making.{all_into, segment_into}
 use Rattle.nr_wasmexec.proofs.making.put_segments.Given as goal

@@ -1,3 +1,4 @@
+-- The goals of `running::drive` that no tactic closes.
 use Rattle.std.proofs.Common.{◌∙◌, ap, sym, refl, suc}
 use Rattle.nr_wasmexec.specs.Reduction.{Done, stepped}
 use Rattle.nr_wasmexec.specs.Machine.{rules_of, runtime, config_of, run_at}
@@ -17,8 +18,16 @@ pub steps-preserved : goal.steps-preserved
 steps-preserved g c = record {
   leads = λ k.
       let w = rules_of g.H.Host.meaning c.args.program.now c.args.limits in
-      let from = c.steps.invariant.leads (suc k) in
-      (from.0, from.1 ∙ goes_on w (runtime (g.H.Host.state c.steps.host) c.steps.guest) c.steps.thread k (runtime (g.H.Host.state c.turn.new.host) c.turn.new.guest) c.turn.new.thread (sym c.is_too_large.ensures ∙ c.if-is_too_large.false) (turns_on c.in-Ok-true.field-0 (g.H.Host.state c.turn.new.host) c.turn.new.guest c.turn.new.thread (runtime (g.H.Host.state c.steps.host) c.steps.guest) (stepped w (config_of (g.H.Host.state c.steps.host) c.steps.guest c.steps.thread)) c.in-Ok-true.field-0-test c.in-Ok-true.ensures.turns));
+      let from = c.steps.invariant.leads (suc k) in (
+        from.0,
+        from.1 ∙ goes_on w (runtime (g.H.Host.state c.steps.host) c.steps.guest) c.steps.thread k
+            (runtime (g.H.Host.state c.turn.new.host) c.turn.new.guest) c.turn.new.thread
+            (sym c.is_too_large.ensures ∙ c.if-is_too_large.false)
+            (turns_on c.in-Ok-true.field-0 (g.H.Host.state c.turn.new.host) c.turn.new.guest c.turn.new.thread
+            (runtime (g.H.Host.state c.steps.host) c.steps.guest)
+            (stepped w (config_of (g.H.Host.state c.steps.host) c.steps.guest c.steps.thread)) c.in-Ok-true.field-0-test
+            c.in-Ok-true.ensures.turns),
+      );
   shape = (c.turn.ensures.shape.0 ∙ c.steps.invariant.shape.0, c.turn.ensures.shape.1 ∙ c.steps.invariant.shape.1);
   keeps = g.met.H.Host.keeps_on _ _ _ c.steps.invariant.keeps c.turn.ensures.keeps;
 }
@@ -33,7 +42,11 @@ returns-in-Ok-false-clause-drives g c =
 pub returns-in-Err-clause-drives : goal.returns-in-Err-clause-drives
 returns-in-Err-clause-drives g c =
     let w = rules_of g.H.Host.meaning c.args.program.now c.args.limits in
-    errs w (runtime (g.H.Host.state c.steps.host) c.steps.guest) c.steps.thread (run_at w (runtime (g.H.Host.state c.args.host.now) c.args.guest.now) c.args.thread.now) c.steps.invariant.leads (sym c.is_too_large.ensures ∙ c.if-is_too_large.false) c.in-Err.stop (g.H.Host.state c.turn.new.host) c.turn.new.guest c.turn.new.thread (runtime (g.H.Host.state c.steps.host) c.steps.guest) c.in-Err.ensures.turns
+    errs w (runtime (g.H.Host.state c.steps.host) c.steps.guest) c.steps.thread
+    (run_at w (runtime (g.H.Host.state c.args.host.now) c.args.guest.now) c.args.thread.now)
+    c.steps.invariant.leads (sym c.is_too_large.ensures ∙ c.if-is_too_large.false) c.in-Err.stop
+    (g.H.Host.state c.turn.new.host) c.turn.new.guest c.turn.new.thread
+    (runtime (g.H.Host.state c.steps.host) c.steps.guest) c.in-Err.ensures.turns
 
 pub returns-then-is_too_large-clause-shape : goal.returns-then-is_too_large-clause-shape
 returns-then-is_too_large-clause-shape g c = c.steps.invariant.shape

@@ -1,3 +1,4 @@
+-- What holds at the loops of `running::drive`.
 use Rattle.std.proofs.Common.{◌≡◌, ℕ}
 use Rattle.nr_wasmexec.specs.Executing.{SameShape}
 use Rattle.nr_wasmexec.specs.Machine.{rules_of, runtime, run_at, work_left}

@@ -1,3 +1,4 @@
+-- The goals of `running::is_never_stuck` that no tactic closes.
 use Rattle.std.proofs.Common.{refl}
 use Rattle.nr_wasmexec.specs.Machine.{rules_of, runtime}
 use Rattle.nr_wasmexec.proofs.Linked.{program_sound}

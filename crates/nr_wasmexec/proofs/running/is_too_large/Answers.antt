@@ -1,3 +1,4 @@
+-- The goals of `running::is_too_large` that no tactic closes.
 use Rattle.std.proofs.Common.{◌∙◌, ap, nat_lt}
 use Rattle.std.specs.Prelude.{◌||◌}
 use Rattle.nr_wasmexec.specs.Place.{whole_of}

@@ -1,3 +1,4 @@
+-- The goals of `running::try_run` that no tactic closes.
 use Rattle.std.proofs.Common.{sym, subst, ap, Option}
 use Rattle.nr_wasmexec.specs.Functions.{Func}
 use Rattle.nr_wasmexec.specs.Reduction.{run_in}

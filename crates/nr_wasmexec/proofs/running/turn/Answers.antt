@@ -1,3 +1,4 @@
+-- The goals of `running::turn` that no tactic closes.
 use Rattle.nr_wasmexec.specs.Machine.{rules_of}
 use Rattle.nr_wasmexec.proofs.Turning.{ends_sequence}
 use Rattle.nr_wasmexec.proofs.running.turn.Goals as goal

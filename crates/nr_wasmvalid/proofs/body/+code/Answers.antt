@@ -1,3 +1,4 @@
+-- The goals of `body::code` that no tactic closes.
 use Rattle.std.proofs.Common.{◌≡◌, ◌+◌, List, Err, Result, sym, ap, ◌∙◌, arith, rules}
 use Rattle.std.proofs.lemmas.Result.{err_from_is_err_and}
 use Rattle.std.proofs.lemmas.List.{drop_all}
@@ -50,7 +51,10 @@ check_instr-returns-in_err-next-in-Block-clause-gives t c =
 
 pub check_instr-returns-in_ok-give_result-in-Block-clause-gives : goal.check_instr-returns-in_ok-give_result-in-Block-clause-gives
 check_instr-returns-in_ok-give_result-in-Block-clause-gives t c = λ rest.
-    ap (λ (k : Code). judged (context c.args.scope.now.module.now c.args.scope.now.funcs.now c.args.scope.now.locals.now c.args.scope.now.result c.args.stacks.now.labels) c.args.place k c.args.stacks.now.shape) (put_block_at c.args.instr.now c.in-Block.result_type c.in-Block.body c.deref.result.now rest c.in-Block.is c.deref.ensures)
+    ap (λ (k : Code). judged (context c.args.scope.now.module.now c.args.scope.now.funcs.now
+    c.args.scope.now.locals.now c.args.scope.now.result c.args.stacks.now.labels) c.args.place k
+    c.args.stacks.now.shape) (put_block_at c.args.instr.now c.in-Block.result_type c.in-Block.body
+    c.deref.result.now rest c.in-Block.is c.deref.ensures)
     ∙ block_goes_on _ _ _ _ _ _ _ _ _ _ c.in_ok-inside.ensures.next c.in_ok-next-in-Block.ensures.gives c.in_ok-next-in-Block.ensures.next
     (c.in_ok-give_result-in-Block.ensures.shape ∙ ap (λ (v : Frames). give_all (types c.in-Block.result_type) v.shape) c.in_ok-next-in-Block.ensures.same)
 
@@ -62,13 +66,19 @@ check_instr-returns-in_err-next-in-Loop-clause-gives t c =
 
 pub check_instr-returns-in_ok-give_result-in-Loop-clause-gives : goal.check_instr-returns-in_ok-give_result-in-Loop-clause-gives
 check_instr-returns-in_ok-give_result-in-Loop-clause-gives t c = λ rest.
-    ap (λ (k : Code). judged (context c.args.scope.now.module.now c.args.scope.now.funcs.now c.args.scope.now.locals.now c.args.scope.now.result c.args.stacks.now.labels) c.args.place k c.args.stacks.now.shape) (put_loop_at c.args.instr.now c.in-Loop.result_type c.in-Loop.body c.deref-in-Loop.result.now rest c.in-Loop.is c.deref-in-Loop.ensures)
+    ap (λ (k : Code). judged (context c.args.scope.now.module.now c.args.scope.now.funcs.now
+    c.args.scope.now.locals.now c.args.scope.now.result c.args.stacks.now.labels) c.args.place k
+    c.args.stacks.now.shape) (put_loop_at c.args.instr.now c.in-Loop.result_type c.in-Loop.body
+    c.deref-in-Loop.result.now rest c.in-Loop.is c.deref-in-Loop.ensures)
     ∙ loop_goes_on _ _ _ _ _ _ _ _ _ _ c.in_ok-inside.ensures.next c.in_ok-next-in-Loop.ensures.gives c.in_ok-next-in-Loop.ensures.next
     (c.in_ok-give_result-in-Loop.ensures.shape ∙ ap (λ (v : Frames). give_all (types c.in-Loop.result_type) v.shape) c.in_ok-next-in-Loop.ensures.same)
 
 pub check_instr-returns-in-Err-take-clause-gives : goal.check_instr-returns-in-Err-take-clause-gives
 check_instr-returns-in-Err-take-clause-gives t c = λ other rest.
-    ap (λ (k : Code). judged (context c.args.scope.now.module.now c.args.scope.now.funcs.now c.args.scope.now.locals.now c.args.scope.now.result c.args.stacks.now.labels) c.args.place k c.args.stacks.now.shape) (put_if_at c.args.instr.now c.in-If.result_type c.in-If.arms c.deref-arms.result.now rest c.in-If.is c.deref-arms.ensures)
+    ap (λ (k : Code). judged (context c.args.scope.now.module.now c.args.scope.now.funcs.now
+    c.args.scope.now.locals.now c.args.scope.now.result c.args.stacks.now.labels) c.args.place k
+    c.args.stacks.now.shape) (put_if_at c.args.instr.now c.in-If.result_type c.in-If.arms c.deref-arms.result.now
+    rest c.in-If.is c.deref-arms.ensures)
     ∙ condition_stops _ _ _ _ _ _ _ _ (c.in-Err-take.ensures.leaves (not_memory c.args.place c.in-Err-take.refusal (λ e. other (c.at-in-Err-take.ensures ∙ e)))) ∙ sym (ap err c.at-in-Err-take.ensures)
 
 pub check_instr-returns-in_err-next-in-If-clause-gives : goal.check_instr-returns-in_err-next-in-If-clause-gives
@@ -93,14 +103,21 @@ check_instr-returns-in_ok-give_result-in-If-clause-gives t c = λ rest.
     let first = λ (labels : List Types?). ended (c.in_ok-inside.inside + count_of (code_of c.deref-arms.result.now.0.items)) c.in-If.result_type (judged (within c.in-If.result_type (context c.args.scope.now.module.now c.args.scope.now.funcs.now c.args.scope.now.locals.now c.args.scope.now.result labels)) c.in_ok-inside.inside (code_of c.deref-arms.result.now.0.items) fresh) in
     let second = λ (labels : List Types?). ended (c.in_ok-next-in-If.next + count_of (code_of c.deref-arms.result.now.1.items)) c.in-If.result_type (judged (within c.in-If.result_type (context c.args.scope.now.module.now c.args.scope.now.funcs.now c.args.scope.now.locals.now c.args.scope.now.result labels)) c.in_ok-next-in-If.next (code_of c.deref-arms.result.now.1.items) fresh) in
     let around = ap (λ (v : Frames). v.labels) c.in_ok-next-in-If.ensures.same ∙ c.in_default-take.ensures.around.labels in
-    ap (λ (k : Code). judged (context c.args.scope.now.module.now c.args.scope.now.funcs.now c.args.scope.now.locals.now c.args.scope.now.result c.args.stacks.now.labels) c.args.place k c.args.stacks.now.shape) (put_if_at c.args.instr.now c.in-If.result_type c.in-If.arms c.deref-arms.result.now rest c.in-If.is c.deref-arms.ensures)
+    ap (λ (k : Code). judged (context c.args.scope.now.module.now c.args.scope.now.funcs.now
+    c.args.scope.now.locals.now c.args.scope.now.result c.args.stacks.now.labels) c.args.place k
+    c.args.stacks.now.shape) (put_if_at c.args.instr.now c.in-If.result_type c.in-If.arms c.deref-arms.result.now
+    rest c.in-If.is c.deref-arms.ensures)
     ∙ choice_goes_on _ _ _ _ _ _ _ _ _ _ _ _ _ _ c.in_ok-inside.ensures.next c.in_default-take.ensures.leaves (sym (ap first c.in_default-take.ensures.around.labels) ∙ c.in_ok-next-in-If.ensures.gives)
     c.in_ok-next-in-If.ensures.next (sym (ap second around) ∙ c.in_ok-next-in-If-2.ensures.gives) c.in_ok-next-in-If-2.ensures.next
     (c.in_ok-give_result-in-If.ensures.shape ∙ ap (λ (v : Frames). give_all (types c.in-If.result_type) v.shape) (c.in_ok-next-in-If-2.ensures.same ∙ c.in_ok-next-in-If.ensures.same))
 
 pub check_code-loop-index-preserved : goal.check_code-loop-index-preserved
 check_code-loop-index-preserved t c = record {
-  judged = goes_on c.args.scope.now.module.now c.args.scope.now.funcs.now c.args.scope.now.locals.now c.args.scope.now.result c.loop-index.stacks.labels c.args.stacks.now.labels c.loop-index.next c.in_ok-next.next c.args.code.now.items c.loop-index.index c.index.result.now c.loop-index.stacks.shape c.check_instr.new.stacks.shape _
+  judged =
+      goes_on c.args.scope.now.module.now c.args.scope.now.funcs.now c.args.scope.now.locals.now
+      c.args.scope.now.result c.loop-index.stacks.labels c.args.stacks.now.labels c.loop-index.next c.in_ok-next.next
+      c.args.code.now.items c.loop-index.index c.index.result.now c.loop-index.stacks.shape
+      c.check_instr.new.stacks.shape _
       c.loop-index.invariant.around.labels (omega arith) c.index.ensures c.in_ok-next.ensures.gives c.loop-index.invariant.judged;
   counted = omega (arith, step_counted c.args.code.now.items c.loop-index.index c.index.result.now (omega arith) c.index.ensures, c.loop-index.invariant.counted, c.in_ok-next.ensures.next);
   around = search rules;

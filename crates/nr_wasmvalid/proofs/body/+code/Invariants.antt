@@ -1,3 +1,4 @@
+-- What holds at the loops of `body::code`.
 use Rattle.std.proofs.Common.{◌≡◌, ◌+◌, drop}
 use Rattle.nr_wasmtypes.specs.Code.{code_of, count_of}
 use Rattle.nr_wasmvalid.specs.Shapes.{judged}

@@ -1,3 +1,4 @@
+-- The goals of `body::check_body` that no tactic closes.
 use Rattle.std.proofs.Common.{Err, Result, sym, ap, ◌∙◌, arith}
 use Rattle.std.proofs.lemmas.Result.{err_from_is_err_and}
 use Rattle.nr_wasmtypes.specs.Code.{code_of}

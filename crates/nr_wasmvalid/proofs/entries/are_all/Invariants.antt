@@ -1,3 +1,4 @@
+-- What holds at the loops of `entries::are_all`.
 use Rattle.std.proofs.Common.{◌≡◌, drop}
 use Rattle.std.specs.List.{list_all}
 use Rattle.nr_wasmvalid.specs.Rules.{same_type}

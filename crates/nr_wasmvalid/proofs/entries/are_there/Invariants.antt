@@ -1,3 +1,4 @@
+-- What holds at the loops of `entries::are_there`.
 use Rattle.std.proofs.Common.{◌≡◌, drop, is_some, slice_get}
 use Rattle.std.specs.List.{list_all}
 use Rattle.nr_wasmvalid.proofs.entries.are_there.Given as goal

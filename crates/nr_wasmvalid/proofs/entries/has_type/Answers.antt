@@ -1,3 +1,4 @@
+-- The goals of `entries::has_type` that no tactic closes.
 use Rattle.std.proofs.Common.{◌≡◌, ◌&&◌, length, true, false, sym, ap, ◌∙◌}
 use Rattle.std.specs.List.{list_all}
 use Rattle.nr_wasmtypes.specs.Host.{host_type}

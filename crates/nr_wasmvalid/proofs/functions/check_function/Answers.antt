@@ -1,3 +1,4 @@
+-- The goals of `functions::check_function` that no tactic closes.
 use Rattle.std.proofs.Common.{◌++◌, List, ap, ◌∙◌}
 use Rattle.nr_wasmtypes.specs.declared.instr.ValType.{ValType}
 use Rattle.nr_wasmvalid.specs.Modules.{in_func}

@@ -1,3 +1,4 @@
+-- What holds at the loops of `functions::check_functions`.
 use Rattle.std.proofs.Common.{◌+◌, Result, drop}
 use Rattle.nr_wasmvalid.specs.Verdict.{FuncsJudge}
 use Rattle.nr_wasmvalid.specs.declared.fault.ValidFault.{ValidFault}

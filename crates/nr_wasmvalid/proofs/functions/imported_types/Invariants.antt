@@ -1,3 +1,4 @@
+-- What holds at the loops of `functions::imported_types`.
 use Rattle.std.proofs.Common.{◌≡◌, ◌++◌, drop}
 use Rattle.nr_wasmvalid.specs.Parts.{imported_types}
 use Rattle.nr_wasmvalid.proofs.functions.imported_types.Given as goal

@@ -1,3 +1,4 @@
+-- The goals of `parts::check_exports` that no tactic closes.
 use Rattle.std.proofs.Common.{List, take, sym, ap, ◌∙◌, arith}
 use Rattle.std.specs.Prelude.{◌||◌}
 use Rattle.std.specs.List.{list_any}

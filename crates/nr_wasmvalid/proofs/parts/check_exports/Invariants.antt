@@ -1,3 +1,4 @@
+-- What holds at the loops of `parts::check_exports`.
 use Rattle.std.proofs.Common.{◌≡◌, ℕ, List, drop, take}
 use Rattle.std.specs.BTreeSet.{contains}
 use Rattle.std.specs.List.{list_any}

@@ -1,3 +1,4 @@
+-- The goals of `parts::check_imports` that no tactic closes.
 use Rattle.std.proofs.Common.{List, sym, ap, ◌∙◌, arith}
 use Rattle.std.proofs.lemmas.Result.{err_from_is_err_and}
 use Rattle.nr_wasmtypes.specs.declared.module.FuncType.{FuncType}

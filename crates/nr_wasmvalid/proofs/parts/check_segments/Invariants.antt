@@ -1,3 +1,4 @@
+-- What holds at the loops of `parts::check_segments`.
 use Rattle.std.proofs.Common.{◌≡◌, drop}
 use Rattle.nr_wasmvalid.specs.Parts.{outcome, each, segment_asks}
 use Rattle.nr_wasmvalid.proofs.parts.check_segments.Given as goal

@@ -1,3 +1,4 @@
+-- What holds at the loops of `plain::has_labels`.
 use Rattle.std.proofs.Common.{◌≡◌, drop}
 use Rattle.nr_wasmvalid.specs.Rules.{are_labels}
 use Rattle.nr_wasmvalid.proofs.plain.has_labels.Given as goal

@@ -1,3 +1,4 @@
+-- The goals of `valid::running_laws` that no tactic closes.
 use Rattle.nr_wasmvalid.proofs.Safe.{never_stuck}
 use Rattle.nr_wasmvalid.proofs.valid.running_laws.Goals as goal
 

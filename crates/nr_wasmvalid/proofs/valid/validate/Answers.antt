@@ -1,3 +1,4 @@
+-- The goals of `valid::validate` that no tactic closes.
 use Rattle.std.proofs.Common.{Ok, Err, Result, refl, subst}
 use Rattle.std.proofs.lemmas.Result.{err_from_is_err_and}
 use Rattle.nr_config.specs.Config.{max_pages}

@@ -1,3 +1,4 @@
+-- The goals of `forms::value_at` that no tactic closes.
 use Rattle.std.proofs.Common.{◌∙◌, ap, option_map, sym}
 use Rattle.nr_words.specs.Forms.{Choice, place_value}
 use Rattle.nr_words.specs.Words.{place_in}

@@ -1,3 +1,4 @@
+-- The goals of `numbers::number_in` that no tactic closes.
 use Rattle.nr_words.proofs.Numerals.{no_text}
 use Rattle.nr_words.proofs.numbers.number_in.Goals as goal
 

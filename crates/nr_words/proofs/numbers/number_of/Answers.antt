@@ -1,3 +1,4 @@
+-- The goals of `numbers::number_of` that no tactic closes.
 use Rattle.std.proofs.Common.{◌≡◌, true, arith}
 use Rattle.nr_words.specs.Numbers.{is_numeral}
 use Rattle.nr_words.proofs.Numerals.{too_large}

@@ -1,3 +1,4 @@
+-- The goals of `parsers::form_parser` that no tactic closes.
 use Rattle.std.proofs.Common.{◌∙◌, ◌||◌, ap, ap₂, sym}
 use Rattle.clap.specs.Words.{with_rule}
 use Rattle.nr_words.specs.Parsing.{word_rule, words_app}

@@ -1,3 +1,4 @@
+-- What holds at the loops of `parsers::form_parser`.
 use Rattle.std.proofs.Common.{◌≡◌, false, take}
 use Rattle.clap.specs.Words.{app_of}
 use Rattle.clap.specs.declared.builder.command.Command.TheViews.{out-Command}

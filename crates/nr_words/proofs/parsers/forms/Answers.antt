@@ -1,3 +1,4 @@
+-- The goals of `parsers::forms` that no tactic closes.
 use Rattle.std.proofs.Common.{◌∙◌, ap, true}
 use Rattle.clap.specs.Simple.{App, app_of_fields}
 use Rattle.nr_words.proofs.parsers.forms.Goals as goal

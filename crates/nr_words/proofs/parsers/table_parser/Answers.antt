@@ -1,3 +1,4 @@
+-- The goals of `parsers::table_parser` that no tactic closes.
 use Rattle.std.proofs.Common.{◌∙◌, ◌+◌, List, ap, drop, fold, sym}
 use Rattle.std.proofs.lemmas.List.{at_drop_more}
 use Rattle.clap.specs.Words.{App, app_of, with_subcommand}

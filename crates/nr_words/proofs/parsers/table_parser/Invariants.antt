@@ -1,3 +1,4 @@
+-- What holds at the loops of `parsers::table_parser`.
 use Rattle.std.proofs.Common.{◌≡◌, drop, fold}
 use Rattle.clap.specs.Words.{app_of}
 use Rattle.nr_words.specs.Parsing.{table_app, with_form}

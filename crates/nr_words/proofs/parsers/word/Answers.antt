@@ -1,3 +1,4 @@
+-- The goals of `parsers::word` that no tactic closes.
 use Rattle.std.proofs.Common.{◌∙◌, ap, true}
 use Rattle.clap.specs.Words.{Rule, rule_of}
 use Rattle.nr_words.proofs.parsers.word.Goals as goal

@@ -1,3 +1,4 @@
+-- What holds at the loops of `reading::form_of`.
 use Rattle.std.proofs.Common.{◌≡◌, drop}
 use Rattle.nr_words.specs.Forms.{form_of}
 use Rattle.nr_words.specs.Words.{table_in}

@@ -1,3 +1,4 @@
+-- The goals of `reading::matched` that no tactic closes.
 use Rattle.std.proofs.Common.{◌≡◌, ◌∙◌, option_map}
 use Rattle.std.proofs.lemmas.Result.{IfOk-weaker}
 use Rattle.clap.specs.Words.{subcommand_rows_of}

@@ -1,3 +1,4 @@
+-- The goals of `reading::named` that no tactic closes.
 use Rattle.std.proofs.Common.{◌∙◌, ap, option_and_then}
 use Rattle.clap.specs.Words.{found_of, rows_of}
 use Rattle.nr_words.specs.Forms.{Form, with_verb}

@@ -1,3 +1,4 @@
+-- The goals of `reading::read_words` that no tactic closes.
 use Rattle.std.proofs.Common.{◌≡◌, ◌∙◌, ap, sym, true, false, option_map, subst, rules, [], IfSome}
 use Rattle.std.specs.List.{list_all}
 use Rattle.std.proofs.lemmas.Result.{IfOk-weaker}

@@ -1,3 +1,4 @@
+-- The goals of `reading::value_of` that no tactic closes.
 use Rattle.std.proofs.Common.{◌≡◌, ◌∙◌, None, Some, ap, option_and_then}
 use Rattle.clap.specs.Words.{first_of, found_of, rows_of}
 use Rattle.clap.proofs.WalkLemmas.{first_value-rows}

@@ -1,3 +1,4 @@
+-- The goals of `reading::values_of` that no tactic closes.
 use Rattle.std.proofs.Common.{◌≡◌, ◌∙◌, ◌+◌, ◌++◌, List, [], ◌∷◌, ap, drop, map, option_map, sym}
 use Rattle.std.proofs.lemmas.List.{map_push}
 use Rattle.clap.specs.Words.{found_of, rows_of}

@@ -1,3 +1,4 @@
+-- What holds at the loops of `reading::values_of`.
 use Rattle.std.proofs.Common.{◌≡◌, ◌++◌, List, drop, option_map}
 use Rattle.clap.specs.Words.{found_of, rows_of}
 use Rattle.nr_words.specs.Forms.{Value}

@@ -1,3 +1,4 @@
+-- The goals of `words::replay_command` that no tactic closes.
 use Rattle.std.proofs.Common.{◌≡◌, ◌∙◌, None, Some, ap, option_and_then, option_map, sym}
 use Rattle.nr_words.specs.Command.{replay_of, replay_command}
 use Rattle.nr_words.specs.Forms.{read}

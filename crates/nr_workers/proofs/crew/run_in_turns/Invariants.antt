@@ -1,3 +1,4 @@
+-- What holds at the loops of `crew::run_in_turns`.
 use Rattle.std.proofs.Common.{◌≡◌, vec_len}
 use Rattle.nr_workers.specs.Each.{Each}
 use Rattle.nr_workers.specs.Crew.{IsStartedAs}

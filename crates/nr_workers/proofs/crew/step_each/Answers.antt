@@ -1,3 +1,4 @@
+-- The goals of `crew::step_each` that no tactic closes.
 use Rattle.std.proofs.Common.{length, ◌<◌, sym, subst, arith}
 use Rattle.nr_workers.specs.Crew.{IsStartedAs}
 use Rattle.nr_workers.proofs.Each.{each_at, each_set}

@@ -1,3 +1,4 @@
+-- The goals of `crew::work` that no tactic closes.
 use Rattle.std.proofs.Common.{sym, ap, ◌∙◌, subst, box_value}
 use Rattle.nr_workers.specs.Stages.{IsWorkerOf}
 use Rattle.nr_workers.proofs.crew.work.Goals.{in-None, in-Some+in-Done}

@@ -1,3 +1,4 @@
+-- What holds at the loops of `crew::work`.
 use Rattle.std.proofs.Common.{ℕ, box_value}
 use Rattle.nr_workers.specs.Stages.{IsWorkerOf}
 use Rattle.nr_workers.proofs.crew.work.Given as goal

@@ -1,3 +1,4 @@
+-- The goals of `done::finish` that no tactic closes.
 use Rattle.std.proofs.Common.{refl, ap, ◌∙◌, subst, arith, ◌≤◌}
 use Rattle.nr_workers.specs.Stages.{IsAtOrLost}
 use Rattle.nr_workers.proofs.Finishing.{finishes}

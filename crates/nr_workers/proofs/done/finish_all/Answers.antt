@@ -1,3 +1,4 @@
+-- The goals of `done::finish_all` that no tactic closes.
 use Rattle.std.specs.Prelude.{map}
 use Rattle.std.specs.List.{range_with_len}
 use Rattle.std.proofs.Common.{ℕ, length, sym, ap, ◌∙◌, subst, arith, vec_len, box_value}

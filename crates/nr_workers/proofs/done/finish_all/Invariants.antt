@@ -1,3 +1,4 @@
+-- What holds at the loops of `done::finish_all`.
 use Rattle.std.proofs.Common.{◌≡◌, ◌+◌, length, map, vec_len, box_value}
 use Rattle.std.specs.List.{range_with_len}
 use Rattle.std.specs.Vec.Iter.{into_iter_items, into_iter_len}

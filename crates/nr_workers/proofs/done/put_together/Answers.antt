@@ -1,3 +1,4 @@
+-- The goals of `done::put_together` that no tactic closes.
 use Rattle.std.proofs.Common.{◌≡◌, ◌<◌, ◌≤◌, ℕ, length, sym, subst, arith}
 use Rattle.nr_overlap.specs.Outcome.{left_list}
 use Rattle.nr_workers.specs.Outcome.{HasDoneAll}

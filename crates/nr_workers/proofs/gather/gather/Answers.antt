@@ -1,3 +1,4 @@
+-- The goals of `gather::gather` that no tactic closes.
 use Rattle.std.proofs.Common.{[], ◌∙◌, arith}
 use Rattle.nr_overlap.specs.Outcome.{left_by_source}
 use Rattle.nr_overlap.proofs.Orders.{flat_map_longer}

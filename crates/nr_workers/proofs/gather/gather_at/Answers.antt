@@ -1,3 +1,4 @@
+-- The goals of `gather::gather_at` that no tactic closes.
 use Rattle.std.proofs.Common.{◌≡◌, ◌<◌, ◌++◌, length, sym, ap, ◌∙◌, arith}
 use Rattle.std.specs.Option.{option_map, option_to_list}
 use Rattle.nr_overlap.specs.Outcome.{left_list, left_at}

@@ -1,3 +1,4 @@
+-- What holds at the loops of `gather::gather_at`.
 use Rattle.std.proofs.Common.{◌≡◌, ◌<◌, ◌≤◌, ◌++◌, ℕ, vec_len}
 use Rattle.std.specs.List.{flat_map, range_with_len}
 use Rattle.nr_overlap.specs.Outcome.{left_list, left_at}

@@ -1,3 +1,4 @@
+-- The goals of `gather::gather_of` that no tactic closes.
 use Rattle.std.proofs.Common.{◌≡◌, ◌+◌, ◌-◌, ◌++◌, ℕ, ap, ◌∙◌, arith}
 use Rattle.std.specs.List.{flat_map, range_with_len}
 use Rattle.nr_overlap.specs.Outcome.{left_by_height}

@@ -1,3 +1,4 @@
+-- The goals of `laws::moment_law` that no tactic closes.
 use Rattle.nr_workers.proofs.Counted.{claimed_are_taken, shown_are_reached}
 use Rattle.nr_workers.proofs.Homes.{flights_are_home}
 use Rattle.nr_workers.proofs.InHand.{workers_stand}

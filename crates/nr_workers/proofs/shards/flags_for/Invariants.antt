@@ -1,3 +1,4 @@
+-- What holds at the loops of `shards::flags_for`.
 use Rattle.std.proofs.Common.{◌≡◌, vec_len}
 use Rattle.nr_workers.proofs.shards.flags_for.Given as goal
 

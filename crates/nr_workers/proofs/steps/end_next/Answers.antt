@@ -1,3 +1,4 @@
+-- The goals of `steps::end_next` that no tactic closes.
 use Rattle.std.proofs.Common.{ap, ◌∙◌}
 use Rattle.nr_workers.proofs.Moves.{ends}
 use Rattle.nr_workers.proofs.steps.end_next.Goals as goal

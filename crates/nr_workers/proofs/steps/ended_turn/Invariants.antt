@@ -1,3 +1,4 @@
+-- What holds at the loops of `steps::ended_turn`.
 use Rattle.std.proofs.Common.{◌≡◌}
 use Rattle.nr_workers.specs.Stages.{IsWorkerAt}
 use Rattle.nr_workers.specs.declared.worker.Stage.TheVariants.{Ended}

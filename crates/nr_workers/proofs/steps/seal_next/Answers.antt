@@ -1,3 +1,4 @@
+-- The goals of `steps::seal_next` that no tactic closes.
 use Rattle.std.proofs.Common.{◌≡◌, sym, subst}
 use Rattle.nr_workers.proofs.Moves.{may_seal, seals}
 use Rattle.nr_workers.proofs.steps.seal_next.Goals as goal

@@ -1,3 +1,4 @@
+-- The goals of `steps::skip_next` that no tactic closes.
 use Rattle.std.proofs.Common.{refl}
 use Rattle.nr_workers.proofs.Moves.{skips}
 use Rattle.nr_workers.proofs.steps.skip_next.Goals as goal

@@ -1,3 +1,4 @@
+-- The goals of `worker::begin` that no tactic closes.
 use Rattle.std.proofs.Common.{refl, sym, ap, ◌∙◌, subst}
 use Rattle.nr_workers.specs.Stages.{IsAt}
 use Rattle.nr_workers.specs.declared.worker.Stage.TheVariants.{Idle}

@@ -1,3 +1,4 @@
+-- The goals of `worker::begin_all` that no tactic closes.
 use Rattle.std.proofs.Common.{◌≡◌, ℕ, length, sym, ap, ◌∙◌, subst, arith, vec_len, box_value}
 use Rattle.std.specs.Vec.Iter.{into_iter_items}
 use Rattle.nr_workers.specs.Each.{EachFrom, Each}

@@ -1,3 +1,4 @@
+-- What holds at the loops of `worker::begin_all`.
 use Rattle.std.proofs.Common.{◌≡◌, ◌+◌, length, vec_len}
 use Rattle.std.specs.Vec.Iter.{into_iter_items, into_iter_len}
 use Rattle.nr_workers.specs.Each.{EachFrom}

@@ -1,3 +1,4 @@
+-- The goals of `tests::run` that no tactic closes.
 use Rattle.std.proofs.Common.{sym, ap, subst}
 use Rattle.nr_exchange.specs.Ports.{AreMade}
 use Rattle.nr_workers_tests.proofs.tests.run.Goals as goal

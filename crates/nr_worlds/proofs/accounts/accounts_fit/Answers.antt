@@ -1,3 +1,4 @@
+-- The goals of `accounts::accounts_fit` that no tactic closes.
 use Rattle.std.proofs.Common.{ℕ, List, ap, ◌∙◌}
 use Rattle.std.specs.BTreeMap as tree
 use Rattle.std.specs.Map.{count_at}

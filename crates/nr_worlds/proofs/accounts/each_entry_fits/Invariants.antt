@@ -1,3 +1,4 @@
+-- What holds at the loops of `accounts::each_entry_fits`.
 use Rattle.std.proofs.Common.{◌≡◌, length, ℕ, List}
 use Rattle.std.specs.BTreeMap as tree
 use Rattle.std.specs.List.{list_all}

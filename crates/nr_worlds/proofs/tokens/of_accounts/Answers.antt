@@ -1,3 +1,4 @@
+-- The goals of `tokens::of_accounts` that no tactic closes.
 use Rattle.nr_worlds.proofs.Adding.{all_added}
 use Rattle.nr_worlds.proofs.tokens.of_accounts.Goals as goal
 

@@ -1,3 +1,4 @@
+-- What holds at the loops of `tokens::of_accounts`.
 use Rattle.std.proofs.Common.{◌≡◌, ◌+◌, ◌<◌, ◌^◌, length}
 use Rattle.std.specs.Prelude.{sum_by}
 use Rattle.nr_state.specs.World.{account_tokens}

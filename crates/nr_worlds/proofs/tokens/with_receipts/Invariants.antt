@@ -1,3 +1,4 @@
+-- What holds at the loops of `tokens::with_receipts`.
 use Rattle.std.proofs.Common.{◌≡◌, ◌+◌, length}
 use Rattle.std.specs.List.{list_all}
 use Rattle.nr_state.specs.Tokens.{list_tokens}

@@ -1,3 +1,4 @@
+-- The goals of `waiting::add` that no tactic closes.
 use Rattle.std.proofs.Common.{◌∙◌}
 use Rattle.std.specs.BTreeSet.{contains}
 use Rattle.nr_columns.specs.Orders.{bytes_cmp}

@@ -1,3 +1,4 @@
+-- What holds at the loops of `waiting::are_awaited`.
 use Rattle.std.proofs.Common.{◌≡◌, length}
 use Rattle.nr_worlds.specs.Tests.{are_awaited}
 use Rattle.nr_worlds.proofs.waiting.are_awaited.Given as goal

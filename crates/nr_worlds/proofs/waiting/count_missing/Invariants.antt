@@ -1,3 +1,4 @@
+-- What holds at the loops of `waiting::count_missing`.
 use Rattle.std.proofs.Common.{◌≡◌, take, count_by}
 use Rattle.nr_state.specs.Flat.{is_missing}
 use Rattle.nr_state.specs.View.{world_in}

@@ -1,3 +1,4 @@
+-- What holds at the loops of `waiting::each_waits`.
 use Rattle.std.proofs.Common.{◌≡◌, length}
 use Rattle.std.specs.List.{list_all}
 use Rattle.nr_worlds.specs.Tests.{is_waiting}

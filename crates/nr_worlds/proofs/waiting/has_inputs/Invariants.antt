@@ -1,3 +1,4 @@
+-- What holds at the loops of `waiting::has_inputs`.
 use Rattle.std.proofs.Common.{◌≡◌, length}
 use Rattle.std.specs.Prelude.{◌==◌}
 use Rattle.nr_worlds.specs.Tests.{inputs_count}

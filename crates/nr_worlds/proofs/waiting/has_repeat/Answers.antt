@@ -1,3 +1,4 @@
+-- The goals of `waiting::has_repeat` that no tactic closes.
 use Rattle.std.proofs.Common.{◌≡◌, ◌-◌, ◌∷◌, ◌||◌, List, drop, map, sym, ap, ◌∙◌, arith}
 use Rattle.std.specs.List.{list_any}
 use Rattle.std.specs.Str.{bytes_eq}

@@ -1,3 +1,4 @@
+-- The goals of `chain::ChainRun::pays` that no tactic closes.
 use Rattle.nr_chunk.proofs.chain.ChainRun.pays.Goals as goal
 
 pub returns : goal.returns

@@ -1,3 +1,4 @@
+-- The goals of `chain::ChainRun::promise` that no tactic closes.
 use Rattle.nr_chunk.proofs.chain.ChainRun.promise.Goals as goal
 
 pub returns : goal.returns

@@ -1,3 +1,4 @@
+-- The goals of `phases::ChainRunPhases::open_chunk` that no tactic closes.
 use Rattle.std.proofs.Common.{List, [], ◌≡◌, sym, ap, subst, ◌∙◌}
 use Rattle.std.specs.Prelude.{unwrap_or}
 use Rattle.nr_chunk.specs.Chain.{Chain, chunk_at, opened_first, place_at}

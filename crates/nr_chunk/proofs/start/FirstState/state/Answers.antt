@@ -1,3 +1,4 @@
+-- The goals of `start::FirstState::state` that no tactic closes.
 use Rattle.std.proofs.Common.{◌≡◌, ◌+◌, ◌<◌, IfOk, List, length, get_or, sym, ap, subst, ◌∙◌, arith}
 use Rattle.std.proofs.lemmas.List.{length-map}
 use Rattle.nr_chunk.specs.Start.{shards_in, start_world}

@@ -1,3 +1,4 @@
+-- The goals of `start::Grounds::founded` that no tactic closes.
 use Rattle.nr_chunk.specs.StartSums.{genesis_is}
 use Rattle.nr_chunk.proofs.start.Grounds.founded.Goals as goal
 

@@ -1,3 +1,4 @@
+-- The goals of `columns::Columns::accounts` that no tactic closes.
 use Rattle.std.proofs.Common.{ap, ◌∙◌}
 use Rattle.std.specs.FinMap.{values}
 use Rattle.nr_columns.proofs.InOrder.{accounts_listed, found_in}

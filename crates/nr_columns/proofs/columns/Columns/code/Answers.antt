@@ -1,3 +1,4 @@
+-- The goals of `columns::Columns::code` that no tactic closes.
 use Rattle.std.proofs.Common.{refl, ap, ◌∙◌}
 use Rattle.std.specs.FinMap as map
 use Rattle.nr_columns.proofs.Steps.{code_column, found, as_read}

@@ -1,3 +1,4 @@
+-- The goals of `columns::Columns::delayed` that no tactic closes.
 use Rattle.std.proofs.Common.{ap, subst, ◌∙◌}
 use Rattle.std.specs.Prelude.{◌≡◌, IfOk}
 use Rattle.std.specs.FinMap as map

@@ -1,3 +1,4 @@
+-- The goals of `columns::Columns::entries` that no tactic closes.
 use Rattle.std.proofs.Common.{sym, ap, ◌∙◌}
 use Rattle.std.specs.FinMap as map
 use Rattle.std.specs.List.{flat_map}

@@ -1,3 +1,4 @@
+-- The goals of `columns::Columns::missing` that no tactic closes.
 use Rattle.std.proofs.Common.{ap, ◌∙◌}
 use Rattle.std.specs.FinMap as map
 use Rattle.nr_columns.proofs.Steps.{missing_column, found}

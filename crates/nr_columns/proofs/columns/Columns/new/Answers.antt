@@ -1,3 +1,4 @@
+-- The goals of `columns::Columns::new` that no tactic closes.
 use Rattle.std.proofs.Common.{sym, ap, ◌∙◌, subst}
 use Rattle.std.specs.List.{AllByRecursion}
 use Rattle.nr_columns.specs.View.{IsLaid, columns_in}

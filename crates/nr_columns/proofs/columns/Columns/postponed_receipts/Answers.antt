@@ -1,3 +1,4 @@
+-- The goals of `columns::Columns::postponed_receipts` that no tactic closes.
 use Rattle.std.proofs.Common.{◌≡◌, ℕ, List, None, ap, sym, subst, ◌∙◌}
 use Rattle.std.specs.Prelude.{IsSome}
 use Rattle.std.specs.FinMap.{get, values}

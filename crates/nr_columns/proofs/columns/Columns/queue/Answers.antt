@@ -1,3 +1,4 @@
+-- The goals of `columns::Columns::queue` that no tactic closes.
 use Rattle.std.proofs.Common.{ap, ◌∙◌}
 use Rattle.nr_columns.proofs.columns.Columns.queue.Goals as goal
 

@@ -1,3 +1,4 @@
+-- The goals of `columns::Columns::remove_access_key` that no tactic closes.
 use Rattle.std.proofs.Common.{ap, ◌∙◌}
 use Rattle.std.specs.Prelude.{is_some}
 use Rattle.std.specs.FinMap as map

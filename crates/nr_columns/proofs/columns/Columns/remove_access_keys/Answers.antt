@@ -1,3 +1,4 @@
+-- The goals of `columns::Columns::remove_access_keys` that no tactic closes.
 use Rattle.std.proofs.Common.{◌∙◌}
 use Rattle.nr_columns.proofs.Owners.{keys_cleared}
 use Rattle.nr_columns.proofs.Steps.{shows}

@@ -1,3 +1,4 @@
+-- The goals of `columns::Columns::set_access_key` that no tactic closes.
 use Rattle.std.proofs.Common.{ap, ◌∙◌}
 use Rattle.nr_columns.specs.Tables.{read_of}
 use Rattle.nr_columns.proofs.Steps.{keys_column, wrote, stays, shows}

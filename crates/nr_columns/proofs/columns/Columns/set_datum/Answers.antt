@@ -1,3 +1,4 @@
+-- The goals of `columns::Columns::set_datum` that no tactic closes.
 use Rattle.std.proofs.Common.{refl, ◌∙◌}
 use Rattle.nr_columns.proofs.Steps.{data_column, wrote, stays, shows}
 use Rattle.nr_columns.proofs.columns.Columns.set_datum.Goals as goal

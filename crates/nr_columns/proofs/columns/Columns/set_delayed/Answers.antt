@@ -1,3 +1,4 @@
+-- The goals of `columns::Columns::set_delayed` that no tactic closes.
 use Rattle.std.proofs.Common.{ap, ◌∙◌}
 use Rattle.nr_columns.specs.Tables.{read_of}
 use Rattle.nr_columns.proofs.Steps.{delayed_column, wrote, stays, shows}

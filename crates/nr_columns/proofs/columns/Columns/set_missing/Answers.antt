@@ -1,3 +1,4 @@
+-- The goals of `columns::Columns::set_missing` that no tactic closes.
 use Rattle.std.proofs.Common.{◌∙◌}
 use Rattle.nr_columns.proofs.Steps.{missing_column, wrote, stays, shows}
 use Rattle.nr_columns.proofs.columns.Columns.set_missing.Goals as goal

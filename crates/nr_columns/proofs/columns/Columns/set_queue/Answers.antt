@@ -1,3 +1,4 @@
+-- The goals of `columns::Columns::set_queue` that no tactic closes.
 use Rattle.std.proofs.Common.{refl}
 use Rattle.nr_columns.proofs.Steps.{queue_wrote, stays, shows}
 use Rattle.nr_columns.proofs.columns.Columns.set_queue.Goals as goal

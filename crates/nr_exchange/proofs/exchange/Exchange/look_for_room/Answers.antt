@@ -1,3 +1,4 @@
+-- The goals of `exchange::Exchange::look_for_room` that no tactic closes.
 use Rattle.std.proofs.Common.{◌≡◌, ◌+◌, ◌<◌, ◌≤◌, ℕ, sym, ap, ◌∙◌, subst, refl, arith}
 use Rattle.nr_exchange.specs.Places.{taken_word}
 use Rattle.nr_exchange.proofs.PlaceLemmas.{word_below}

@@ -1,3 +1,4 @@
+-- What holds at the loops of `exchange::Exchange::look_for_room`.
 use Rattle.std.proofs.Common.{◌≡◌}
 use Rattle.nr_exchange.proofs.Rooms.{IsLooking}
 use Rattle.nr_exchange.proofs.exchange.Exchange.look_for_room.Given as goal

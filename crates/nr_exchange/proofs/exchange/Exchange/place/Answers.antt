@@ -1,3 +1,4 @@
+-- The goals of `exchange::Exchange::place` that no tactic closes.
 use Rattle.std.proofs.Common.{◌<◌, ◌+◌, ◌*◌, ◌%◌, ◌^◌, ℕ, sym, subst, arith}
 use Rattle.atomic_table.specs.Seated.{TableId}
 use Rattle.nr_exchange.specs.Plan.{Plan}

@@ -1,3 +1,4 @@
+-- What holds at the loops of `exchange::Exchange::put_all`.
 use Rattle.std.proofs.Common.{◌≡◌, length}
 use Rattle.nr_exchange.proofs.Puts.{IsPutting}
 use Rattle.nr_exchange.proofs.exchange.Exchange.put_all.Given as goal

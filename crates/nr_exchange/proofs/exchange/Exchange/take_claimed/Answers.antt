@@ -1,3 +1,4 @@
+-- The goals of `exchange::Exchange::take_claimed` that no tactic closes.
 use Rattle.std.proofs.Common.{sym, ap, ◌∙◌, subst, ◌<◌, ◌∷◌, ℕ, None}
 use Rattle.atomic_table.specs.Table.{rest}
 use Rattle.nr_exchange.specs.Plan.{chunks_to}

@@ -1,3 +1,4 @@
+-- The goals of `port::Port::abandon` that no tactic closes.
 use Rattle.std.proofs.Common.{sym, ◌∙◌, subst, ◌<◌, ℕ}
 use Rattle.nr_exchange.proofs.Adds.{abandons_as}
 use Rattle.nr_exchange.proofs.PlaceLemmas.{published_below}

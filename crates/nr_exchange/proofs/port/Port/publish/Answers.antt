@@ -1,3 +1,4 @@
+-- The goals of `port::Port::publish` that no tactic closes.
 use Rattle.std.proofs.Common.{◌≡◌, ◌+◌, ◌<◌, true, ℕ, [], sym, ap, ◌∙◌, subst, arith}
 use Rattle.nr_exchange.specs.Notes.{raised}
 use Rattle.nr_exchange.specs.Steps.{sent}

@@ -1,3 +1,4 @@
+-- The goals of `port::Port::skip` that no tactic closes.
 use Rattle.std.proofs.Common.{◌≡◌, ◌+◌, ◌<◌, ◌≤◌, false, ℕ, sym, ap, ◌∙◌, subst}
 use Rattle.nr_exchange.proofs.PlaceLemmas.{published_below}
 use Rattle.nr_exchange.proofs.Adds.{skips_as}

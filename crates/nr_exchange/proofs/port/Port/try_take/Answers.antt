@@ -1,3 +1,4 @@
+-- The goals of `port::Port::try_take` that no tactic closes.
 use Rattle.std.proofs.Common.{◌+◌, ◌<◌, ℕ, length, set, sym, ap, ◌∙◌, subst, arith}
 use Rattle.atomic_table.specs.Table.{rest}
 use Rattle.nr_exchange.specs.Plan.{IsNextChunk}

@@ -1,3 +1,4 @@
+-- The goals of `registers::Registers::total_with` that no tactic closes.
 use Rattle.std.proofs.Common.{arith}
 use Rattle.nr_guest.proofs.Sums.{total_after}
 use Rattle.nr_guest.proofs.registers.Registers.total_with.Goals as goal

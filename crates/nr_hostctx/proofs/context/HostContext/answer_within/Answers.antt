@@ -1,3 +1,4 @@
+-- The goals of `context::HostContext::answer_within` that no tactic closes.
 use Rattle.nr_hostctx.proofs.Answering.{leaves_gas}
 use Rattle.nr_hostctx.proofs.context.HostContext.answer_within.Goals as goal
 

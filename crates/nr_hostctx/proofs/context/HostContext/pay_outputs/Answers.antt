@@ -1,3 +1,4 @@
+-- The goals of `context::HostContext::pay_outputs` that no tactic closes.
 use Rattle.std.proofs.Common.{List, ◌≤◌, ◌^◌, subst}
 use Rattle.nr_records.specs.declared.receipt.DataReceiver.{DataReceiver}
 use Rattle.nr_hostctx.specs.Logs.{outputs_cost}

@@ -1,3 +1,4 @@
+-- The goals of `context::HostContext::prepay_action` that no tactic closes.
 use Rattle.std.proofs.Common.{◌+◌, arith}
 use Rattle.nr_fees.specs.Fees.{action_fee, attached}
 use Rattle.nr_fees.specs.declared.table.Payment.TheVariants.{Execute}

@@ -1,3 +1,4 @@
+-- The goals of `context::HostContext::send_action` that no tactic closes.
 use Rattle.std.proofs.Common.{◌≤◌, ◌^◌, subst}
 use Rattle.nr_fees.specs.Fees.{action_fee}
 use Rattle.nr_fees.specs.declared.table.Payment.{Payment}

@@ -1,3 +1,4 @@
+-- The goals of `outcome::Outcome::chunk_count` that no tactic closes.
 use Rattle.std.proofs.Common.{◌<◌, ◌^◌}
 use Rattle.std.specs.Prelude.{SomeIff}
 use Rattle.nr_chunk.specs.Chain.{rules_of}

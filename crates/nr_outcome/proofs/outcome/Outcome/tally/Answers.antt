@@ -1,3 +1,4 @@
+-- The goals of `outcome::Outcome::tally` that no tactic closes.
 use Rattle.std.proofs.Common.{◌^◌, ◌≤◌, ◌≡◌, sym, ap, subst, ◌∙◌}
 use Rattle.std.specs.List.{AllByRecursion}
 use Rattle.nr_chunk.specs.Chain.{AreBounded, IsCountable, rules_of}

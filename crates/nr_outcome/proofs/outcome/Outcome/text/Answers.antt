@@ -1,3 +1,4 @@
+-- The goals of `outcome::Outcome::text` that no tactic closes.
 use Rattle.std.proofs.Common.{◌≡◌}
 use Rattle.std.specs.Prelude.{IfOk}
 use Rattle.nr_chunk.specs.Chain.{rules_of}

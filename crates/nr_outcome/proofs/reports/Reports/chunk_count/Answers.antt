@@ -1,3 +1,4 @@
+-- The goals of `reports::Reports::chunk_count` that no tactic closes.
 use Rattle.std.proofs.Common.{◌≡◌, ◌≤◌, ◌<◌, ◌^◌, ℕ, ◌+◌, refl, sym, ap, subst, ◌∙◌, arith}
 use Rattle.std.specs.Prelude.{SomeIff}
 use Rattle.nr_outcome.specs.Reports.{report_in}

@@ -1,3 +1,4 @@
+-- What holds at the loops of `reports::Reports::chunk_count`.
 use Rattle.std.proofs.Common.{◌≡◌, ◌≤◌, ◌<◌, ◌^◌}
 use Rattle.nr_outcome.specs.Reports.{report_in}
 use Rattle.nr_outcome.specs.Texts.{count_to}

@@ -1,3 +1,4 @@
+-- The goals of `reports::Reports::text` that no tactic closes.
 use Rattle.std.proofs.Common.{◌+◌, arith}
 use Rattle.nr_outcome.specs.Reports.{report_in}
 use Rattle.nr_outcome.specs.Texts.{height_text}

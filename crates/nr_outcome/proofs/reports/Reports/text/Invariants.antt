@@ -1,3 +1,4 @@
+-- What holds at the loops of `reports::Reports::text`.
 use Rattle.std.proofs.Common.{◌≡◌, ◌≤◌, max}
 use Rattle.nr_outcome.specs.Reports.{report_in}
 use Rattle.nr_outcome.specs.Texts.{heights_text}

@@ -1,3 +1,4 @@
+-- The goals of `interleaved::Core::adds_up` that no tactic closes.
 use Rattle.std.proofs.Common.{subst}
 use Rattle.nr_overlap.specs.CoreView.{CoreView}
 use Rattle.nr_overlap.specs.Balance.{IsKeptBy, AddsUp}

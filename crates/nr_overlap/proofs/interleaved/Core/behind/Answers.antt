@@ -1,3 +1,4 @@
+-- The goals of `interleaved::Core::behind` that no tactic closes.
 use Rattle.std.proofs.Common.{◌≡◌, None, sym, ap, subst, ◌∙◌}
 use Rattle.nr_overlap.specs.CoreView.{CoreView}
 use Rattle.nr_overlap.specs.Outcome.{behind}

@@ -1,3 +1,4 @@
+-- The goals of `interleaved::Core::close` that no tactic closes.
 use Rattle.std.proofs.Common.{◌≡◌, sym, subst}
 use Rattle.nr_overlap.specs.CoreView.{CoreView}
 use Rattle.nr_overlap.specs.Run.{ending}

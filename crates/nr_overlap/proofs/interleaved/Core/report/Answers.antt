@@ -1,3 +1,4 @@
+-- The goals of `interleaved::Core::report` that no tactic closes.
 use Rattle.std.proofs.Common.{◌≡◌, refl, ap, ◌∙◌, subst}
 use Rattle.std.specs.Option.{option_copied}
 use Rattle.nr_overlap.specs.Moment.{report_at}

@@ -1,3 +1,4 @@
+-- The goals of `interleaved::Core::working` that no tactic closes.
 use Rattle.std.proofs.Common.{◌≡◌, ◌<◌, false, refl, subst}
 use Rattle.std.specs.Option.{option_copied}
 use Rattle.nr_overlap.specs.Positions.{at}

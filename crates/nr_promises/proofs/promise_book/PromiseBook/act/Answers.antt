@@ -1,3 +1,4 @@
+-- The goals of `promise_book::PromiseBook::act` that no tactic closes.
 use Rattle.nr_promises.proofs.Books.{book_acted}
 use Rattle.nr_promises.proofs.promise_book.PromiseBook.act.Goals as goal
 

@@ -1,3 +1,4 @@
+-- The goals of `promise_book::PromiseBook::create` that no tactic closes.
 use Rattle.nr_promises.proofs.Books.{book_created}
 use Rattle.nr_promises.proofs.promise_book.PromiseBook.create.Goals as goal
 

@@ -1,3 +1,4 @@
+-- The goals of `promise_book::PromiseBook::join` that no tactic closes.
 use Rattle.nr_promises.proofs.Books.{book_joined}
 use Rattle.nr_promises.proofs.promise_book.PromiseBook.join.Goals as goal
 

@@ -1,3 +1,4 @@
+-- The goals of `promise_book::PromiseBook::then` that no tactic closes.
 use Rattle.nr_promises.proofs.Books.{book_chained}
 use Rattle.nr_promises.proofs.promise_book.PromiseBook.then.Goals as goal
 

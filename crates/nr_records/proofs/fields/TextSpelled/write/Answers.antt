@@ -1,3 +1,4 @@
+-- The goals of `fields::TextSpelled::write` that no tactic closes.
 use Rattle.std.proofs.Common.{rules, ℕ, List, Result, Ok, Err, subst, OnOk}
 use Rattle.std.specs.Str.{IsUtf8}
 use Rattle.std.proofs.lemmas.Str.{is_utf8-from_IsUtf8}

@@ -1,3 +1,4 @@
+-- The goals of `trie::Fork::close` that no tactic closes.
 use Rattle.std.proofs.Common.{◌≡◌, length, ap, ◌∙◌}
 use Rattle.nr_triedef.specs.Node.{summary}
 use Rattle.nr_store.specs.Tries.{Branching}

@@ -1,3 +1,4 @@
+-- The goals of `trie::Fork::give` that no tactic closes.
 use Rattle.std.proofs.Common.{◌≡◌, ◌<◌, ◌+◌, ◌∷◌, [], length, length-append, map, subst, sym, ap, ◌∙◌, arith}
 use Rattle.std.specs.List.{range_with_len}
 use Rattle.nr_triedef.specs.Root.{Paths, under}

@@ -1,3 +1,4 @@
+-- The goals of `state::ShardState::entries` that no tactic closes.
 use Rattle.std.proofs.Common.{◌≡◌, IfOk, sym, subst}
 use Rattle.std.specs.FinMap as map
 use Rattle.nr_columns.specs.Columns.{laid_columns}

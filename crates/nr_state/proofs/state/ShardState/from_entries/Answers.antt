@@ -1,3 +1,4 @@
+-- The goals of `state::ShardState::from_entries` that no tactic closes.
 use Rattle.nr_state.proofs.EntryWorlds.{state_from}
 use Rattle.nr_state.proofs.state.ShardState.from_entries.Goals as goal
 

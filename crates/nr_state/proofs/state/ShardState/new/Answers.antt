@@ -1,3 +1,4 @@
+-- The goals of `state::ShardState::new` that no tactic closes.
 use Rattle.nr_state.proofs.WholeStates.{state_none}
 use Rattle.nr_state.proofs.state.ShardState.new.Goals as goal
 

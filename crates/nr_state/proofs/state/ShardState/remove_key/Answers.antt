@@ -1,3 +1,4 @@
+-- The goals of `state::ShardState::remove_key` that no tactic closes.
 use Rattle.std.proofs.Common.{ap, ◌∙◌}
 use Rattle.nr_state.proofs.WholeStates.{state_owning}
 use Rattle.nr_state.proofs.Worlds.{no_key_fits}

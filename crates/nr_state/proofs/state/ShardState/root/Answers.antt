@@ -1,3 +1,4 @@
+-- The goals of `state::ShardState::root` that no tactic closes.
 use Rattle.std.proofs.Common.{◌≡◌, IfOk, sym, subst}
 use Rattle.nr_triedef.specs.Root.{root_of}
 use Rattle.nr_state.proofs.WholeStates.{flat_here}

@@ -1,3 +1,4 @@
+-- The goals of `state::ShardState::set_account` that no tactic closes.
 use Rattle.nr_state.proofs.WholeStates.{state_owning}
 use Rattle.nr_state.proofs.Worlds.{account_fits}
 use Rattle.nr_state.proofs.state.ShardState.set_account.Goals as goal

@@ -1,3 +1,4 @@
+-- The goals of `partial::Partial::change` that no tactic closes.
 use Rattle.nr_stateless.specs.Accounts.{searched_of}
 use Rattle.nr_stateless.specs.Changing.{replaced}
 use Rattle.nr_stateless.proofs.ByKeys.{replaced_changed}

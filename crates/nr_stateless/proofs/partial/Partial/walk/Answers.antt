@@ -1,3 +1,4 @@
+-- The goals of `partial::Partial::walk` that no tactic closes.
 use Rattle.std.proofs.Common.{ap, ◌∙◌}
 use Rattle.nr_stateless.specs.Accounts.{searched_of}
 use Rattle.nr_stateless.proofs.ByKeys.{accounts_shown}

@@ -1,3 +1,4 @@
+-- The goals of `plain::PlainStoreStore::back` that no tactic closes.
 use Rattle.std.proofs.Common.{◌≡◌, ◌<◌, ◌-◌, ◌∷◌, sym, subst, ap, ◌∙◌, arith, length, length-take, get_or}
 use Rattle.std.specs.List.{AllByRecursion}
 use Rattle.nr_triedef.specs.Stores.{IsSized}

@@ -1,3 +1,4 @@
+-- The goals of `plain::PlainStoreStore::get` that no tactic closes.
 use Rattle.std.proofs.Common.{Some, sym, ap, ◌∙◌}
 use Rattle.std.specs.Option.{option_map}
 use Rattle.std.specs.FinMap as map

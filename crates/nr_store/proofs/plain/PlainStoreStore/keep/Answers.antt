@@ -1,3 +1,4 @@
+-- The goals of `plain::PlainStoreStore::keep` that no tactic closes.
 use Rattle.std.proofs.Common.{◌-◌, ap, sym, subst, arith, length}
 use Rattle.nr_triedef.specs.Stores.{IsSized}
 use Rattle.nr_store.specs.Plain.{held_in, HaveSlots, AreApart}

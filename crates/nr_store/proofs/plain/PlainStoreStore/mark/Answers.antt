@@ -1,3 +1,4 @@
+-- The goals of `plain::PlainStoreStore::mark` that no tactic closes.
 use Rattle.std.proofs.Common.{◌∷◌, ap, sym, subst, ◌∙◌, arith, length}
 use Rattle.std.specs.List.{AllByRecursion}
 use Rattle.nr_triedef.specs.Stores.{IsSized}

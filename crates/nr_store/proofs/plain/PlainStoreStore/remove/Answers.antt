@@ -1,3 +1,4 @@
+-- The goals of `plain::PlainStoreStore::remove` that no tactic closes.
 use Rattle.std.proofs.Common.{◌≡◌, Some, None, sym, ap, ◌∙◌, subst}
 use mathlib.Core.Bool.{false≢true}
 use Rattle.std.specs.Option.{is_some}

@@ -1,3 +1,4 @@
+-- The goals of `plain::PlainStoreStore::reserve_marks` that no tactic closes.
 use Rattle.std.proofs.Common.{ap, arith, length}
 use Rattle.nr_store.specs.Plain.{held_in}
 use Rattle.nr_store.proofs.Rewind.{length-seen}

@@ -1,3 +1,4 @@
+-- The goals of `plain::PlainStoreStore::set` that no tactic closes.
 use Rattle.std.proofs.Common.{◌≡◌, ◌≤◌, Some, length, refl, sym, ap, ◌∙◌, subst}
 use Rattle.std.specs.List.{AllByRecursion}
 use Rattle.std.specs.FinMap.{entries}
@@ -15,7 +16,10 @@ marks_same : (c : In_ok-push) → seen (held_in c.put-2.new.slots.entries) c.pus
 marks_same c =
     let u : Undo = record { key = c.in_ok-noted.noted; before = c.in_ok-before.before } in
     seen-noted (held_in c.self.inside.slots.entries) (held_in c.put-2.new.slots.entries) c.self.inside.log.items c.reserve.new.self.items c.push.new.self.items u c.self.inside.starts c.self.inside.standing c.self.invariant.order c.in_ok-reserve.ensures.items c.in_ok-push.ensures.items
-    (changed_back (held_in c.self.inside.slots.entries) (held_in c.put-2.new.slots.entries) c.in_ok-stored.stored.items (Some c.in_ok-held.held.items) u c.in_ok-before.ensures.ok (c.in_ok-noted.ensures.items ∙ sym c.in_ok-stored.ensures.items) (value_found c.self.inside.slots.entries u c.in_ok-stored.stored.items c.in_ok-before.ensures.before))
+    (changed_back (held_in c.self.inside.slots.entries) (held_in c.put-2.new.slots.entries)
+    c.in_ok-stored.stored.items (Some c.in_ok-held.held.items) u c.in_ok-before.ensures.ok
+    (c.in_ok-noted.ensures.items ∙ sym c.in_ok-stored.ensures.items)
+    (value_found c.self.inside.slots.entries u c.in_ok-stored.stored.items c.in_ok-before.ensures.before))
 
 few_after : (c : In_ok-push) → length (entries (held_in c.put-2.new.slots.entries)) ≤ most_entries
 few_after c = few_put c.self.inside.slots.entries c.put-2.new.slots.entries c.in_ok-before.before c.in_ok-stored.stored.items c.args.key.now c.in_ok-stored.ensures.items c.in_ok-before.ensures.before c.in_ok-before.ensures.count (c.if-not-fits.ensures.room refl)

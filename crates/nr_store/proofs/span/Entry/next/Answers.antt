@@ -1,3 +1,4 @@
+-- The goals of `span::Entry::next` that no tactic closes.
 use Rattle.std.proofs.Common.{◌≡◌, ap, length, List, ℕ, arith}
 use Rattle.nr_triedef.specs.Node.{nibbles}
 use Rattle.nr_store.proofs.Nibbles.{length-nibbles}

@@ -1,3 +1,4 @@
+-- The goals of `span::Entry::nibble` that no tactic closes.
 use Rattle.std.proofs.Common.{ap, sym, ◌∙◌, drop, List, ℕ, arith}
 use Rattle.nr_store.specs.Tries.{first}
 use Rattle.nr_store.proofs.Nibbles.{high_nibble, low_nibble, no_nibble}

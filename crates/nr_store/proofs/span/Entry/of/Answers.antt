@@ -1,3 +1,4 @@
+-- The goals of `span::Entry::of` that no tactic closes.
 use Rattle.std.proofs.Common.{arith}
 use Rattle.nr_triedef.proofs.Parts.{nibbles_small}
 use Rattle.nr_store.proofs.span.Entry.of.Goals as goal

@@ -1,3 +1,4 @@
+-- The goals of `span::Entry::part` that no tactic closes.
 use Rattle.std.proofs.Common.{arith, ◌∙◌}
 use Rattle.nr_store.proofs.Nibbles.{part_more, part_all, part_ended}
 use Rattle.nr_store.proofs.span.Entry.part.Goals as goal

@@ -1,3 +1,4 @@
+-- What holds at the loops of `span::Entry::part`.
 use Rattle.std.proofs.Common.{◌≡◌, ◌≤◌, ◌-◌, [], take, drop}
 use Rattle.nr_store.proofs.span.Entry.part.Given as goal
 

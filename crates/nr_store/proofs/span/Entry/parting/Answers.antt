@@ -1,3 +1,4 @@
+-- The goals of `span::Entry::parting` that no tactic closes.
 use Rattle.std.proofs.Common.{sym, arith}
 use Rattle.nr_store.proofs.Nibbles.{meets_more}
 use Rattle.nr_store.proofs.span.Entry.parting.Goals as goal

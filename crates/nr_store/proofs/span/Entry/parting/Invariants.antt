@@ -1,3 +1,4 @@
+-- What holds at the loops of `span::Entry::parting`.
 use Rattle.std.proofs.Common.{◌≡◌, ◌+◌, ◌-◌, length, drop}
 use Rattle.nr_triedef.specs.Root.{common}
 use Rattle.nr_store.proofs.span.Entry.parting.Given as goal

@@ -1,3 +1,4 @@
+-- The goals of `span::Span::first_key` that no tactic closes.
 use Rattle.std.proofs.Common.{◌*◌, ◌-◌, length, take, drop, sym, ap, ◌∙◌, List, ℕ}
 use Rattle.nr_store.proofs.Nibbles.{first_whole}
 use Rattle.nr_store.proofs.span.Span.first_key.Goals as goal

@@ -1,3 +1,4 @@
+-- The goals of `span::Span::front` that no tactic closes.
 use Rattle.std.proofs.Common.{◌≤◌, ◌-◌, length, take, drop, subst, sym, ap, ◌∙◌, List, ℕ}
 use Rattle.nr_triedef.specs.Root.{Paths, front}
 use Rattle.nr_store.proofs.Orders.{front_taken, parting_named}

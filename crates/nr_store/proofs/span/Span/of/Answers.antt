@@ -1,3 +1,4 @@
+-- The goals of `span::Span::of` that no tactic closes.
 use Rattle.std.proofs.Common.{sym, subst}
 use Rattle.nr_store.specs.Tries.{CanWalk}
 use Rattle.nr_store.proofs.Orders.{behind_none}

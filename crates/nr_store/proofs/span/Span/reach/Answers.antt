@@ -1,3 +1,4 @@
+-- The goals of `span::Span::reach` that no tactic closes.
 use Rattle.std.proofs.Common.{rules, subst, take, drop, List, ℕ}
 use Rattle.std.proofs.lemmas.List.Sorted.{IsPartitionPoint-from_clause}
 use Rattle.nr_triedef.specs.Root.{Paths}

@@ -1,3 +1,4 @@
+-- The goals of `span::Span::under` that no tactic closes.
 use Rattle.std.proofs.Common.{◌-◌, ◌<◌, length, take, drop, subst, sym, ap, ◌∙◌, arith}
 use Rattle.std.proofs.lemmas.Bool.{eqb-true}
 use Rattle.nr_triedef.specs.Root.{behind}
@@ -18,16 +19,36 @@ next-offset-requires c =
 
 pub invariant_of-result : goal.invariant_of-result
 invariant_of-result c =
-    subst CanWalk (sym (under_empty c.args.nibble c.self.inside.offset c.self.inside.entries.now c.args.self.now c.reach-start.result c.reach-end.result c.self.view_is (reach_more c.args.nibble c.args.self.now c.reach-start.result c.reach-end.result c.reach-start.ensures.within c.reach-start.ensures.below c.reach-end.ensures.above) c.reach-start.ensures.below c.reach-start.ensures.above c.reach-end.ensures.below c.reach-end.ensures.above (eqb-true _ 0 (sym c.if-is_empty.ensures))))
+    subst CanWalk (sym (under_empty c.args.nibble c.self.inside.offset c.self.inside.entries.now c.args.self.now
+    c.reach-start.result c.reach-end.result c.self.view_is
+    (reach_more c.args.nibble c.args.self.now c.reach-start.result c.reach-end.result c.reach-start.ensures.within
+    c.reach-start.ensures.below c.reach-end.ensures.above) c.reach-start.ensures.below c.reach-start.ensures.above
+    c.reach-end.ensures.below c.reach-end.ensures.above (eqb-true _ 0 (sym c.if-is_empty.ensures))))
     (walk_under c.args.nibble c.args.self.now (subst CanWalk c.self.view_is c.self.invariant))
 
 pub returns-then-is_empty : goal.returns-then-is_empty
-returns-then-is_empty c = under_empty c.args.nibble c.self.inside.offset c.self.inside.entries.now c.args.self.now c.reach-start.result c.reach-end.result c.self.view_is (reach_more c.args.nibble c.args.self.now c.reach-start.result c.reach-end.result c.reach-start.ensures.within c.reach-start.ensures.below c.reach-end.ensures.above) c.reach-start.ensures.below c.reach-start.ensures.above c.reach-end.ensures.below c.reach-end.ensures.above (eqb-true _ 0 (sym c.if-is_empty.ensures))
+returns-then-is_empty c =
+    under_empty c.args.nibble c.self.inside.offset c.self.inside.entries.now c.args.self.now c.reach-start.result
+    c.reach-end.result c.self.view_is (reach_more c.args.nibble c.args.self.now c.reach-start.result
+    c.reach-end.result c.reach-start.ensures.within c.reach-start.ensures.below c.reach-end.ensures.above)
+    c.reach-start.ensures.below c.reach-start.ensures.above c.reach-end.ensures.below c.reach-end.ensures.above
+    (eqb-true _ 0 (sym c.if-is_empty.ensures))
 
 pub invariant_of-result-2 : goal.invariant_of-result-2
 invariant_of-result-2 c =
-    subst CanWalk (sym (ap (λ n. behind n (take (c.reach-end.result - c.reach-start.result) (drop c.reach-start.result c.self.inside.entries.now))) c.next-offset.ensures ∙ under_slice c.args.nibble c.self.inside.offset c.self.inside.entries.now c.args.self.now c.reach-start.result c.reach-end.result c.self.view_is (reach_more c.args.nibble c.args.self.now c.reach-start.result c.reach-end.result c.reach-start.ensures.within c.reach-start.ensures.below c.reach-end.ensures.above) c.reach-start.ensures.below c.reach-start.ensures.above c.reach-end.ensures.below c.reach-end.ensures.above))
+    subst CanWalk (sym (ap (λ n. behind n (take (c.reach-end.result - c.reach-start.result)
+    (drop c.reach-start.result c.self.inside.entries.now))) c.next-offset.ensures ∙ under_slice c.args.nibble
+    c.self.inside.offset c.self.inside.entries.now c.args.self.now c.reach-start.result c.reach-end.result
+    c.self.view_is (reach_more c.args.nibble c.args.self.now c.reach-start.result c.reach-end.result
+    c.reach-start.ensures.within c.reach-start.ensures.below c.reach-end.ensures.above)
+    c.reach-start.ensures.below c.reach-start.ensures.above c.reach-end.ensures.below c.reach-end.ensures.above))
     (walk_under c.args.nibble c.args.self.now (subst CanWalk c.self.view_is c.self.invariant))
 
 pub returns : goal.returns
-returns c = ap (λ n. behind n (take (c.reach-end.result - c.reach-start.result) (drop c.reach-start.result c.self.inside.entries.now))) c.next-offset.ensures ∙ under_slice c.args.nibble c.self.inside.offset c.self.inside.entries.now c.args.self.now c.reach-start.result c.reach-end.result c.self.view_is (reach_more c.args.nibble c.args.self.now c.reach-start.result c.reach-end.result c.reach-start.ensures.within c.reach-start.ensures.below c.reach-end.ensures.above) c.reach-start.ensures.below c.reach-start.ensures.above c.reach-end.ensures.below c.reach-end.ensures.above
+returns c =
+    ap (λ n. behind n (take (c.reach-end.result - c.reach-start.result)
+    (drop c.reach-start.result c.self.inside.entries.now))) c.next-offset.ensures ∙ under_slice c.args.nibble
+    c.self.inside.offset c.self.inside.entries.now c.args.self.now c.reach-start.result c.reach-end.result
+    c.self.view_is (reach_more c.args.nibble c.args.self.now c.reach-start.result c.reach-end.result
+    c.reach-start.ensures.within c.reach-start.ensures.below c.reach-end.ensures.above) c.reach-start.ensures.below
+    c.reach-start.ensures.above c.reach-end.ensures.below c.reach-end.ensures.above

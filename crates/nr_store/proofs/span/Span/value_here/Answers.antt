@@ -1,3 +1,4 @@
+-- The goals of `span::Span::value_here` that no tactic closes.
 use Rattle.std.proofs.Common.{◌≡◌, Some, false, true, length, drop, sym, ap, ◌∙◌, List, ℕ}
 use Rattle.std.specs.Prelude.{is_some}
 use Rattle.std.proofs.lemmas.Bool.{eqb-true}

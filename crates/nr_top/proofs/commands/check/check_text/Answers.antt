@@ -1,3 +1,4 @@
+-- The goals of `commands::check::check_text` that no tactic closes.
 use Rattle.nr_shell.proofs.Leading.{stop_follows, then_follows}
 use Rattle.nr_top.specs.Plans.{by_course}
 use Rattle.nr_top.proofs.commands.check.check_text.Goals as goal

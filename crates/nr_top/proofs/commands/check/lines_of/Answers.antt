@@ -1,3 +1,4 @@
+-- The goals of `commands::check::lines_of` that no tactic closes.
 use Rattle.std.proofs.Common.{refl}
 use Rattle.nr_shell.proofs.Leading.{read_follows, stop_follows}
 use Rattle.nr_top.specs.Answers.{refuses}

@@ -1,3 +1,4 @@
+-- The goals of `commands::check::most_shards` that no tactic closes.
 use Rattle.std.proofs.Common.{ℕ, ◌+◌, cond, Option, length, sym, ap, ◌∙◌}
 use Rattle.std.specs.Prelude.{nat_lt}
 use Rattle.nr_course.specs.Course.{turn_by}

@@ -1,3 +1,4 @@
+-- The goals of `commands::check::scheduled` that no tactic closes.
 use Rattle.std.proofs.Common.{ℕ, List, ap, subst}
 use Rattle.nr_schedule.specs.Checking.{check_text}
 use Rattle.nr_schedule.specs.declared.schedule.Line.{Line}

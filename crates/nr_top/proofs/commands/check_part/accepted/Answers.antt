@@ -1,3 +1,4 @@
+-- The goals of `commands::check_part::accepted` that no tactic closes.
 use Rattle.nr_top.proofs.PartAnswers.{checked_line, checked_stop}
 use Rattle.nr_top.proofs.commands.check_part.accepted.Goals as goal
 

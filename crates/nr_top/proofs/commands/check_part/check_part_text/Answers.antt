@@ -1,3 +1,4 @@
+-- The goals of `commands::check_part::check_part_text` that no tactic closes.
 use Rattle.nr_shell.proofs.Leading.{judge_follows, stop_follows, then_follows}
 use Rattle.nr_top.specs.Roots.{root_in}
 use Rattle.nr_top.specs.StateParts.{check_answer}

@@ -1,3 +1,4 @@
+-- The goals of `commands::gather::gather_text` that no tactic closes.
 use Rattle.nr_shell.proofs.Leading.{judge_follows, stop_follows, then_follows}
 use Rattle.nr_top.specs.Gathering.{gather_answer}
 use Rattle.nr_top.proofs.commands.gather.gather_text.Goals as goal

@@ -1,3 +1,4 @@
+-- The goals of `commands::gather::gathered` that no tactic closes.
 use Rattle.std.proofs.Common.{List, ℕ, ap}
 use Rattle.nr_chunk.specs.Chain.{Chain}
 use Rattle.nr_shell.specs.Answers.{Judges}

@@ -1,3 +1,4 @@
+-- The goals of `commands::gather::gathered_text` that no tactic closes.
 use Rattle.std.proofs.Common.{ℕ, ◌<◌, arith}
 use Rattle.nr_top.specs.Moments.{chain_of}
 use Rattle.nr_top.proofs.Entered.{is_chunk}

@@ -1,3 +1,4 @@
+-- The goals of `commands::join_parts::join_parts_text` that no tactic closes.
 use Rattle.nr_shell.proofs.Leading.{judge_follows, stop_follows, then_follows}
 use Rattle.nr_top.specs.StateParts.{join_answer}
 use Rattle.nr_top.proofs.commands.join_parts.join_parts_text.Goals as goal

@@ -1,3 +1,4 @@
+-- The goals of `commands::join_parts::joined_text` that no tactic closes.
 use Rattle.nr_top.proofs.PartAnswers.{joined_line, joined_stop}
 use Rattle.nr_top.proofs.commands.join_parts.joined_text.Goals as goal
 

@@ -1,3 +1,4 @@
+-- The goals of `commands::part::cut` that no tactic closes.
 use Rattle.std.proofs.Common.{List, ℕ, ap}
 use Rattle.nr_chunk.specs.Chain.{Chain}
 use Rattle.nr_shell.specs.Answers.{Judges}

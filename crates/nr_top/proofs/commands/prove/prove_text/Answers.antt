@@ -1,3 +1,4 @@
+-- The goals of `commands::prove::prove_text` that no tactic closes.
 use Rattle.nr_shell.proofs.Leading.{judge_follows, stop_follows, then_follows}
 use Rattle.nr_top.specs.Proving.{by_item}
 use Rattle.nr_top.proofs.commands.prove.prove_text.Goals as goal

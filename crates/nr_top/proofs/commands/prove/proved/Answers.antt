@@ -1,3 +1,4 @@
+-- The goals of `commands::prove::proved` that no tactic closes.
 use Rattle.std.proofs.Common.{ℕ, List}
 use Rattle.nr_chunk.specs.Chain.{Chain}
 use Rattle.nr_shell.specs.Answers.{Judges}

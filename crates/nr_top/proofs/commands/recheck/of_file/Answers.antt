@@ -1,3 +1,4 @@
+-- The goals of `commands::recheck::of_file` that no tactic closes.
 use Rattle.nr_shell.proofs.Leading.{judge_follows, stop_follows, then_follows}
 use Rattle.nr_top.specs.Rechecking.{recheck_answer}
 use Rattle.nr_top.proofs.commands.recheck.of_file.Goals as goal

@@ -1,3 +1,4 @@
+-- The goals of `commands::recheck::recheck_text` that no tactic closes.
 use Rattle.nr_shell.proofs.Leading.{stop_follows, then_follows}
 use Rattle.nr_top.specs.Rechecking.{by_gathered}
 use Rattle.nr_top.proofs.commands.recheck.recheck_text.Goals as goal

@@ -1,3 +1,4 @@
+-- The goals of `commands::recheck::rechecked` that no tactic closes.
 use Rattle.nr_top.proofs.RecheckAnswers.{rechecked_lines, rechecked_stop}
 use Rattle.nr_top.proofs.commands.recheck.rechecked.Goals as goal
 

@@ -1,3 +1,4 @@
+-- The goals of `commands::recheck::run_again` that no tactic closes.
 use Rattle.std.proofs.Common.{subst}
 use Rattle.nr_bytes.specs.Answers.{Gives}
 use Rattle.nr_config.specs.Config.{Config}

@@ -1,3 +1,4 @@
+-- The goals of `commands::roots::add_height` that no tactic closes.
 use Rattle.nr_chunk.specs.Runs.{chain_in}
 use Rattle.nr_top.specs.Chunks.{result_at}
 use Rattle.nr_top.specs.Proving.{roots_told}

@@ -1,3 +1,4 @@
+-- What holds at the loops of `commands::roots::add_height`.
 use Rattle.std.proofs.Common.{◌≡◌, ◌++◌}
 use Rattle.nr_chunk.specs.Runs.{chain_in}
 use Rattle.nr_top.specs.Chunks.{result_at}

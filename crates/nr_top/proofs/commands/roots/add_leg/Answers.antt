@@ -1,3 +1,4 @@
+-- The goals of `commands::roots::add_leg` that no tactic closes.
 use Rattle.std.proofs.Common.{◌+◌}
 use Rattle.nr_chunk.specs.Runs.{chain_in}
 use Rattle.nr_outcome.proofs.Steps.{text_next}

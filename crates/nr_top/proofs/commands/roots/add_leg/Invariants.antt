@@ -1,3 +1,4 @@
+-- What holds at the loops of `commands::roots::add_leg`.
 use Rattle.std.proofs.Common.{◌≡◌, ◌+◌, ◌++◌}
 use Rattle.nr_chunk.specs.Runs.{chain_in}
 use Rattle.nr_top.specs.Proving.{height_roots}

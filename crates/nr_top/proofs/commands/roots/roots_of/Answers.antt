@@ -1,3 +1,4 @@
+-- The goals of `commands::roots::roots_of` that no tactic closes.
 use Rattle.std.proofs.Common.{List, ℕ, ◌++◌, ap, ◌∙◌}
 use Rattle.nr_chunk.specs.Runs.{chain_in}
 use Rattle.nr_top.specs.Proving.{later_roots, leg_roots}

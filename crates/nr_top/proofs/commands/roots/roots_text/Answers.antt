@@ -1,3 +1,4 @@
+-- The goals of `commands::roots::roots_text` that no tactic closes.
 use Rattle.nr_course.specs.Course.{Course}
 use Rattle.nr_shell.specs.Plans.{Answer}
 use Rattle.nr_shell.proofs.Leading.{make_follows, stop_follows, then_follows}

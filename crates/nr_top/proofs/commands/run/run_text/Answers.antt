@@ -1,3 +1,4 @@
+-- The goals of `commands::run::run_text` that no tactic closes.
 use Rattle.nr_course.specs.Course.{Course}
 use Rattle.nr_course.specs.Texts.{course_text}
 use Rattle.nr_shell.specs.Plans.{Answer}

@@ -1,3 +1,4 @@
+-- The goals of `commands::verify::verify_text` that no tactic closes.
 use Rattle.std.proofs.Common.{ℕ, List, refl, subst}
 use Rattle.nr_ids.specs.declared.key.Hash32.{Hash32}
 use Rattle.nr_shell.specs.Answers.{Judges}

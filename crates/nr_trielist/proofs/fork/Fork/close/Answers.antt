@@ -1,3 +1,4 @@
+-- The goals of `fork::Fork::close` that no tactic closes.
 use Rattle.std.proofs.Common.{◌≡◌, ◌++◌, length, Some, ap, subst, ◌∙◌, List}
 use Rattle.std.specs.Prelude.{reverse}
 use Rattle.std.specs.List.{flat_map}
@@ -31,7 +32,10 @@ returns-clause-top c =
     let full : length c.self.inside.made.items ≡ 16 = ap (λ (b : Branching). length b.made) c.self.view_is ∙ c.requires in
     if_ok (λ (s : Summary). s ≡ with_front c.inner.result.now (summary c.in_ok-node.node)) (λ (s : Summary). Some s ≡ whole c.args.self.now.keys) c.fronted.result
     (λ s e.
-    whole_closed c.self.inside.keys c.self.inside.rest c.deref.result.now c.inner.result.now (summary c.in_ok-node.node) s c.self.invariant.many c.self.invariant.order c.self.invariant.rest (c.deref.ensures.value ∙ made_here c.self.inside.rest c.self.inside.made.items c.self.invariant.made full) (c.inner.ensures ∙ c.in_ok-shared.ensures.value) (ap summary c.in_ok-node.ensures) e
+    whole_closed c.self.inside.keys c.self.inside.rest c.deref.result.now c.inner.result.now
+    (summary c.in_ok-node.node) s c.self.invariant.many c.self.invariant.order c.self.invariant.rest
+    (c.deref.ensures.value ∙ made_here c.self.inside.rest c.self.inside.made.items c.self.invariant.made full)
+    (c.inner.ensures ∙ c.in_ok-shared.ensures.value) (ap summary c.in_ok-node.ensures) e
     ∙ ap (λ (b : Branching). whole b.keys) c.self.view_is)
     c.fronted.ensures.top
 

@@ -1,3 +1,4 @@
+-- The goals of `body::Body::of` that no tactic closes.
 use Rattle.std.proofs.Common.{◌∙◌, sym}
 use Rattle.nr_trienodes.proofs.Rows.{none_there}
 use Rattle.nr_trienodes.proofs.body.Body.of.Goals as goal

@@ -1,3 +1,4 @@
+-- The goals of `names::Names::anew` that no tactic closes.
 use Rattle.nr_trienodes.proofs.Own.{oldest_anew}
 use Rattle.nr_trienodes.proofs.names.Names.anew.Goals as goal
 

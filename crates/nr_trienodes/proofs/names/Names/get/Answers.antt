@@ -1,3 +1,4 @@
+-- The goals of `names::Names::get` that no tactic closes.
 use Rattle.std.proofs.Common.{◌∙◌, ◌-◌, ap, sym, length, arith}
 use Rattle.nr_trienodes.specs.Naming.{Names, new_name}
 use Rattle.nr_trienodes.proofs.Own.{old_name, young_name, names-length, held}

@@ -1,3 +1,4 @@
+-- The goals of `names::Names::set` that no tactic closes.
 use Rattle.std.proofs.Common.{◌∙◌, ap, sym, length, set, Some, arith}
 use Rattle.nr_trienodes.specs.Naming.{Names}
 use Rattle.nr_trienodes.proofs.Own.{old_set, young_set, names-length}

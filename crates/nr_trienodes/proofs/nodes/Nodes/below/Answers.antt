@@ -1,3 +1,4 @@
+-- The goals of `nodes::Nodes::below` that no tactic closes.
 use Rattle.std.proofs.Common.{Option, ap, sym, subst, ◌∙◌}
 use Rattle.nr_triedef.specs.Node.{nibbles}
 use Rattle.nr_triedef.specs.Stores.{keys_below}

@@ -1,3 +1,4 @@
+-- The goals of `nodes::Nodes::cut` that no tactic closes.
 use Rattle.std.proofs.Common.{◌+◌, ◌*◌, ℕ, length, Option, None, sym, subst}
 use Rattle.nr_triedef.specs.Node.{nibbles}
 use Rattle.nr_trienodes.specs.Turns.{Changes}

@@ -1,3 +1,4 @@
+-- The goals of `nodes::Nodes::find` that no tactic closes.
 use Rattle.std.proofs.Common.{sym, ◌∙◌}
 use Rattle.nr_trienodes.proofs.Maps.{get_of_none, get_of_some}
 use Rattle.nr_trienodes.proofs.nodes.Nodes.find.Goals as goal

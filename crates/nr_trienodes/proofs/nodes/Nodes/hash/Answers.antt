@@ -1,3 +1,4 @@
+-- The goals of `nodes::Nodes::hash` that no tactic closes.
 use Rattle.std.proofs.Common.{sym, ◌∙◌}
 use Rattle.nr_trienodes.proofs.Hashed.{steps_of, known_of, known_none, hash_of_none, hash_of_some, keeps_warm, warm_there}
 use Rattle.nr_trienodes.proofs.nodes.Nodes.hash.Goals as goal

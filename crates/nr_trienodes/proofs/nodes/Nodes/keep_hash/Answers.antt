@@ -1,3 +1,4 @@
+-- The goals of `nodes::Nodes::keep_hash` that no tactic closes.
 use Rattle.std.proofs.Common.{refl}
 use Rattle.nr_trienodes.proofs.Views.{kept_view}
 use Rattle.nr_trienodes.proofs.nodes.Nodes.keep_hash.Goals as goal

@@ -1,3 +1,4 @@
+-- The goals of `nodes::Nodes::put` that no tactic closes.
 use Rattle.std.proofs.Common.{◌+◌, ◌*◌, length, Some}
 use Rattle.nr_triedef.specs.Node.{nibbles}
 use Rattle.nr_trienodes.proofs.Changed.{is_put}

@@ -1,3 +1,4 @@
+-- The goals of `nodes::Nodes::relink` that no tactic closes.
 use Rattle.std.proofs.Common.{◌<◌, ◌+◌, ◌^◌, ◌∙◌, refl, arith}
 use Rattle.nr_trienodes.proofs.Views.{count_view}
 use Rattle.nr_trienodes.proofs.Relinks.{relinked}

@@ -1,3 +1,4 @@
+-- The goals of `nodes::Nodes::slide` that no tactic closes.
 use Rattle.std.proofs.Common.{◌∙◌, ◌<◌, ap, sym, subst, length, List, arith}
 use Rattle.std.proofs.lemmas.List.{length-take}
 use Rattle.nr_trienodes.specs.Shape.{Shape}
@@ -9,11 +10,35 @@ use Rattle.nr_trienodes.proofs.Sliding.{slides_start, slides_end, own_next}
 use Rattle.nr_trienodes.proofs.nodes.Nodes.slide.Goals as goal
 
 pub returns-clause-named : goal.returns-clause-named
-returns-clause-named c = subst (λ (v : List Shape). AreNamed c.loop-id.names v (shapes c.drop_behind.new.nodes.items)) c.self.view_is (slides_end c.self.inside.nodes.items c.loop-id.self-inside.nodes.items c.drop_behind.new.nodes.items c.args.names.now c.loop-id.names c.loop-id.id c.loop-id.next c.self.invariant.sound (c.requires.long ∙ ap length (sym c.self.view_is)) (subst (λ (v : List Shape). IsClosed v c.args.names.now 0) (sym c.self.view_is) c.requires.closed) c.loop-id.invariant.slides (omega (arith, c.loop-id-test.false, c.loop-id.invariant.within, c.len-id-end.ensures, shapes-length c.self.inside.nodes.items)) c.drop_behind.ensures)
+returns-clause-named c =
+    subst (λ (v : List Shape). AreNamed c.loop-id.names v (shapes c.drop_behind.new.nodes.items)) c.self.view_is
+    (slides_end c.self.inside.nodes.items c.loop-id.self-inside.nodes.items c.drop_behind.new.nodes.items
+    c.args.names.now c.loop-id.names c.loop-id.id c.loop-id.next c.self.invariant.sound
+    (c.requires.long ∙ ap length (sym c.self.view_is))
+    (subst (λ (v : List Shape). IsClosed v c.args.names.now 0) (sym c.self.view_is) c.requires.closed)
+    c.loop-id.invariant.slides (omega (
+      arith,
+      c.loop-id-test.false,
+      c.loop-id.invariant.within,
+      c.len-id-end.ensures,
+      shapes-length c.self.inside.nodes.items,
+    )) c.drop_behind.ensures)
 
 pub invariant_of-self : goal.invariant_of-self
 invariant_of-self c = record {
-  sound = sound_named c.loop-id.names (shapes c.self.inside.nodes.items) (shapes c.drop_behind.new.nodes.items) c.self.invariant.sound (slides_end c.self.inside.nodes.items c.loop-id.self-inside.nodes.items c.drop_behind.new.nodes.items c.args.names.now c.loop-id.names c.loop-id.id c.loop-id.next c.self.invariant.sound (c.requires.long ∙ ap length (sym c.self.view_is)) (subst (λ (v : List Shape). IsClosed v c.args.names.now 0) (sym c.self.view_is) c.requires.closed) c.loop-id.invariant.slides (omega (arith, c.loop-id-test.false, c.loop-id.invariant.within, c.len-id-end.ensures, shapes-length c.self.inside.nodes.items)) c.drop_behind.ensures);
+  sound =
+      sound_named c.loop-id.names (shapes c.self.inside.nodes.items) (shapes c.drop_behind.new.nodes.items)
+      c.self.invariant.sound (slides_end c.self.inside.nodes.items c.loop-id.self-inside.nodes.items
+      c.drop_behind.new.nodes.items c.args.names.now c.loop-id.names c.loop-id.id c.loop-id.next
+      c.self.invariant.sound (c.requires.long ∙ ap length (sym c.self.view_is))
+      (subst (λ (v : List Shape). IsClosed v c.args.names.now 0) (sym c.self.view_is) c.requires.closed)
+      c.loop-id.invariant.slides (omega (
+        arith,
+        c.loop-id-test.false,
+        c.loop-id.invariant.within,
+        c.len-id-end.ensures,
+        shapes-length c.self.inside.nodes.items,
+      )) c.drop_behind.ensures);
   few = omega (arith, ap length c.drop_behind.ensures, length-take c.loop-id.next c.loop-id.self-inside.nodes.items, c.loop-id.invariant.slides.same, shapes-length c.loop-id.self-inside.nodes.items, shapes-length c.self.inside.nodes.items, c.self.invariant.few);
 }
 

@@ -1,3 +1,4 @@
+-- What holds at the loops of `nodes::Nodes::slide`.
 use Rattle.std.proofs.Common.{◌≤◌, length}
 use Rattle.nr_trienodes.specs.Views.{shapes}
 use Rattle.nr_trienodes.specs.Naming.{HaveOwn, Slides}

@@ -1,3 +1,4 @@
+-- The goals of `nodes::Nodes::trim` that no tactic closes.
 use Rattle.std.proofs.Common.{arith}
 use Rattle.nr_trienodes.proofs.Renaming.{roots_few}
 use Rattle.nr_trienodes.proofs.Youngs.{all_count}

@@ -1,3 +1,4 @@
+-- The goals of `nodes::Nodes::trim_young` that no tactic closes.
 use Rattle.std.proofs.Common.{arith}
 use Rattle.nr_trienodes.proofs.Renaming.{oldest_there}
 use Rattle.nr_trienodes.proofs.nodes.Nodes.trim_young.Goals as goal

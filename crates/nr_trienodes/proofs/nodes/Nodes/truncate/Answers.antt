@@ -1,3 +1,4 @@
+-- The goals of `nodes::Nodes::truncate` that no tactic closes.
 use Rattle.nr_trienodes.proofs.Views.{cut_view}
 use Rattle.nr_trienodes.proofs.nodes.Nodes.truncate.Goals as goal
 

@@ -1,3 +1,4 @@
+-- The goals of `nodes::Nodes::usage` that no tactic closes.
 use Rattle.std.proofs.Common.{sym, ◌∙◌}
 use Rattle.nr_trienodes.proofs.Maps.{usage_of_none, usage_of_some}
 use Rattle.nr_trienodes.proofs.nodes.Nodes.usage.Goals as goal

@@ -1,3 +1,4 @@
+-- The goals of `nodes::Nodes::usage_below` that no tactic closes.
 use Rattle.std.proofs.Common.{length}
 use Rattle.nr_trienodes.proofs.Rows.{in_row}
 use Rattle.nr_trienodes.proofs.nodes.Nodes.usage_below.Goals as goal

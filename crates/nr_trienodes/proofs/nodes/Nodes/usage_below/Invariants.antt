@@ -1,3 +1,4 @@
+-- What holds at the loops of `nodes::Nodes::usage_below`.
 use Rattle.std.proofs.Common.{◌≡◌, take}
 use Rattle.std.specs.Prelude.{sum_by}
 use Rattle.std.specs.Option.{option_map}

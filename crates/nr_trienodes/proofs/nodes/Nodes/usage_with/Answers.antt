@@ -1,3 +1,4 @@
+-- The goals of `nodes::Nodes::usage_with` that no tactic closes.
 use Rattle.std.proofs.Common.{ap, arith}
 use Rattle.std.specs.Prelude.{Option, ℕ}
 use Rattle.std.specs.Option.{option_map}

@@ -1,3 +1,4 @@
+-- The goals of `packed::Packed::at` that no tactic closes.
 use Rattle.std.proofs.Common.{◌∙◌, ap, sym, length, arith}
 use Rattle.std.proofs.lemmas.List.{length-map}
 use Rattle.std.specs.Prelude.{List, Option, ℕ}

@@ -1,3 +1,4 @@
+-- What holds at the loops of `packed::Packed::of`.
 use Rattle.std.proofs.Common.{◌≡◌, ◌<◌, ℕ, length, get_or, None}
 use Rattle.nr_trienodes.specs.Packing.{child_of}
 use Rattle.nr_trienodes.proofs.packed.Packed.of.Given as goal

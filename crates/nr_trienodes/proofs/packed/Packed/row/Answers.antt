@@ -1,3 +1,4 @@
+-- The goals of `packed::Packed::row` that no tactic closes.
 use Rattle.std.proofs.Common.{◌∙◌, sym, arith}
 use Rattle.nr_trienodes.specs.Packing.{child_of}
 use Rattle.nr_trienodes.proofs.Rows.{each_same}

@@ -1,3 +1,4 @@
+-- The goals of `packed::Packed::with` that no tactic closes.
 use Rattle.std.proofs.Common.{◌∙◌, set}
 use Rattle.std.proofs.lemmas.List.{map-set}
 use Rattle.nr_trienodes.specs.Packing.{child_of}

@@ -1,3 +1,4 @@
+-- The goals of `base::Base::new` that no tactic closes.
 use Rattle.std.proofs.Common.{arith}
 use Rattle.nr_trieupdate.proofs.Counting.{levels_none}
 use Rattle.nr_trieupdate.proofs.base.Base.new.Goals as goal

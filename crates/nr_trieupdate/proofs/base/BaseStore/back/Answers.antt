@@ -1,3 +1,4 @@
+-- The goals of `base::BaseStore::back` that no tactic closes.
 use Rattle.std.proofs.Common.{ap, sym, ◌∙◌, arith, length, None, ◌<◌}
 use Rattle.nr_trieupdate.proofs.Standing.{back_seen, back_cost, length-seen}
 use Rattle.nr_trieupdate.proofs.Counting.{levels_set, level_none}

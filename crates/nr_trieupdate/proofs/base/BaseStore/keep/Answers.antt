@@ -1,3 +1,4 @@
+-- The goals of `base::BaseStore::keep` that no tactic closes.
 use Rattle.std.proofs.Common.{ap, ◌∙◌, arith, get_or, set, length, None, ◌-◌, ◌<◌, drop}
 use Rattle.std.proofs.lemmas.List.{length-set}
 use Rattle.nr_trieupdate.specs.Levels.{root_at}

@@ -1,3 +1,4 @@
+-- The goals of `base::BaseStore::mark` that no tactic closes.
 use Rattle.std.proofs.Common.{ap, ◌∙◌, arith, get_or, length, ◌+◌, ◌<◌, ◌∷◌}
 use Rattle.nr_trieupdate.specs.Levels.{root_at}
 use Rattle.nr_trieupdate.proofs.Standing.{mark_seen, mark_cost, mark_saved}
@@ -9,7 +10,11 @@ invariant_of-self c =
     let room : c.self.inside.standing + 1 < 9 = omega (arith, c.requires, ap (λ v. v.spare) c.self.view_is, c.self.invariant.few) in
     record {
       few = omega (arith, c.requires, ap (λ v. v.spare) c.self.view_is, c.self.invariant.few);
-      levels = levels_set c.self.inside.nodes c.self.inside.roots c.self.inside.counts (c.self.inside.standing + 1) (root_at c.self.inside.roots c.self.inside.standing) (get_or c.self.inside.counts c.self.inside.standing 0) (omega (arith, c.self.told)) (omega (arith, c.self.told)) room c.self.invariant.levels (c.self.invariant.levels c.self.inside.standing (omega arith));
+      levels =
+          levels_set c.self.inside.nodes c.self.inside.roots c.self.inside.counts (c.self.inside.standing + 1)
+          (root_at c.self.inside.roots c.self.inside.standing) (get_or c.self.inside.counts c.self.inside.standing 0)
+          (omega (arith, c.self.told)) (omega (arith, c.self.told)) room c.self.invariant.levels
+          (c.self.invariant.levels c.self.inside.standing (omega arith));
       bounded = c.self.invariant.bounded;
     }
 

@@ -1,3 +1,4 @@
+-- The goals of `base::BaseStore::reserve_marks` that no tactic closes.
 use Rattle.std.proofs.Common.{ap, arith, length}
 use Rattle.nr_trieupdate.proofs.Standing.{length-seen}
 use Rattle.nr_trieupdate.proofs.base.BaseStore.reserve_marks.Goals as goal

@@ -1,3 +1,4 @@
+-- The goals of `base::BaseStore::set` that no tactic closes.
 use Rattle.std.proofs.Common.{◌≡◌, ◌+◌, ◌*◌, ap, sym, ◌∙◌, arith, set, length, Some}
 use Rattle.std.specs.Option.{is_some}
 use Rattle.std.specs.FinMap as map
@@ -18,22 +19,67 @@ pub returns-in_err-self-inside-clause-saved : goal.returns-in_err-self-inside-cl
 returns-in_err-self-inside-clause-saved c = omega (arith, (unchanged c.self.inside.nodes c.make_room.new.nodes c.self.inside.roots c.make_room.new.roots c.self.inside.standing (omega (arith, c.self.told, c.self.invariant.few)) c.in_err-self-inside.ensures.moved).saved, ap (λ v. v.saved) c.self.view_is)
 
 pub returns-in_err-root-clause-marks : goal.returns-in_err-root-clause-marks
-returns-in_err-root-clause-marks c = (unchanged c.self.inside.nodes c.put.new.nodes c.self.inside.roots c.make_room.new.roots c.self.inside.standing (omega (arith, c.self.told, c.self.invariant.few)) (moved_kept c.self.inside.nodes c.make_room.new.nodes c.put.new.nodes c.self.inside.roots c.make_room.new.roots c.in_ok-self-inside.ensures.moved c.in_err-root.ensures.kept)).marks ∙ ap (λ v. v.marks) c.self.view_is
+returns-in_err-root-clause-marks c =
+    (unchanged c.self.inside.nodes c.put.new.nodes c.self.inside.roots c.make_room.new.roots c.self.inside.standing
+    (omega (arith, c.self.told, c.self.invariant.few))
+    (moved_kept c.self.inside.nodes c.make_room.new.nodes c.put.new.nodes c.self.inside.roots c.make_room.new.roots
+    c.in_ok-self-inside.ensures.moved c.in_err-root.ensures.kept)).marks ∙ ap (λ v. v.marks) c.self.view_is
 
 pub returns-in_err-root-clause-unhashed : goal.returns-in_err-root-clause-unhashed
-returns-in_err-root-clause-unhashed c = omega (arith, (unchanged c.self.inside.nodes c.put.new.nodes c.self.inside.roots c.make_room.new.roots c.self.inside.standing (omega (arith, c.self.told, c.self.invariant.few)) (moved_kept c.self.inside.nodes c.make_room.new.nodes c.put.new.nodes c.self.inside.roots c.make_room.new.roots c.in_ok-self-inside.ensures.moved c.in_err-root.ensures.kept)).debt, ap (λ v. v.unhashed) c.self.view_is)
+returns-in_err-root-clause-unhashed c =
+    omega (
+      arith,
+      (unchanged c.self.inside.nodes c.put.new.nodes c.self.inside.roots c.make_room.new.roots
+          c.self.inside.standing (omega (arith, c.self.told, c.self.invariant.few))
+          (moved_kept c.self.inside.nodes c.make_room.new.nodes c.put.new.nodes c.self.inside.roots c.make_room.new.roots
+          c.in_ok-self-inside.ensures.moved c.in_err-root.ensures.kept)).debt,
+      ap (λ v. v.unhashed) c.self.view_is,
+    )
 
 pub returns-in_err-root-clause-saved : goal.returns-in_err-root-clause-saved
-returns-in_err-root-clause-saved c = omega (arith, (unchanged c.self.inside.nodes c.put.new.nodes c.self.inside.roots c.make_room.new.roots c.self.inside.standing (omega (arith, c.self.told, c.self.invariant.few)) (moved_kept c.self.inside.nodes c.make_room.new.nodes c.put.new.nodes c.self.inside.roots c.make_room.new.roots c.in_ok-self-inside.ensures.moved c.in_err-root.ensures.kept)).saved, ap (λ v. v.saved) c.self.view_is)
+returns-in_err-root-clause-saved c =
+    omega (
+      arith,
+      (unchanged c.self.inside.nodes c.put.new.nodes c.self.inside.roots c.make_room.new.roots
+          c.self.inside.standing (omega (arith, c.self.told, c.self.invariant.few))
+          (moved_kept c.self.inside.nodes c.make_room.new.nodes c.put.new.nodes c.self.inside.roots c.make_room.new.roots
+          c.in_ok-self-inside.ensures.moved c.in_err-root.ensures.kept)).saved,
+      ap (λ v. v.saved) c.self.view_is,
+    )
 
 pub returns-clause-marks : goal.returns-clause-marks
-returns-clause-marks c = (changed (λ m. map.insert m c.args.key.now c.args.value.now) c.self.inside.nodes c.make_room.new.nodes c.put.new.nodes c.self.inside.roots c.make_room.new.roots c.self.inside.standing (Some c.in_ok-root.root) (2 * length (nibbles c.args.key.now) + 3) (omega (arith, c.self.told, c.self.invariant.few)) (omega (arith, c.self.told, c.make_room.auto.roots, c.self.invariant.few)) c.in_ok-self-inside.ensures.moved c.in_ok-root.ensures.kept c.in_ok-root.ensures.put).marks ∙ ap (λ v. v.marks) c.self.view_is
+returns-clause-marks c =
+    (changed (λ m. map.insert m c.args.key.now c.args.value.now) c.self.inside.nodes c.make_room.new.nodes
+    c.put.new.nodes c.self.inside.roots c.make_room.new.roots c.self.inside.standing (Some c.in_ok-root.root)
+    (2 * length (nibbles c.args.key.now) + 3) (omega (arith, c.self.told, c.self.invariant.few))
+    (omega (arith, c.self.told, c.make_room.auto.roots, c.self.invariant.few)) c.in_ok-self-inside.ensures.moved
+    c.in_ok-root.ensures.kept c.in_ok-root.ensures.put).marks ∙ ap (λ v. v.marks) c.self.view_is
 
 pub returns-clause-unhashed : goal.returns-clause-unhashed
-returns-clause-unhashed c = omega (arith, (changed (λ m. map.insert m c.args.key.now c.args.value.now) c.self.inside.nodes c.make_room.new.nodes c.put.new.nodes c.self.inside.roots c.make_room.new.roots c.self.inside.standing (Some c.in_ok-root.root) (2 * length (nibbles c.args.key.now) + 3) (omega (arith, c.self.told, c.self.invariant.few)) (omega (arith, c.self.told, c.make_room.auto.roots, c.self.invariant.few)) c.in_ok-self-inside.ensures.moved c.in_ok-root.ensures.kept c.in_ok-root.ensures.put).debt, ap (λ v. v.unhashed) c.self.view_is)
+returns-clause-unhashed c =
+    omega (
+      arith,
+      (changed (λ m. map.insert m c.args.key.now c.args.value.now) c.self.inside.nodes
+          c.make_room.new.nodes c.put.new.nodes c.self.inside.roots c.make_room.new.roots c.self.inside.standing
+          (Some c.in_ok-root.root) (2 * length (nibbles c.args.key.now) + 3)
+          (omega (arith, c.self.told, c.self.invariant.few))
+          (omega (arith, c.self.told, c.make_room.auto.roots, c.self.invariant.few)) c.in_ok-self-inside.ensures.moved
+          c.in_ok-root.ensures.kept c.in_ok-root.ensures.put).debt,
+      ap (λ v. v.unhashed) c.self.view_is,
+    )
 
 pub returns-clause-saved : goal.returns-clause-saved
-returns-clause-saved c = omega (arith, (changed (λ m. map.insert m c.args.key.now c.args.value.now) c.self.inside.nodes c.make_room.new.nodes c.put.new.nodes c.self.inside.roots c.make_room.new.roots c.self.inside.standing (Some c.in_ok-root.root) (2 * length (nibbles c.args.key.now) + 3) (omega (arith, c.self.told, c.self.invariant.few)) (omega (arith, c.self.told, c.make_room.auto.roots, c.self.invariant.few)) c.in_ok-self-inside.ensures.moved c.in_ok-root.ensures.kept c.in_ok-root.ensures.put).saved, ap (λ v. v.saved) c.self.view_is)
+returns-clause-saved c =
+    omega (
+      arith,
+      (changed (λ m. map.insert m c.args.key.now c.args.value.now) c.self.inside.nodes
+          c.make_room.new.nodes c.put.new.nodes c.self.inside.roots c.make_room.new.roots c.self.inside.standing
+          (Some c.in_ok-root.root) (2 * length (nibbles c.args.key.now) + 3)
+          (omega (arith, c.self.told, c.self.invariant.few))
+          (omega (arith, c.self.told, c.make_room.auto.roots, c.self.invariant.few)) c.in_ok-self-inside.ensures.moved
+          c.in_ok-root.ensures.kept c.in_ok-root.ensures.put).saved,
+      ap (λ v. v.saved) c.self.view_is,
+    )
 
 levels : (c : After-way_told-2-1) → AreLevels c.put.new.nodes (set c.make_room.new.roots c.self.inside.standing (Some c.in_ok-root.root)) (set c.self.inside.counts c.self.inside.standing c.in-Some.count)
 levels c =

@@ -1,3 +1,4 @@
+-- The goals of `trie_store::TrieStore::new` that no tactic closes.
 use Rattle.std.proofs.Common.{[], refl, ap, sym, ◌∙◌, arith, length}
 use Rattle.std.specs.Prelude.{map}
 use Rattle.std.specs.FinMap.{entries}

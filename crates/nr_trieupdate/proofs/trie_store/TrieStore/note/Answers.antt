@@ -1,3 +1,4 @@
+-- The goals of `trie_store::TrieStore::note` that no tactic closes.
 use Rattle.std.proofs.Common.{◌≡◌, ◌∷◌, ap, sym, ◌∙◌, arith, length}
 use Rattle.std.specs.FinMap as map
 use Rattle.nr_trieupdate.proofs.Overlays.{few_over}

@@ -1,3 +1,4 @@
+-- The goals of `trie_store::TrieStore::note_gone` that no tactic closes.
 use Rattle.std.proofs.Common.{◌≡◌, ◌∷◌, [], refl, ap, sym, ◌∙◌, arith, length, true}
 use Rattle.std.specs.Option.{is_some}
 use Rattle.std.specs.FinMap as map

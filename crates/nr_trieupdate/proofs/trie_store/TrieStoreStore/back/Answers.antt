@@ -1,3 +1,4 @@
+-- The goals of `trie_store::TrieStoreStore::back` that no tactic closes.
 use Rattle.std.proofs.Common.{◌∷◌, ap, sym, ◌∙◌, arith, length}
 use Rattle.std.specs.Prelude.{map}
 use Rattle.nr_trieupdate.specs.Overlays.{over, most_debt, IsLayer}

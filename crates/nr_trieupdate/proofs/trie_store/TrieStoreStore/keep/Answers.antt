@@ -1,3 +1,4 @@
+-- The goals of `trie_store::TrieStoreStore::keep` that no tactic closes.
 use Rattle.std.proofs.Common.{◌∷◌, ap, ◌∙◌, arith, length, drop, length-drop, ◌<◌}
 use Rattle.std.specs.Prelude.{map}
 use Rattle.nr_trieupdate.specs.Overlays.{over, most_debt, IsLayer}

@@ -1,3 +1,4 @@
+-- The goals of `trie_store::TrieStoreStore::mark` that no tactic closes.
 use Rattle.std.proofs.Common.{◌∷◌, ap, ◌∙◌, arith, length}
 use Rattle.std.specs.Prelude.{map}
 use Rattle.nr_trieupdate.specs.Overlays.{over, most_debt, IsLayer}

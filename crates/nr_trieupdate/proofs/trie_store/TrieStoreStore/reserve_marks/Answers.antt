@@ -1,3 +1,4 @@
+-- The goals of `trie_store::TrieStoreStore::reserve_marks` that no tactic closes.
 use Rattle.std.proofs.Common.{refl, ap, sym, ◌∙◌, arith, length}
 use Rattle.nr_trieupdate.proofs.Layers.{length_map}
 use Rattle.nr_trieupdate.proofs.Stored.{same_layers}

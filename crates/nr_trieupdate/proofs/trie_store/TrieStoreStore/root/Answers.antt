@@ -1,3 +1,4 @@
+-- The goals of `trie_store::TrieStoreStore::root` that no tactic closes.
 use Rattle.std.proofs.Common.{◌≡◌, [], refl, ap, sym, ◌∙◌, arith, length}
 use Rattle.nr_triedef.specs.Root.{root_of}
 use Rattle.nr_trieupdate.proofs.Stored.{same_layers, settled_contents, settled_count, settled_layers, settled_debt, nothing_stands}

@@ -1,3 +1,4 @@
+-- The goals of `trie_store::TrieStoreStore::sizes` that no tactic closes.
 use Rattle.std.proofs.Common.{subst, arith}
 use Rattle.nr_triedef.specs.Stores.{IsSized}
 use Rattle.nr_trieupdate.proofs.Overlays.{sized_over, few_over}

@@ -1,3 +1,4 @@
+-- The goals of `sought::Sought::looks` that no tactic closes.
 use Rattle.std.proofs.Common.{List, sym, subst}
 use Rattle.nr_walk.specs.declared.searched.Searched.{Searched}
 use Rattle.nr_walk.specs.Sought.{AreSteps}

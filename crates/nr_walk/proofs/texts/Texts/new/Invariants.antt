@@ -1,3 +1,4 @@
+-- What holds at the loops of `texts::Texts::new`.
 use Rattle.std.proofs.Common.{◌≡◌, take, fold}
 use Rattle.std.specs.FinMap.{empty}
 use Rattle.nr_walk.specs.Texts.{with_text}

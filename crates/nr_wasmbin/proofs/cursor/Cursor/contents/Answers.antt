@@ -1,3 +1,4 @@
+-- The goals of `cursor::Cursor::contents` that no tactic closes.
 use Rattle.std.proofs.Common.{sym, ap, ◌∙◌, arith}
 use Rattle.nr_wasmbin.specs.Fields.{contents_at}
 use Rattle.nr_wasmbin.proofs.OnFields.{contents_is}

@@ -1,3 +1,4 @@
+-- The goals of `cursor::Cursor::filled` that no tactic closes.
 use Rattle.std.proofs.Common.{sym, ap, ◌∙◌, arith}
 use Rattle.nr_wasmbin.specs.Fields.{filled}
 use Rattle.nr_wasmbin.proofs.OnFields.{filled_more}

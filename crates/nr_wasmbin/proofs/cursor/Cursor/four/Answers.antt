@@ -1,3 +1,4 @@
+-- The goals of `cursor::Cursor::four` that no tactic closes.
 use Rattle.std.proofs.Common.{sym, ap, ◌∙◌, arith}
 use Rattle.nr_bytes.specs.Reading.{Input}
 use Rattle.nr_wasmbin.specs.Fields.{taken}

@@ -1,3 +1,4 @@
+-- The goals of `cursor::Cursor::pass` that no tactic closes.
 use Rattle.nr_wasmbin.proofs.OnFields.{passed}
 use Rattle.nr_wasmbin.proofs.cursor.Cursor.pass.Goals as goal
 

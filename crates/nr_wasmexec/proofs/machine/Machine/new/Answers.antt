@@ -1,3 +1,4 @@
+-- The goals of `machine::Machine::new` that no tactic closes.
 use Rattle.std.proofs.Common.{◌≡◌, ◌≤◌, Some, subst, sym, ap, ◌∙◌}
 use Rattle.nr_config.specs.Config.{max_pages}
 use Rattle.nr_wasmtypes.specs.declared.module.Module.{Module}

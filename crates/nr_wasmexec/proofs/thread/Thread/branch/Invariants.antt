@@ -1,3 +1,4 @@
+-- What holds at the loops of `thread::Thread::branch`.
 use Rattle.std.proofs.Common.{◌≡◌, ◌-◌, ◌++◌, List, length, ℕ}
 use Rattle.nr_wasmexec.specs.Place.{branched}
 use Rattle.nr_wasmexec.proofs.thread.Thread.branch.Given as goal

@@ -1,3 +1,4 @@
+-- The goals of `thread::Thread::cut` that no tactic closes.
 use Rattle.nr_wasmtypes.specs.Code.{code_of}
 use Rattle.std.proofs.Common.{◌∙◌}
 use Rattle.std.specs.Prelude.{reverse}

@@ -1,3 +1,4 @@
+-- The goals of `thread::Thread::frames` that no tactic closes.
 use Rattle.std.proofs.Common.{sym, ◌∙◌, ap, take}
 use Rattle.std.specs.Prelude.{reverse}
 use Rattle.nr_wasmexec.specs.Place.{frames_in, Place}

@@ -1,3 +1,4 @@
+-- The goals of `thread::Thread::held` that no tactic closes.
 use Rattle.std.proofs.Common.{◌≡◌, ◌+◌, sym, ◌∙◌, ap, take, drop, length, arith, length-drop}
 use Rattle.std.specs.Prelude.{reverse}
 use Rattle.std.proofs.lemmas.List.{length-take-le, length-reverse}

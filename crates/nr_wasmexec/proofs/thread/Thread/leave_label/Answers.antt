@@ -1,3 +1,4 @@
+-- The goals of `thread::Thread::leave_label` that no tactic closes.
 use Rattle.nr_wasmtypes.specs.Code.{code_of}
 use Rattle.nr_wasmexec.proofs.Segments.{label_left}
 use Rattle.nr_wasmexec.proofs.thread.Thread.leave_label.Goals as goal

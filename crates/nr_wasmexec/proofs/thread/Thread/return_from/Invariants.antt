@@ -1,3 +1,4 @@
+-- What holds at the loops of `thread::Thread::return_from`.
 use Rattle.std.proofs.Common.{◌≡◌, ◌++◌, List, length, ℕ}
 use Rattle.nr_wasmexec.specs.Place.{returned}
 use Rattle.nr_wasmexec.proofs.thread.Thread.return_from.Given as goal

@@ -1,3 +1,4 @@
+-- The goals of `thread::Thread::set_local` that no tactic closes.
 use Rattle.nr_wasmtypes.specs.Code.{code_of}
 use Rattle.nr_wasmexec.proofs.Segments.{local_set_at}
 use Rattle.std.specs.Prelude.{reverse}

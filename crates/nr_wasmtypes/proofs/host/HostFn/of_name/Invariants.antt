@@ -1,3 +1,4 @@
+-- What holds at the loops of `host::HostFn::of_name`.
 use Rattle.std.proofs.Common.{◌≡◌, drop}
 use Rattle.std.specs.List.{find}
 use Rattle.std.specs.Str.{bytes_eq}

@@ -1,3 +1,4 @@
+-- The goals of `module::FuncType::is` that no tactic closes.
 use Rattle.std.proofs.Common.{rules, ◌≡◌, ℕ, length, Bool, true, false, List, Option, Some, None, refl, sym, ap, ◌∙◌}
 use Rattle.std.specs.Bool.{Decides}
 use Rattle.std.specs.Option.{option_eq}

@@ -1,3 +1,4 @@
+-- The goals of `stacks::Stacks::empty` that no tactic closes.
 use Rattle.std.proofs.Common.{reverse, drop, arith, length-drop}
 use Rattle.std.proofs.lemmas.List.{length-reverse}
 use Rattle.nr_wasmvalid.proofs.OnShapes.{no_more-some}

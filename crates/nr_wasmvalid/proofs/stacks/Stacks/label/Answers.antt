@@ -1,3 +1,4 @@
+-- The goals of `stacks::Stacks::label` that no tactic closes.
 use Rattle.std.proofs.Common.{sym, ap, ◌∙◌, arith}
 use Rattle.std.specs.Prelude.{slice_get}
 use Rattle.nr_wasmvalid.specs.Frames.{Frames}

@@ -1,3 +1,4 @@
+-- The goals of `stacks::Stacks::leave` that no tactic closes.
 use Rattle.std.proofs.Common.{◌≡◌, ◌++◌, [], ◌∷◌, ap, sym, ◌∙◌}
 use Rattle.std.specs.Option.{option_to_list}
 use Rattle.nr_wasmvalid.specs.Frames.{Frames}

@@ -1,3 +1,4 @@
+-- The goals of `stacks::Stacks::take` that no tactic closes.
 use Rattle.std.proofs.Common.{arith, rules}
 use Rattle.std.proofs.lemmas.Result.{err_from_is_err_and}
 use Rattle.nr_wasmvalid.proofs.OnShapes.{takes_on, takes_stop}

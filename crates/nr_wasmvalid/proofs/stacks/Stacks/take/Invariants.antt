@@ -1,3 +1,4 @@
+-- What holds at the loops of `stacks::Stacks::take`.
 use Rattle.std.proofs.Common.{◌≡◌, drop}
 use Rattle.nr_wasmvalid.specs.Shapes.{take_all}
 use Rattle.nr_wasmvalid.specs.Frames.{SameAround}

@@ -1,3 +1,4 @@
+-- The goals of `inbox::Inbox::take_next` that no tactic closes.
 use Rattle.std.proofs.Common.{◌≡◌, ◌+◌, true, false, Ok, sym, ap, ◌∙◌, subst}
 use Rattle.nr_exchange.specs.Plan.{plan_of}
 use Rattle.nr_exchange.specs.Ports.{Takes}

@@ -1,3 +1,4 @@
+-- The goals of `left::Left::new` that no tactic closes.
 use Rattle.std.proofs.Common.{◌∷◌, [], length, length-append, ap, ◌∙◌, arith}
 use Rattle.nr_workers.specs.Left.{list_in}
 use Rattle.nr_workers.proofs.Slots.{none_more}

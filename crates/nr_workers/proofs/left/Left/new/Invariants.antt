@@ -1,3 +1,4 @@
+-- What holds at the loops of `left::Left::new`.
 use Rattle.std.proofs.Common.{◌≡◌, ℕ, None, length}
 use Rattle.nr_workers.specs.Left.{list_in}
 use Rattle.nr_workers.proofs.left.Left.new.Given as goal

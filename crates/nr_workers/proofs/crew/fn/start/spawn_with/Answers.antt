@@ -1,3 +1,4 @@
+-- The goals of `crew::fn::start::spawn_with` that no tactic closes.
 use Rattle.nr_workers.proofs.crew.fn.start.spawn_with.Goals as goal
 
 pub returns-else-load : goal.returns-else-load
