@@ -1,0 +1,1 @@
+//! Texts that another tool or a hand wrote.
