@@ -1,3 +1,4 @@
 -- Lemmas behind the answers.
 pub mod Numbered
 pub mod Counts
+pub mod Back

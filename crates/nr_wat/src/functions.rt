@@ -147,11 +147,7 @@ fn push_listed(sig: Option<&FuncType>, text: &mut String) -> Result<(), AllocErr
 }
 
 /// A type by its number, and what it is.
-fn push_use(
-    types: &[FuncType],
-    number: Option<&u32>,
-    text: &mut String,
-) -> Result<(), AllocError>
+fn push_use(types: &[FuncType], number: Option<&u32>, text: &mut String) -> Result<(), AllocError>
     ensures { OnOk result (string_bytes text.new ≡ string_bytes text.old ++ use_text types.now (option_copied number.entry)) }
 {
     match number {
@@ -177,11 +173,7 @@ fn print_function(
     ensures { OnOk result (string_bytes text.new ≡ string_bytes text.old ++ func_field module.now number body.now) }
 {
     push_head("func", imported + number, text)?;
-    push_use(
-        module.types.inner(),
-        module.funcs.inner().get(number),
-        text,
-    )?;
+    push_use(module.types.inner(), module.funcs.inner().get(number), text)?;
     push_list("\n    (local", body.locals(), text)?;
     print_code(alloc, "    ", body.code_vec(), text)?;
     text.push_str(")")
