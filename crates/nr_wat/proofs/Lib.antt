@@ -2,3 +2,4 @@
 pub mod Numbered
 pub mod Counts
 pub mod Back
+pub mod Turns

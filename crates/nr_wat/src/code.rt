@@ -88,6 +88,7 @@ fn print_inside(
 
 /// The second side of a choice, where it has one.
 #[cycle(code)]
+#[tactic(auto, using(crate::proofs::Turns::no_side, crate::proofs::Turns::some_side))]
 fn print_other(
     alloc: Global,
     margin: &str,
@@ -106,6 +107,7 @@ fn print_other(
 
 /// One instruction, with what it holds.
 #[cycle(code)]
+#[tactic(auto, using(crate::proofs::Turns::text_plain, crate::proofs::Turns::text_block, crate::proofs::Turns::text_loop, crate::proofs::Turns::text_choice))]
 fn print_instr(
     alloc: Global,
     margin: &str,
