@@ -66,12 +66,7 @@ pub(crate) fn verdict_line(alloc: Global, question: &Question<'_>) -> Result<Lin
 }
 
 /// What shows a module, whose file has so many bytes.
-fn view_text(
-    alloc: Global,
-    view: View,
-    size: usize,
-    module: &Module,
-) -> Result<String, AllocError>
+fn view_text(alloc: Global, view: View, size: usize, module: &Module) -> Result<String, AllocError>
     ensures { IfOk result (λ text. string_bytes text ≡ view_text view size module.now) }
 {
     match view {
