@@ -75,18 +75,13 @@ fn view_text(alloc: Global, view: View, size: usize, module: &Module) -> Result<
     }
 }
 
-/// The lines that show the module of a file, or the line of the first fault that it has.
-///
-/// # Errors
-///
-/// Where memory runs out.
-pub(crate) fn shown_line(alloc: Global, shown: &Shown) -> Result<Line, AllocError>
-    ensures { IfOk result (λ line. TellsShown shown.now.view shown.now.bytes.items (string_bytes line.text) line.rating) }
+/// The lines that show the module of these bytes, or the line of the first fault that they have.
+fn bytes_line(alloc: Global, view: View, bytes: &[u8]) -> Result<Line, AllocError>
+    ensures { IfOk result (λ line. TellsShown view bytes.now (string_bytes line.text) line.rating) }
 {
-    let bytes = shown.bytes.as_slice();
     match decode(alloc, bytes, &Config::free()) {
         Ok(module) => {
-            let text = view_text(alloc, shown.view, bytes.len(), &module)?;
+            let text = view_text(alloc, view, bytes.len(), &module)?;
             Ok(Line {
                 text,
                 rating: Rating::Sound,
@@ -101,6 +96,17 @@ pub(crate) fn shown_line(alloc: Global, shown: &Shown) -> Result<Line, AllocErro
             })
         }
     }
+}
+
+/// The lines that show the module of a file, or the line of the first fault that it has.
+///
+/// # Errors
+///
+/// Where memory runs out.
+pub(crate) fn shown_line(alloc: Global, shown: &Shown) -> Result<Line, AllocError>
+    ensures { IfOk result (λ line. TellsShown shown.now.view shown.now.bytes.items (string_bytes line.text) line.rating) }
+{
+    bytes_line(alloc, shown.view, shown.bytes.as_slice())
 }
 
 /// The line of a module's file that is too long.

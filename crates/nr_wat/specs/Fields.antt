@@ -1,7 +1,7 @@
 -- WebAssembly Core 1.0, "Text Format", "Types" and "Modules": the text of a module, a field in each line, in the order of
 -- the sections. Comments have the numbers of fields. The types of imports that no contract has aren't kept in a module:
 -- a comment stands in their place.
-use Rattle.std.specs.Prelude.{ℕ, ◌+◌, ◌==◌, Bool, true, false, cond, List, [], ◌∷◌, ◌++◌, take, count_by}
+use Rattle.std.specs.Prelude.{ℕ, ◌+◌, ◌==◌, Bool, true, false, cond, List, [], ◌∷◌, ◌++◌, length, take, count_by}
 use Rattle.std.specs.Prelude.{Option, Some, None, slice_get, codes, decimal}
 use Rattle.std.specs.List.{flat_map}
 use Rattle.nr_wasmtypes.specs.Body.{Body}
@@ -35,8 +35,7 @@ type_word t = 32 ∷ type_name t
 
 -- no list where there is no type
 abbrev pub types_text : List ℕ → List ValType → List ℕ
-types_text front [] = []
-types_text front (t ∷ ts) = front ++ flat_map type_word (t ∷ ts) ++ 41 ∷ []
+types_text front ts = cond (length ts == 0) [] (front ++ flat_map type_word ts ++ 41 ∷ [])
 
 abbrev pub sig_text : FuncType → List ℕ
 sig_text f = types_text (codes " (param") f.params ++ result_text f.result
