@@ -3,7 +3,8 @@
 ghost use Rattle.std.specs.Prelude.{◌≡◌, ◌<◌, ◌++◌, IfOk, OnOk, length, string_bytes};
 ghost use Rattle.std.specs.List.{flat_map};
 ghost use Rattle.std.specs.Option.{option_copied};
-ghost use Rattle.nr_wat.specs.Fields.{func_field, functions_in, head, import_field, import_kind_text, import_text, is_function};
+ghost use Rattle.nr_wat.specs.Fields.{func_field, functions_in, head, import_field, import_kind_text, import_text};
+ghost use Rattle.nr_wat.specs.Fields.{is_function};
 ghost use Rattle.nr_wat.specs.Fields.{listed_sig, sig_text, type_field, type_word, types_text, use_text};
 ghost use Rattle.nr_wat.specs.Pieces.{numbered};
 

@@ -2,7 +2,8 @@
 
 ghost use Rattle.std.specs.Prelude.{◌≡◌, ◌++◌, OnOk, string_bytes};
 ghost use Rattle.nr_wasmbin.specs.Grammar.{plain_op};
-ghost use Rattle.nr_wat.specs.Names.{arith_word, compare_word, convert_name, count_word, load_name, name_of, store_name, type_name, typed};
+ghost use Rattle.nr_wat.specs.Names.{arith_word, compare_word, convert_name, count_word, load_name, name_of};
+ghost use Rattle.nr_wat.specs.Names.{store_name, type_name, typed, whole_name};
 
 use nr_wasmtypes::{Arith, Compare, Convert, Count, Load, Op, Plain, Store, ValType};
 use std::alloc::AllocError;
