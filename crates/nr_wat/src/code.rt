@@ -1,8 +1,7 @@
 //! Sequences of instructions.
 
-ghost use Rattle.std.specs.Prelude.{◌≡◌, ◌++◌, IfOk, OnOk, string_bytes};
+ghost use Rattle.std.specs.Prelude.{◌≡◌, ◌++◌, [], IfOk, OnOk, string_bytes};
 ghost use Rattle.nr_wasmtypes.specs.Code.{Code, code_of, put};
-ghost use Rattle.nr_wasmtypes.specs.declared.opcode.Op.TheVariants as op;
 ghost use Rattle.nr_wat.specs.Names.{name_of};
 ghost use Rattle.nr_wat.specs.Instructions.{code_text, deeper, line, other_text, plain_text, result_text};
 
