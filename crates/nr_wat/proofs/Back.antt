@@ -17,7 +17,7 @@ stands byte (Some b) = b == byte
 
 stands_at : (byte : ℕ) (found : Option ℕ) → stands byte found ≡ true → found ≡ Some byte
 stands_at byte None e = absurd cc
-stands_at byte (Some b) e = ap (λ n. Some n) (eqb-true b byte e)
+stands_at byte (Some b) e = ap (λ (n : ℕ). Some n) (eqb-true b byte e)
 
 -- each of these opcodes, from this byte on, is what its name is found as among all
 abbrev all_stand : List Op → ℕ → List Op → Bool
@@ -30,10 +30,12 @@ found_at all byte [] zero e has = absurd cc
 found_at all byte [] (suc k) e has = absurd cc
 found_at all byte (o ∷ os) zero e has =
     let parts = and_parts _ _ e in
-    let here : stands byte (byte_named (name_of o) 0 all) ≡ true = elim (or_cases _ _ parts.0) [ inl no ↦ absurd (both_ways _ (not-true _ no) has) | inr yes ↦ yes ] in
-    stands_at byte _ here ∙ ap (λ n. Some n) (omega arith)
+    let here : stands byte (byte_named (name_of o) 0 all) ≡ true = elim (or_cases _ _ parts.0) [ inl missing ↦ absurd (both_ways _ (not-true _ missing) has) | inr known ↦ known ] in
+    let same : byte ≡ byte + 0 = omega arith in
+    stands_at byte _ here ∙ ap (λ (n : ℕ). Some n) same
 found_at all byte (o ∷ os) (suc k) e has =
-    found_at all (byte + 1) os k (and_parts _ _ e).1 has ∙ ap (λ n. Some n) (omega arith)
+    let same : byte + 1 + k ≡ byte + suc k = omega arith in
+    found_at all (byte + 1) os k (and_parts _ _ e).1 has ∙ ap (λ (n : ℕ). Some n) same
 
 all_found : all_stand opcodes 0 opcodes ≡ true
 unfolding opcodes
@@ -41,7 +43,9 @@ all_found = refl
 
 pub back : (byte : ℕ) → has_name (op_of byte) ≡ true → opcode_named (name_of (op_of byte)) ≡ Some byte
 unfolding op_of
-back byte has = found_at opcodes 0 opcodes byte all_found has ∙ ap (λ n. Some n) (omega arith)
+back byte has =
+    let same : 0 + byte ≡ byte = omega arith in
+    found_at opcodes 0 opcodes byte all_found has ∙ ap (λ (n : ℕ). Some n) same
 
 -- ---- from an opcode to its name
 first_at : (name : List ℕ) (byte : ℕ) (os : List Op) (found : ℕ) → byte_named name byte os ≡ Some found
@@ -64,4 +68,4 @@ unfolding op_of
 named name byte e =
     let at = first_at name 0 opcodes byte e in
     let same : byte ≡ at.0 = omega (arith, at.1) in
-    ap (λ k. name_of (get_or opcodes k op.Unknown)) same ∙ at.2
+    ap (λ (k : ℕ). name_of (get_or opcodes k op.Unknown)) same ∙ at.2

@@ -9,3 +9,5 @@ one_function imports k d lt e = count_by_more_yes (λ (i : Import). is_function 
 
 pub no_function : (imports : List Import) (k : ℕ) (d : Import) → k < length imports → is_function (get_or imports k d).kind ≡ false → functions_in (take (k + 1) imports) ≡ functions_in (take k imports)
 no_function imports k d lt e = count_by_more_no (λ (i : Import). is_function i.kind) imports k d lt e
+
+pub ruleset steps = (one_function, no_function)

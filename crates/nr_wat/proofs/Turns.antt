@@ -1,5 +1,5 @@
 -- The text of a sequence, one instruction after the other.
-use Rattle.std.proofs.Common.{◌≡◌, ℕ, ◌+◌, ◌<◌, ◌≤◌, List, [], ◌∷◌, ◌++◌, length, get_or, drop, true, Option, Vec, Box, Global, refl, sym, ap, ◌∙◌, arith}
+use Rattle.std.proofs.Common.{◌≡◌, ℕ, ◌+◌, ◌<◌, ◌≤◌, List, [], ◌∷◌, ◌++◌, length, get_or, drop, Bool, true, Option, Vec, Box, Global, refl, sym, ap, ◌∙◌, append_assoc, arith}
 use Rattle.std.proofs.lemmas.List.{append-nil, drop_all, drop_more}
 use Rattle.nr_wasmtypes.specs.declared.instr.ValType.{ValType}
 use Rattle.nr_wasmtypes.specs.declared.instr.Plain.{Plain}
@@ -9,40 +9,55 @@ use Rattle.nr_wasmtypes.specs.declared.opcode.Op.TheVariants as op
 use Rattle.nr_wasmtypes.specs.Code.{Code, begins, code_of, put}
 use Rattle.nr_wasmtypes.proofs.Levels.{begins_put, put_plain, put_block_at, put_loop_at, put_if_at}
 use Rattle.nr_wat.specs.Names.{name_of}
-use Rattle.nr_wat.specs.Instructions.{code_text, deeper, line, other_text, plain_text, result_text, side}
+use Rattle.nr_wat.specs.Instructions.{code_text, deeper, holding, line, other_text, plain_text, side}
 
--- ---- an instruction before the rest
-pub text_plain : (margin : List ℕ) (i : Instr) (p : Plain) (rest : Code) → i ≡ instr.Plain p
-    → code_text margin (put i rest) ≡ line margin (plain_text p) ++ code_text margin rest
-text_plain margin i p rest is = ap (code_text margin) (put_plain i p rest is)
+-- ---- an instruction before the rest: what it puts there stands behind the text before
+behind : (before after piece more : List ℕ) → after ≡ before ++ piece → after ++ more ≡ before ++ (piece ++ more)
+behind before after piece more e = ap (λ (l : List ℕ). l ++ more) e ∙ append_assoc before piece more
 
-pub text_block : (margin : List ℕ) (i : Instr) (ty : Option ValType) (body : Box (Vec Instr Global) Global) (inner : Vec Instr Global) (rest : Code)
+pub plain_behind : (margin : List ℕ) (i : Instr) (p : Plain) (before after : List ℕ) → i ≡ instr.Plain p
+    → after ≡ before ++ line margin (plain_text p)
+    → (rest : Code) → after ++ code_text margin rest ≡ before ++ code_text margin (put i rest)
+plain_behind margin i p before after is e rest =
+    behind before after (line margin (plain_text p)) (code_text margin rest) e
+    ∙ sym (ap (λ (c : Code). before ++ code_text margin c) (put_plain i p rest is))
+
+pub block_behind : (margin : List ℕ) (i : Instr) (ty : Option ValType) (body : Box (Vec Instr Global) Global) (inner : Vec Instr Global) (before after : List ℕ)
     → i ≡ instr.Block ty body → inner ≡ body.value
-    → code_text margin (put i rest) ≡ line margin (name_of op.Block ++ result_text ty) ++ code_text (deeper margin) (code_of inner.items)
-    ++ line margin (name_of op.End) ++ code_text margin rest
-text_block margin i ty body inner rest is held = ap (code_text margin) (put_block_at i ty body inner rest is held)
+    → after ≡ before ++ holding margin op.Block ty (code_text (deeper margin) (code_of inner.items))
+    → (rest : Code) → after ++ code_text margin rest ≡ before ++ code_text margin (put i rest)
+block_behind margin i ty body inner before after is held e rest =
+    behind before after (holding margin op.Block ty (code_text (deeper margin) (code_of inner.items))) (code_text margin rest) e
+    ∙ sym (ap (λ (c : Code). before ++ code_text margin c) (put_block_at i ty body inner rest is held))
 
-pub text_loop : (margin : List ℕ) (i : Instr) (ty : Option ValType) (body : Box (Vec Instr Global) Global) (inner : Vec Instr Global) (rest : Code)
+pub loop_behind : (margin : List ℕ) (i : Instr) (ty : Option ValType) (body : Box (Vec Instr Global) Global) (inner : Vec Instr Global) (before after : List ℕ)
     → i ≡ instr.Loop ty body → inner ≡ body.value
-    → code_text margin (put i rest) ≡ line margin (name_of op.Loop ++ result_text ty) ++ code_text (deeper margin) (code_of inner.items)
-    ++ line margin (name_of op.End) ++ code_text margin rest
-text_loop margin i ty body inner rest is held = ap (code_text margin) (put_loop_at i ty body inner rest is held)
+    → after ≡ before ++ holding margin op.Loop ty (code_text (deeper margin) (code_of inner.items))
+    → (rest : Code) → after ++ code_text margin rest ≡ before ++ code_text margin (put i rest)
+loop_behind margin i ty body inner before after is held e rest =
+    behind before after (holding margin op.Loop ty (code_text (deeper margin) (code_of inner.items))) (code_text margin rest) e
+    ∙ sym (ap (λ (c : Code). before ++ code_text margin c) (put_loop_at i ty body inner rest is held))
 
-pub text_choice : (margin : List ℕ) (i : Instr) (ty : Option ValType) (arms : Box (Vec Instr Global × Vec Instr Global) Global)
-    (both : Vec Instr Global × Vec Instr Global) (rest : Code) → i ≡ instr.If ty arms → both ≡ arms.value
-    → code_text margin (put i rest) ≡ line margin (name_of op.If ++ result_text ty) ++ code_text (deeper margin) (code_of both.0.items)
-    ++ other_text margin (code_of both.1.items) ++ line margin (name_of op.End) ++ code_text margin rest
-text_choice margin i ty arms both rest is held = ap (code_text margin) (put_if_at i ty arms both rest is held)
+pub choice_behind : (margin : List ℕ) (i : Instr) (ty : Option ValType) (arms : Box (Vec Instr Global × Vec Instr Global) Global)
+    (both : Vec Instr Global × Vec Instr Global) (before after : List ℕ) → i ≡ instr.If ty arms → both ≡ arms.value
+    → after ≡ before ++ holding margin op.If ty (code_text (deeper margin) (code_of both.0.items) ++ other_text margin (code_of both.1.items))
+    → (rest : Code) → after ++ code_text margin rest ≡ before ++ code_text margin (put i rest)
+unfolding other_text
+choice_behind margin i ty arms both before after is held e rest =
+    behind before after (holding margin op.If ty (code_text (deeper margin) (code_of both.0.items) ++ other_text margin (code_of both.1.items))) (code_text margin rest) e
+    ∙ sym (ap (λ (c : Code). before ++ code_text margin c) (put_if_at i ty arms both rest is held))
 
 -- ---- the second side of a choice
 pub no_side : (margin : List ℕ) (is : List Instr) → length is ≡ 0 → other_text margin (code_of is) ≡ []
+unfolding other_text
 no_side margin [] e = refl
 no_side margin (i ∷ is) e = absurd (omega (arith, e))
 
 pub some_side : (margin : List ℕ) (is : List Instr) → 0 < length is
     → other_text margin (code_of is) ≡ line margin (name_of op.Else) ++ code_text (deeper margin) (code_of is)
+unfolding other_text
 some_side margin [] h = absurd (omega (arith, h))
-some_side margin (i ∷ is) h = ap (λ b. side margin b (code_text (deeper margin) (code_of (i ∷ is)))) (begins_put i (code_of is))
+some_side margin (i ∷ is) h = ap (λ (b : Bool). side margin b (code_text (deeper margin) (code_of (i ∷ is)))) (begins_put i (code_of is))
 
 -- ---- a list of instructions, up to the one that a loop stands at
 next_is : (is : List Instr) (k : ℕ) (x : Instr) → k < length is → x ≡ get_or is k x
@@ -60,3 +75,5 @@ pub ended : (margin : List ℕ) (is : List Instr) (k : ℕ) (text all : List ℕ
     → text ++ code_text margin (code_of (drop k is)) ≡ all → text ≡ all
 ended margin is k text all h so_far =
     sym (append-nil text) ∙ sym (ap (λ (js : List Instr). text ++ code_text margin (code_of js)) (drop_all k is h)) ∙ so_far
+
+pub ruleset sides = (no_side, some_side)

@@ -27,15 +27,15 @@ use Rattle.nr_wat.specs.Instructions.{code_text, line, result_text}
 
 -- a field begins with its word and its number
 abbrev pub head : List ℕ → ℕ → List ℕ
-head word number = line (codes "  ") (40 ∷ word ++ codes " (;" ++ decimal number ++ codes ";)")
+head word number = line (codes "  ") (codes "(" ++ word ++ codes " (;" ++ decimal number ++ codes ";)")
 
 -- ---- types
 abbrev pub type_word : ValType → List ℕ
-type_word t = 32 ∷ type_name t
+type_word t = codes " " ++ type_name t
 
 -- no list where there is no type
 abbrev pub types_text : List ℕ → List ValType → List ℕ
-types_text front ts = cond (length ts == 0) [] (front ++ flat_map type_word ts ++ 41 ∷ [])
+types_text front ts = cond (length ts == 0) [] (front ++ flat_map type_word ts ++ codes ")")
 
 abbrev pub sig_text : FuncType → List ℕ
 sig_text f = types_text (codes " (param") f.params ++ result_text f.result
@@ -56,15 +56,16 @@ functions_in imports = count_by (λ (i : Import). is_function i.kind) imports
 
 -- behind so many functions
 abbrev pub import_kind_text : ℕ → ImportKind → List ℕ
-import_kind_text before (imported.Func t) = codes "(func (;" ++ decimal before ++ codes ";) (type " ++ decimal t ++ codes "))"
+import_kind_text before (imported.Func t) =
+    codes "(func (;" ++ decimal before ++ codes ";) (type " ++ decimal t ++ codes "))"
 import_kind_text before imported.Table = codes "(table (;its type isn't kept;))"
 import_kind_text before imported.Memory = codes "(memory (;its type isn't kept;))"
 import_kind_text before imported.Global = codes "(global (;its type isn't kept;))"
 
 unfoldable pub import_text : ℕ → Import → List ℕ
 import_text before i =
-    line (codes "  ") (codes "(import ") ++ string_text i.module ++ 32 ∷ string_text i.name
-    ++ 32 ∷ import_kind_text before i.kind ++ 41 ∷ []
+    line (codes "  ") (codes "(import ") ++ string_text i.module ++ codes " " ++ string_text i.name
+    ++ codes " " ++ import_kind_text before i.kind ++ codes ")"
 
 abbrev pub import_field : List Import → ℕ → Import → List ℕ
 import_field imports number i = import_text (functions_in (take number imports)) i
@@ -83,7 +84,7 @@ use_text types (Some t) = codes " (type " ++ decimal t ++ 41 ∷ listed_sig (sli
 unfoldable pub func_field : Module → ℕ → Body → List ℕ
 func_field m number b =
     head (codes "func") (functions_in m.imports + number) ++ use_text m.types (slice_get m.funcs number)
-    ++ types_text (line (codes "    ") (codes "(local")) b.locals ++ code_text (codes "    ") b.code ++ 41 ∷ []
+    ++ types_text (line (codes "    ") (codes "(local")) b.locals ++ code_text (codes "    ") b.code ++ codes ")"
 
 -- ---- tables and memories
 abbrev pub most_text : Option ℕ → List ℕ
@@ -98,17 +99,18 @@ limits_field word tail number l = head word number ++ limits_text l ++ tail
 
 -- ---- globals
 abbrev pub const_text : ConstExpr → List ℕ
-const_text (const.I32 n) = name_of op.Const32 ++ 32 ∷ signed_text 2147483648 n
-const_text (const.I64 n) = name_of op.Const64 ++ 32 ∷ signed_text 9223372036854775808 n
+const_text (const.I32 n) = name_of op.Const32 ++ codes " " ++ signed_text 2147483648 n
+const_text (const.I64 n) = name_of op.Const64 ++ codes " " ++ signed_text 9223372036854775808 n
 const_text (const.Get x) = name_of op.GlobalGet ++ spaced x
 
 abbrev pub global_type : Bool → ValType → List ℕ
 global_type false t = type_name t
-global_type true t = codes "(mut " ++ type_name t ++ 41 ∷ []
+global_type true t = codes "(mut " ++ type_name t ++ codes ")"
 
 unfoldable pub global_field : ℕ → Global → List ℕ
 global_field number g =
-    head (codes "global") number ++ 32 ∷ global_type g.mutable g.kind ++ codes " (" ++ const_text g.init ++ codes "))"
+    head (codes "global") number ++ codes " " ++ global_type g.mutable g.kind ++ codes " (" ++ const_text g.init
+    ++ codes "))"
 
 -- ---- exports
 abbrev pub export_word : ExportKind → List ℕ
@@ -127,15 +129,15 @@ abbrev pub index_text : ℕ → List ℕ
 index_text index = cond (index == 0) [] (spaced index)
 
 abbrev pub where_text : ℕ → ConstExpr → List ℕ
-where_text index offset = index_text index ++ codes " (" ++ const_text offset ++ 41 ∷ []
+where_text index offset = index_text index ++ codes " (" ++ const_text offset ++ codes ")"
 
 unfoldable pub element_field : ℕ → Element → List ℕ
 element_field number e =
-    head (codes "elem") number ++ where_text e.table e.offset ++ numbers_text e.funcs ++ 41 ∷ []
+    head (codes "elem") number ++ where_text e.table e.offset ++ numbers_text e.funcs ++ codes ")"
 
 unfoldable pub segment_field : ℕ → Segment → List ℕ
 segment_field number d =
-    head (codes "data") number ++ where_text d.memory d.offset ++ 32 ∷ string_text d.bytes ++ 41 ∷ []
+    head (codes "data") number ++ where_text d.memory d.offset ++ codes " " ++ string_text d.bytes ++ codes ")"
 
 -- ---- modules
 unfoldable pub module_text : Module → List ℕ

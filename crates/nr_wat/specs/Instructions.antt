@@ -1,9 +1,10 @@
--- WebAssembly Core 1.0, "Text Format", "Instructions": the text of a sequence, a line for each instruction and each end,
--- with no folding, and without names for labels. Offset and alignment stand where they aren't the usual ones.
+-- WebAssembly Core 1.0, "Text Format", "Instructions": the text of a sequence, a line for each instruction, `else` and
+-- `end`, with no folding, and without names for labels. Offset and alignment stand where they aren't the usual ones.
 use Rattle.std.specs.Prelude.{ℕ, ◌^◌, ◌==◌, Bool, cond, nat_le, List, [], ◌∷◌, ◌++◌, Option, Some, None, codes, decimal}
 use Rattle.nr_wasmtypes.specs.declared.instr.ValType.{ValType}
 use Rattle.nr_wasmtypes.specs.declared.instr.Plain.{Plain}
 use Rattle.nr_wasmtypes.specs.declared.instr.Plain.TheVariants as plain
+use Rattle.nr_wasmtypes.specs.declared.opcode.Op.{Op}
 use Rattle.nr_wasmtypes.specs.declared.opcode.Op.TheVariants as op
 use Rattle.nr_wasmtypes.specs.Code.{Code, End, Then, Block, Loop, Choice, begins}
 use Rattle.nr_wasmtypes.specs.Tables.{align_of_load, align_of_store}
@@ -31,7 +32,7 @@ operands_text (plain.BrIf l) = spaced l
 operands_text (plain.BrTable labels) = numbers_text labels.0 ++ spaced labels.1
 operands_text plain.Return = []
 operands_text (plain.Call f) = spaced f
-operands_text (plain.CallIndirect t) = codes " (type " ++ decimal t ++ 41 ∷ []
+operands_text (plain.CallIndirect t) = codes " (type " ++ decimal t ++ codes ")"
 operands_text plain.Drop = []
 operands_text plain.Select = []
 operands_text (plain.LocalGet x) = spaced x
@@ -43,8 +44,8 @@ operands_text (plain.Load what align offset) = offset_text offset ++ align_text 
 operands_text (plain.Store what align offset) = offset_text offset ++ align_text (align_of_store what) align
 operands_text plain.MemorySize = []
 operands_text plain.MemoryGrow = []
-operands_text (plain.Const32 n) = 32 ∷ signed_text 2147483648 n
-operands_text (plain.Const64 n) = 32 ∷ signed_text 9223372036854775808 n
+operands_text (plain.Const32 n) = codes " " ++ signed_text 2147483648 n
+operands_text (plain.Const64 n) = codes " " ++ signed_text 9223372036854775808 n
 operands_text (plain.IsZero t) = []
 operands_text (plain.Compare t how) = []
 operands_text (plain.Count t how) = []
@@ -58,7 +59,7 @@ plain_text p = name_of (plain_op p) ++ operands_text p
 -- ---- sequences
 abbrev pub result_text : Option ValType → List ℕ
 result_text None = []
-result_text (Some t) = codes " (result " ++ type_name t ++ 41 ∷ []
+result_text (Some t) = codes " (result " ++ type_name t ++ codes ")"
 
 -- a line behind a margin
 abbrev pub line : List ℕ → List ℕ → List ℕ
@@ -68,6 +69,10 @@ line margin words = 10 ∷ margin ++ words
 abbrev pub deeper : List ℕ → List ℕ
 deeper margin = margin ++ codes "  "
 
+-- what an instruction holds stands between the line of its name and the line of its end
+abbrev pub holding : List ℕ → Op → Option ValType → List ℕ → List ℕ
+holding margin name ty text = line margin (name_of name ++ result_text ty) ++ text ++ line margin (name_of op.End)
+
 -- the second side of a choice, where it isn't empty
 abbrev pub side : List ℕ → Bool → List ℕ → List ℕ
 side margin stands text = cond stands (line margin (name_of op.Else) ++ text) []
@@ -76,14 +81,13 @@ abbrev pub code_text : List ℕ → Code → List ℕ
 code_text margin End = []
 code_text margin (Then p rest) = line margin (plain_text p) ++ code_text margin rest
 code_text margin (Block ty body rest) =
-    line margin (name_of op.Block ++ result_text ty) ++ code_text (deeper margin) body ++ line margin (name_of op.End)
-    ++ code_text margin rest
+    holding margin op.Block ty (code_text (deeper margin) body) ++ code_text margin rest
 code_text margin (Loop ty body rest) =
-    line margin (name_of op.Loop ++ result_text ty) ++ code_text (deeper margin) body ++ line margin (name_of op.End)
-    ++ code_text margin rest
+    holding margin op.Loop ty (code_text (deeper margin) body) ++ code_text margin rest
 code_text margin (Choice ty one other rest) =
-    line margin (name_of op.If ++ result_text ty) ++ code_text (deeper margin) one
-    ++ side margin (begins other) (code_text (deeper margin) other) ++ line margin (name_of op.End) ++ code_text margin rest
+    holding margin op.If ty
+    (code_text (deeper margin) one ++ side margin (begins other) (code_text (deeper margin) other))
+    ++ code_text margin rest
 
-abbrev pub other_text : List ℕ → Code → List ℕ
+unfoldable pub other_text : List ℕ → Code → List ℕ
 other_text margin other = side margin (begins other) (code_text (deeper margin) other)

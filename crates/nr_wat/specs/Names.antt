@@ -88,9 +88,9 @@ convert_name convert.ExtendS = codes "i64.extend_i32_s"
 convert_name convert.ExtendU = codes "i64.extend_i32_u"
 
 abbrev pub typed : ValType → List ℕ → List ℕ
-typed t word = type_name t ++ 46 ∷ word
+typed t word = type_name t ++ codes "." ++ word
 
--- ---- names of one part; `else` and `end` stand for their bytes, and what is no instruction of this profile has no name
+-- ---- names of one part; `else` and `end` are those of their bytes, and what is no instruction of this profile has none
 abbrev pub whole_name : Op → List ℕ
 whole_name op.Unreachable = codes "unreachable"
 whole_name op.Nop = codes "nop"

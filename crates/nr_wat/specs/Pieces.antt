@@ -1,5 +1,6 @@
 -- WebAssembly Core 1.0, "Text Format", "Values" and "Lexical Format": numbers and strings, and lists that are numbered.
-use Rattle.std.specs.Prelude.{ℕ, ◌+◌, ◌-◌, ◌^◌, ◌==◌, ◌&&◌, Bool, cond, not, nat_le, nat_lt, List, [], ◌∷◌, ◌++◌, codes, decimal}
+use Rattle.std.specs.Prelude.{ℕ, ◌+◌, ◌-◌, ◌==◌, ◌&&◌, Bool, cond, not, nat_le, nat_lt, List, [], ◌∷◌, ◌++◌}
+use Rattle.std.specs.Prelude.{codes, decimal}
 use Rattle.std.specs.List.{flat_map}
 use Rattle.hex.specs.Hex.{encode_lower}
 
@@ -14,14 +15,14 @@ numbered text xs = numbered_from text 0 xs
 
 -- each behind a space
 abbrev pub spaced : ℕ → List ℕ
-spaced n = 32 ∷ decimal n
+spaced n = codes " " ++ decimal n
 
 abbrev pub numbers_text : List ℕ → List ℕ
 numbers_text ns = flat_map spaced ns
 
 -- ---- a number of 32 or 64 bits as a signed one; the first is the half of all
 abbrev pub signed_text : ℕ → ℕ → List ℕ
-signed_text half n = cond (nat_lt n half) (decimal n) (45 ∷ decimal (half + half - n))
+signed_text half n = cond (nat_lt n half) (decimal n) (codes "-" ++ decimal (half + half - n))
 
 -- ---- strings
 -- a character of ASCII or the space, but a quote and a backslash

@@ -3,7 +3,7 @@
 ghost use Rattle.std.specs.Prelude.{◌≡◌, ◌++◌, [], IfOk, OnOk, string_bytes};
 ghost use Rattle.nr_wasmtypes.specs.Code.{Code, code_of, put};
 ghost use Rattle.nr_wat.specs.Names.{name_of};
-ghost use Rattle.nr_wat.specs.Instructions.{code_text, deeper, line, other_text, plain_text, result_text};
+ghost use Rattle.nr_wat.specs.Instructions.{code_text, deeper, holding, line, other_text, plain_text, result_text};
 
 use crate::names::{push_name, type_name};
 use crate::operands::push_plain;
@@ -87,7 +87,7 @@ fn print_inside(
 
 /// The second side of a choice, where it has one.
 #[cycle(code)]
-#[tactic(auto, using(crate::proofs::Turns::no_side, crate::proofs::Turns::some_side))]
+#[tactic(auto, using(std::proofs::lemmas::Grind::common_steps, crate::proofs::Turns::sides))]
 fn print_other(
     alloc: Global,
     margin: &str,
@@ -104,9 +104,45 @@ fn print_other(
     print_inside(alloc, margin, body, text)
 }
 
+/// A block or a loop, with what it holds.
+#[cycle(code)]
+fn print_block(
+    alloc: Global,
+    margin: &str,
+    op: Op,
+    result_type: Option<ValType>,
+    body: &Vec<Instr>,
+    text: &mut String,
+) -> Result<(), AllocError>
+    ensures { OnOk result (string_bytes text.new ≡ string_bytes text.old
+        ++ holding margin.now op result_type (code_text (deeper margin.now) (code_of body.now.items))) }
+{
+    print_head(margin, op, result_type, text)?;
+    print_inside(alloc, margin, body, text)?;
+    print_name(margin, Op::End, text)
+}
+
+/// A choice, with both sides.
+#[cycle(code)]
+fn print_choice(
+    alloc: Global,
+    margin: &str,
+    result_type: Option<ValType>,
+    arms: &(Vec<Instr>, Vec<Instr>),
+    text: &mut String,
+) -> Result<(), AllocError>
+    ensures { OnOk result (string_bytes text.new ≡ string_bytes text.old
+        ++ holding margin.now Op.If result_type (code_text (deeper margin.now) (code_of arms.now.0.items)
+        ++ other_text margin.now (code_of arms.now.1.items))) }
+{
+    print_head(margin, Op::If, result_type, text)?;
+    print_inside(alloc, margin, &arms.0, text)?;
+    print_other(alloc, margin, &arms.1, text)?;
+    print_name(margin, Op::End, text)
+}
+
 /// One instruction, with what it holds.
 #[cycle(code)]
-#[tactic(auto, using(crate::proofs::Turns::text_plain, crate::proofs::Turns::text_block, crate::proofs::Turns::text_loop, crate::proofs::Turns::text_choice))]
 fn print_instr(
     alloc: Global,
     margin: &str,
@@ -119,22 +155,12 @@ fn print_instr(
     match instr {
         Instr::Plain(plain) => print_plain(margin, plain, text),
         Instr::Block(result_type, body) => {
-            print_head(margin, Op::Block, *result_type, text)?;
-            print_inside(alloc, margin, body, text)?;
-            print_name(margin, Op::End, text)
+            print_block(alloc, margin, Op::Block, *result_type, body, text)
         }
         Instr::Loop(result_type, body) => {
-            print_head(margin, Op::Loop, *result_type, text)?;
-            print_inside(alloc, margin, body, text)?;
-            print_name(margin, Op::End, text)
+            print_block(alloc, margin, Op::Loop, *result_type, body, text)
         }
-        Instr::If(result_type, arms) => {
-            let arms: &(Vec<Instr>, Vec<Instr>) = arms;
-            print_head(margin, Op::If, *result_type, text)?;
-            print_inside(alloc, margin, &arms.0, text)?;
-            print_other(alloc, margin, &arms.1, text)?;
-            print_name(margin, Op::End, text)
-        }
+        Instr::If(result_type, arms) => print_choice(alloc, margin, *result_type, arms, text),
     }
 }
 

@@ -2,8 +2,9 @@
 
 ghost use Rattle.std.specs.Prelude.{◌≡◌, ◌++◌, IfOk, OnOk, string_bytes};
 ghost use Rattle.std.specs.List.{flat_map};
-ghost use Rattle.nr_wat.specs.Fields.{const_text, element_field, export_field, export_word, global_field, global_type, index_text};
-ghost use Rattle.nr_wat.specs.Fields.{limits_field, limits_text, module_text, most_text, segment_field, where_text};
+ghost use Rattle.nr_wat.specs.Fields.{const_text, element_field, export_field, export_word, global_field, global_type};
+ghost use Rattle.nr_wat.specs.Fields.{index_text, limits_field, limits_text, module_text, most_text, segment_field};
+ghost use Rattle.nr_wat.specs.Fields.{where_text};
 ghost use Rattle.nr_wat.specs.Pieces.{numbered};
 
 use crate::functions::{print_functions, print_imports, print_types, push_head};
@@ -51,7 +52,7 @@ fn print_limits(
     text.push_str(tail)
 }
 
-#[tactic(auto, using(crate::proofs::Numbered::one_more, crate::proofs::Numbered::none_yet))]
+#[tactic(auto, using(crate::proofs::Numbered::turns))]
 fn print_all_limits(
     word: &str,
     tail: &str,
@@ -112,7 +113,7 @@ fn print_global(number: usize, global: &GlobalEntry, text: &mut String) -> Resul
     text.push_str("))")
 }
 
-#[tactic(auto, using(crate::proofs::Numbered::one_more, crate::proofs::Numbered::none_yet))]
+#[tactic(auto, using(crate::proofs::Numbered::turns))]
 fn print_globals(globals: &[GlobalEntry], text: &mut String) -> Result<(), AllocError>
     ensures { OnOk result (string_bytes text.new ≡ string_bytes text.old ++ numbered global_field globals.now) }
 {
@@ -186,7 +187,7 @@ fn print_element(number: usize, element: &Element, text: &mut String) -> Result<
     text.push_str(")")
 }
 
-#[tactic(auto, using(crate::proofs::Numbered::one_more, crate::proofs::Numbered::none_yet))]
+#[tactic(auto, using(crate::proofs::Numbered::turns))]
 fn print_elements(elements: &[Element], text: &mut String) -> Result<(), AllocError>
     ensures { OnOk result (string_bytes text.new ≡ string_bytes text.old ++ numbered element_field elements.now) }
 {
@@ -212,7 +213,7 @@ fn print_segment(
     text.push_str(")")
 }
 
-#[tactic(auto, using(crate::proofs::Numbered::one_more, crate::proofs::Numbered::none_yet))]
+#[tactic(auto, using(crate::proofs::Numbered::turns))]
 fn print_segments(alloc: Global, segments: &[Segment], text: &mut String) -> Result<(), AllocError>
     ensures { OnOk result (string_bytes text.new ≡ string_bytes text.old ++ numbered segment_field segments.now) }
 {

@@ -1,6 +1,6 @@
 //! Types, imports and functions.
 
-ghost use Rattle.std.specs.Prelude.{◌≡◌, ◌<◌, ◌++◌, IfOk, OnOk, length, string_bytes};
+ghost use Rattle.std.specs.Prelude.{◌≡◌, ◌++◌, IfOk, OnOk, string_bytes};
 ghost use Rattle.std.specs.List.{flat_map};
 ghost use Rattle.std.specs.Option.{option_copied};
 ghost use Rattle.nr_wat.specs.Fields.{func_field, functions_in, head, import_field, import_kind_text, import_text};
@@ -64,7 +64,7 @@ fn print_type(number: usize, sig: &FuncType, text: &mut String) -> Result<(), Al
 }
 
 /// The types of functions.
-#[tactic(auto, using(crate::proofs::Numbered::one_more, crate::proofs::Numbered::none_yet))]
+#[tactic(auto, using(crate::proofs::Numbered::turns))]
 pub(crate) fn print_types(types: &[FuncType], text: &mut String) -> Result<(), AllocError>
     ensures { OnOk result (string_bytes text.new ≡ string_bytes text.old ++ numbered type_field types.now) }
 {
@@ -116,7 +116,7 @@ fn print_import(
 }
 
 /// The imports. Answers how many functions are imported.
-#[tactic(auto, using(crate::proofs::Numbered::one_more, crate::proofs::Numbered::none_yet, crate::proofs::Counts::one_function, crate::proofs::Counts::no_function))]
+#[tactic(auto, using(crate::proofs::Numbered::turns, crate::proofs::Counts::steps))]
 pub(crate) fn print_imports(
     alloc: Global,
     imports: &[Import],
@@ -149,7 +149,8 @@ fn push_listed(sig: Option<&FuncType>, text: &mut String) -> Result<(), AllocErr
 
 /// A type by its number, and what it is.
 fn push_use(types: &[FuncType], number: Option<&u32>, text: &mut String) -> Result<(), AllocError>
-    ensures { OnOk result (string_bytes text.new ≡ string_bytes text.old ++ use_text types.now (option_copied number.entry)) }
+    ensures { OnOk result (string_bytes text.new
+        ≡ string_bytes text.old ++ use_text types.now (option_copied number.entry)) }
 {
     match number {
         None => Ok(()),
@@ -169,11 +170,11 @@ fn print_function(
     body: &FuncBody,
     text: &mut String,
 ) -> Result<(), AllocError>
-    requires imported { imported ≡ functions_in module.now.imports }
-    requires number { number < length module.now.bodies }
+    requires { imported ≡ functions_in module.now.imports }
     ensures { OnOk result (string_bytes text.new ≡ string_bytes text.old ++ func_field module.now number body.now) }
 {
-    push_head("func", imported + number, text)?;
+    let index = imported as u128 + number as u128;
+    write!(text, "\n  (func (;{index};)")?;
     push_use(module.types.inner(), module.funcs.inner().get(number), text)?;
     push_list("\n    (local", body.locals(), text)?;
     print_code(alloc, "    ", body.code_vec(), text)?;
@@ -181,7 +182,7 @@ fn print_function(
 }
 
 /// The functions of the module's own.
-#[tactic(auto, using(crate::proofs::Numbered::one_more, crate::proofs::Numbered::none_yet))]
+#[tactic(auto, using(crate::proofs::Numbered::turns))]
 pub(crate) fn print_functions(
     alloc: Global,
     module: &Module,
@@ -189,7 +190,8 @@ pub(crate) fn print_functions(
     text: &mut String,
 ) -> Result<(), AllocError>
     requires { imported ≡ functions_in module.now.imports }
-    ensures { OnOk result (string_bytes text.new ≡ string_bytes text.old ++ numbered (func_field module.now) module.now.bodies) }
+    ensures { OnOk result (string_bytes text.new
+        ≡ string_bytes text.old ++ numbered (func_field module.now) module.now.bodies) }
 {
     for (number, body) in module.bodies.inner().iter().enumerate() {
         print_function(alloc, module, imported, number, body, text)?;

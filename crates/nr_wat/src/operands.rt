@@ -47,14 +47,14 @@ fn push_operands(plain: &Plain, text: &mut String) -> Result<(), AllocError>
     ensures { OnOk result (string_bytes text.new ≡ string_bytes text.old ++ operands_text plain.now) }
 {
     match plain {
-        Plain::Br(number)
-        | Plain::BrIf(number)
-        | Plain::Call(number)
-        | Plain::LocalGet(number)
-        | Plain::LocalSet(number)
-        | Plain::LocalTee(number)
-        | Plain::GlobalGet(number)
-        | Plain::GlobalSet(number) => push_number(*number, text),
+        Plain::Br(label) => push_number(*label, text),
+        Plain::BrIf(label) => push_number(*label, text),
+        Plain::Call(function) => push_number(*function, text),
+        Plain::LocalGet(local) => push_number(*local, text),
+        Plain::LocalSet(local) => push_number(*local, text),
+        Plain::LocalTee(local) => push_number(*local, text),
+        Plain::GlobalGet(global) => push_number(*global, text),
+        Plain::GlobalSet(global) => push_number(*global, text),
         Plain::BrTable(labels) => {
             push_numbers(labels.labels(), text)?;
             push_number(labels.other(), text)
