@@ -92,8 +92,8 @@ fn serve_command<S: Shelf, K: Sink>(
 /// writes a line that says what it is; `run CONFIG FILE METHOD GAS` runs a method of it besides, and
 /// writes how the run ended; `list FILE` decodes the module of a file and tells what it imports and
 /// exports; `text FILE` decodes it and writes it in WebAssembly's text format. CONFIG is `free`, the built-in
-/// configuration, or the name of a file. GAS is a decimal number below 2^64 without leading zeros. `help` writes the words of the commands, and
-/// `version` the program's name and version.
+/// configuration, or the name of a file. GAS is a decimal number below 2^64 without leading zeros. `help`
+/// writes the words of the commands, and `version` the program's name and version.
 ///
 /// The line is `ok`; `decode KIND AT` with the kind of the first fault (1 `Short`, 2 `Leb`,
 /// 3 `Section`, 4 `Opcode`, 5 `Float`, 6 `Utf8`, 7 `TooMany`) and its place; `valid KIND FUNC PLACE`

@@ -228,7 +228,7 @@ fn print_segments(alloc: Global, segments: &[Segment], text: &mut String) -> Res
 /// The text of a module in WebAssembly's text format (Core 1.0), a line for each field and each instruction. Comments
 /// have the numbers of fields.
 ///
-/// A tool of the field reads it back where the module imports functions alone, and no alignment is above 2^31: in the
+/// It keeps to the rules of the format where the module imports functions alone, and no alignment is above 2^31: in the
 /// place of each other import's type, and of such an alignment, a comment stands.
 ///
 /// # Errors
