@@ -8,8 +8,6 @@ mod laws;
 mod names;
 mod operands;
 mod pieces;
-#[cfg(test)]
-mod tests;
 
 pub use fields::write_text;
 pub use laws::names_law;

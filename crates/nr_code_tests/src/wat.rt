@@ -1,8 +1,8 @@
 //! Texts that another tool wrote, without its comments on labels, or that a hand wrote. No text is the program's own.
 
-use crate::write_text;
 use nr_config::Config;
 use nr_wasmbin::decode;
+use nr_wat::write_text;
 use std::alloc::Global;
 use std::test::Fail;
 
