@@ -155,8 +155,9 @@ fn push_use(types: &[FuncType], number: Option<&u32>, text: &mut String) -> Resu
     match number {
         None => Ok(()),
         Some(number) => {
+            let number = *number;
             write!(text, " (type {number})")?;
-            push_listed(types.get(*number as usize), text)
+            push_listed(types.get(number as usize), text)
         }
     }
 }
