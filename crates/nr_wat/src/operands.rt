@@ -1,6 +1,6 @@
 //! Instructions that hold no others.
 
-ghost use Rattle.std.specs.Prelude.{◌≡◌, ◌<◌, ◌++◌, IfOk, OnOk, string_bytes};
+ghost use Rattle.std.specs.Prelude.{◌≡◌, ◌++◌, OnOk, string_bytes};
 ghost use Rattle.nr_wat.specs.Instructions.{align_text, offset_text, operands_text, plain_text, power_text};
 
 use crate::names::{op_of, push_name};
