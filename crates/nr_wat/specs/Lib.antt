@@ -1,0 +1,4 @@
+pub mod Names
+pub mod Pieces
+pub mod Instructions
+pub mod Fields
