@@ -69,8 +69,7 @@ abbrev pub TellsShown : View → List ℕ → List ℕ → Rating → Type 0
 TellsShown view bytes line r = TellsDecoded view (length bytes) (decoded (max_code free) bytes) line r
 
 -- what tells an end of a plan: the line of a verdict on what the files give, the lines of a module, a text, or `long`
--- for
--- a file that is too long
+-- for a file that is too long
 abbrev pub Tells : Plan Due Status → List ℕ → Rating → Type 0
 Tells (Answer (Judge q)) line r = TellsVerdict q line r
 Tells (Answer (Show view bytes)) line r = TellsShown view bytes line r

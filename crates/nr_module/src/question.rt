@@ -56,8 +56,8 @@ fn with_file<'a, S: Shelf>(
 ///
 /// # Errors
 ///
-/// `Refused` with `Faulty` where the file is longer than 64 MiB; `Unread` where it could not be read, and `Memory` where
-/// memory ran out.
+/// `Refused` with `Faulty` where the file is longer than 64 MiB; `Unread` where it could not be read, and `Memory`
+/// where memory ran out.
 pub(crate) fn shown_of<S: Shelf>(
     alloc: Global,
     view: View,

@@ -1,3 +1,4 @@
+-- Definitions that the contracts cite.
 pub mod Names
 pub mod Pieces
 pub mod Instructions

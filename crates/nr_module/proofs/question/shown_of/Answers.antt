@@ -1,4 +1,4 @@
--- The goals of `question::listed_of` that no tactic closes.
+-- The goals of `question::shown_of` that no tactic closes.
 use Rattle.std.proofs.Common.{ℕ, List, refl}
 use Rattle.nr_shell.specs.Plans.{Plan, Answer}
 use Rattle.nr_shell.proofs.Leading.{judge_follows, stop_follows, then_follows}

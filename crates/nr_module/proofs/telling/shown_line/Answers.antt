@@ -1,3 +1,4 @@
+-- The goals of `telling::shown_line` that no tactic closes.
 use Rattle.std.proofs.Common.{ℕ, List, IfOk, subst}
 use Rattle.std.specs.Prelude.{string_bytes}
 use Rattle.nr_module.specs.Answers.{TellsShown}

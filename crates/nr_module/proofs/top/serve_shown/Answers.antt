@@ -1,3 +1,4 @@
+-- The goals of `top::serve_shown` that no tactic closes.
 use Rattle.nr_shell.specs.Plans.{Answer}
 use Rattle.nr_module.specs.Plans.{shown_in, shown_plan}
 use Rattle.nr_module.proofs.Ending.{told_end}

@@ -1,3 +1,4 @@
+-- The goals of `code::code` that no tactic closes.
 use Rattle.std.proofs.Common.{string_bytes, arith}
 use Rattle.std.proofs.lemmas.Result.{on_ok_weaker}
 use Rattle.nr_wat.proofs.Turns.{block_behind, choice_behind, ended, loop_behind, plain_behind, turn}

@@ -1,3 +1,4 @@
+-- What holds at the loops of `code::code`.
 use Rattle.std.proofs.Common.{◌≡◌, ◌++◌, string_bytes, drop}
 use Rattle.nr_wasmtypes.specs.Code.{code_of}
 use Rattle.nr_wat.specs.Instructions.{code_text}

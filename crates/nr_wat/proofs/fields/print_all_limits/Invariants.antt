@@ -1,3 +1,4 @@
+-- What holds at the loops of `fields::print_all_limits`.
 use Rattle.std.proofs.Common.{◌≡◌, ◌++◌, string_bytes, take}
 use Rattle.nr_wat.specs.Fields.{limits_field}
 use Rattle.nr_wat.specs.Pieces.{numbered}

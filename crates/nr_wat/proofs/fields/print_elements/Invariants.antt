@@ -1,3 +1,4 @@
+-- What holds at the loops of `fields::print_elements`.
 use Rattle.std.proofs.Common.{◌≡◌, ◌++◌, string_bytes, take}
 use Rattle.nr_wat.specs.Fields.{element_field}
 use Rattle.nr_wat.specs.Pieces.{numbered}

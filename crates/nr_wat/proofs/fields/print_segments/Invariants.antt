@@ -1,3 +1,4 @@
+-- What holds at the loops of `fields::print_segments`.
 use Rattle.std.proofs.Common.{◌≡◌, ◌++◌, string_bytes, take}
 use Rattle.nr_wat.specs.Fields.{segment_field}
 use Rattle.nr_wat.specs.Pieces.{numbered}

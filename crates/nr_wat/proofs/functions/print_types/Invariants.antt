@@ -1,3 +1,4 @@
+-- What holds at the loops of `functions::print_types`.
 use Rattle.std.proofs.Common.{◌≡◌, ◌++◌, string_bytes, take}
 use Rattle.nr_wat.specs.Fields.{type_field}
 use Rattle.nr_wat.specs.Pieces.{numbered}

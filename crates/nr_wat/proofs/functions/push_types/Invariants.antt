@@ -1,3 +1,4 @@
+-- What holds at the loops of `functions::push_types`.
 use Rattle.std.proofs.Common.{◌≡◌, ◌++◌, string_bytes, take}
 use Rattle.std.specs.List.{flat_map}
 use Rattle.nr_wat.specs.Fields.{type_word}

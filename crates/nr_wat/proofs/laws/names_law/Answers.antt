@@ -1,3 +1,4 @@
+-- The goals of `laws::names_law` that no tactic closes.
 use Rattle.nr_wat.proofs.Back.{back, named}
 use Rattle.nr_wat.proofs.laws.names_law.Goals as goal
 

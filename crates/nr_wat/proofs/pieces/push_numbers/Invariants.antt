@@ -1,3 +1,4 @@
+-- What holds at the loops of `pieces::push_numbers`.
 use Rattle.std.proofs.Common.{◌≡◌, ◌++◌, string_bytes, take}
 use Rattle.nr_wat.specs.Pieces.{numbers_text}
 use Rattle.nr_wat.proofs.pieces.push_numbers.Given as goal
