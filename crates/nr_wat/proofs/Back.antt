@@ -1,5 +1,5 @@
 -- A name and its opcode tell each other.
-use Rattle.std.proofs.Common.{◌≡◌, ℕ, zero, suc, ◌+◌, ◌&&◌, ◌||◌, Bool, true, false, not, List, [], ◌∷◌, get_or, Option, Some, None, inl, inr, refl, ap, ◌∙◌, arith}
+use Rattle.std.proofs.Common.{◌≡◌, ℕ, zero, suc, ◌+◌, ◌&&◌, ◌||◌, Bool, true, false, cond, not, List, [], ◌∷◌, get_or, Option, Some, None, inl, inr, refl, ap, ◌∙◌, arith}
 use Rattle.std.specs.Prelude.{◌==◌}
 use Rattle.std.specs.Str.{bytes_eq}
 use Rattle.std.proofs.lemmas.Bool.{and_parts, eqb-true, or_cases, not-true, both_ways}
@@ -51,16 +51,18 @@ back byte has =
 first_at : (name : List ℕ) (byte : ℕ) (os : List Op) (found : ℕ) → byte_named name byte os ≡ Some found
     → (k : ℕ) × (found ≡ byte + k) × (name_of (get_or os k op.Unknown) ≡ name)
 first_at name byte [] found e = absurd cc
-first_at name byte (o ∷ os) found e = by (has_name o && bytes_eq (name_of o) name) refl e
+first_at name byte (o ∷ os) found e = by (has_name o && bytes_eq (name_of o) name) refl (first_at name (byte + 1) os found) e
   where
     by : (b : Bool) → (has_name o && bytes_eq (name_of o) name) ≡ b
-        → elim b as (λ v. Option ℕ) [ true ↦ Some byte | false ↦ byte_named name (byte + 1) os ] ≡ Some found
+        → (byte_named name (byte + 1) os ≡ Some found
+        → (k : ℕ) × (found ≡ byte + 1 + k) × (name_of (get_or os k op.Unknown) ≡ name))
+        → cond b (Some byte) (byte_named name (byte + 1) os) ≡ Some found
         → (k : ℕ) × (found ≡ byte + k) × (name_of (get_or (o ∷ os) k op.Unknown) ≡ name)
-    by true same e =
+    by true same rest e =
         let here : byte ≡ found = cc in
         (0, omega (arith, here), (bytes_eq-Decides (name_of o) name).0 (and_parts _ _ same).1)
-    by false same e =
-        let later = first_at name (byte + 1) os found e in
+    by false same rest e =
+        let later = rest e in
         (suc later.0, omega (arith, later.1), later.2)
 
 pub named : (name : List ℕ) (byte : ℕ) → opcode_named name ≡ Some byte → name_of (op_of byte) ≡ name

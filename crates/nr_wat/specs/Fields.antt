@@ -71,20 +71,26 @@ abbrev pub import_field : List Import → ℕ → Import → List ℕ
 import_field imports number i = import_text (functions_in (take number imports)) i
 
 -- ---- functions
--- a type by its number, and what it is
 abbrev pub listed_sig : Option FuncType → List ℕ
 listed_sig None = []
 listed_sig (Some f) = sig_text f
 
+-- a type by its number, and what it is
+abbrev pub named_text : List FuncType → ℕ → List ℕ
+named_text types t = codes " (type " ++ decimal t ++ codes ")" ++ listed_sig (slice_get types t)
+
 abbrev pub use_text : List FuncType → Option ℕ → List ℕ
 use_text types None = []
-use_text types (Some t) = codes " (type " ++ decimal t ++ 41 ∷ listed_sig (slice_get types t)
+use_text types (Some t) = named_text types t
+
+unfoldable pub body_text : Body → List ℕ
+body_text b =
+    types_text (line (codes "    ") (codes "(local")) b.locals ++ code_text (codes "    ") b.code ++ codes ")"
 
 -- imported functions have the first numbers
 unfoldable pub func_field : Module → ℕ → Body → List ℕ
 func_field m number b =
-    head (codes "func") (functions_in m.imports + number) ++ use_text m.types (slice_get m.funcs number)
-    ++ types_text (line (codes "    ") (codes "(local")) b.locals ++ code_text (codes "    ") b.code ++ codes ")"
+    head (codes "func") (functions_in m.imports + number) ++ use_text m.types (slice_get m.funcs number) ++ body_text b
 
 -- ---- tables and memories
 abbrev pub most_text : Option ℕ → List ℕ
@@ -140,10 +146,21 @@ segment_field number d =
     head (codes "data") number ++ where_text d.memory d.offset ++ codes " " ++ string_text d.bytes ++ codes ")"
 
 -- ---- modules
+unfoldable pub function_fields : Module → List ℕ
+function_fields m =
+    numbered type_field m.types ++ numbered (import_field m.imports) m.imports ++ numbered (func_field m) m.bodies
+
+-- what functions work on
+unfoldable pub storage_fields : Module → List ℕ
+storage_fields m =
+    numbered (limits_field (codes "table") (codes " funcref)")) m.tables
+    ++ numbered (limits_field (codes "memory") (codes ")")) m.memories ++ numbered global_field m.globals
+
+-- what is offered and what is filled in
+unfoldable pub last_fields : Module → List ℕ
+last_fields m =
+    flat_map export_field m.exports ++ numbered element_field m.elements ++ numbered segment_field m.segments
+
 unfoldable pub module_text : Module → List ℕ
 module_text m =
-    codes "(module" ++ numbered type_field m.types ++ numbered (import_field m.imports) m.imports
-    ++ numbered (func_field m) m.bodies ++ numbered (limits_field (codes "table") (codes " funcref)")) m.tables
-    ++ numbered (limits_field (codes "memory") (codes ")")) m.memories ++ numbered global_field m.globals
-    ++ flat_map export_field m.exports ++ numbered element_field m.elements ++ numbered segment_field m.segments
-    ++ codes ")" ++ 10 ∷ []
+    codes "(module" ++ function_fields m ++ storage_fields m ++ last_fields m ++ codes ")" ++ 10 ∷ []

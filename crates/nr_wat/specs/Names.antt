@@ -1,5 +1,5 @@
 -- WebAssembly Core 1.0, "Text Format", "Instructions": the name of each instruction, and the opcode of a name.
-use Rattle.std.specs.Prelude.{ℕ, ◌+◌, ◌&&◌, Bool, true, false, List, [], ◌∷◌, ◌++◌, Option, Some, None, codes}
+use Rattle.std.specs.Prelude.{ℕ, ◌+◌, ◌&&◌, Bool, true, false, cond, List, [], ◌∷◌, ◌++◌, Option, Some, None, codes}
 use Rattle.std.specs.Str.{bytes_eq}
 use Rattle.nr_wasmtypes.specs.Opcodes.{opcodes}
 use Rattle.nr_wasmtypes.specs.declared.instr.ValType.{ValType}
@@ -144,7 +144,7 @@ has_name other = true
 abbrev pub byte_named : List ℕ → ℕ → List Op → Option ℕ
 byte_named name byte [] = None
 byte_named name byte (o ∷ os) =
-    elim (has_name o && bytes_eq (name_of o) name) [ true ↦ Some byte | false ↦ byte_named name (byte + 1) os ]
+    cond (has_name o && bytes_eq (name_of o) name) (Some byte) (byte_named name (byte + 1) os)
 
 abbrev pub opcode_named : List ℕ → Option ℕ
 opcode_named name = byte_named name 0 opcodes

@@ -122,25 +122,6 @@ fn print_block(
     print_name(margin, Op::End, text)
 }
 
-/// A choice, with both sides.
-#[cycle(code)]
-fn print_choice(
-    alloc: Global,
-    margin: &str,
-    result_type: Option<ValType>,
-    arms: &(Vec<Instr>, Vec<Instr>),
-    text: &mut String,
-) -> Result<(), AllocError>
-    ensures { OnOk result (string_bytes text.new ≡ string_bytes text.old
-        ++ holding margin.now Op.If result_type (code_text (deeper margin.now) (code_of arms.now.0.items)
-        ++ other_text margin.now (code_of arms.now.1.items))) }
-{
-    print_head(margin, Op::If, result_type, text)?;
-    print_inside(alloc, margin, &arms.0, text)?;
-    print_other(alloc, margin, &arms.1, text)?;
-    print_name(margin, Op::End, text)
-}
-
 /// One instruction, with what it holds.
 #[cycle(code)]
 fn print_instr(
@@ -160,7 +141,13 @@ fn print_instr(
         Instr::Loop(result_type, body) => {
             print_block(alloc, margin, Op::Loop, *result_type, body, text)
         }
-        Instr::If(result_type, arms) => print_choice(alloc, margin, *result_type, arms, text),
+        Instr::If(result_type, arms) => {
+            let arms: &(Vec<Instr>, Vec<Instr>) = arms;
+            print_head(margin, Op::If, *result_type, text)?;
+            print_inside(alloc, margin, &arms.0, text)?;
+            print_other(alloc, margin, &arms.1, text)?;
+            print_name(margin, Op::End, text)
+        }
     }
 }
 

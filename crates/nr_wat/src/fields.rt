@@ -1,11 +1,11 @@
 //! The fields behind the functions, and all of a module.
 
-ghost use Rattle.std.specs.Prelude.{◌≡◌, ◌++◌, IfOk, OnOk, string_bytes};
+ghost use Rattle.std.specs.Prelude.{◌≡◌, ◌++◌, IfOk, OnOk, codes, string_bytes};
 ghost use Rattle.std.specs.List.{flat_map};
-ghost use Rattle.nr_wat.specs.Fields.{const_text, element_field, export_field, export_word, global_field, global_type};
-ghost use Rattle.nr_wat.specs.Fields.{index_text, limits_field, limits_text, module_text, most_text, segment_field};
-ghost use Rattle.nr_wat.specs.Fields.{where_text};
-ghost use Rattle.nr_wat.specs.Pieces.{numbered};
+ghost use Rattle.nr_wat.specs.Fields.{const_text, element_field, export_field, export_word, function_fields};
+ghost use Rattle.nr_wat.specs.Fields.{global_field, global_type, index_text, last_fields, limits_field, limits_text};
+ghost use Rattle.nr_wat.specs.Fields.{module_text, most_text, segment_field, storage_fields, where_text};
+ghost use Rattle.nr_wat.specs.Pieces.{numbered, string_text};
 
 use crate::functions::{print_functions, print_imports, print_types, push_head};
 use crate::names::{push_name, type_name};
@@ -197,6 +197,16 @@ fn print_elements(elements: &[Element], text: &mut String) -> Result<(), AllocEr
     Ok(())
 }
 
+/// The bytes of a segment, and its end.
+fn push_data(alloc: Global, bytes: &[u8], text: &mut String) -> Result<(), AllocError>
+    ensures { OnOk result (string_bytes text.new
+        ≡ string_bytes text.old ++ codes " " ++ string_text bytes.now ++ codes ")") }
+{
+    text.push_str(" ")?;
+    push_string(alloc, bytes, text)?;
+    text.push_str(")")
+}
+
 #[tactic(auto, unfolding(crate::specs::Fields::segment_field))]
 fn print_segment(
     alloc: Global,
@@ -208,9 +218,7 @@ fn print_segment(
 {
     push_head("data", number, text)?;
     push_where(segment.memory, segment.offset, text)?;
-    text.push_str(" ")?;
-    push_string(alloc, segment.bytes.inner(), text)?;
-    text.push_str(")")
+    push_data(alloc, segment.bytes.inner(), text)
 }
 
 #[tactic(auto, using(crate::proofs::Numbered::turns))]
@@ -224,6 +232,40 @@ fn print_segments(alloc: Global, segments: &[Segment], text: &mut String) -> Res
 }
 
 // ---- modules
+
+/// Types, imports and functions.
+#[tactic(auto, unfolding(crate::specs::Fields::function_fields))]
+fn print_function_fields(
+    alloc: Global,
+    module: &Module,
+    text: &mut String,
+) -> Result<(), AllocError>
+    ensures { OnOk result (string_bytes text.new ≡ string_bytes text.old ++ function_fields module.now) }
+{
+    print_types(module.types.inner(), text)?;
+    let imported = print_imports(alloc, module.imports.inner(), text)?;
+    print_functions(alloc, module, imported, text)
+}
+
+/// Tables, memories and globals.
+#[tactic(auto, unfolding(crate::specs::Fields::storage_fields))]
+fn print_storage_fields(module: &Module, text: &mut String) -> Result<(), AllocError>
+    ensures { OnOk result (string_bytes text.new ≡ string_bytes text.old ++ storage_fields module.now) }
+{
+    print_all_limits("table", " funcref)", module.tables.inner(), text)?;
+    print_all_limits("memory", ")", module.memories.inner(), text)?;
+    print_globals(module.globals.inner(), text)
+}
+
+/// Exports, elements and segments.
+#[tactic(auto, unfolding(crate::specs::Fields::last_fields))]
+fn print_last_fields(alloc: Global, module: &Module, text: &mut String) -> Result<(), AllocError>
+    ensures { OnOk result (string_bytes text.new ≡ string_bytes text.old ++ last_fields module.now) }
+{
+    print_exports(alloc, module.exports.inner(), text)?;
+    print_elements(module.elements.inner(), text)?;
+    print_segments(alloc, module.segments.inner(), text)
+}
 
 /// The text of a module in WebAssembly's text format (Core 1.0), a line for each field and each instruction. Comments
 /// have the numbers of fields.
@@ -239,15 +281,9 @@ pub fn write_text(alloc: Global, module: &Module) -> Result<String, AllocError>
     ensures { IfOk result (λ text. string_bytes text ≡ module_text module.now) }
 {
     let mut text = String::from_str(alloc, "(module")?;
-    print_types(module.types.inner(), &mut text)?;
-    let imported = print_imports(alloc, module.imports.inner(), &mut text)?;
-    print_functions(alloc, module, imported, &mut text)?;
-    print_all_limits("table", " funcref)", module.tables.inner(), &mut text)?;
-    print_all_limits("memory", ")", module.memories.inner(), &mut text)?;
-    print_globals(module.globals.inner(), &mut text)?;
-    print_exports(alloc, module.exports.inner(), &mut text)?;
-    print_elements(module.elements.inner(), &mut text)?;
-    print_segments(alloc, module.segments.inner(), &mut text)?;
+    print_function_fields(alloc, module, &mut text)?;
+    print_storage_fields(module, &mut text)?;
+    print_last_fields(alloc, module, &mut text)?;
     text.push_str(")\n")?;
     Ok(text)
 }

@@ -1,11 +1,11 @@
 //! Types, imports and functions.
 
-ghost use Rattle.std.specs.Prelude.{◌≡◌, ◌++◌, IfOk, OnOk, string_bytes};
+ghost use Rattle.std.specs.Prelude.{◌≡◌, ◌+◌, ◌++◌, IfOk, OnOk, codes, string_bytes};
 ghost use Rattle.std.specs.List.{flat_map};
 ghost use Rattle.std.specs.Option.{option_copied};
-ghost use Rattle.nr_wat.specs.Fields.{func_field, functions_in, head, import_field, import_kind_text, import_text};
-ghost use Rattle.nr_wat.specs.Fields.{is_function};
-ghost use Rattle.nr_wat.specs.Fields.{listed_sig, sig_text, type_field, type_word, types_text, use_text};
+ghost use Rattle.nr_wat.specs.Fields.{body_text, func_field, functions_in, head, import_field, import_kind_text};
+ghost use Rattle.nr_wat.specs.Fields.{import_text, is_function, listed_sig, named_text, sig_text, type_field};
+ghost use Rattle.nr_wat.specs.Fields.{type_word, types_text, use_text};
 ghost use Rattle.nr_wat.specs.Pieces.{numbered};
 
 use crate::code::{print_code, push_result};
@@ -148,18 +148,40 @@ fn push_listed(sig: Option<&FuncType>, text: &mut String) -> Result<(), AllocErr
 }
 
 /// A type by its number, and what it is.
+fn push_named(types: &[FuncType], number: u32, text: &mut String) -> Result<(), AllocError>
+    ensures { OnOk result (string_bytes text.new ≡ string_bytes text.old ++ named_text types.now number) }
+{
+    write!(text, " (type {number})")?;
+    push_listed(types.get(number as usize), text)
+}
+
 fn push_use(types: &[FuncType], number: Option<&u32>, text: &mut String) -> Result<(), AllocError>
     ensures { OnOk result (string_bytes text.new
         ≡ string_bytes text.old ++ use_text types.now (option_copied number.entry)) }
 {
     match number {
         None => Ok(()),
-        Some(number) => {
-            let number = *number;
-            write!(text, " (type {number})")?;
-            push_listed(types.get(number as usize), text)
-        }
+        Some(number) => push_named(types, *number, text),
     }
+}
+
+/// Begins a function behind so many imported ones.
+fn push_function_head(imported: usize, number: usize, text: &mut String) -> Result<(), AllocError>
+    ensures { OnOk result (string_bytes text.new
+        ≡ string_bytes text.old ++ head (codes "func") (imported + number)) }
+{
+    let index = imported as u128 + number as u128;
+    write!(text, "\n  (func (;{index};)")
+}
+
+/// The locals and the code of a function.
+#[tactic(auto, unfolding(crate::specs::Fields::body_text))]
+fn print_body(alloc: Global, body: &FuncBody, text: &mut String) -> Result<(), AllocError>
+    ensures { OnOk result (string_bytes text.new ≡ string_bytes text.old ++ body_text body.now) }
+{
+    push_list("\n    (local", body.locals(), text)?;
+    print_code(alloc, "    ", body.code_vec(), text)?;
+    text.push_str(")")
 }
 
 #[tactic(auto, unfolding(crate::specs::Fields::func_field))]
@@ -174,12 +196,9 @@ fn print_function(
     requires { imported ≡ functions_in module.now.imports }
     ensures { OnOk result (string_bytes text.new ≡ string_bytes text.old ++ func_field module.now number body.now) }
 {
-    let index = imported as u128 + number as u128;
-    write!(text, "\n  (func (;{index};)")?;
+    push_function_head(imported, number, text)?;
     push_use(module.types.inner(), module.funcs.inner().get(number), text)?;
-    push_list("\n    (local", body.locals(), text)?;
-    print_code(alloc, "    ", body.code_vec(), text)?;
-    text.push_str(")")
+    print_body(alloc, body, text)
 }
 
 /// The functions of the module's own.

@@ -1,7 +1,7 @@
 -- The goals of `code::code` that no tactic closes.
 use Rattle.std.proofs.Common.{string_bytes, arith}
 use Rattle.std.proofs.lemmas.Result.{on_ok_weaker}
-use Rattle.nr_wat.proofs.Turns.{block_behind, choice_behind, ended, loop_behind, plain_behind, turn}
+use Rattle.nr_wat.proofs.Turns.{block_behind, choice_behind, choice_parts, ended, loop_behind, plain_behind, turn}
 use Rattle.nr_wat.proofs.code.+code.Goals as goal
 
 pub print_instr-returns-in-Plain : goal.print_instr-returns-in-Plain
@@ -21,11 +21,15 @@ print_instr-returns-in-Loop t c =
     (λ e. loop_behind c.args.margin.now c.args.instr.now c.in-Loop.result_type c.in-Loop.body c.deref-in-Loop.result.now _ _ c.in-Loop.is c.deref-in-Loop.ensures e)
     c.print_block-in-Loop.ensures
 
-pub print_instr-returns-in-If : goal.print_instr-returns-in-If
-print_instr-returns-in-If t c =
-    on_ok_weaker c.print_choice.result
-    (λ e. choice_behind c.args.margin.now c.args.instr.now c.in-If.result_type c.in-If.arms c.deref-in-If.result.now _ _ c.in-If.is c.deref-in-If.ensures e)
-    c.print_choice.ensures
+pub print_instr-returns-in_ok-print_other-in-If : goal.print_instr-returns-in_ok-print_other-in-If
+print_instr-returns-in_ok-print_other-in-If t c =
+    let both = c.deref-arms.result.now in
+    let before = string_bytes c.args.text.now in
+    on_ok_weaker c.print_name.result
+    (λ e. choice_behind c.args.margin.now c.args.instr.now c.in-If.result_type c.in-If.arms both before (string_bytes c.print_name.new.text) c.in-If.is c.deref-arms.ensures
+    (choice_parts c.args.margin.now c.in-If.result_type both.0.items both.1.items before (string_bytes c.print_head.new.text) (string_bytes c.print_inside.new.text) (string_bytes c.print_other.new.text) (string_bytes c.print_name.new.text)
+    c.in_ok-print_head-in-If.ensures c.in_ok-print_inside-in-If.ensures c.in_ok-print_other-in-If.ensures e))
+    c.print_name.ensures
 
 pub print_code-loop-index-preserved : goal.print_code-loop-index-preserved
 print_code-loop-index-preserved t c =
