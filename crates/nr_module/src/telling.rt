@@ -104,7 +104,8 @@ fn bytes_line(alloc: Global, view: View, bytes: &[u8]) -> Result<Line, AllocErro
 ///
 /// Where memory runs out.
 pub(crate) fn shown_line(alloc: Global, shown: &Shown) -> Result<Line, AllocError>
-    ensures { IfOk result (λ line. TellsShown shown.now.view shown.now.bytes.items (string_bytes line.text) line.rating) }
+    ensures { IfOk result (λ line.
+        TellsShown shown.now.view shown.now.bytes.items (string_bytes line.text) line.rating) }
 {
     bytes_line(alloc, shown.view, shown.bytes.as_slice())
 }

@@ -1,6 +1,6 @@
--- WebAssembly Core 1.0, "Text Format", "Types" and "Modules": the text of a module, a field in each line, in the order of
--- the sections. Comments have the numbers of fields. The types of imports that no contract has aren't kept in a module:
--- a comment stands in their place.
+-- WebAssembly Core 1.0, "Text Format", "Types" and "Modules": the text of a module, a field in each line, in the order
+-- of the sections. Comments have the numbers of fields. The types of imports that no contract has aren't kept in a
+-- module: a comment stands in their place.
 use Rattle.std.specs.Prelude.{ℕ, ◌+◌, ◌==◌, Bool, true, false, cond, List, [], ◌∷◌, ◌++◌, length, take, count_by}
 use Rattle.std.specs.Prelude.{Option, Some, None, slice_get, codes, decimal}
 use Rattle.std.specs.List.{flat_map}

@@ -1,5 +1,5 @@
 -- WebAssembly Core 1.0, "Text Format", "Instructions": the text of a sequence, a line for each instruction, `else` and
--- `end`, with no folding, and without names for labels. Offset and alignment stand where they aren't the usual ones.
+-- `end`, with no folding, and without names for labels. Offset and alignment stand where they aren't the usual.
 use Rattle.std.specs.Prelude.{ℕ, ◌^◌, ◌==◌, Bool, cond, nat_le, List, [], ◌∷◌, ◌++◌, Option, Some, None, codes, decimal}
 use Rattle.nr_wasmtypes.specs.declared.instr.ValType.{ValType}
 use Rattle.nr_wasmtypes.specs.declared.instr.Plain.{Plain}

@@ -90,7 +90,7 @@ convert_name convert.ExtendU = codes "i64.extend_i32_u"
 abbrev pub typed : ValType → List ℕ → List ℕ
 typed t word = type_name t ++ codes "." ++ word
 
--- ---- names of one part; `else` and `end` are those of their bytes, and what is no instruction of this profile has none
+-- ---- names of one part; `else` and `end` are those of their bytes, and what isn't of this profile has none
 abbrev pub whole_name : Op → List ℕ
 whole_name op.Unreachable = codes "unreachable"
 whole_name op.Nop = codes "nop"

@@ -1,4 +1,4 @@
--- WebAssembly Core 1.0, "Text Format", "Values" and "Lexical Format": numbers and strings, and lists that are numbered.
+-- WebAssembly Core 1.0, "Text Format", "Values" and "Lexical Format": numbers and strings, and numbered lists.
 use Rattle.std.specs.Prelude.{ℕ, ◌+◌, ◌-◌, ◌==◌, ◌&&◌, Bool, cond, not, nat_le, nat_lt, List, [], ◌∷◌, ◌++◌}
 use Rattle.std.specs.Prelude.{codes, decimal}
 use Rattle.std.specs.List.{flat_map}

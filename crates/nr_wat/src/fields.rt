@@ -270,8 +270,8 @@ fn print_last_fields(alloc: Global, module: &Module, text: &mut String) -> Resul
 /// The text of a module in WebAssembly's text format (Core 1.0), a line for each field and each instruction. Comments
 /// have the numbers of fields.
 ///
-/// It keeps to the rules of the format where the module imports functions alone, and no alignment is above 2^31: in the
-/// place of each other import's type, and of such an alignment, a comment stands.
+/// It keeps to the rules of the format where the module imports functions alone, and no alignment is above 2^31: in
+/// the place of each other import's type, and of such an alignment, a comment stands.
 ///
 /// # Errors
 ///
