@@ -1,4 +1,5 @@
 -- Lemmas behind the answers.
+pub mod Joined
 pub mod Numbered
 pub mod Counts
 pub mod Back

@@ -10,6 +10,7 @@ use Rattle.nr_wasmtypes.specs.Code.{Code, begins, code_of, put}
 use Rattle.nr_wasmtypes.proofs.Levels.{begins_put, put_plain, put_block_at, put_loop_at, put_if_at}
 use Rattle.nr_wat.specs.Names.{name_of}
 use Rattle.nr_wat.specs.Instructions.{code_text, deeper, holding, line, other_text, plain_text, result_text, side}
+use Rattle.nr_wat.proofs.Joined.{three_parts, two_parts}
 
 -- ---- an instruction before the rest: what it puts there stands behind the text before
 behind : (before after piece more : List ℕ) → after ≡ before ++ piece → after ++ more ≡ before ++ (piece ++ more)
@@ -48,12 +49,6 @@ choice_behind margin i ty arms both before after is held e rest =
     ∙ sym (ap (λ (c : Code). before ++ code_text margin c) (put_if_at i ty arms both rest is held))
 
 -- the parts of a choice, one behind the other
-in_turn : (before head one other ending a b c d : List ℕ) → a ≡ before ++ head → b ≡ a ++ one → c ≡ b ++ other → d ≡ c ++ ending
-    → d ≡ before ++ (head ++ ((one ++ other) ++ ending))
-in_turn before head one other ending a b c d first second third fourth =
-    fourth ∙ ap (λ (l : List ℕ). l ++ ending) (third ∙ ap (λ (l : List ℕ). l ++ other) (second ∙ ap (λ (l : List ℕ). l ++ one) first))
-    ∙ simp append_assoc
-
 pub choice_parts : (margin : List ℕ) (ty : Option ValType) (one other : List Instr) (before a b c d : List ℕ)
     → a ≡ before ++ line margin (name_of op.If ++ result_text ty)
     → b ≡ a ++ code_text (deeper margin) (code_of one)
@@ -61,8 +56,10 @@ pub choice_parts : (margin : List ℕ) (ty : Option ValType) (one other : List I
     → d ≡ c ++ line margin (name_of op.End)
     → d ≡ before ++ holding margin op.If ty (code_text (deeper margin) (code_of one) ++ other_text margin (code_of other))
 choice_parts margin ty one other before a b c d first second third fourth =
-    in_turn before (line margin (name_of op.If ++ result_text ty)) (code_text (deeper margin) (code_of one))
-    (other_text margin (code_of other)) (line margin (name_of op.End)) a b c d first second third fourth
+    let inside : c ≡ a ++ (code_text (deeper margin) (code_of one) ++ other_text margin (code_of other)) =
+    two_parts a (code_text (deeper margin) (code_of one)) (other_text margin (code_of other)) b c second third in
+    three_parts before (line margin (name_of op.If ++ result_text ty)) (code_text (deeper margin) (code_of one) ++ other_text margin (code_of other))
+    (line margin (name_of op.End)) a c d first inside fourth
 
 -- ---- the second side of a choice
 pub no_side : (margin : List ℕ) (is : List Instr) → length is ≡ 0 → other_text margin (code_of is) ≡ []

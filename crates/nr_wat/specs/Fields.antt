@@ -22,7 +22,7 @@ use Rattle.nr_wasmtypes.specs.declared.module.Module.{Module}
 use Rattle.nr_wasmtypes.specs.declared.module.Segment.{Segment}
 use Rattle.nr_wasmtypes.specs.declared.opcode.Op.TheVariants as op
 use Rattle.nr_wat.specs.Names.{name_of, type_name}
-use Rattle.nr_wat.specs.Pieces.{numbered, numbers_text, signed_text, spaced, string_text}
+use Rattle.nr_wat.specs.Pieces.{numbered, numbers_text, signed_text, spaced, string_text, type_use}
 use Rattle.nr_wat.specs.Instructions.{code_text, line, result_text}
 
 -- a field begins with its word and its number
@@ -77,7 +77,7 @@ listed_sig (Some f) = sig_text f
 
 -- a type by its number, and what it is
 abbrev pub named_text : List FuncType → ℕ → List ℕ
-named_text types t = codes " (type " ++ decimal t ++ codes ")" ++ listed_sig (slice_get types t)
+named_text types t = type_use t ++ listed_sig (slice_get types t)
 
 abbrev pub use_text : List FuncType → Option ℕ → List ℕ
 use_text types None = []

@@ -10,7 +10,7 @@ use Rattle.nr_wasmtypes.specs.Code.{Code, End, Then, Block, Loop, Choice, begins
 use Rattle.nr_wasmtypes.specs.Tables.{align_of_load, align_of_store}
 use Rattle.nr_wasmbin.specs.Grammar.{plain_op}
 use Rattle.nr_wat.specs.Names.{name_of, type_name}
-use Rattle.nr_wat.specs.Pieces.{numbers_text, signed_text, spaced}
+use Rattle.nr_wat.specs.Pieces.{numbers_text, signed_text, spaced, type_use}
 
 -- ---- operands, each behind a space
 -- the text format has no alignment above 2^31
@@ -32,7 +32,7 @@ operands_text (plain.BrIf l) = spaced l
 operands_text (plain.BrTable labels) = numbers_text labels.0 ++ spaced labels.1
 operands_text plain.Return = []
 operands_text (plain.Call f) = spaced f
-operands_text (plain.CallIndirect t) = codes " (type " ++ decimal t ++ codes ")"
+operands_text (plain.CallIndirect t) = type_use t
 operands_text plain.Drop = []
 operands_text plain.Select = []
 operands_text (plain.LocalGet x) = spaced x

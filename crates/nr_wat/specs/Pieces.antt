@@ -17,6 +17,10 @@ numbered text xs = numbered_from text 0 xs
 abbrev pub spaced : ℕ → List ℕ
 spaced n = codes " " ++ decimal n
 
+-- a type by its number
+abbrev pub type_use : ℕ → List ℕ
+type_use t = codes " (type " ++ decimal t ++ codes ")"
+
 abbrev pub numbers_text : List ℕ → List ℕ
 numbers_text ns = flat_map spaced ns
 

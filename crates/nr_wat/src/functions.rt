@@ -1,6 +1,6 @@
 //! Types, imports and functions.
 
-ghost use Rattle.std.specs.Prelude.{◌≡◌, ◌+◌, ◌++◌, IfOk, OnOk, codes, string_bytes};
+ghost use Rattle.std.specs.Prelude.{◌≡◌, ◌+◌, ◌++◌, IfOk, OnOk, codes, slice_get, string_bytes};
 ghost use Rattle.std.specs.List.{flat_map};
 ghost use Rattle.std.specs.Option.{option_copied};
 ghost use Rattle.nr_wat.specs.Fields.{body_text, func_field, functions_in, head, import_field, import_kind_text};
@@ -10,7 +10,7 @@ ghost use Rattle.nr_wat.specs.Pieces.{numbered};
 
 use crate::code::{print_code, push_result};
 use crate::names::type_name;
-use crate::pieces::push_string;
+use crate::pieces::{push_string, push_type_use};
 use nr_wasmtypes::{FuncBody, FuncType, Import, ImportKind, Module, ValType};
 use std::alloc::{AllocError, Global};
 use std::fmt::Write;
@@ -147,12 +147,18 @@ fn push_listed(sig: Option<&FuncType>, text: &mut String) -> Result<(), AllocErr
     }
 }
 
+fn type_at(types: &[FuncType], number: u32) -> Option<&FuncType>
+    ensures { option_copied result ≡ slice_get types.now number }
+{
+    types.get(number as usize)
+}
+
 /// A type by its number, and what it is.
 fn push_named(types: &[FuncType], number: u32, text: &mut String) -> Result<(), AllocError>
     ensures { OnOk result (string_bytes text.new ≡ string_bytes text.old ++ named_text types.now number) }
 {
-    write!(text, " (type {number})")?;
-    push_listed(types.get(number as usize), text)
+    push_type_use(number, text)?;
+    push_listed(type_at(types, number), text)
 }
 
 fn push_use(types: &[FuncType], number: Option<&u32>, text: &mut String) -> Result<(), AllocError>
@@ -163,6 +169,21 @@ fn push_use(types: &[FuncType], number: Option<&u32>, text: &mut String) -> Resu
         None => Ok(()),
         Some(number) => push_named(types, *number, text),
     }
+}
+
+/// The number of a function's type.
+fn type_number(module: &Module, number: usize) -> Option<&u32>
+    ensures { option_copied result ≡ slice_get module.now.funcs number }
+{
+    module.funcs.inner().get(number)
+}
+
+/// The type of a function.
+fn push_signature(module: &Module, number: usize, text: &mut String) -> Result<(), AllocError>
+    ensures { OnOk result (string_bytes text.new
+        ≡ string_bytes text.old ++ use_text module.now.types (slice_get module.now.funcs number)) }
+{
+    push_use(module.types.inner(), type_number(module, number), text)
 }
 
 /// Begins a function behind so many imported ones.
@@ -197,7 +218,7 @@ fn print_function(
     ensures { OnOk result (string_bytes text.new ≡ string_bytes text.old ++ func_field module.now number body.now) }
 {
     push_function_head(imported, number, text)?;
-    push_use(module.types.inner(), module.funcs.inner().get(number), text)?;
+    push_signature(module, number, text)?;
     print_body(alloc, body, text)
 }
 

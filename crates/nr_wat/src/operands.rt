@@ -4,7 +4,7 @@ ghost use Rattle.std.specs.Prelude.{◌≡◌, ◌++◌, OnOk, string_bytes};
 ghost use Rattle.nr_wat.specs.Instructions.{align_text, offset_text, operands_text, plain_text, power_text};
 
 use crate::names::{op_of, push_name};
-use crate::pieces::{push_number, push_numbers, push_signed32, push_signed64};
+use crate::pieces::{push_number, push_numbers, push_signed32, push_signed64, push_type_use};
 use nr_wasmtypes::Plain;
 use std::alloc::AllocError;
 use std::fmt::Write;
@@ -59,7 +59,7 @@ fn push_operands(plain: &Plain, text: &mut String) -> Result<(), AllocError>
             push_numbers(labels.labels(), text)?;
             push_number(labels.other(), text)
         }
-        Plain::CallIndirect(number) => write!(text, " (type {number})"),
+        Plain::CallIndirect(number) => push_type_use(*number, text),
         Plain::Load(load, align, offset) => {
             push_offset(*offset, text)?;
             push_align(load.align(), *align, text)

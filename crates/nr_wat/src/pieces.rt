@@ -2,7 +2,7 @@
 
 ghost use Rattle.std.specs.Prelude.{◌≡◌, ◌<◌, ◌++◌, OnOk, string_bytes, true};
 ghost use Rattle.std.specs.List.{flat_map};
-ghost use Rattle.nr_wat.specs.Pieces.{byte_text, is_shown, numbers_text, signed_text, spaced, string_text};
+ghost use Rattle.nr_wat.specs.Pieces.{byte_text, is_shown, numbers_text, signed_text, spaced, string_text, type_use};
 
 use std::alloc::{AllocError, Global};
 use std::fmt::Write;
@@ -12,6 +12,13 @@ pub(crate) fn push_number(number: u32, text: &mut String) -> Result<(), AllocErr
     ensures { OnOk result (string_bytes text.new ≡ string_bytes text.old ++ spaced number) }
 {
     write!(text, " {number}")
+}
+
+/// Adds a type by its number.
+pub(crate) fn push_type_use(number: u32, text: &mut String) -> Result<(), AllocError>
+    ensures { OnOk result (string_bytes text.new ≡ string_bytes text.old ++ type_use number) }
+{
+    write!(text, " (type {number})")
 }
 
 /// Adds numbers, each behind a space.
