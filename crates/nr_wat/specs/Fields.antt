@@ -141,9 +141,12 @@ unfoldable pub element_field : ℕ → Element → List ℕ
 element_field number e =
     head (codes "elem") number ++ where_text e.table e.offset ++ numbers_text e.funcs ++ codes ")"
 
+abbrev pub data_text : List ℕ → List ℕ
+data_text bytes = codes " " ++ string_text bytes ++ codes ")"
+
 unfoldable pub segment_field : ℕ → Segment → List ℕ
 segment_field number d =
-    head (codes "data") number ++ where_text d.memory d.offset ++ codes " " ++ string_text d.bytes ++ codes ")"
+    head (codes "data") number ++ where_text d.memory d.offset ++ data_text d.bytes
 
 -- ---- modules
 unfoldable pub function_fields : Module → List ℕ

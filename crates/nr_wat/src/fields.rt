@@ -1,11 +1,12 @@
 //! The fields behind the functions, and all of a module.
 
-ghost use Rattle.std.specs.Prelude.{◌≡◌, ◌++◌, IfOk, OnOk, codes, string_bytes};
+ghost use Rattle.std.specs.Prelude.{◌≡◌, ◌++◌, IfOk, OnOk, string_bytes};
 ghost use Rattle.std.specs.List.{flat_map};
-ghost use Rattle.nr_wat.specs.Fields.{const_text, element_field, export_field, export_word, function_fields};
-ghost use Rattle.nr_wat.specs.Fields.{global_field, global_type, index_text, last_fields, limits_field, limits_text};
-ghost use Rattle.nr_wat.specs.Fields.{module_text, most_text, segment_field, storage_fields, where_text};
-ghost use Rattle.nr_wat.specs.Pieces.{numbered, string_text};
+ghost use Rattle.nr_wat.specs.Fields.{const_text, data_text, element_field, export_field, export_word};
+ghost use Rattle.nr_wat.specs.Fields.{function_fields, global_field, global_type, index_text, last_fields};
+ghost use Rattle.nr_wat.specs.Fields.{limits_field, limits_text, module_text, most_text, segment_field};
+ghost use Rattle.nr_wat.specs.Fields.{storage_fields, where_text};
+ghost use Rattle.nr_wat.specs.Pieces.{numbered};
 
 use crate::functions::{print_functions, print_imports, print_types, push_head};
 use crate::names::{push_name, type_name};
@@ -199,8 +200,7 @@ fn print_elements(elements: &[Element], text: &mut String) -> Result<(), AllocEr
 
 /// The bytes of a segment, and its end.
 fn push_data(alloc: Global, bytes: &[u8], text: &mut String) -> Result<(), AllocError>
-    ensures { OnOk result (string_bytes text.new
-        ≡ string_bytes text.old ++ codes " " ++ string_text bytes.now ++ codes ")") }
+    ensures { OnOk result (string_bytes text.new ≡ string_bytes text.old ++ data_text bytes.now) }
 {
     text.push_str(" ")?;
     push_string(alloc, bytes, text)?;
