@@ -1,4 +1,5 @@
-//! Tests of what runs a contract: numbers, memory, instructions, arguments, promises, calls, modules as text, and near_module.
+//! Tests of what runs a contract: numbers, memory, instructions, arguments, promises, calls, modules as text, and
+//! near_module.
 #![tactic(auto)]
 
 #[cfg(test)]
