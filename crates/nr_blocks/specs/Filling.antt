@@ -1,5 +1,5 @@
--- How the first world of a shard is filled, entry by entry: what the bodies of this crate need, and no part of the
--- rules.
+-- How the first world of a shard is filled, entry by entry:
+-- what the bodies of this crate need, and no part of the rules.
 use Rattle.std.specs.Prelude.{List, [], ◌∷◌}
 use Rattle.nr_config.specs.Config.{Config}
 use Rattle.nr_records.specs.declared.account.Account.{Account}

@@ -18,8 +18,8 @@ use Rattle.nr_state.specs.View.{StateView}
 use Rattle.nr_state.specs.World.{World}
 use Rattle.nr_state.specs.declared.calls.Returned.TheVariants.{Value}
 
--- ---- what a receipt's first frame is, with the world that it meets: fresh, and with all that it holds within the
--- bounds
+-- ---- what a receipt's first frame is, with the world that it
+-- meets: fresh, and with all that it holds within the bounds
 pub record IsReady (c : Config) (w : World) (f : Frame) : Type 0 where
   pub valid : IsValidWorld c w
   pub price : f.act.gas_price < 2 ^ 64

@@ -21,8 +21,8 @@ pub data Ran : Type 0 where
   Done : (after : World) (frame : Frame) → Ran
   Broken : (index : ℕ) (kind : ℕ) (part : ℕ) (frame : Frame) → Ran
 
--- ---- the check of storage, which no receipt of the system has: a receiver that stands must have enough for what it
--- uses
+-- ---- the check of storage, which no receipt of the system
+-- has: a receiver that stands must have enough for what it uses
 abbrev pub lacks_balance : Config → Account → Bool
 lacks_balance c account = nat_lt (account_tokens account) (account.storage_usage * storage_price c)
 

@@ -85,8 +85,8 @@ by_signer c w tx place (Some account) = by_key c w tx place account (get w.keys 
 unfoldable pub convert : Config → World → Transaction → Place → Conversion
 convert c w tx place = by_signer c w tx place (get w.accounts tx.signer)
 
--- ---- what the call answers: exactly that; a refusal leaves the state as it was. Where memory runs out nothing is
--- said.
+-- ---- what the call answers: exactly that; a refusal leaves
+-- the state as it was. Where memory runs out nothing is said.
 abbrev pub Converts : Config → Result Converted TxFault → StateView → StateView → Transaction → Place → Type 0
 Converts c (Ok made) old new tx place =
     (convert c old.world tx place ≡ Ok (new.world, made)) × (new ≡ with_world old new.world)

@@ -27,8 +27,8 @@ use_refusals c tx key =
     ∷ (nat_lt (max_prepaid_gas c) (attached_gas tx.actions), GasTooLarge)
     ∷ []
 
--- ---- of a key for calls: it allows one call and nothing else, without a deposit, of its receiver, by one of its
--- methods
+-- ---- of a key for calls: it allows one call and nothing else,
+-- without a deposit, of its receiver, by one of its methods
 abbrev pub is_one_call : List Action → Bool
 is_one_call (FunctionCall method args gas deposit ∷ []) = true
 is_one_call actions = false

@@ -1,5 +1,5 @@
--- WebAssembly Core 1.0, "Binary Format", "Types" and "Modules": the entries of a module's sections, and constant
--- expressions.
+-- WebAssembly Core 1.0, "Binary Format", "Types" and "Modules":
+-- the entries of a module's sections, and constant expressions.
 use Rattle.std.specs.Prelude.{ℕ, zero, suc, ◌+◌, List, [], ◌++◌, Bool, true, false, Option, Some, None, Ok, Err, nat_le}
 use Rattle.std.specs.Prelude.{◌==◌, if◌then◌else◌, replicate}
 use Rattle.nr_bytes.specs.Fields.{mapped, pair}
