@@ -1,12 +1,12 @@
 -- The text of a sequence, one instruction after the other.
-use Rattle.std.proofs.Common.{◌≡◌, ℕ, ◌+◌, ◌<◌, ◌≤◌, List, [], ◌∷◌, ◌++◌, length, get_or, drop, Bool, true, Option, Vec, Box, Global, refl, sym, ap, ◌∙◌, append_assoc, arith}
+use Rattle.std.proofs.Common.{◌≡◌, ℕ, ◌+◌, ◌<◌, ◌≤◌, List, [], ◌∷◌, ◌++◌, length, get_or, drop, Bool, Option, Vec, Box, Global, refl, sym, ap, ◌∙◌, append_assoc, arith}
 use Rattle.std.proofs.lemmas.List.{append-nil, drop_all, drop_more}
 use Rattle.nr_wasmtypes.specs.declared.instr.ValType.{ValType}
 use Rattle.nr_wasmtypes.specs.declared.instr.Plain.{Plain}
 use Rattle.nr_wasmtypes.specs.declared.instr.Instr.{Instr}
 use Rattle.nr_wasmtypes.specs.declared.instr.Instr.TheVariants as instr
 use Rattle.nr_wasmtypes.specs.declared.opcode.Op.TheVariants as op
-use Rattle.nr_wasmtypes.specs.Code.{Code, begins, code_of, put}
+use Rattle.nr_wasmtypes.specs.Code.{Code, code_of, put}
 use Rattle.nr_wasmtypes.proofs.Levels.{begins_put, put_plain, put_block_at, put_loop_at, put_if_at}
 use Rattle.nr_wat.specs.Names.{name_of}
 use Rattle.nr_wat.specs.Instructions.{code_text, deeper, holding, line, other_text, plain_text, result_text, side}
