@@ -3,7 +3,8 @@
 use nr_bytes::{List, Text};
 use nr_config::Config;
 use nr_wasmtypes::{
-    Arith, FuncBody, FuncType, Import, ImportKind, Instr, Limits, Load, Module, Plain, ValType,
+    Arith, FuncBody, FuncType, Import, ImportKind, Instr, Limits, Load, Locals, Module, Plain,
+    ValType,
 };
 use nr_wasmvalid::{ValidFault, validate};
 use std::alloc::{AllocError, Global};
@@ -25,7 +26,12 @@ fn spread(alloc: Global, runs: &[(u32, ValType)]) -> Result<List<ValType>, Alloc
 
 /// A module with one function, which has no parameters.
 fn module_of(alloc: Global, kind: Option<ValType>, code: Vec<Instr>) -> Result<Module, AllocError> {
-    module_with(alloc, list(alloc), kind, FuncBody::of(list(alloc), code))
+    module_with(
+        alloc,
+        list(alloc),
+        kind,
+        FuncBody::of(Locals::new(alloc), code),
+    )
 }
 
 /// A module with one function.
@@ -156,7 +162,11 @@ fn among_many(
         (9_999, ValType::I64),
         (19_999, ValType::I32),
     ];
-    let body = FuncBody::of(spread(alloc, &runs)?, plain(alloc, code)?);
+    let mut locals = Locals::new(alloc);
+    for (count, kind) in runs {
+        locals.add(count, kind)?;
+    }
+    let body = FuncBody::of(locals, plain(alloc, code)?);
     let params = spread(alloc, &[(1, ValType::I64)])?;
     Ok(breach(alloc, module_with(alloc, params, result, body)?))
 }
@@ -210,7 +220,7 @@ fn beside_many(alloc: Global, code: Vec<Plain>) -> Result<Option<ValidFault>, Al
     module
         .bodies
         .vec_mut()
-        .push(FuncBody::of(list(alloc), other))?;
+        .push(FuncBody::of(Locals::new(alloc), other))?;
     module.tables.vec_mut().push(Limits {
         least: 1,
         most: None,

@@ -2,7 +2,7 @@
 
 ghost use Rattle.std.specs.Prelude.{◌≡◌, ◌++◌, slice_get};
 
-use nr_wasmtypes::ValType;
+use nr_wasmtypes::{Locals, ValType};
 use std::marker::Model;
 
 /// The types of a function's locals: its parameters, and those of its body behind them. Contracts see
@@ -10,7 +10,7 @@ use std::marker::Model;
 #[derive(Drop)]
 pub(crate) struct LocalTypes<'a> {
     params: &'a [ValType],
-    more: &'a [ValType],
+    more: &'a Locals,
 }
 
 impl<'a> Model for LocalTypes<'a> {
@@ -24,7 +24,7 @@ impl<'a> Model for LocalTypes<'a> {
 
 impl<'a> LocalTypes<'a> {
     /// Those of the parameters, and more.
-    pub(crate) fn new(params: &'a [ValType], more: &'a [ValType]) -> LocalTypes<'a>
+    pub(crate) fn new(params: &'a [ValType], more: &'a Locals) -> LocalTypes<'a>
         ensures { result ≡ params.now ++ more.now }
     {
         LocalTypes { params, more }
@@ -39,6 +39,6 @@ impl<'a> LocalTypes<'a> {
         if number < self.params.len() {
             return Some(self.params[number]);
         }
-        self.more.get(number - self.params.len()).copied()
+        self.more.get(number - self.params.len())
     }
 }
