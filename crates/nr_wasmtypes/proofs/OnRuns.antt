@@ -1,6 +1,7 @@
 -- Locals in runs of one type.
-use Rattle.std.proofs.Common.{◌≡◌, ℕ, zero, suc, ◌+◌, ◌-◌, ◌<◌, ◌≤◌, List, [], ◌∷◌, ◌++◌, length, replicate, get_or, Some, None, refl, sym, ap, ◌∙◌, arith}
+use Rattle.std.proofs.Common.{◌≡◌, ℕ, zero, suc, ◌+◌, ◌-◌, ◌<◌, ◌≤◌, List, [], ◌∷◌, ◌++◌, length, replicate, get_or, Some, None, Bool, true, false, leb, leb-true, leb-false, refl, sym, ap, ◌∙◌, arith}
 use Rattle.std.specs.Prelude.{slice_get}
+use Rattle.std.specs.List.{AllWithin}
 use Rattle.std.specs.List.Sorted.{IsNonDecreasingBy}
 use Rattle.std.proofs.lemmas.List.{append-nil, append_assoc, length-append, length-replicate, get_or-replicate, get_or_append_left}
 use Rattle.std.proofs.lemmas.Option.{slice_get-get_or, slice_get_past}
@@ -40,9 +41,9 @@ ascending from to (r ∷ rs) h (suc i) (suc j) d le lt = ascending r.end to rs h
 
 -- ---- the local with a number
 behind : (xs ys : List ValType) (n : ℕ) → length xs ≤ n → slice_get (xs ++ ys) n ≡ slice_get ys (n - length xs)
-behind [] ys n h = refl
+behind [] ys n h = ap (slice_get ys) (omega arith)
 behind (x ∷ xs) ys zero h = absurd (omega arith)
-behind (x ∷ xs) ys (suc n) h = behind xs ys n (omega arith)
+behind (x ∷ xs) ys (suc n) h = behind xs ys n (omega arith) ∙ ap (slice_get ys) (omega arith)
 
 in_run : (m : ℕ) (t : ValType) (ts : List ValType) (n : ℕ) → n < m → slice_get (replicate m t ++ ts) n ≡ Some t
 in_run m t ts n lt =
@@ -72,3 +73,15 @@ ends_below from to (r ∷ rs) n h le all = ends_below r.end to rs n h.1 (all 0 r
 pub lost : (from to : ℕ) (rs : List Run) (n : ℕ) → Reaches from rs to → from ≤ n → ((j : ℕ) (d : Run) → j < length rs → (get_or rs j d).end ≤ n) → slice_get (spread from rs) (n - from) ≡ None
 lost from to rs n h le all =
     slice_get_past (spread from rs) (n - from) (omega (arith, reached from to rs h, ends_below from to rs n h le all))
+
+-- ---- by halves
+pub found_at : (to : ℕ) (rs : List Run) (k n : ℕ) (x : Run) → Reaches 0 rs to → k < length rs → AllWithin (λ (r : Run). leb r.end n ≡ true) rs 0 k → AllWithin (λ (r : Run). leb r.end n ≡ false) rs k (length rs) → x ≡ get_or rs k x → Some x.kind ≡ slice_get (spread 0 rs) n
+found_at to rs k n x h lt before after is =
+    let past : n < (get_or rs k x).end = leb-false _ n (after k x (omega arith) lt) in
+    sym (ap (slice_get (spread 0 rs)) (omega arith)
+    ∙ found 0 to rs k n x h (omega arith) lt (λ j d less. leb-true _ n (before j d (omega arith) less)) is (omega (arith, past, ap (λ (r : Run). r.end) is)))
+
+pub lost_at : (to : ℕ) (rs : List Run) (k n : ℕ) → Reaches 0 rs to → length rs ≤ k → AllWithin (λ (r : Run). leb r.end n ≡ true) rs 0 k → None ≡ slice_get (spread 0 rs) n
+lost_at to rs k n h le before =
+    sym (ap (slice_get (spread 0 rs)) (omega arith)
+    ∙ lost 0 to rs n h (omega arith) (λ j d less. leb-true _ n (before j d (omega arith) (omega arith))))

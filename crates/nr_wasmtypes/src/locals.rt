@@ -51,7 +51,9 @@ impl Locals {
     pub fn add(&mut self, count: u32, kind: ValType) -> Result<(), AllocError>
         ensures { OnOk result (self.new ≡ self.old ++ replicate count kind) }
     {
-        let end = self.count.checked_add(count).ok_or(AllocError)?;
+        let Some(end) = self.count.checked_add(count) else {
+            return Err(AllocError);
+        };
         self.runs.push(Run { end, kind })?;
         self.count = end;
         Ok(())
@@ -69,7 +71,9 @@ impl Locals {
         ensures { result ≡ slice_get self.now number }
     {
         let place = self.runs.partition_point(|run| run.end as usize <= number);
-        let run = self.runs.get(place)?;
-        Some(run.kind)
+        if place < self.runs.len() {
+            return Some(self.runs[place].kind);
+        }
+        None
     }
 }
