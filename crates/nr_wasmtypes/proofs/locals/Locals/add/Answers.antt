@@ -1,5 +1,5 @@
 -- Answers for `locals::Locals::add`.
-use Rattle.std.proofs.Common.{◌≡◌, ◌+◌, ◌-◌, ◌++◌, ℕ, List, replicate, subst, sym, ap, ◌∙◌, arith}
+use Rattle.std.proofs.Common.{◌-◌, ◌++◌, ℕ, List, replicate, subst, sym, ap, ◌∙◌, arith}
 use Rattle.nr_wasmtypes.specs.declared.instr.ValType.{ValType}
 use Rattle.nr_wasmtypes.specs.declared.locals.Run.{Run}
 use Rattle.nr_wasmtypes.specs.Runs.{spread, Reaches}

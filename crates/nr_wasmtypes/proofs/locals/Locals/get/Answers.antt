@@ -1,5 +1,5 @@
 -- Answers for `locals::Locals::get`.
-use Rattle.std.proofs.Common.{rules, ◌≡◌, length, leb, subst, sym, ap, ◌∙◌, List, Some, arith}
+use Rattle.std.proofs.Common.{rules, leb, subst, sym, ap, ◌∙◌, List, arith}
 use Rattle.std.specs.Prelude.{slice_get}
 use Rattle.std.proofs.lemmas.List.Sorted.{IsPartitionPoint-from_clause, IsPartitionedBy-leb}
 use Rattle.std.specs.List.Sorted.{IsPartitionedBy}
