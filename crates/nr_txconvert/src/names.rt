@@ -1,0 +1,85 @@
+//! Names that are lent as they are spelled.
+
+ghost use Rattle.std.specs.Prelude.{◌≡◌, ◌==◌, ℕ, List as Items, length, Some, IsSome};
+ghost use Rattle.std.specs.List.{list_any, flat_map, AllByRecursion};
+ghost use Rattle.std.specs.Str.{bytes_eq};
+ghost use Rattle.nr_bytes.specs.Spelling.{list, FitsList, IsString};
+ghost use Rattle.nr_bytes.specs.Writing.{counted_bytes};
+ghost use Rattle.nr_txconvert.specs.Names.{names_read, cut_shown, Cuts};
+
+use nr_bytes::Reader;
+use std::marker::Model;
+
+/// Names, lent as the bytes that spell their list. Contracts see the names.
+#[derive(Drop)]
+pub(crate) struct Names<'a> {
+    bytes: &'a [u8],
+}
+
+impl<'a> Model for Names<'a> {
+    ghost use Rattle.std.specs.Prelude.{List, ℕ};
+    ghost use Rattle.nr_txconvert.specs.Names.{names_in, SpellNames};
+
+    ghost Value = { List (List ℕ) };
+
+    ghost view = { λ n. names_in n.bytes.now };
+
+    ghost invariant = { λ n. SpellNames n.bytes.now };
+}
+
+/// The first name, and what stands behind it.
+#[tactic(auto, unfolding(nr_bytes::specs::Reading::counted))]
+fn cut(bytes: &[u8]) -> Option<(&[u8], &[u8])>
+    ensures { Cuts (cut_shown result) bytes.now }
+{
+    let Ok(count) = Reader::new(bytes).u32() else {
+        return None;
+    };
+    bytes[4..].split_at_checked(count as usize)
+}
+
+/// Whether a name is one of those that stand one behind the other.
+fn stands_in(bytes: &[u8], name: &[u8]) -> bool
+    ensures { (names : Items (Items ℕ)) → AllByRecursion IsString names → bytes.now ≡ flat_map counted_bytes names
+        → result ≡ list_any (bytes_eq name.now) names }
+{
+    let mut rest = bytes;
+    'names: while let Some((first, more)) = cut(rest) {
+        if name == first {
+            return true;
+        }
+        rest = more;
+    }
+    false
+}
+
+impl<'a> Names<'a> {
+    /// The names whose list the bytes spell.
+    pub(crate) fn of(bytes: &'a [u8]) -> Names<'a>
+        requires { IsSome (names_read bytes.now) }
+        ensures { names_read bytes.now ≡ Some result }
+    {
+        Names { bytes }
+    }
+
+    /// The bytes that spell their list.
+    pub(crate) fn bytes(&self) -> &'a [u8]
+        ensures spelled { result.now ≡ list counted_bytes self.now }
+        ensures fits { FitsList IsString self.now }
+    {
+        self.bytes
+    }
+
+    pub(crate) fn is_empty(&self) -> bool
+        ensures { result ≡ (length self.now == 0) }
+    {
+        self.bytes.len() == 4
+    }
+
+    /// Whether a name is one of them.
+    pub(crate) fn contains(&self, name: &[u8]) -> bool
+        ensures { result ≡ list_any (bytes_eq name.now) self.now }
+    {
+        stands_in(&self.bytes[4..], name)
+    }
+}
