@@ -26,3 +26,16 @@ spelled_so bytes access fits e =
 
 pub read_again : (access : AccessKey) → IsAccessKey access → key_read (access_key_bytes access) ≡ Some access
 read_again access fits = ap read_of (whole_again record_fault access_key_at access_key_bytes IsAccessKey access_key_law access fits)
+
+pub is_spelled : (bytes : List ℕ) → IsSome (key_read bytes) → key_read bytes ≡ Some (key_in bytes)
+is_spelled bytes there = is_read (key_read bytes) _ there
+
+pub spelled_bytes : (bytes : List ℕ) → SpellsKey bytes → bytes ≡ access_key_bytes (key_in bytes)
+spelled_bytes bytes is = (spelled_so bytes (key_in bytes) is.0 is.1).1
+
+pub spelled_fits : (bytes : List ℕ) → SpellsKey bytes → IsAccessKey (key_in bytes)
+spelled_fits bytes is = (spelled_so bytes (key_in bytes) is.0 is.1).0
+
+-- what was read whole
+pub read_so : (bytes : List ℕ) (access : AccessKey) → all_of access_key_at bytes ≡ Ok access → key_read bytes ≡ Some access
+read_so bytes access e = ap read_of e

@@ -25,6 +25,7 @@ impl<'a> Model for SpelledKey<'a> {
 
 impl<'a> SpelledKey<'a> {
     /// The key that the bytes spell.
+    #[tactic(auto, using(crate::proofs::SpelledKeys::is_spelled))]
     pub fn of(bytes: &'a [u8]) -> SpelledKey<'a>
         requires { IsSome (key_read bytes.now) }
         ensures { key_read bytes.now ≡ Some result }
@@ -33,6 +34,7 @@ impl<'a> SpelledKey<'a> {
     }
 
     /// The bytes that spell it.
+    #[tactic(auto, using(crate::proofs::SpelledKeys::spelled_bytes, crate::proofs::SpelledKeys::spelled_fits))]
     pub fn bytes(&self) -> &'a [u8]
         ensures spelled { result.now ≡ access_key_bytes self.now }
         ensures fits { IsAccessKey self.now }

@@ -1,8 +1,7 @@
 -- Access keys whose methods are lent as they are spelled. This project's own.
-use Rattle.std.specs.Prelude.{◌≡◌, ℕ, List, [], ◌++◌, Option, Some, None, unwrap_or}
-use Rattle.nr_bytes.specs.Numbers.{IsBytes}
+use Rattle.std.specs.Prelude.{ℕ, List, Option}
 use Rattle.nr_records.specs.AccessKeys.{call_permission_at}
-use Rattle.nr_records.specs.Reading.{all_of, list_at, string_at}
+use Rattle.nr_records.specs.Reading.{all_of}
 use Rattle.nr_records.specs.declared.access_key.AccessKey.{AccessKey}
 use Rattle.nr_records.specs.declared.access_key.CallPermission.{CallPermission}
 use Rattle.nr_records.specs.declared.access_key.Permission.{Permission}

@@ -1,9 +1,8 @@
 -- Names that are lent as they are spelled. This project's own.
-use Rattle.std.specs.Prelude.{◌≡◌, ℕ, ◌+◌, ◌<◌, Bool, List, [], Option, Some, None, unwrap_or, length, drop}
+use Rattle.std.specs.Prelude.{◌≡◌, ℕ, Bool, List, [], Option, Some, unwrap_or}
 use Rattle.std.specs.List.{list_any, flat_map, AllByRecursion}
 use Rattle.std.specs.Str.{bytes_eq}
 use Rattle.nr_bytes.specs.Numbers.{IsBytes}
-use Rattle.nr_bytes.specs.Reading.{counted}
 use Rattle.nr_bytes.specs.Spelling.{IsString}
 use Rattle.nr_bytes.specs.Writing.{counted_bytes}
 use Rattle.nr_records.specs.Reading.{all_of, list_at, string_at}
@@ -20,11 +19,6 @@ names_in bytes = unwrap_or (names_read bytes) []
 -- they spell some
 abbrev pub SpellNames : List ℕ → Type 0
 SpellNames bytes = IsBytes bytes × (names_read bytes ≡ Some (names_in bytes))
-
--- the first name, and what stands behind it
-abbrev pub Cuts : Option (List ℕ × List ℕ) → List ℕ → Type 0
-Cuts None bytes = counted bytes ≡ None
-Cuts (Some c) bytes = (counted bytes ≡ Some c.0) × (c.1 ≡ drop (4 + length c.0) bytes) × (length c.1 < length bytes)
 
 -- the names of which these are left, one behind the other, have a name as the answer says
 pub record IsLeft (name rest : List ℕ) (answer : Bool) : Type 0 where

@@ -1,11 +1,13 @@
 //! Names that are lent as they are spelled.
 
-ghost use Rattle.std.specs.Prelude.{◌≡◌, ◌==◌, ℕ, List as Items, length, Some, IsSome};
+ghost use Rattle.std.specs.Prelude.{◌≡◌, ◌==◌, ◌+◌, ◌<◌, ℕ, List as Items, length, drop, Some, None, IsSome, IfSome};
+ghost use Rattle.std.specs.Prelude.{MatchOption};
 ghost use Rattle.std.specs.List.{list_any, flat_map, AllByRecursion};
 ghost use Rattle.std.specs.Str.{bytes_eq};
+ghost use Rattle.nr_bytes.specs.Reading.{counted};
 ghost use Rattle.nr_bytes.specs.Spelling.{list, FitsList, IsString};
 ghost use Rattle.nr_bytes.specs.Writing.{counted_bytes};
-ghost use Rattle.nr_txconvert.specs.Names.{names_read, cut_shown, Cuts};
+ghost use Rattle.nr_txconvert.specs.Names.{names_read};
 
 use nr_bytes::Reader;
 use std::marker::Model;
@@ -30,7 +32,9 @@ impl<'a> Model for Names<'a> {
 /// The first name, and what stands behind it.
 #[tactic(auto, unfolding(nr_bytes::specs::Reading::counted))]
 fn cut(bytes: &[u8]) -> Option<(&[u8], &[u8])>
-    ensures { Cuts (cut_shown result) bytes.now }
+    ensures cases { MatchOption result (counted bytes.now ≡ None) (λ cut. (counted bytes.now ≡ Some cut.0.now)
+        × (cut.1.now ≡ drop (4 + length cut.0.now) bytes.now)) }
+    ensures shorter { IfSome result (λ cut. length cut.1.now < length bytes.now) }
 {
     let Ok(count) = Reader::new(bytes).u32() else {
         return None;

@@ -1,0 +1,93 @@
+-- What is read of a key's bytes.
+use Rattle.std.proofs.Common.{◌≡◌, ℕ, zero, suc, ◌+◌, ◌<◌, ◌≤◌, List, [], ◌∷◌, ◌++◌, ◌%◌, length, drop, Option, Some, None, Ok, refl, sym, ap, subst, ◌∙◌, append_assoc, arith}
+use Rattle.std.specs.Prelude.{IsSome}
+use Rattle.std.proofs.lemmas.List.{length-append, drop_at}
+use Rattle.nr_bytes.specs.Numbers.{little, IsBytes}
+use Rattle.nr_bytes.specs.Reading.{Input, number_at}
+use Rattle.nr_bytes.specs.Spelling.{before, behind, list, IsString, FitsList}
+use Rattle.nr_bytes.specs.Writing.{counted_bytes}
+use Rattle.nr_bytes.proofs.Fields.{nat_law, string_law}
+use Rattle.nr_bytes.proofs.Numbers.{length-little}
+use Rattle.nr_bytes.proofs.Steps.{answer, ok_is, lifted_ok}
+use Rattle.nr_bytes.proofs.Whole.{whole_taken, whole_again}
+use Rattle.nr_records.specs.AccessKeyLaws.{call_permission_law}
+use Rattle.nr_records.specs.AccessKeys.{call_permission_at, call_permission_bytes, IsCallPermission, permission_bytes, IsPermission, access_key_bytes, IsAccessKey}
+use Rattle.nr_records.specs.Fault.{record_fault}
+use Rattle.nr_records.specs.OptionLaw.{option_law}
+use Rattle.nr_records.specs.Options.{option_at, option_bytes}
+use Rattle.nr_records.specs.Reading.{all_of, nat_at, string_at}
+use Rattle.nr_records.specs.declared.access_key.AccessKey.{AccessKey}
+use Rattle.nr_records.specs.declared.access_key.CallPermission.{CallPermission}
+use Rattle.nr_records.specs.declared.access_key.Permission.{Permission}
+use Rattle.nr_records.specs.declared.access_key.Permission.TheVariants.{Call, Full}
+use Rattle.nr_columns.specs.Tables.{read_of}
+use Rattle.nr_txconvert.specs.Lent.{calls_read}
+use Rattle.nr_txconvert.specs.Names.{names_read}
+use Rattle.nr_txconvert.proofs.Names.{read_ok, names_again}
+
+-- ---- the calls of a key
+
+pub calls_so : (bytes : List ℕ) (calls : CallPermission) → IsBytes bytes → calls_read bytes ≡ Some calls → IsCallPermission calls × (bytes ≡ call_permission_bytes calls)
+calls_so bytes calls fits e =
+    whole_taken record_fault call_permission_at call_permission_bytes IsCallPermission call_permission_law bytes calls fits (read_ok (all_of call_permission_at bytes) calls e)
+
+pub calls_again : (calls : CallPermission) → IsCallPermission calls → calls_read (call_permission_bytes calls) ≡ Some calls
+calls_again calls fits = ap read_of (whole_again record_fault call_permission_at call_permission_bytes IsCallPermission call_permission_law calls fits)
+
+-- the allowance and the receiver were read, and the methods are what is left
+pub record AreRead (bytes : List ℕ) (calls : CallPermission) (allowance : Option ℕ) (receiver : List ℕ) (at : ℕ) : Type 0 where
+  pub allowance : allowance ≡ calls.allowance
+  pub receiver : receiver ≡ calls.receiver
+  pub within : at ≤ length bytes
+  pub methods : names_read (drop at bytes) ≡ Some calls.methods
+
+front_of : CallPermission → List ℕ
+front_of calls = option_bytes (little 16) calls.allowance ++ counted_bytes calls.receiver
+
+pub are_read : (bytes : List ℕ) (calls : CallPermission) (allowance : Option ℕ) (receiver : List ℕ) (s t : Input) → IsBytes bytes → calls_read bytes ≡ Some calls
+    → option_at (nat_at 16) (record { left = bytes; at = 0 }) ≡ Ok (allowance, s) → string_at s ≡ Ok (receiver, t) → AreRead bytes calls allowance receiver t.at
+unfolding front_of
+are_read bytes calls allowance receiver s t fits e first second =
+    let so = calls_so bytes calls fits e in
+    let tail : List ℕ = list counted_bytes calls.methods in
+    let head : List ℕ = option_bytes (little 16) calls.allowance in
+    let one : option_at (nat_at 16) (record { left = bytes; at = 0 }) ≡ Ok (calls.allowance, behind head 0 (counted_bytes calls.receiver ++ tail)) =
+        ap (λ (b : List ℕ). option_at (nat_at 16) (record { left = b; at = 0 })) so.1
+        ∙ (option_law _ _ _ (nat_law record_fault 16)).again calls.allowance 0 (counted_bytes calls.receiver ++ tail) so.0.0 in
+    let p = ok_is (allowance, s) (calls.allowance, behind head 0 (counted_bytes calls.receiver ++ tail)) (sym first ∙ one) in
+    let two : string_at s ≡ Ok (calls.receiver, behind (counted_bytes calls.receiver) (0 + length head) tail) =
+        ap (λ (p : Option ℕ × Input). string_at p.1) p ∙ (string_law record_fault).again calls.receiver (0 + length head) tail so.0.1.0 in
+    let q = ok_is (receiver, t) (calls.receiver, behind (counted_bytes calls.receiver) (0 + length head) tail) (sym second ∙ two) in
+    let at : t.at ≡ 0 + length head + length (counted_bytes calls.receiver) = ap (λ (p : List ℕ × Input). p.1.at) q in
+    let whole : bytes ≡ front_of calls ++ tail = so.1 ∙ sym (append_assoc head (counted_bytes calls.receiver) tail) in
+    let long : length (front_of calls) ≡ t.at = omega (arith, length-append head (counted_bytes calls.receiver), at) in
+    record {
+      allowance = ap (λ (p : Option ℕ × Input). p.0) p;
+      receiver = ap (λ (p : List ℕ × Input). p.0) q;
+      within = subst (λ (b : List ℕ). t.at ≤ length b) (sym whole) (omega (arith, length-append (front_of calls) tail, long));
+      methods = ap names_read (ap (drop t.at) whole ∙ drop_at (front_of calls) tail t.at long) ∙ names_again calls.methods so.0.1.1;
+    }
+
+-- ---- what stands before them
+
+nonce_read : (access : AccessKey) (nonce : ℕ) (s : Input) → IsAccessKey access → number_at 8 (record { left = access_key_bytes access; at = 0 }) ≡ Ok (nonce, s) → (nonce ≡ access.nonce) × (s.left ≡ permission_bytes access.permission)
+nonce_read access nonce s fits e =
+    let rest : List ℕ = permission_bytes access.permission in
+    let one : number_at 8 (record { left = access_key_bytes access; at = 0 }) ≡ Ok (access.nonce, behind (little 8 access.nonce) 0 rest) =
+        lifted_ok record_fault _ _ ((nat_law record_fault 8).again access.nonce 0 rest fits.0) in
+    let p = ok_is (nonce, s) (access.nonce, behind (little 8 access.nonce) 0 rest) (sym e ∙ one) in
+    (ap (λ (p : ℕ × Input). p.0) p, ap (λ (p : ℕ × Input). p.1.left) p)
+
+abbrev ordinal : Permission → ℕ
+ordinal (Call calls) = 0
+ordinal Full = 1
+
+ordinal_at : (n : ℕ) (rest : List ℕ) (at : ℕ) → n < 256 → number_at 1 (record { left = n ∷ rest; at = at }) ≡ Ok (n, behind (n ∷ []) at rest)
+unfolding little
+ordinal_at n rest at low =
+    let same : little 1 n ≡ n ∷ [] = (let e : n % 256 ≡ n = omega arith in rw e refl) in
+    subst (λ (b : List ℕ). number_at 1 (before b at rest) ≡ Ok (n, behind b at rest)) same (lifted_ok record_fault _ _ ((nat_law record_fault 1).again n at rest low))
+
+ordinal_read : (permission : Permission) (n at : ℕ) (s : Input) → number_at 1 (record { left = permission_bytes permission; at = at }) ≡ Ok (n, s) → n ≡ ordinal permission
+ordinal_read (Call calls) n at s e = ap (λ (p : ℕ × Input). p.0) (ok_is (n, s) (0, behind (0 ∷ []) at (call_permission_bytes calls)) (sym e ∙ ordinal_at 0 (call_permission_bytes calls) at (omega arith)))
+ordinal_read Full n at s e = ap (λ (p : ℕ × Input). p.0) (ok_is (n, s) (1, behind (1 ∷ []) at []) (sym e ∙ ordinal_at 1 [] at (omega arith)))
