@@ -41,12 +41,11 @@ pub record AreRead (bytes : List ℕ) (calls : CallPermission) (allowance : Opti
   pub within : at ≤ length bytes
   pub methods : names_read (drop at bytes) ≡ Some calls.methods
 
-front_of : CallPermission → List ℕ
+abbrev front_of : CallPermission → List ℕ
 front_of calls = option_bytes (little 16) calls.allowance ++ counted_bytes calls.receiver
 
 pub are_read : (bytes : List ℕ) (calls : CallPermission) (allowance : Option ℕ) (receiver : List ℕ) (s t : Input) → IsBytes bytes → calls_read bytes ≡ Some calls
     → option_at (nat_at 16) (record { left = bytes; at = 0 }) ≡ Ok (allowance, s) → string_at s ≡ Ok (receiver, t) → AreRead bytes calls allowance receiver t.at
-unfolding front_of
 are_read bytes calls allowance receiver s t fits e first second =
     let so = calls_so bytes calls fits e in
     let tail : List ℕ = list counted_bytes calls.methods in

@@ -3,22 +3,23 @@ use Rattle.std.proofs.Common.{◌≡◌, ℕ, ◌+◌, ◌<◌, ◌≤◌, Bool,
 use Rattle.std.specs.Prelude.{◌==◌, ◌||◌, IsSome, unwrap_or}
 use Rattle.std.specs.List.{list_any, flat_map, AllByRecursion}
 use Rattle.std.specs.Str.{bytes_eq}
+use Rattle.std.proofs.lemmas.Bool.{eq-eqb, ne_eqb}
 use Rattle.std.proofs.lemmas.List.{length-append, drop_at}
 use Rattle.nr_bytes.specs.Numbers.{little, IsBytes}
-use Rattle.nr_bytes.specs.Reading.{Input, counted, counted_of}
+use Rattle.nr_bytes.specs.Reading.{Input, past, counted, counted_of}
 use Rattle.nr_bytes.specs.Spelling.{IsRead, IsCounted, IsString, FitsList, list, before}
 use Rattle.nr_bytes.specs.Writing.{counted_bytes}
 use Rattle.nr_bytes.proofs.Combined.{list_law}
 use Rattle.nr_bytes.proofs.Fields.{blob_law, string_law}
 use Rattle.nr_bytes.proofs.Numbers.{length-little}
-use Rattle.nr_bytes.proofs.Steps.{lifted_ok}
+use Rattle.nr_bytes.proofs.Steps.{lifted_ok, ok_is}
 use Rattle.nr_bytes.proofs.Whole.{whole_taken, whole_again}
 use Rattle.nr_records.specs.Fault.{record_fault}
 use Rattle.nr_records.specs.Reading.{all_of, list_at, string_at}
 use Rattle.nr_records.specs.declared.fault.RecordFault.{RecordFault}
 use Rattle.nr_bytes.specs.declared.fault.BytesFault.{BytesFault}
 use Rattle.nr_columns.specs.Tables.{read_of}
-use Rattle.nr_txconvert.specs.Names.{names_read, names_in, IsLeft}
+use Rattle.nr_txconvert.specs.Names.{names_read, names_in, SpellNames, IsLeft}
 
 -- ---- all names
 
@@ -44,7 +45,7 @@ names_again names fits = ap read_of (whole_again record_fault (list_at string_at
 
 from_field : (s : Input) (o : Option (List ℕ)) (name : List ℕ) (t : Input) → counted_of s o ≡ Ok (name, t) → o ≡ Some name
 from_field s None name t e = absurd cc
-from_field s (Some bytes) name t e = cc
+from_field s (Some bytes) name t e = ap (λ (p : List ℕ × Input). Some p.0) (ok_is (bytes, past (4 + length bytes) s) (name, t) e)
 
 counted_front : (name rest : List ℕ) → IsCounted name → counted (counted_bytes name ++ rest) ≡ Some name
 counted_front name rest few =
@@ -112,10 +113,30 @@ names_behind bytes names e = (
 pub names_empty : (bytes : List ℕ) (names : List (List ℕ)) → bytes ≡ list counted_bytes names → (length bytes == 4) ≡ (length names == 0)
 names_empty bytes names e = ap (λ (b : List ℕ). length b == 4) e ∙ by_names names
   where
-    same_test : (m n : ℕ) → m ≡ n → (m == 4) ≡ (n == 4)
-    same_test m n e = ap (λ k. k == 4) e
     by_names : (names : List (List ℕ)) → (length (list counted_bytes names) == 4) ≡ (length names == 0)
-    by_names [] = same_test (length (list counted_bytes [])) 4 (omega (arith, length-append (little 4 0) [], length-little 4 0))
+    by_names [] =
+        let four : length (list counted_bytes []) ≡ 4 = omega (arith, length-append (little 4 0) [], length-little 4 0) in
+        eq-eqb (length (list counted_bytes [])) 4 four ∙ sym (eq-eqb 0 0 refl)
     by_names (n ∷ ns) =
-        same_test (length (list counted_bytes (n ∷ ns))) (8 + (length n + length (flat_map counted_bytes ns)))
-        (omega (arith, length-append (little 4 (length (n ∷ ns))) (flat_map counted_bytes (n ∷ ns)), length-little 4 (length (n ∷ ns)), length-append (counted_bytes n) (flat_map counted_bytes ns), length-counted n))
+        let more : 8 ≤ length (list counted_bytes (n ∷ ns)) = omega (arith, length-append (little 4 (length (n ∷ ns))) (flat_map counted_bytes (n ∷ ns)), length-little 4 (length (n ∷ ns)), length-append (counted_bytes n) (flat_map counted_bytes ns), length-counted n) in
+        ne_eqb (length (list counted_bytes (n ∷ ns))) 4 (λ e. omega (arith, e, more)) ∙ sym (ne_eqb (length (n ∷ ns)) 0 (λ e. omega (arith, e)))
+
+-- ---- of bytes that spell names
+
+pub is_spelled : (bytes : List ℕ) → IsSome (names_read bytes) → names_read bytes ≡ Some (names_in bytes)
+is_spelled bytes there = is_read (names_read bytes) [] there
+
+pub spelled_bytes : (bytes : List ℕ) → SpellNames bytes → bytes ≡ list counted_bytes (names_in bytes)
+spelled_bytes bytes is = (names_so bytes (names_in bytes) is.0 is.1).1
+
+pub spelled_fits : (bytes : List ℕ) → SpellNames bytes → FitsList IsString (names_in bytes)
+spelled_fits bytes is = (names_so bytes (names_in bytes) is.0 is.1).0
+
+pub is_empty : (bytes : List ℕ) → SpellNames bytes → (length bytes == 4) ≡ (length (names_in bytes) == 0)
+is_empty bytes is = names_empty bytes (names_in bytes) (spelled_bytes bytes is)
+
+pub behind_count : (bytes : List ℕ) → SpellNames bytes → 4 ≤ length bytes
+behind_count bytes is = (names_behind bytes (names_in bytes) (spelled_bytes bytes is)).0
+
+pub names_from_4 : (bytes : List ℕ) → SpellNames bytes → drop 4 bytes ≡ flat_map counted_bytes (names_in bytes)
+names_from_4 bytes is = (names_behind bytes (names_in bytes) (spelled_bytes bytes is)).1

@@ -1,7 +1,7 @@
 //! Names that are lent as they are spelled.
 
-ghost use Rattle.std.specs.Prelude.{◌≡◌, ◌==◌, ◌+◌, ◌<◌, ℕ, List as Items, length, drop, Some, None, IsSome, IfSome};
-ghost use Rattle.std.specs.Prelude.{MatchOption};
+ghost use Rattle.std.specs.Prelude.{◌≡◌, ◌==◌, ◌+◌, ◌≤◌, ℕ, List as Items, length, Some, IsSome, IfSome};
+ghost use Rattle.std.specs.Option.{option_copied};
 ghost use Rattle.std.specs.List.{list_any, flat_map, AllByRecursion};
 ghost use Rattle.std.specs.Str.{bytes_eq};
 ghost use Rattle.nr_bytes.specs.Reading.{counted};
@@ -9,7 +9,7 @@ ghost use Rattle.nr_bytes.specs.Spelling.{list, FitsList, IsString};
 ghost use Rattle.nr_bytes.specs.Writing.{counted_bytes};
 ghost use Rattle.nr_txconvert.specs.Names.{names_read};
 
-use nr_bytes::Reader;
+use byteorder::{ByteOrder, LittleEndian};
 use std::marker::Model;
 
 /// Names, lent as the bytes that spell their list. Contracts see the names.
@@ -29,17 +29,27 @@ impl<'a> Model for Names<'a> {
     ghost invariant = { λ n. SpellNames n.bytes.now };
 }
 
-/// The first name, and what stands behind it.
-#[tactic(auto, unfolding(nr_bytes::specs::Reading::counted))]
-fn cut(bytes: &[u8]) -> Option<(&[u8], &[u8])>
-    ensures cases { MatchOption result (counted bytes.now ≡ None) (λ cut. (counted bytes.now ≡ Some cut.0.now)
-        × (cut.1.now ≡ drop (4 + length cut.0.now) bytes.now)) }
-    ensures shorter { IfSome result (λ cut. length cut.1.now < length bytes.now) }
+/// The bytes behind the count at the front, as many as it says.
+#[tactic(auto, using(nr_bytes::proofs::Numbers::number_4), unfolding(nr_bytes::specs::Reading::counted))]
+fn first_of(bytes: &[u8]) -> Option<&[u8]>
+    ensures value { option_copied result ≡ counted bytes.now }
+    ensures within { IfSome result (λ name. 4 + length name.now ≤ length bytes.now) }
 {
-    let Ok(count) = Reader::new(bytes).u32() else {
+    if bytes.len() < 4 {
         return None;
-    };
-    bytes[4..].split_at_checked(count as usize)
+    }
+    let (front, rest) = bytes.split_at(4);
+    let count = LittleEndian::read_u32(front) as usize;
+    if rest.len() < count {
+        return None;
+    }
+    Some(&rest[..count])
+}
+
+fn is_same(name: &[u8], other: &[u8]) -> bool
+    ensures { result ≡ bytes_eq name.now other.now }
+{
+    name == other
 }
 
 /// Whether a name is one of those that stand one behind the other.
@@ -48,17 +58,18 @@ fn stands_in(bytes: &[u8], name: &[u8]) -> bool
         → result ≡ list_any (bytes_eq name.now) names }
 {
     let mut rest = bytes;
-    'names: while let Some((first, more)) = cut(rest) {
-        if name == first {
+    'names: while let Some(first) = first_of(rest) {
+        if is_same(name, first) {
             return true;
         }
-        rest = more;
+        rest = &rest[4 + first.len()..];
     }
     false
 }
 
 impl<'a> Names<'a> {
     /// The names whose list the bytes spell.
+    #[tactic(auto, using(crate::proofs::Names::is_spelled))]
     pub(crate) fn of(bytes: &'a [u8]) -> Names<'a>
         requires { IsSome (names_read bytes.now) }
         ensures { names_read bytes.now ≡ Some result }
@@ -67,6 +78,7 @@ impl<'a> Names<'a> {
     }
 
     /// The bytes that spell their list.
+    #[tactic(auto, using(crate::proofs::Names::spelled_bytes, crate::proofs::Names::spelled_fits))]
     pub(crate) fn bytes(&self) -> &'a [u8]
         ensures spelled { result.now ≡ list counted_bytes self.now }
         ensures fits { FitsList IsString self.now }
@@ -74,6 +86,7 @@ impl<'a> Names<'a> {
         self.bytes
     }
 
+    #[tactic(auto, using(crate::proofs::Names::is_empty))]
     pub(crate) fn is_empty(&self) -> bool
         ensures { result ≡ (length self.now == 0) }
     {
@@ -81,6 +94,7 @@ impl<'a> Names<'a> {
     }
 
     /// Whether a name is one of them.
+    #[tactic(auto, using(crate::proofs::Names::behind_count))]
     pub(crate) fn contains(&self, name: &[u8]) -> bool
         ensures { result ≡ list_any (bytes_eq name.now) self.now }
     {
