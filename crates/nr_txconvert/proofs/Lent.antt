@@ -90,3 +90,41 @@ ordinal_at n rest at low =
 ordinal_read : (permission : Permission) (n at : ℕ) (s : Input) → number_at 1 (record { left = permission_bytes permission; at = at }) ≡ Ok (n, s) → n ≡ ordinal permission
 ordinal_read (Call calls) n at s e = ap (λ (p : ℕ × Input). p.0) (ok_is (n, s) (0, behind (0 ∷ []) at (call_permission_bytes calls)) (sym e ∙ ordinal_at 0 (call_permission_bytes calls) at (omega arith)))
 ordinal_read Full n at s e = ap (λ (p : ℕ × Input). p.0) (ok_is (n, s) (1, behind (1 ∷ []) at []) (sym e ∙ ordinal_at 1 [] at (omega arith)))
+
+-- the ordinal 0 is that of a key for calls, and they stand behind it
+pub record AreCalls (access : AccessKey) (nonce : ℕ) : Type 0 where
+  pub calls : CallPermission
+  pub is : access ≡ record { nonce = nonce; permission = Call calls }
+  pub within : 9 ≤ length (access_key_bytes access)
+  pub read : calls_read (drop 9 (access_key_bytes access)) ≡ Some calls
+
+by_permission : (nonce : ℕ) (permission : Permission) → IsPermission permission → ordinal permission ≡ 0 → AreCalls (record { nonce = nonce; permission = permission }) nonce
+by_permission nonce (Call calls) fits e =
+    let text : List ℕ = call_permission_bytes calls in
+    let whole : access_key_bytes (record { nonce = nonce; permission = Call calls }) ≡ (little 8 nonce ++ 0 ∷ []) ++ text = sym (append_assoc (little 8 nonce) (0 ∷ []) text) in
+    let nine : length (little 8 nonce ++ 0 ∷ []) ≡ 9 = omega (arith, length-append (little 8 nonce) (0 ∷ []), length-little 8 nonce) in
+    record {
+      calls = calls;
+      is = refl;
+      within = subst (λ (b : List ℕ). 9 ≤ length b) (sym whole) (omega (arith, length-append (little 8 nonce ++ 0 ∷ []) text, nine));
+      read = ap calls_read (ap (drop 9) whole ∙ drop_at (little 8 nonce ++ 0 ∷ []) text 9 nine) ∙ calls_again calls fits;
+    }
+by_permission nonce Full fits e = absurd cc
+
+pub are_calls : (access : AccessKey) (nonce : ℕ) (s t : Input) → IsAccessKey access → number_at 8 (record { left = access_key_bytes access; at = 0 }) ≡ Ok (nonce, s) → number_at 1 s ≡ Ok (0, t) → AreCalls access nonce
+are_calls access nonce s t fits first second =
+    let head = nonce_read access nonce s fits first in
+    let zero_is = ordinal_read access.permission 0 s.at t (ap (λ (b : List ℕ). number_at 1 (record { left = b; at = s.at })) (sym head.1) ∙ second) in
+    subst (AreCalls access) (sym head.0) (by_permission access.nonce access.permission fits.1 (sym zero_is))
+
+-- any other is that of a full key
+full_by : (nonce : ℕ) (permission : Permission) (n : ℕ) → n ≡ ordinal permission → (n ≡ 0 → ⊥) → record { nonce = nonce; permission = Full } ≡ record { nonce = nonce; permission = permission }
+full_by nonce (Call calls) n e other = absurd (other e)
+full_by nonce Full n e other = refl
+
+pub is_full : (access : AccessKey) (nonce n : ℕ) (s t : Input) → IsAccessKey access → number_at 8 (record { left = access_key_bytes access; at = 0 }) ≡ Ok (nonce, s) → number_at 1 s ≡ Ok (n, t) → (n ≡ 0 → ⊥)
+    → record { nonce = nonce; permission = Full } ≡ access
+is_full access nonce n s t fits first second other =
+    let head = nonce_read access nonce s fits first in
+    let is = ordinal_read access.permission n s.at t (ap (λ (b : List ℕ). number_at 1 (record { left = b; at = s.at })) (sym head.1) ∙ second) in
+    ap (λ k. record { nonce = k; permission = Full }) head.0 ∙ full_by access.nonce access.permission n is other

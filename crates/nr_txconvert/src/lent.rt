@@ -66,9 +66,13 @@ pub(crate) fn lent<'a>(
     let Ok(nonce) = reader.u64() else {
         return Err(AllocError);
     };
-    let permission = match reader.u8() {
-        Ok(0) => LentPermission::Call(calls_of(alloc, &bytes[9..])?),
-        _ => LentPermission::Full,
+    let Ok(ordinal) = reader.u8() else {
+        return Err(AllocError);
+    };
+    let permission = if ordinal == 0 {
+        LentPermission::Call(calls_of(alloc, &bytes[9..])?)
+    } else {
+        LentPermission::Full
     };
     Ok(LentKey { nonce, permission })
 }
