@@ -51,11 +51,11 @@ are_read bytes calls allowance receiver s t fits e first second =
     let tail : List ℕ = list counted_bytes calls.methods in
     let head : List ℕ = option_bytes (little 16) calls.allowance in
     let one : option_at (nat_at 16) (record { left = bytes; at = 0 }) ≡ Ok (calls.allowance, behind head 0 (counted_bytes calls.receiver ++ tail)) =
-        ap (λ (b : List ℕ). option_at (nat_at 16) (record { left = b; at = 0 })) so.1
-        ∙ (option_law _ _ _ (nat_law record_fault 16)).again calls.allowance 0 (counted_bytes calls.receiver ++ tail) so.0.0 in
+    ap (λ (b : List ℕ). option_at (nat_at 16) (record { left = b; at = 0 })) so.1
+    ∙ (option_law _ _ _ (nat_law record_fault 16)).again calls.allowance 0 (counted_bytes calls.receiver ++ tail) so.0.0 in
     let p = ok_is (allowance, s) (calls.allowance, behind head 0 (counted_bytes calls.receiver ++ tail)) (sym first ∙ one) in
     let two : string_at s ≡ Ok (calls.receiver, behind (counted_bytes calls.receiver) (0 + length head) tail) =
-        ap (λ (p : Option ℕ × Input). string_at p.1) p ∙ (string_law record_fault).again calls.receiver (0 + length head) tail so.0.1.0 in
+    ap (λ (p : Option ℕ × Input). string_at p.1) p ∙ (string_law record_fault).again calls.receiver (0 + length head) tail so.0.1.0 in
     let q = ok_is (receiver, t) (calls.receiver, behind (counted_bytes calls.receiver) (0 + length head) tail) (sym second ∙ two) in
     let at : t.at ≡ 0 + length head + length (counted_bytes calls.receiver) = ap (λ (p : List ℕ × Input). p.1.at) q in
     let whole : bytes ≡ front_of calls ++ tail = so.1 ∙ sym (append_assoc head (counted_bytes calls.receiver) tail) in
@@ -73,7 +73,7 @@ nonce_read : (access : AccessKey) (nonce : ℕ) (s : Input) → IsAccessKey acce
 nonce_read access nonce s fits e =
     let rest : List ℕ = permission_bytes access.permission in
     let one : number_at 8 (record { left = access_key_bytes access; at = 0 }) ≡ Ok (access.nonce, behind (little 8 access.nonce) 0 rest) =
-        lifted_ok record_fault _ _ ((nat_law record_fault 8).again access.nonce 0 rest fits.0) in
+    lifted_ok record_fault _ _ ((nat_law record_fault 8).again access.nonce 0 rest fits.0) in
     let p = ok_is (nonce, s) (access.nonce, behind (little 8 access.nonce) 0 rest) (sym e ∙ one) in
     (ap (λ (p : ℕ × Input). p.0) p, ap (λ (p : ℕ × Input). p.1.left) p)
 

@@ -62,8 +62,11 @@ fn used(
     access: LentKey<'_>,
     cost: u128,
 ) -> Result<Blob, AllocError>
-    ensures { IfOk result (λ bytes. key_read bytes ≡ Some (record { nonce = tx.now.nonce; permission =
-        lowered cost (shown access).permission })) }
+    ensures { IfOk result (λ bytes. key_read bytes ≡ Some (record {
+      nonce = tx.now.nonce;
+      permission =
+          lowered cost (shown access).permission;
+    })) }
 {
     let used = LentKey {
         nonce: tx.nonce,
@@ -138,7 +141,13 @@ pub fn convert_hashed<S: Store>(
     };
     let receipt = receipt_of(alloc, tx, hash, place)?;
     let used = used(alloc, tx, access, cost.gas)?;
-    charge(state, tx, &account, &SpelledKey::of(used.inner()), cost.whole)?;
+    charge(
+        state,
+        tx,
+        &account,
+        &SpelledKey::of(used.inner()),
+        cost.whole,
+    )?;
     Ok(Converted {
         receipt,
         gas: cost.sending,

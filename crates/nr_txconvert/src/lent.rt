@@ -55,10 +55,7 @@ fn calls_of(alloc: Global, bytes: &[u8]) -> Result<LentCalls<'_>, AllocError>
 }
 
 /// The key that is spelled.
-pub(crate) fn lent<'a>(
-    alloc: Global,
-    spelled: &SpelledKey<'a>,
-) -> Result<LentKey<'a>, AllocError>
+pub(crate) fn lent<'a>(alloc: Global, spelled: &SpelledKey<'a>) -> Result<LentKey<'a>, AllocError>
     ensures { IfOk result (λ key. shown key ≡ spelled.now) }
 {
     let bytes = spelled.bytes();
@@ -86,10 +83,7 @@ fn write_calls(calls: &LentCalls<'_>, writer: &mut Writer) -> Result<(), AllocEr
     writer.put_raw(calls.methods.bytes())
 }
 
-fn write_permission(
-    permission: &LentPermission<'_>,
-    writer: &mut Writer,
-) -> Result<(), AllocError>
+fn write_permission(permission: &LentPermission<'_>, writer: &mut Writer) -> Result<(), AllocError>
     ensures appends { OnOk result (writer.new ≡ writer.old ++ permission_bytes (shown_permission permission.now)) }
     ensures in_range { OnOk result (IsPermission (shown_permission permission.now)) }
 {

@@ -48,11 +48,7 @@ fn allows_method(methods: &Names<'_>, method: &Text) -> bool
 }
 
 /// The refusals of a key for calls.
-fn judge_call(
-    call: &LentCalls<'_>,
-    receiver: &AccountId,
-    actions: &[Action],
-) -> Result<(), TxFault>
+fn judge_call(call: &LentCalls<'_>, receiver: &AccountId, actions: &[Action]) -> Result<(), TxFault>
     ensures { FindsFirst result (call_refusals (shown_calls call.now) receiver.now actions.now) }
 {
     let [

@@ -19,7 +19,7 @@ pub returns-in-Err : goal.returns-in-Err
 returns-in-Err g c =
     λ _. (
       refuses c.args.config.now c.args.state.now.world c.args.tx.now c.args.place.now c.in-Some.account (sym c.in_ok-account.ensures ∙ c.in-Some.is) (shown c.in_ok-access.access)
-      (sym c.in_ok-spelled.ensures ∙ c.in-Some-2.is ∙ ap Some (sym c.in_ok-access.ensures)) _ c.in-Err.ensures,
+          (sym c.in_ok-spelled.ensures ∙ c.in-Some-2.is ∙ ap Some (sym c.in_ok-access.ensures)) _ c.in-Err.ensures,
       refl,
     )
 
