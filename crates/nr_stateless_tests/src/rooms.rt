@@ -3,56 +3,55 @@
 use nr_bytes::{Blob, List};
 use nr_ids::Hash32;
 use nr_stateless::Partial;
-use nr_triedef::{Node, node_text, value_hash};
+use nr_triedef::value_hash;
 use nr_walk::{Texts, WalkFault, bytes_in, room_over};
 use std::alloc::{AllocError, Global};
 use std::test::Fail;
 
 // Puts a node's text behind the others, and gives its hash.
-fn put(alloc: Global, texts: &mut Vec<Blob>, node: &Node) -> Result<Hash32, AllocError> {
-    let text = node_text(alloc, node)?;
-    let hash = value_hash(text.inner());
-    texts.push(text)?;
+fn put(texts: &mut Vec<Blob>, text: Vec<u8>) -> Result<Hash32, AllocError> {
+    let hash = value_hash(text.as_slice());
+    texts.push(Blob::of(text))?;
     Ok(hash)
 }
 
-fn blob(alloc: Global, bytes: &[u8]) -> Result<Blob, AllocError> {
-    Ok(Blob::of(Vec::from_slice(alloc, bytes)?))
+// Puts a hash and a usage behind bytes.
+fn put_below(text: &mut Vec<u8>, hashes: &[Hash32], usage: u64) -> Result<(), AllocError> {
+    for hash in hashes {
+        text.extend_from_slice(hash.0.as_slice())?;
+    }
+    text.extend_from_slice(usage.to_le_bytes().as_slice())
 }
 
 // A leaf with a value of one byte, where so many nibbles stand before it.
-fn leaf(alloc: Global, levels: usize) -> Result<Node, AllocError> {
+fn leaf(alloc: Global, levels: usize) -> Result<Vec<u8>, AllocError> {
     let first = if levels % 2 == 0 { 0x20 } else { 0x30 };
-    Ok(Node::Leaf {
-        part: blob(alloc, &[first])?,
-        length: 1,
-        hash: value_hash(b"v"),
-        usage: 103,
-    })
+    let mut text = Vec::from_slice(alloc, &[0, 1, 0, 0, 0, first, 1, 0, 0, 0])?;
+    put_below(&mut text, &[value_hash(b"v")], 103)?;
+    Ok(text)
+}
+
+// A branch of sixteen children alike.
+fn branch(alloc: Global, child: Hash32, usage: u64) -> Result<Vec<u8>, AllocError> {
+    let mut text = Vec::from_slice(alloc, &[2, 0xff, 0xff])?;
+    put_below(&mut text, &[child; 16], usage)?;
+    Ok(text)
 }
 
 // A text for each level of a trie below 07, in which each branch has sixteen children alike; and the
 // root.
 fn nested(alloc: Global, levels: usize) -> Result<(List<Blob>, Hash32), AllocError> {
     let mut texts = Vec::new(alloc);
-    texts.push(blob(alloc, b"v")?)?;
-    let mut top = put(alloc, &mut texts, &leaf(alloc, levels)?)?;
-    let mut usage = 103;
+    texts.push(Blob::of(Vec::from_slice(alloc, b"v")?))?;
+    let mut top = put(&mut texts, leaf(alloc, levels)?)?;
+    let mut usage = 103_u64;
     for _ in 0..levels {
-        usage = 50 + 16 * usage;
-        let branch = Node::Branch {
-            value: None,
-            children: [Some(top); 16],
-            usage,
-        };
-        top = put(alloc, &mut texts, &branch)?;
+        usage = usage.wrapping_mul(16).wrapping_add(50);
+        top = put(&mut texts, branch(alloc, top, usage)?)?;
     }
-    let front = Node::Extension {
-        part: blob(alloc, &[0, 7])?,
-        child: top,
-        usage: 54 + usage,
-    };
-    let root = put(alloc, &mut texts, &front)?;
+    let mut front = Vec::from_slice(alloc, &[1, 2, 0, 0, 0, 0, 7])?;
+    put_below(&mut front, &[top], usage.wrapping_add(54))?;
+    let root = put(&mut texts, front)?;
     Ok((List::of(texts), root))
 }
 
@@ -81,31 +80,24 @@ fn has_found(found: &Result<usize, WalkFault>, count: usize) -> bool {
     }
 }
 
-// The room is that of the texts' bytes.
+// The room is that of the texts' bytes: one, 50, three times 523, and 47.
 #[test]
 fn a_room_is_by_the_length(rt: HostRuntime) -> Result<(), Fail> {
     let (list, _) = nested(rt.alloc(), 3)?;
-    let mut bytes = 0;
-    for text in list.inner() {
-        bytes += text.inner().len();
-    }
     let texts = Texts::new(rt.alloc(), &list)?;
-    assert_eq!(rt; bytes_in(&list), bytes as u64);
-    assert_eq!(rt; texts.room(), 1_073_741_824 + 256 * bytes as u64);
+    assert_eq!(rt; bytes_in(&list), 1_667);
+    assert_eq!(rt; texts.room(), 1_074_168_576);
     assert_eq!(rt; room_over(u64::MAX), u64::MAX);
     Ok(())
 }
 
-// A branch below 07 with sixteen leaves: the branch takes its text and 64, each leaf its place of two
-// nibbles, its text and 64, each entry its key of two bytes, its value of one and 64.
+// A branch below 07 with sixteen leaves: the branch takes its text of 523 bytes and 64, each leaf its
+// place of two nibbles, its text of 50 bytes and 64, each entry its key of two bytes, its value of one
+// and 64.
 #[test]
 fn a_walk_takes_its_room_to_the_byte(rt: HostRuntime) -> Result<(), Fail> {
-    let (list, _) = nested(rt.alloc(), 1)?;
-    let leaf = list.inner()[1].inner().len();
-    let branch = list.inner()[2].inner().len();
-    let room = (branch + 64 + 16 * (2 + leaf + 64) + 16 * (2 + 1 + 64)) as u64;
-    assert!(rt; has_found(&found_in(rt.alloc(), 1, room)?, 16));
-    assert!(rt; is_refused(&found_in(rt.alloc(), 1, room - 1)?));
+    assert!(rt; has_found(&found_in(rt.alloc(), 1, 3_515)?, 16));
+    assert!(rt; is_refused(&found_in(rt.alloc(), 1, 3_514)?));
     Ok(())
 }
 
