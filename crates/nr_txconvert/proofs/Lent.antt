@@ -1,6 +1,6 @@
 -- What is read of a key's bytes.
 use Rattle.std.proofs.Common.{◌≡◌, ℕ, zero, suc, ◌+◌, ◌<◌, ◌≤◌, List, [], ◌∷◌, ◌++◌, ◌%◌, length, drop, Option, Some, None, Ok, refl, sym, ap, subst, ◌∙◌, append_assoc, arith}
-use Rattle.std.specs.Prelude.{IsSome}
+use Rattle.std.specs.Prelude.{IsSome, unwrap_or}
 use Rattle.std.proofs.lemmas.List.{length-append, drop_at}
 use Rattle.nr_bytes.specs.Numbers.{little, IsBytes}
 use Rattle.nr_bytes.specs.Reading.{Input, number_at}
@@ -23,7 +23,7 @@ use Rattle.nr_records.specs.declared.access_key.Permission.TheVariants.{Call, Fu
 use Rattle.nr_columns.specs.Tables.{read_of}
 use Rattle.nr_txconvert.specs.Lent.{calls_read}
 use Rattle.nr_txconvert.specs.Names.{names_read}
-use Rattle.nr_txconvert.proofs.Names.{read_ok, names_again}
+use Rattle.nr_txconvert.proofs.Names.{read_ok, is_read, names_again}
 
 -- ---- the calls of a key
 
@@ -33,6 +33,25 @@ calls_so bytes calls fits e =
 
 pub calls_again : (calls : CallPermission) → IsCallPermission calls → calls_read (call_permission_bytes calls) ≡ Some calls
 calls_again calls fits = ap read_of (whole_again record_fault call_permission_at call_permission_bytes IsCallPermission call_permission_law calls fits)
+
+abbrev some_list : List (List ℕ) → Option (List (List ℕ))
+some_list x = Some x
+
+same_list : (x y : List (List ℕ)) → some_list x ≡ some_list y → x ≡ y
+same_list x y e = cc
+
+abbrev some_calls : CallPermission → Option CallPermission
+some_calls x = Some x
+
+same_calls : (x y : CallPermission) → some_calls x ≡ some_calls y → x ≡ y
+same_calls x y e = cc
+
+-- the calls, and some calls where the bytes permit none
+abbrev pub calls_in : List ℕ → CallPermission
+calls_in bytes = unwrap_or (calls_read bytes) (record { allowance = None; receiver = []; methods = [] })
+
+pub calls_there : (bytes : List ℕ) → IsSome (calls_read bytes) → calls_read bytes ≡ Some (calls_in bytes)
+calls_there bytes there = is_read (calls_read bytes) _ there
 
 -- the allowance and the receiver were read, and the methods are what is left
 pub record AreRead (bytes : List ℕ) (calls : CallPermission) (allowance : Option ℕ) (receiver : List ℕ) (at : ℕ) : Type 0 where
@@ -66,6 +85,13 @@ are_read bytes calls allowance receiver s t fits e first second =
       within = subst (λ (b : List ℕ). t.at ≤ length b) (sym whole) (omega (arith, length-append (front_of calls) tail, long));
       methods = ap names_read (ap (drop t.at) whole ∙ drop_at (front_of calls) tail t.at long) ∙ names_again calls.methods so.0.1.1;
     }
+
+pub calls_are : (bytes : List ℕ) (calls : CallPermission) (allowance : Option ℕ) (receiver : List ℕ) (at : ℕ) (methods : List (List ℕ))
+    → AreRead bytes calls allowance receiver at → calls_read bytes ≡ Some calls → names_read (drop at bytes) ≡ Some methods
+    → calls_read bytes ≡ Some (record { allowance = allowance; receiver = receiver; methods = methods })
+calls_are bytes calls allowance receiver at methods are e named =
+    let same = same_list calls.methods methods (sym are.methods ∙ named) in
+    e ∙ (λ i. Some (record { allowance = sym are.allowance i; receiver = sym are.receiver i; methods = same i }))
 
 -- ---- what stands before them
 
@@ -117,6 +143,24 @@ are_calls access nonce s t fits first second =
     let zero_is = ordinal_read access.permission 0 s.at t (ap (λ (b : List ℕ). number_at 1 (record { left = b; at = s.at })) (sym head.1) ∙ second) in
     subst (AreCalls access) (sym head.0) (by_permission access.nonce access.permission fits.1 (sym zero_is))
 
+-- the same of bytes that spell the key
+pub calls_stand : (bytes : List ℕ) (access : AccessKey) (nonce n : ℕ) (s t : Input) → bytes ≡ access_key_bytes access → IsAccessKey access
+    → number_at 8 (record { left = bytes; at = 0 }) ≡ Ok (nonce, s) → number_at 1 s ≡ Ok (n, t) → n ≡ 0 → AreCalls access nonce
+calls_stand bytes access nonce n s t at fits first second none =
+    are_calls access nonce s t fits (ap (λ (b : List ℕ). number_at 8 (record { left = b; at = 0 })) (sym at) ∙ first) (subst (λ (k : ℕ). number_at 1 s ≡ Ok (k, t)) none second)
+
+pub calls_within : (bytes : List ℕ) (access : AccessKey) (nonce : ℕ) → bytes ≡ access_key_bytes access → AreCalls access nonce → 9 ≤ length bytes
+calls_within bytes access nonce at are = subst (λ (b : List ℕ). 9 ≤ length b) (sym at) are.within
+
+pub calls_told : (bytes : List ℕ) (access : AccessKey) (nonce : ℕ) → bytes ≡ access_key_bytes access → AreCalls access nonce → IsSome (calls_read (drop 9 bytes))
+calls_told bytes access nonce at are = subst IsSome (sym (ap (λ (b : List ℕ). calls_read (drop 9 b)) at ∙ are.read)) refl
+
+pub calls_key : (bytes : List ℕ) (access : AccessKey) (nonce : ℕ) (calls : CallPermission) → bytes ≡ access_key_bytes access → AreCalls access nonce → calls_read (drop 9 bytes) ≡ Some calls
+    → record { nonce = nonce; permission = Call calls } ≡ access
+calls_key bytes access nonce calls at are read =
+    let same = same_calls calls are.calls (sym read ∙ ap (λ (b : List ℕ). calls_read (drop 9 b)) at ∙ are.read) in
+    (λ i. record { nonce = nonce; permission = Call (same i) }) ∙ sym are.is
+
 -- any other is that of a full key
 full_by : (nonce : ℕ) (permission : Permission) (n : ℕ) → n ≡ ordinal permission → (n ≡ 0 → ⊥) → record { nonce = nonce; permission = Full } ≡ record { nonce = nonce; permission = permission }
 full_by nonce (Call calls) n e other = absurd (other e)
@@ -128,3 +172,8 @@ is_full access nonce n s t fits first second other =
     let head = nonce_read access nonce s fits first in
     let is = ordinal_read access.permission n s.at t (ap (λ (b : List ℕ). number_at 1 (record { left = b; at = s.at })) (sym head.1) ∙ second) in
     ap (λ k. record { nonce = k; permission = Full }) head.0 ∙ full_by access.nonce access.permission n is other
+
+pub full_key : (bytes : List ℕ) (access : AccessKey) (nonce n : ℕ) (s t : Input) → bytes ≡ access_key_bytes access → IsAccessKey access
+    → number_at 8 (record { left = bytes; at = 0 }) ≡ Ok (nonce, s) → number_at 1 s ≡ Ok (n, t) → (n ≡ 0 → ⊥) → record { nonce = nonce; permission = Full } ≡ access
+full_key bytes access nonce n s t at fits first second other =
+    is_full access nonce n s t fits (ap (λ (b : List ℕ). number_at 8 (record { left = b; at = 0 })) (sym at) ∙ first) second other

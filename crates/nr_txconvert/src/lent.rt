@@ -2,8 +2,8 @@
 //! be many, are lent.
 
 ghost use Rattle.std.specs.Prelude.{◌≡◌, ◌++◌, Some, IfOk, OnOk, IsSome};
-ghost use Rattle.nr_records.specs.AccessKeys.{access_key_bytes, IsAccessKey, call_permission_bytes, IsCallPermission};
-ghost use Rattle.nr_records.specs.AccessKeys.{permission_bytes, IsPermission};
+ghost use Rattle.nr_records.specs.AccessKeys.{call_permission_bytes, IsCallPermission, permission_bytes, IsPermission};
+ghost use Rattle.nr_columns.specs.SpelledKeys.{key_read};
 ghost use Rattle.nr_txconvert.specs.Conversion.{lowered};
 ghost use Rattle.nr_txconvert.specs.Lent.{calls_read, shown_calls, shown_permission, shown};
 
@@ -66,12 +66,17 @@ pub(crate) fn lent<'a>(alloc: Global, spelled: &SpelledKey<'a>) -> Result<LentKe
     let Ok(ordinal) = reader.u8() else {
         return Err(AllocError);
     };
-    let permission = if ordinal == 0 {
-        LentPermission::Call(calls_of(alloc, &bytes[9..])?)
-    } else {
-        LentPermission::Full
-    };
-    Ok(LentKey { nonce, permission })
+    if ordinal != 0 {
+        return Ok(LentKey {
+            nonce,
+            permission: LentPermission::Full,
+        });
+    }
+    let calls = calls_of(alloc, &bytes[9..])?;
+    Ok(LentKey {
+        nonce,
+        permission: LentPermission::Call(calls),
+    })
 }
 
 fn write_calls(calls: &LentCalls<'_>, writer: &mut Writer) -> Result<(), AllocError>
@@ -98,8 +103,7 @@ fn write_permission(permission: &LentPermission<'_>, writer: &mut Writer) -> Res
 
 /// The bytes that spell a key.
 pub(crate) fn spelled(alloc: Global, key: &LentKey<'_>) -> Result<Blob, AllocError>
-    ensures spelled { IfOk result (λ bytes. bytes ≡ access_key_bytes (shown key.now)) }
-    ensures fits { OnOk result (IsAccessKey (shown key.now)) }
+    ensures { IfOk result (λ bytes. key_read bytes ≡ Some (shown key.now)) }
 {
     let mut writer = Writer::new(alloc);
     key.nonce.write(&mut writer)?;

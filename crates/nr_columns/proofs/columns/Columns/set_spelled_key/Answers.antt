@@ -1,5 +1,5 @@
 -- The goals of `columns::Columns::set_spelled_key` that no tactic closes.
-use Rattle.std.proofs.Common.{ap, sym, ◌∙◌}
+use Rattle.std.proofs.Common.{ap, ◌∙◌}
 use Rattle.std.specs.FinMap.{insert}
 use Rattle.nr_columns.proofs.SpelledKeys.{read_again}
 use Rattle.nr_columns.proofs.Steps.{keys_column, wrote, stays, shows}
