@@ -4,5 +4,5 @@ pub mod Charging
 pub mod Paying
 pub mod Converting
 pub mod OverConversion
-pub mod Names
-pub mod Lent
+pub mod SpelledNames
+pub mod LentKeys

@@ -65,7 +65,7 @@ fn used(
     ensures { IfOk result (λ bytes. key_read bytes ≡ Some (record {
       nonce = tx.now.nonce;
       permission =
-          lowered cost (shown access).permission;
+          lowered cost (shown access.entry).permission;
     })) }
 {
     let used = LentKey {

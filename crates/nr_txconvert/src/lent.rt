@@ -113,7 +113,7 @@ pub(crate) fn spelled(alloc: Global, key: &LentKey<'_>) -> Result<Blob, AllocErr
 
 /// What a permission is once gas was paid for; an allowance is less by the cost.
 pub(crate) fn lowered(permission: LentPermission<'_>, cost: u128) -> LentPermission<'_>
-    ensures { shown_permission result ≡ lowered cost (shown_permission permission) }
+    ensures { shown_permission result ≡ lowered cost (shown_permission permission.entry) }
 {
     match permission {
         LentPermission::Call(mut call) => {

@@ -69,7 +69,7 @@ fn stands_in(bytes: &[u8], name: &[u8]) -> bool
 
 impl<'a> Names<'a> {
     /// The names whose list the bytes spell.
-    #[tactic(auto, using(crate::proofs::Names::is_spelled))]
+    #[tactic(auto, using(crate::proofs::SpelledNames::is_spelled))]
     pub(crate) fn of(bytes: &'a [u8]) -> Names<'a>
         requires { IsSome (names_read bytes.now) }
         ensures { names_read bytes.now ≡ Some result }
@@ -78,7 +78,7 @@ impl<'a> Names<'a> {
     }
 
     /// The bytes that spell their list.
-    #[tactic(auto, using(crate::proofs::Names::spelled_bytes, crate::proofs::Names::spelled_fits))]
+    #[tactic(auto, using(crate::proofs::SpelledNames::spelled_bytes, crate::proofs::SpelledNames::spelled_fits))]
     pub(crate) fn bytes(&self) -> &'a [u8]
         ensures spelled { result.now ≡ list counted_bytes self.now }
         ensures fits { FitsList IsString self.now }
@@ -86,7 +86,7 @@ impl<'a> Names<'a> {
         self.bytes
     }
 
-    #[tactic(auto, using(crate::proofs::Names::is_empty))]
+    #[tactic(auto, using(crate::proofs::SpelledNames::is_empty))]
     pub(crate) fn is_empty(&self) -> bool
         ensures { result ≡ (length self.now == 0) }
     {
@@ -94,7 +94,7 @@ impl<'a> Names<'a> {
     }
 
     /// Whether a name is one of them.
-    #[tactic(auto, using(crate::proofs::Names::behind_count))]
+    #[tactic(auto, using(crate::proofs::SpelledNames::behind_count))]
     pub(crate) fn contains(&self, name: &[u8]) -> bool
         ensures { result ≡ list_any (bytes_eq name.now) self.now }
     {

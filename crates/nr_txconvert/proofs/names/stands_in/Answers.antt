@@ -1,6 +1,6 @@
 -- The goals of `names::stands_in` that no tactic closes.
 use Rattle.std.proofs.Common.{refl, sym}
-use Rattle.nr_txconvert.proofs.Names.{none_left, found_first, left_behind}
+use Rattle.nr_txconvert.proofs.SpelledNames.{none_left, found_first, left_behind}
 use Rattle.nr_txconvert.proofs.names.stands_in.Goals as goal
 
 pub names-init : goal.names-init

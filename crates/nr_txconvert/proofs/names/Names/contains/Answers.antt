@@ -1,5 +1,5 @@
 -- The goals of `names::Names::contains` that no tactic closes.
-use Rattle.nr_txconvert.proofs.Names.{spelled_fits, behind_count, names_from_4}
+use Rattle.nr_txconvert.proofs.SpelledNames.{spelled_fits, behind_count, names_from_4}
 use Rattle.nr_txconvert.proofs.names.Names.contains.Goals as goal
 
 pub returns : goal.returns
