@@ -54,9 +54,9 @@ pub calls_there : (bytes : List ℕ) → IsSome (calls_read bytes) → calls_rea
 calls_there bytes there = is_read (calls_read bytes) _ there
 
 -- the allowance and the receiver were read, and the methods are what is left
-pub record AreRead (bytes : List ℕ) (calls : CallPermission) (allowance : Option ℕ) (receiver : List ℕ) (at : ℕ) : Type 0 where
-  pub allowance : allowance ≡ calls.allowance
-  pub receiver : receiver ≡ calls.receiver
+pub record AreRead (bytes : List ℕ) (calls : CallPermission) (limit : Option ℕ) (named : List ℕ) (at : ℕ) : Type 0 where
+  pub allowance : limit ≡ calls.allowance
+  pub receiver : named ≡ calls.receiver
   pub within : at ≤ length bytes
   pub methods : names_read (drop at bytes) ≡ Some calls.methods
 
@@ -86,12 +86,22 @@ are_read bytes calls allowance receiver s t fits e first second =
       methods = ap names_read (ap (drop t.at) whole ∙ drop_at (front_of calls) tail t.at long) ∙ names_again calls.methods so.0.1.1;
     }
 
+-- the same of what was read of a reader
+pub are_here : (bytes : List ℕ) (allowance : Option ℕ) (receiver : List ℕ) (r s t : Input) (at : ℕ) → IsBytes bytes → IsSome (calls_read bytes) → r ≡ record { left = bytes; at = 0 }
+    → option_at (nat_at 16) r ≡ Ok (allowance, s) → string_at s ≡ Ok (receiver, t) → at ≡ t.at → AreRead bytes (calls_in bytes) allowance receiver at
+are_here bytes allowance receiver r s t at fits there new first second is =
+    subst (AreRead bytes (calls_in bytes) allowance receiver) (sym is)
+    (are_read bytes (calls_in bytes) allowance receiver s t fits (calls_there bytes there) (ap (λ (r : Input). option_at (nat_at 16) r) (sym new) ∙ first) second)
+
+abbrev permitted : Option ℕ → List ℕ → List (List ℕ) → CallPermission
+permitted allowance receiver methods = record { allowance = allowance; receiver = receiver; methods = methods }
+
 pub calls_are : (bytes : List ℕ) (calls : CallPermission) (allowance : Option ℕ) (receiver : List ℕ) (at : ℕ) (methods : List (List ℕ))
     → AreRead bytes calls allowance receiver at → calls_read bytes ≡ Some calls → names_read (drop at bytes) ≡ Some methods
-    → calls_read bytes ≡ Some (record { allowance = allowance; receiver = receiver; methods = methods })
+    → calls_read bytes ≡ Some (permitted allowance receiver methods)
 calls_are bytes calls allowance receiver at methods are e named =
     let same = same_list calls.methods methods (sym are.methods ∙ named) in
-    e ∙ (λ i. Some (record { allowance = sym are.allowance i; receiver = sym are.receiver i; methods = same i }))
+    e ∙ (λ i. some_calls (permitted (sym are.allowance i) (sym are.receiver i) (same i)))
 
 -- ---- what stands before them
 
@@ -143,11 +153,12 @@ are_calls access nonce s t fits first second =
     let zero_is = ordinal_read access.permission 0 s.at t (ap (λ (b : List ℕ). number_at 1 (record { left = b; at = s.at })) (sym head.1) ∙ second) in
     subst (AreCalls access) (sym head.0) (by_permission access.nonce access.permission fits.1 (sym zero_is))
 
--- the same of bytes that spell the key
-pub calls_stand : (bytes : List ℕ) (access : AccessKey) (nonce n : ℕ) (s t : Input) → bytes ≡ access_key_bytes access → IsAccessKey access
-    → number_at 8 (record { left = bytes; at = 0 }) ≡ Ok (nonce, s) → number_at 1 s ≡ Ok (n, t) → n ≡ 0 → AreCalls access nonce
-calls_stand bytes access nonce n s t at fits first second none =
-    are_calls access nonce s t fits (ap (λ (b : List ℕ). number_at 8 (record { left = b; at = 0 })) (sym at) ∙ first) (subst (λ (k : ℕ). number_at 1 s ≡ Ok (k, t)) none second)
+-- the same of bytes that spell the key, and of a reader
+pub calls_stand : (bytes : List ℕ) (access : AccessKey) (nonce n : ℕ) (r s t : Input) → bytes ≡ access_key_bytes access → IsAccessKey access → r ≡ record { left = bytes; at = 0 }
+    → number_at 8 r ≡ Ok (nonce, s) → number_at 1 s ≡ Ok (n, t) → n ≡ 0 → AreCalls access nonce
+calls_stand bytes access nonce n r s t at fits new first second none =
+    are_calls access nonce s t fits (ap (λ (b : List ℕ). number_at 8 (record { left = b; at = 0 })) (sym at) ∙ ap (λ (r : Input). number_at 8 r) (sym new) ∙ first)
+    (subst (λ (k : ℕ). number_at 1 s ≡ Ok (k, t)) none second)
 
 pub calls_within : (bytes : List ℕ) (access : AccessKey) (nonce : ℕ) → bytes ≡ access_key_bytes access → AreCalls access nonce → 9 ≤ length bytes
 calls_within bytes access nonce at are = subst (λ (b : List ℕ). 9 ≤ length b) (sym at) are.within
@@ -162,18 +173,21 @@ calls_key bytes access nonce calls at are read =
     (λ i. record { nonce = nonce; permission = Call (same i) }) ∙ sym are.is
 
 -- any other is that of a full key
-full_by : (nonce : ℕ) (permission : Permission) (n : ℕ) → n ≡ ordinal permission → (n ≡ 0 → ⊥) → record { nonce = nonce; permission = Full } ≡ record { nonce = nonce; permission = permission }
+abbrev key_of : ℕ → Permission → AccessKey
+key_of nonce permission = record { nonce = nonce; permission = permission }
+
+full_by : (nonce : ℕ) (permission : Permission) (n : ℕ) → n ≡ ordinal permission → (n ≡ 0 → ⊥) → key_of nonce Full ≡ key_of nonce permission
 full_by nonce (Call calls) n e other = absurd (other e)
 full_by nonce Full n e other = refl
 
-pub is_full : (access : AccessKey) (nonce n : ℕ) (s t : Input) → IsAccessKey access → number_at 8 (record { left = access_key_bytes access; at = 0 }) ≡ Ok (nonce, s) → number_at 1 s ≡ Ok (n, t) → (n ≡ 0 → ⊥)
-    → record { nonce = nonce; permission = Full } ≡ access
+is_full : (access : AccessKey) (nonce n : ℕ) (s t : Input) → IsAccessKey access → number_at 8 (record { left = access_key_bytes access; at = 0 }) ≡ Ok (nonce, s) → number_at 1 s ≡ Ok (n, t) → (n ≡ 0 → ⊥)
+    → key_of nonce Full ≡ access
 is_full access nonce n s t fits first second other =
     let head = nonce_read access nonce s fits first in
     let is = ordinal_read access.permission n s.at t (ap (λ (b : List ℕ). number_at 1 (record { left = b; at = s.at })) (sym head.1) ∙ second) in
-    ap (λ k. record { nonce = k; permission = Full }) head.0 ∙ full_by access.nonce access.permission n is other
+    ap (λ (k : ℕ). key_of k Full) head.0 ∙ full_by access.nonce access.permission n is other
 
-pub full_key : (bytes : List ℕ) (access : AccessKey) (nonce n : ℕ) (s t : Input) → bytes ≡ access_key_bytes access → IsAccessKey access
-    → number_at 8 (record { left = bytes; at = 0 }) ≡ Ok (nonce, s) → number_at 1 s ≡ Ok (n, t) → (n ≡ 0 → ⊥) → record { nonce = nonce; permission = Full } ≡ access
-full_key bytes access nonce n s t at fits first second other =
-    is_full access nonce n s t fits (ap (λ (b : List ℕ). number_at 8 (record { left = b; at = 0 })) (sym at) ∙ first) second other
+pub full_key : (bytes : List ℕ) (access : AccessKey) (nonce n : ℕ) (r s t : Input) → bytes ≡ access_key_bytes access → IsAccessKey access → r ≡ record { left = bytes; at = 0 }
+    → number_at 8 r ≡ Ok (nonce, s) → number_at 1 s ≡ Ok (n, t) → (n ≡ 0 → ⊥) → key_of nonce Full ≡ access
+full_key bytes access nonce n r s t at fits new first second other =
+    is_full access nonce n s t fits (ap (λ (b : List ℕ). number_at 8 (record { left = b; at = 0 })) (sym at) ∙ ap (λ (r : Input). number_at 8 r) (sym new) ∙ first) second other

@@ -1,7 +1,7 @@
 //! Access keys, read out of the bytes that spell them: the methods of a key for calls, which may
 //! be many, are lent.
 
-ghost use Rattle.std.specs.Prelude.{◌≡◌, ◌++◌, Some, IfOk, OnOk, IsSome};
+ghost use Rattle.std.specs.Prelude.{◌≡◌, ◌≤◌, ◌++◌, length, drop, Some, IfOk, OnOk, IsSome};
 ghost use Rattle.nr_records.specs.AccessKeys.{call_permission_bytes, IsCallPermission, permission_bytes, IsPermission};
 ghost use Rattle.nr_columns.specs.SpelledKeys.{key_read};
 ghost use Rattle.nr_txconvert.specs.Conversion.{lowered};
@@ -35,6 +35,14 @@ pub(crate) struct LentCalls<'a> {
     pub(crate) methods: Names<'a>,
 }
 
+/// The bytes behind the first of them.
+fn behind(bytes: &[u8], at: usize) -> &[u8]
+    requires { at ≤ length bytes.now }
+    ensures { result.now ≡ drop at bytes.now }
+{
+    &bytes[at..]
+}
+
 /// The calls that the bytes permit.
 fn calls_of(alloc: Global, bytes: &[u8]) -> Result<LentCalls<'_>, AllocError>
     requires { IsSome (calls_read bytes.now) }
@@ -50,7 +58,7 @@ fn calls_of(alloc: Global, bytes: &[u8]) -> Result<LentCalls<'_>, AllocError>
     Ok(LentCalls {
         allowance,
         receiver,
-        methods: Names::of(&bytes[reader.at()..]),
+        methods: Names::of(behind(bytes, reader.at())),
     })
 }
 
@@ -72,7 +80,7 @@ pub(crate) fn lent<'a>(alloc: Global, spelled: &SpelledKey<'a>) -> Result<LentKe
             permission: LentPermission::Full,
         });
     }
-    let calls = calls_of(alloc, &bytes[9..])?;
+    let calls = calls_of(alloc, behind(bytes, 9))?;
     Ok(LentKey {
         nonce,
         permission: LentPermission::Call(calls),

@@ -78,7 +78,7 @@ impl<'a> Names<'a> {
     }
 
     /// The bytes that spell their list.
-    #[tactic(auto, using(crate::proofs::SpelledNames::spelled_bytes, crate::proofs::SpelledNames::spelled_fits))]
+    #[tactic(auto, using(crate::proofs::SpelledNames::spelled_bytes))]
     pub(crate) fn bytes(&self) -> &'a [u8]
         ensures spelled { result.now ≡ list counted_bytes self.now }
         ensures fits { FitsList IsString self.now }

@@ -1,5 +1,6 @@
 -- The goals of `names::stands_in` that no tactic closes.
-use Rattle.std.proofs.Common.{refl, sym}
+use Rattle.std.proofs.Common.{◌+◌, length, refl, sym}
+use Rattle.std.proofs.lemmas.List.{take_rest}
 use Rattle.nr_txconvert.proofs.SpelledNames.{none_left, found_first, left_behind}
 use Rattle.nr_txconvert.proofs.names.stands_in.Goals as goal
 
@@ -12,7 +13,7 @@ returns-then-is_same c = λ names fits spelled.
 
 pub names-preserved : goal.names-preserved
 names-preserved c = λ names fits spelled.
-    left_behind c.args.name.now c.names.rest.now c.in-Some.first.now _ _ (c.names.invariant names fits spelled) (sym c.in-Some.ensures.value) refl (sym c.if-is_same.ensures)
+    left_behind c.args.name.now c.names.rest.now c.in-Some.first.now _ _ (c.names.invariant names fits spelled) (sym c.in-Some.ensures.value) (take_rest c.names.rest.now (4 + length c.in-Some.first.now)) (sym c.if-is_same.ensures)
 
 pub returns : goal.returns
 returns c = λ names fits spelled. none_left c.args.name.now c.names.rest.now _ (c.names.invariant names fits spelled) (sym c.in_default.ensures.value)
