@@ -78,7 +78,7 @@ items_are {X} {Y} r a P law q o same (suc n) = λ s fits. go s fits (r s) refl
         let takes = law.taken s x fits e in
         rw (same s fits, e, items_are r a P law q o same n x.1 takes.1.bytes) (behind s x (items_at r n x.1) takes.1.at)
 
-length_four : (n : ℕ) → length (little 4 n) ≡ 4
+pub length_four : (n : ℕ) → length (little 4 n) ≡ 4
 unfolding little
 length_four n = refl
 
@@ -229,48 +229,68 @@ module _ {X Y : Type 0} (r : Input → Read X) (q : Input → Read Y) (o : ℕ �
       go (Ok x) e is = (x, e, cc)
       go (Err f) e is = absurd cc
 
--- ---- the file that is made of its outline
-abbrev blocks_are_made : List Outline → List ℕ → Result (List Block) RecordFault → Type 0
-blocks_are_made is bytes result = (version : Version) (front : List ℕ) (bs : List Block) → AllByRecursion (IsBlock version) bs
+-- ---- a file that is made of its outline
+abbrev pub BlocksMade : List Outline → List ℕ → Result (List Block) RecordFault → Type 0
+BlocksMade is bytes result =
+    (version : Version) (front : List ℕ) (bs : List Block) → AllByRecursion (IsBlock version) bs
     → is ≡ outlines block_bytes block_outline (length front) bs → IsFront (front ++ flat_map block_bytes bs) bytes
     → Gives Memory result (Ok bs)
 
-module _ (bytes : List ℕ) (fits : IsBytes bytes) where
-  pub file_fault : (e : RecordFault) → (e ≢ Memory → all_of file_outline_at bytes ≡ Err e) → e ≢ Memory
-      → all_of blocks_at bytes ≡ Err e
-  file_fault e is other = all_fault blocks_at file_outline_at file_outline file_is bytes fits e (is other)
+-- a file with these blocks, whose spelling begins with a front, has this outline of them
+pub record IsFileOf (bytes : List ℕ) (is : List Outline) (bs : List Block) : Type 0 where
+  pub version : Version
+  pub front : List ℕ
+  pub fit : AllByRecursion (IsBlock version) bs
+  pub outlined : is ≡ outlines block_bytes block_outline (length front) bs
+  pub spelled : bytes ≡ front ++ flat_map block_bytes bs
 
-  file_of : (is : FileOutline) (r : Result (List Block) RecordFault) → all_of file_outline_at bytes ≡ Ok is
-      → blocks_are_made is.blocks bytes r
-      → (f : BlocksFile) × (all_of blocks_at bytes ≡ Ok f) × (is.version ≡ f.version) × Gives Memory r (Ok f.blocks)
-  file_of is r read made =
+module _ {bytes : List ℕ} {is : List Outline} {bs : List Block} (file : IsFileOf bytes is bs) where
+  gives : (r : Result (List Block) RecordFault) → BlocksMade is bytes r → Gives Memory r (Ok bs)
+  gives r made =
+      made file.version file.front bs file.fit file.outlined
+      ([], file.spelled ∙ sym (append-nil (file.front ++ flat_map block_bytes bs)))
+
+  pub never_refused : (e : RecordFault) → BlocksMade is bytes (Err e) → e ≢ Memory → ⊥
+  never_refused e made other = none (gives (Err e) made other)
+    where
+      none : all_made bs ≡ Err e → ⊥
+      none h = cc
+
+  pub same_blocks : (made : List Block) → BlocksMade is bytes (Ok made) → bs ≡ made
+  same_blocks made are = these (gives (Ok made) are)
+    where
+      these : all_made bs ≡ all_made made → bs ≡ made
+      these e = cc
+
+module _ (bytes : List ℕ) (fits : IsBytes bytes) where
+  pub file_fault : (e : RecordFault) → all_of file_outline_at bytes ≡ Err e → all_of blocks_at bytes ≡ Err e
+  file_fault e is = all_fault blocks_at file_outline_at file_outline file_is bytes fits e is
+
+  file_of : (is : FileOutline) → all_of file_outline_at bytes ≡ Ok is
+      → (f : BlocksFile) × (all_of blocks_at bytes ≡ Ok f) × (is.version ≡ f.version) × IsFileOf bytes is.blocks f.blocks
+  file_of is read =
       let x = all_outline blocks_at file_outline_at file_outline file_is bytes fits is read in
       let f : BlocksFile = x.0 in
       let taken : IsBlocksFile f × (bytes ≡ blocks_bytes f) =
       whole_taken record_fault blocks_at blocks_bytes IsBlocksFile blocks_law bytes f fits x.1 in
-      let front : List ℕ = blocks_magic f.version ++ little 4 (length f.blocks) in
-      let size : 8 ≡ length front =
-      omega (arith, length-append (blocks_magic f.version) (little 4 (length f.blocks)), magic_size f.version, length_four (length f.blocks)) in
-      let text : blocks_bytes f ≡ front ++ flat_map block_bytes f.blocks =
-      sym (append_assoc (blocks_magic f.version) (little 4 (length f.blocks)) (flat_map block_bytes f.blocks)) in
-      (f, x.1, ap (λ (o : FileOutline). o.version) x.2,
-      made f.version front f.blocks taken.0.1
-      (ap (λ (o : FileOutline). o.blocks) x.2 ∙ ap (λ (n : ℕ). outlines block_bytes block_outline n f.blocks) size)
-      ([], taken.1 ∙ text ∙ sym (append-nil (front ++ flat_map block_bytes f.blocks))))
+      let word = blocks_magic f.version in
+      let count = little 4 (length f.blocks) in
+      let size : 8 ≡ length (word ++ count) =
+      omega (arith, length-append word count, magic_size f.version, length_four (length f.blocks)) in
+      (f, x.1, ap (λ (o : FileOutline). o.version) x.2, record {
+        version = f.version;
+        front = word ++ count;
+        fit = taken.0.1;
+        outlined = ap (λ (o : FileOutline). o.blocks) x.2 ∙ ap (λ n. outlines block_bytes block_outline n f.blocks) size;
+        spelled = taken.1 ∙ sym (append_assoc word count (flat_map block_bytes f.blocks));
+      })
 
   pub made_fault : (is : FileOutline) (e : RecordFault) → all_of file_outline_at bytes ≡ Ok is
-      → blocks_are_made is.blocks bytes (Err e) → e ≢ Memory → all_of blocks_at bytes ≡ Err e
-  made_fault is e read made other = absurd (none ((file_of is (Err e) read made).3 other))
-    where
-      none : {bs : List Block} → Ok bs ≡ Err e → ⊥
-      none h = cc
+      → BlocksMade is.blocks bytes (Err e) → e ≢ Memory → all_of blocks_at bytes ≡ Err e
+  made_fault is e read made other = absurd (never_refused (file_of is read).3 e made other)
 
   pub made_file : (is : FileOutline) (bs : List Block) → all_of file_outline_at bytes ≡ Ok is
-      → blocks_are_made is.blocks bytes (Ok bs) → all_of blocks_at bytes ≡ Ok (blocks_file is.version bs)
+      → BlocksMade is.blocks bytes (Ok bs) → all_of blocks_at bytes ≡ Ok (blocks_file is.version bs)
   made_file is bs read made =
-      let f = file_of is (Ok bs) read made in
-      let same : f.0.blocks ≡ bs = these f.0.blocks bs f.3 in
-      f.1 ∙ (λ i. Ok (blocks_file (sym f.2 i) (same i)))
-    where
-      these : (xs ys : List Block) → all_made xs ≡ all_made ys → xs ≡ ys
-      these xs ys e = cc
+      let f = file_of is read in
+      f.1 ∙ (λ i. Ok (blocks_file (sym f.2 i) (same_blocks f.3 bs made i)))

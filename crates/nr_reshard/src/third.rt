@@ -7,11 +7,13 @@ ghost use Rattle.nr_bytes.specs.Answers.{Gives, GivesRead};
 ghost use Rattle.nr_records.specs.Reading.{all_of};
 ghost use Rattle.nr_records.specs.declared.fault.RecordFault.TheVariants.{Memory};
 ghost use Rattle.nr_reshard.specs.Files.{third_at, third_magic};
+ghost use Rattle.nr_reshard.specs.Outlines.{third_outline_at};
 
 use crate::block_list::read_list;
 use crate::chain_file::ChainFile;
 use crate::reshard::Reshard;
-use nr_bytes::Reader;
+use nr_blocks::{Outline, Version, make_blocks, read_outlines};
+use nr_bytes::{List, Reader};
 use nr_records::{RecordFault, Spelled};
 use std::alloc::Global;
 
@@ -56,4 +58,48 @@ pub fn decode_third(alloc: Global, bytes: &[u8]) -> Result<ChainFile, RecordFaul
     let file = file_of(alloc, &mut reader)?;
     reader.end()?;
     Ok(file)
+}
+
+/// What a file of the third version holds, with the places of its transactions.
+#[derive(Drop)]
+struct ThirdOutline {
+    reshard: Option<Reshard>,
+    blocks: List<Outline>,
+}
+
+#[tactic(auto, unfolding(crate::specs::Outlines::third_outline_at))]
+fn read_outline(alloc: Global, reader: &mut Reader<'_>) -> Result<ThirdOutline, RecordFault>
+    ensures { GivesRead Memory result reader.new (third_outline_at reader.old) }
+{
+    word_of(reader)?;
+    let reshard = Option::<Reshard>::read(alloc, reader)?;
+    let blocks = read_outlines(alloc, Version::Two, reader)?;
+    Ok(ThirdOutline { reshard, blocks })
+}
+
+#[tactic(auto, unfolding(nr_bytes::specs::Fields::all_of))]
+fn outline_of(alloc: Global, bytes: &[u8]) -> Result<ThirdOutline, RecordFault>
+    ensures { Gives Memory result (all_of third_outline_at bytes.now) }
+{
+    let mut reader = Reader::new(bytes);
+    let outline = read_outline(alloc, &mut reader)?;
+    reader.end()?;
+    Ok(outline)
+}
+
+/// The same of bytes that are given back while values are made. They are read twice: the first time for their faults and
+/// for where transactions begin, and then from the end.
+///
+/// # Errors
+///
+/// The fault of the first field that can't be read; `Memory`.
+pub(crate) fn take_third(alloc: Global, bytes: Vec<u8>) -> Result<ChainFile, RecordFault>
+    ensures { Gives Memory result (all_of third_at bytes.items) }
+{
+    let outline = outline_of(alloc, &bytes)?;
+    let blocks = make_blocks(alloc, outline.blocks, bytes)?;
+    Ok(ChainFile {
+        reshard: outline.reshard,
+        blocks,
+    })
 }
