@@ -1,4 +1,6 @@
-use nr_blocks::{Block, BlocksFault, GenesisEntry, GenesisFault, GenesisFile, read_blocks, read_genesis};
+use nr_blocks::{
+    Block, BlocksFault, GenesisEntry, GenesisFault, GenesisFile, read_blocks, read_genesis,
+};
 use nr_bytes::{Blob, List};
 use nr_config::Config;
 use nr_ids::{AccountId, Hash32, PublicKey};

@@ -135,12 +135,12 @@ module _ {X Y : Type 0} (spelling : X → List ℕ) (outline : ℕ → X → Y) 
           fit = all_front two.others (two.x ∷ []) fit;
           fits_it = last_fits two.others two.x fit;
           whole = left.whole ∙ ap (λ (l : List X). l ++ reverse made) two.whole
-          ∙ append_assoc two.others (two.x ∷ []) (reverse made);
+              ∙ append_assoc two.others (two.x ∷ []) (reverse made);
           outlined = two.outlined;
           its = two.its ∙ ap (λ n. outline n two.x) far;
           spelled = subst (λ (l : List ℕ). IsFront l bytes)
-          (ap (λ (l : List X). front ++ flat_map spelling l) two.whole ∙ ap (λ (l : List ℕ). front ++ l) text
-          ∙ sym (append_assoc front (flat_map spelling two.others) (spelling two.x))) left.spelled;
+              (ap (λ (l : List X). front ++ flat_map spelling l) two.whole ∙ ap (λ (l : List ℕ). front ++ l) text
+              ∙ sym (append_assoc front (flat_map spelling two.others) (spelling two.x))) left.spelled;
         }
 
     pub goes_on : (all : List Y) (old : List ℕ) (more is : List Y) (last : Y) (made : List X) (v : X) (bytes after : List ℕ)
@@ -154,7 +154,7 @@ module _ {X Y : Type 0} (spelling : X → List ℕ) (outline : ℕ → X → Y) 
           unmade = n.others;
           fit = n.fit;
           whole = n.whole ∙ ap (λ (x : X). n.others ++ x ∷ reverse made) (its_value n.x v done.0)
-          ∙ ap (λ (l : List X). n.others ++ l) (sym (reverse-append made (v ∷ [])));
+              ∙ ap (λ (l : List X). n.others ++ l) (sym (reverse-append made (v ∷ [])));
           outlined = n.outlined;
           spelled = done.1;
         }
@@ -174,6 +174,7 @@ module _ {X Y : Type 0} (spelling : X → List ℕ) (outline : ℕ → X → Y) 
         → Makes view (flat_map spelling) (AllByRecursion fits) (outlines spelling outline) (Ok v) all old bytes
     ends view all old is made v bytes e same goes = λ xs front fit outlined spelled.
         let left = goes xs front fit outlined spelled in
-        let none : left.unmade ≡ [] = none_left left.unmade (length front) (sym e ∙ left.outlined) in
-        (ap some (left.whole ∙ ap (λ (l : List X). l ++ reverse made) none ∙ sym same),
-        front_of front (flat_map spelling left.unmade) bytes left.spelled)
+        let none : left.unmade ≡ [] = none_left left.unmade (length front) (sym e ∙ left.outlined) in (
+          ap some (left.whole ∙ ap (λ (l : List X). l ++ reverse made) none ∙ sym same),
+          front_of front (flat_map spelling left.unmade) bytes left.spelled,
+        )

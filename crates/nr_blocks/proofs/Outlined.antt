@@ -71,6 +71,7 @@ items_are {X} {Y} r a P law q o same (suc n) = λ s fits. go s fits (r s) refl
         ≡ ((others >>= λ l. Ok (x.0 ∷ l.0, l.1)) >>= λ l. answered (outlines a o s.at l.0, l.1))
     behind s x (Ok l) e = ap (λ (m : ℕ). answered (o s.at x.0 ∷ outlines a o m l.0, l.1)) e
     behind s x (Err f) e = refl
+
     go : (s : Input) → IsBytes s.left → (read : Read X) → r s ≡ read
         → items_at q (suc n) s ≡ outlined (outlines a o) (items_at r (suc n)) s
     go s fits (Err f) e = rw (same s fits, e) refl
@@ -95,6 +96,7 @@ list_is {X} {Y} r a P law q o same = λ s fits. go s fits (nat_at 4 s) refl
         → (others >>= λ l. answered (outlines a o t.at l.0, l.1)) ≡ (others >>= λ l. answered (list_outline a o s.at l.0, l.1))
     behind s t (Ok l) e = ap (λ (m : ℕ). answered (outlines a o m l.0, l.1)) e
     behind s t (Err f) e = refl
+
     go : (s : Input) → IsBytes s.left → (count : Read ℕ) → nat_at 4 s ≡ count
         → list_at q s ≡ outlined (list_outline a o) (list_at r) s
     go s fits (Err f) e = rw e refl
@@ -114,11 +116,13 @@ option_is {X} {Y} r q o same = λ s fits. go s fits (nat_at 1 s) refl
         ≡ ((read >>= λ x. answered (Some x.0, x.1)) >>= λ x. answered (option_outline o s.at x.0, x.1))
     behind s t (Ok x) e = ap (λ (m : ℕ). answered (Some (o m x.0), x.1)) e
     behind s t (Err f) e = refl
+
     body : (s t : Input) (n : ℕ) → IsBytes t.left → t.at ≡ s.at + 1
         → option_body q s.at n t ≡ (option_body r s.at n t >>= λ x. answered (option_outline o s.at x.0, x.1))
     body s t zero fits e = refl
     body s t (suc zero) fits e = rw (same t fits) (behind s t (r t) e)
     body s t (suc (suc b)) fits e = refl
+
     go : (s : Input) → IsBytes s.left → (ordinal : Read ℕ) → nat_at 1 s ≡ ordinal
         → option_at q s ≡ outlined (option_outline o) (option_at r) s
     go s fits (Err f) e = rw e refl
@@ -139,6 +143,7 @@ pair_is {X} {Y} {Z} f a P law r q o same = λ s fits. go s fits (f s) refl
         ≡ ((read >>= λ y. Ok ((x.0, y.0), y.1)) >>= λ p. answered (with_first a o s.at p.0, p.1))
     behind s x (Ok y) e = ap (λ (m : ℕ). answered ((x.0, o m y.0), y.1)) e
     behind s x (Err g) e = refl
+
     go : (s : Input) → IsBytes s.left → (first : Read X) → f s ≡ first → pair f q s ≡ outlined (with_first a o) (pair f r) s
     go s fits (Err g) e = rw e refl
     go s fits (Ok x) e =
@@ -188,6 +193,7 @@ file_is = λ s fits. go s fits (version_at s) refl
         ≡ ((read >>= λ l. Ok (blocks_file version.0 l.0, l.1)) >>= λ f. answered (file_outline s.at f.0, f.1))
     behind s version (Ok l) e = ap (λ (m : ℕ). answered (outline_file version.0 (list_outline block_bytes block_outline m l.0), l.1)) e
     behind s version (Err f) e = refl
+
     go : (s : Input) → IsBytes s.left → (version : Read Version) → version_at s ≡ version
         → file_outline_at s ≡ outlined file_outline blocks_at s
     go s fits (Err f) e = rw e refl
@@ -210,6 +216,7 @@ module _ {X Y : Type 0} (r : Input → Read X) (q : Input → Read Y) (o : ℕ �
           → (u >>= λ u. made (o 0 x)) ≡ ((u >>= λ u. Ok x) >>= λ x. made (o 0 x))
       end x (Ok u) = refl
       end x (Err f) = refl
+
       go : (read : Read X) → ((read >>= λ x. Ok (o 0 x.0, x.1)) >>= ended) ≡ ((read >>= ended) >>= λ x. made (o 0 x))
       go (Ok x) = end x.0 (lifted record_fault (end_at x.1))
       go (Err f) = refl
@@ -276,14 +283,18 @@ module _ (bytes : List ℕ) (fits : IsBytes bytes) where
       let word = blocks_magic f.version in
       let count = little 4 (length f.blocks) in
       let size : 8 ≡ length (word ++ count) =
-      omega (arith, length-append word count, magic_size f.version, length_four (length f.blocks)) in
-      (f, x.1, ap (λ (o : FileOutline). o.version) x.2, record {
-        version = f.version;
-        front = word ++ count;
-        fit = taken.0.1;
-        outlined = ap (λ (o : FileOutline). o.blocks) x.2 ∙ ap (λ n. outlines block_bytes block_outline n f.blocks) size;
-        spelled = taken.1 ∙ sym (append_assoc word count (flat_map block_bytes f.blocks));
-      })
+      omega (arith, length-append word count, magic_size f.version, length_four (length f.blocks)) in (
+        f,
+        x.1,
+        ap (λ (o : FileOutline). o.version) x.2,
+        record {
+          version = f.version;
+          front = word ++ count;
+          fit = taken.0.1;
+          outlined = ap (λ (o : FileOutline). o.blocks) x.2 ∙ ap (λ n. outlines block_bytes block_outline n f.blocks) size;
+          spelled = taken.1 ∙ sym (append_assoc word count (flat_map block_bytes f.blocks));
+        },
+      )
 
   pub made_fault : (is : FileOutline) (e : RecordFault) → all_of file_outline_at bytes ≡ Ok is
       → BlocksMade is.blocks bytes (Err e) → e ≢ Memory → all_of blocks_at bytes ≡ Err e

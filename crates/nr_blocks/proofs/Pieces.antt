@@ -62,16 +62,19 @@ read_in bytes at r left given = λ x front fits is whole.
 -- the bytes from its place on are cut off
 cut_there : (front more bytes : List ℕ) (at : ℕ) → at ≡ length front → IsFront (front ++ more) bytes
     → IsFront front (take at bytes)
-cut_there front more bytes at is whole =
-    ([], (λ i. take (is i) ((whole.1 ∙ append_assoc front more whole.0) i)) ∙ take-append_seam front (more ++ whole.0)
-    ∙ sym (append-nil front))
+cut_there front more bytes at is whole = (
+  [],
+  (λ i. take (is i) ((whole.1 ∙ append_assoc front more whole.0) i)) ∙ take-append_seam front (more ++ whole.0)
+      ∙ sym (append-nil front),
+)
 
 pub cut : (bytes new : List ℕ) (at : ℕ) (v : Transaction) → new ≡ take at bytes
     → Makes (λ x. x) transaction_bytes IsTransaction place (Ok v) at bytes bytes
     → Makes (λ x. x) transaction_bytes IsTransaction place (Ok v) at bytes new
-cut bytes new at v e makes = λ x front fits is whole.
-    ((makes x front fits is whole).0,
-    subst (IsFront front) (sym e) (cut_there front (transaction_bytes x) bytes at is whole))
+cut bytes new at v e makes = λ x front fits is whole. (
+  (makes x front fits is whole).0,
+  subst (IsFront front) (sym e) (cut_there front (transaction_bytes x) bytes at is whole),
+)
 
 pub not_cut : (bytes new : List ℕ) (at : ℕ) (fault : RecordFault)
     → Makes (λ x. x) transaction_bytes IsTransaction place (Err fault) at bytes bytes
@@ -160,8 +163,14 @@ block_size front b =
     let t = little 8 b.timestamp in
     let p = price_bytes b.price in
     let n = little 4 (length b.chunks) in
-    omega (arith, length-append front (block_head b), length-append h (t ++ (p ++ n)), length-append t (p ++ n),
-    length-append p n, length_four (length b.chunks))
+    omega (
+      arith,
+      length-append front (block_head b),
+      length-append h (t ++ (p ++ n)),
+      length-append t (p ++ n),
+      length-append p n,
+      length_four (length b.chunks),
+    )
 
 abbrev pub MakesChunks : {V : Type 0} → (V → List Chunk) → Result V RecordFault → List Places → List ℕ → List ℕ → Type 0
 MakesChunks view = Makes view (flat_map chunk_bytes) (AllByRecursion IsChunk) (outlines chunk_bytes chunk_outline)

@@ -94,11 +94,7 @@ fn make_chunks(
     Ok(made)
 }
 
-fn make_block(
-    alloc: Global,
-    outline: Outline,
-    bytes: &mut Vec<u8>,
-) -> Result<Block, RecordFault>
+fn make_block(alloc: Global, outline: Outline, bytes: &mut Vec<u8>) -> Result<Block, RecordFault>
     ensures { (version : Version)
         → Makes (λ made. made) block_bytes (IsBlock version) block_outline result outline bytes.old.items bytes.new.items }
 {

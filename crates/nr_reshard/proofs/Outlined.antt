@@ -41,6 +41,7 @@ headed_is {X} {Y} magic r q o same = λ s fits. go s fits (magic_at magic s) ref
         ≡ (((read >>= λ x. Ok ((word.0, x.0), x.1)) >>= λ p. Ok (p.0.1, p.1)) >>= λ x. answered (behind_word o s.at x.0, x.1))
     behind s word (Ok x) e = ap (λ (m : ℕ). answered (o m x.0, x.1)) e
     behind s word (Err f) e = refl
+
     go : (s : Input) → IsBytes s.left → (word : Read (List ℕ)) → magic_at magic s ≡ word
         → headed magic q s ≡ outlined (behind_word o) (headed magic r) s
     go s fits (Err f) e = rw e refl
@@ -84,16 +85,20 @@ module _ (bytes : List ℕ) (fits : IsBytes bytes) where
       let count = little 4 (length f.blocks) in
       let text = flat_map block_bytes f.blocks in
       let size : 0 + 4 + length change + 4 ≡ length (third_magic ++ (change ++ count)) =
-      omega (arith, length-append third_magic (change ++ count), length-append change count, length_four (length f.blocks)) in
-      (f, x.1, ap (λ (o : ThirdOutline). o.reshard) x.2, record {
-        version = Two;
-        front = third_magic ++ (change ++ count);
-        fit = taken.0.1.1;
-        outlined = ap (λ (o : ThirdOutline). o.blocks) x.2 ∙ ap (λ n. outlines block_bytes block_outline n f.blocks) size;
-        spelled = taken.1
-        ∙ sym (append_assoc third_magic (change ++ count) text
-        ∙ ap (λ (l : List ℕ). third_magic ++ l) (append_assoc change count text));
-      })
+      omega (arith, length-append third_magic (change ++ count), length-append change count, length_four (length f.blocks)) in (
+        f,
+        x.1,
+        ap (λ (o : ThirdOutline). o.reshard) x.2,
+        record {
+          version = Two;
+          front = third_magic ++ (change ++ count);
+          fit = taken.0.1.1;
+          outlined = ap (λ (o : ThirdOutline). o.blocks) x.2 ∙ ap (λ n. outlines block_bytes block_outline n f.blocks) size;
+          spelled = taken.1
+              ∙ sym (append_assoc third_magic (change ++ count) text
+              ∙ ap (λ (l : List ℕ). third_magic ++ l) (append_assoc change count text));
+        },
+      )
 
   pub made_fault : (is : ThirdOutline) (e : RecordFault) → all_of third_outline_at bytes ≡ Ok is
       → BlocksMade is.blocks bytes (Err e) → e ≢ Memory → all_of third_at bytes ≡ Err e
