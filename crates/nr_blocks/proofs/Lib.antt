@@ -1,5 +1,5 @@
 pub mod Turns
-mod Making
+mod LastFirst
 mod Pieces
 pub mod Outlined
 mod Entries

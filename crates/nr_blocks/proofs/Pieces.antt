@@ -19,7 +19,7 @@ use Rattle.nr_blocks.specs.Outlines.{IsFront, Makes, MakesIt, Places, block_outl
 use Rattle.nr_blocks.specs.declared.block.Block.{Block}
 use Rattle.nr_blocks.specs.declared.outline.Outline.{Outline}
 use Rattle.nr_blocks.specs.declared.version.Version.{Version}
-use Rattle.nr_blocks.proofs.Making.{front_of, its_value, no_fault, some}
+use Rattle.nr_blocks.proofs.LastFirst.{front_of, its_value, no_fault, some}
 use Rattle.nr_blocks.proofs.Outlined.{length_four}
 
 -- ---- a transaction

@@ -2,7 +2,7 @@ use Rattle.std.proofs.lemmas.Result.{err_from_is_err_and}
 use Rattle.nr_blocks.specs.BlocksFiles.{IsBlock, block_bytes}
 use Rattle.nr_blocks.specs.Outlines.{block_outline}
 use Rattle.nr_blocks.specs.declared.version.Version.{Version}
-use Rattle.nr_blocks.proofs.Making.{begins, emptied, ends, goes_on, stops}
+use Rattle.nr_blocks.proofs.LastFirst.{begins, emptied, ends, goes_on, stops}
 use Rattle.nr_blocks.proofs.making.made_of.Goals as goal
 
 pub loop-outline-initially : goal.loop-outline-initially

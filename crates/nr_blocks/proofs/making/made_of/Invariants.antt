@@ -2,7 +2,7 @@ use Rattle.std.proofs.Common.{vec_len}
 use Rattle.nr_blocks.specs.BlocksFiles.{IsBlock, block_bytes}
 use Rattle.nr_blocks.specs.Outlines.{block_outline}
 use Rattle.nr_blocks.specs.declared.version.Version.{Version}
-use Rattle.nr_blocks.proofs.Making.{Goes}
+use Rattle.nr_blocks.proofs.LastFirst.{Goes}
 use Rattle.nr_blocks.proofs.making.made_of.Given as goal
 
 abbrev pub invariant-loop-outline : goal.invariant-loop-outline

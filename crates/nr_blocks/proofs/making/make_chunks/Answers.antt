@@ -1,7 +1,7 @@
 use Rattle.std.proofs.lemmas.Result.{err_from_is_err_and}
 use Rattle.nr_blocks.specs.BlocksFiles.{IsChunk, chunk_bytes}
 use Rattle.nr_blocks.specs.Outlines.{chunk_outline}
-use Rattle.nr_blocks.proofs.Making.{begins, emptied, ends, goes_on, stops}
+use Rattle.nr_blocks.proofs.LastFirst.{begins, emptied, ends, goes_on, stops}
 use Rattle.nr_blocks.proofs.making.make_chunks.Goals as goal
 
 pub loop-places-initially : goal.loop-places-initially

@@ -1,7 +1,7 @@
 use Rattle.std.proofs.Common.{vec_len}
 use Rattle.nr_blocks.specs.BlocksFiles.{IsChunk, chunk_bytes}
 use Rattle.nr_blocks.specs.Outlines.{chunk_outline}
-use Rattle.nr_blocks.proofs.Making.{Goes}
+use Rattle.nr_blocks.proofs.LastFirst.{Goes}
 use Rattle.nr_blocks.proofs.making.make_chunks.Given as goal
 
 abbrev pub invariant-loop-places : goal.invariant-loop-places

@@ -1,7 +1,7 @@
 use Rattle.std.proofs.lemmas.Result.{err_from_is_err_and}
 use Rattle.nr_records.specs.Transactions.{IsTransaction, transaction_bytes}
 use Rattle.nr_blocks.specs.Outlines.{place}
-use Rattle.nr_blocks.proofs.Making.{begins, emptied, ends, goes_on, stops}
+use Rattle.nr_blocks.proofs.LastFirst.{begins, emptied, ends, goes_on, stops}
 use Rattle.nr_blocks.proofs.making.make_transactions.Goals as goal
 
 pub loop-place-initially : goal.loop-place-initially

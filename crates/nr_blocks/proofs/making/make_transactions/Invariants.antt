@@ -1,7 +1,7 @@
 use Rattle.std.proofs.Common.{vec_len}
 use Rattle.nr_records.specs.Transactions.{IsTransaction, transaction_bytes}
 use Rattle.nr_blocks.specs.Outlines.{place}
-use Rattle.nr_blocks.proofs.Making.{Goes}
+use Rattle.nr_blocks.proofs.LastFirst.{Goes}
 use Rattle.nr_blocks.proofs.making.make_transactions.Given as goal
 
 abbrev pub invariant-loop-place : goal.invariant-loop-place
