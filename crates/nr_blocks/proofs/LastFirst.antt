@@ -1,6 +1,7 @@
 -- Values made one after the other from the last to the first, each of its outline and its bytes, as a loop does.
 use Rattle.std.proofs.Common.{◌≡◌, ℕ, ◌+◌, ◌-◌, List, [], ◌∷◌, ◌++◌, length, reverse, take, Result, Ok}
 use Rattle.std.proofs.Common.{Err, refl, sym, ap, subst, ◌∙◌, append_assoc, arith}
+use Rattle.std.specs.Global.{Vec}
 use Rattle.std.specs.List.{flat_map, AllByRecursion}
 use Rattle.std.proofs.lemmas.Grind.{flat_map-append}
 use Rattle.std.proofs.lemmas.List.{append-nil, length-append, reverse-append}
@@ -25,6 +26,9 @@ its_value x v e = cc
 pub no_fault : {X : Type 0} (x : X) (fault : RecordFault) → some x ≡ Err fault → ⊥
 no_fault x fault e = cc
 
+cons_is_not : {Y : Type 0} (y : Y) (ys : List Y) → y ∷ ys ≡ [] → ⊥
+cons_is_not y ys e = cc
+
 module _ {X Y : Type 0} (spelling : X → List ℕ) (outline : ℕ → X → Y) where
   -- outlines with one more at the end are of values with one more at the end
   pub record HasLast (xs : List X) (at : ℕ) (is : List Y) (last : Y) : Type 0 where
@@ -43,13 +47,14 @@ module _ {X Y : Type 0} (spelling : X → List ℕ) (outline : ℕ → X → Y) 
   pub none_left : (xs : List X) (at : ℕ) → [] ≡ outlines spelling outline at xs → xs ≡ []
   unfolding outlines
   none_left [] at e = refl
-  none_left (x ∷ xs) at e = absurd cc
+  none_left (x ∷ xs) at e =
+      absurd (cons_is_not (outline at x) (outlines spelling outline (at + length (spelling x)) xs) (sym e))
 
   pub has_last : (xs : List X) (at : ℕ) (is : List Y) (last : Y) → is ++ last ∷ [] ≡ outlines spelling outline at xs
       → HasLast xs at is last
   unfolding outlines
-  has_last [] at [] last e = absurd cc
-  has_last [] at (y ∷ is) last e = absurd cc
+  has_last [] at [] last e = absurd (cons_is_not last [] e)
+  has_last [] at (y ∷ is) last e = absurd (cons_is_not y (is ++ last ∷ []) e)
   has_last (x ∷ xs) at [] last e =
       let e0 : last ≡ outline at x = first_is last (outline at x) [] (outlines spelling outline (at + length (spelling x)) xs) e in
       let e1 : [] ≡ outlines spelling outline (at + length (spelling x)) xs = others_are last (outline at x) [] (outlines spelling outline (at + length (spelling x)) xs) e in
@@ -99,12 +104,12 @@ module _ {X Y : Type 0} (spelling : X → List ℕ) (outline : ℕ → X → Y) 
         (xs : List X) (front : List ℕ) → AllByRecursion fits xs → all ≡ outlines spelling outline (length front) xs
         → IsFront (front ++ flat_map spelling xs) old → AreLeft xs front is made bytes
 
-    pub begins : (is : List Y) (old : List ℕ) → Goes is old is [] old
-    begins is old = λ xs front fit outlined spelled. record {
+    pub begins : (all is : List Y) (made : List X) (old : List ℕ) → is ≡ all → made ≡ [] → Goes all old is made old
+    begins all is made old same none = λ xs front fit outlined spelled. record {
       unmade = xs;
       fit = fit;
-      whole = sym (append-nil xs);
-      outlined = outlined;
+      whole = sym (append-nil xs) ∙ ap (λ (l : List X). xs ++ reverse l) (sym none);
+      outlined = same ∙ outlined;
       spelled = spelled;
     }
 
@@ -144,7 +149,7 @@ module _ {X Y : Type 0} (spelling : X → List ℕ) (outline : ℕ → X → Y) 
         }
 
     pub goes_on : (all : List Y) (old : List ℕ) (more is : List Y) (last : Y) (made : List X) (v : X) (bytes after : List ℕ)
-        → more ≡ is ++ last ∷ [] → Makes (λ x. x) spelling fits outline (Ok v) last bytes after
+        → more ≡ is ++ last ∷ [] → Makes (λ (v : X). v) spelling fits outline (Ok v) last bytes after
         → Goes all old more made bytes → Goes all old is (made ++ v ∷ []) after
     goes_on all old more is last made v bytes after e step goes = λ xs front fit outlined spelled.
         let n = next xs front is last made bytes
@@ -159,20 +164,27 @@ module _ {X Y : Type 0} (spelling : X → List ℕ) (outline : ℕ → X → Y) 
           spelled = done.1;
         }
 
-    pub stops : {V : Type 0} (view : V → List X) (all : List Y) (old : List ℕ) (more is : List Y) (last : Y) (made : List X)
-        (fault : RecordFault) (bytes after new : List ℕ) → more ≡ is ++ last ∷ []
-        → Makes (λ x. x) spelling fits outline (Err fault) last bytes after → Goes all old more made bytes
-        → Makes view (flat_map spelling) (AllByRecursion fits) (outlines spelling outline) (Err fault) all old new
-    stops view all old more is last made fault bytes after new e step goes = λ xs front fit outlined spelled.
+    pub stops : (all : List Y) (old : List ℕ) (more is : List Y) (last : Y) (made : List X) (fault : RecordFault)
+        (bytes after : List ℕ) → more ≡ is ++ last ∷ [] → Makes (λ (v : X). v) spelling fits outline (Err fault) last bytes after
+        → Goes all old more made bytes → (new : List ℕ)
+        → Makes (λ (v : Vec X). v.items) (flat_map spelling) (AllByRecursion fits) (outlines spelling outline) (Err fault) all
+        old new
+    stops all old more is last made fault bytes after e step goes new = λ xs front fit outlined spelled.
         let n = next xs front is last made bytes
         (subst (λ (l : List Y). AreLeft xs front l made bytes) e (goes xs front fit outlined spelled)) in
         let refused = (step n.x (front ++ flat_map spelling n.others) n.fits_it n.its n.spelled).0 in
         (λ other. absurd (no_fault n.x fault (refused other)), tt)
 
-    pub ends : {V : Type 0} (view : V → List X) (all : List Y) (old : List ℕ) (is : List Y) (made : List X) (v : V)
-        (bytes : List ℕ) → is ≡ [] → view v ≡ reverse made → Goes all old is made bytes
-        → Makes view (flat_map spelling) (AllByRecursion fits) (outlines spelling outline) (Ok v) all old bytes
-    ends view all old is made v bytes e same goes = λ xs front fit outlined spelled.
+    pub wants : (all : List Y) (old new : List ℕ)
+        → Makes (λ (v : Vec X). v.items) (flat_map spelling) (AllByRecursion fits) (outlines spelling outline) (Err Memory) all
+        old new
+    wants all old new = λ xs front fit outlined spelled. (λ other. absurd (other refl), tt)
+
+    pub ends : (all : List Y) (old : List ℕ) (is : List Y) (made : List X) (v : Vec X) (bytes : List ℕ) → is ≡ []
+        → v.items ≡ reverse made → Goes all old is made bytes
+        → Makes (λ (v : Vec X). v.items) (flat_map spelling) (AllByRecursion fits) (outlines spelling outline) (Ok v) all old
+        bytes
+    ends all old is made v bytes e same goes = λ xs front fit outlined spelled.
         let left = goes xs front fit outlined spelled in
         let none : left.unmade ≡ [] = none_left left.unmade (length front) (sym e ∙ left.outlined) in (
           ap some (left.whole ∙ ap (λ (l : List X). l ++ reverse made) none ∙ sym same),

@@ -81,6 +81,12 @@ file_outline_at s = do
   blocks ← list_at (outline_at version.0) version.1
   Ok (record { version = version.0; blocks = blocks.0 }, blocks.1)
 
+-- the value at the front of some bytes
+unfoldable pub first_of : {X : Type 0} → (Input → Read X) → List ℕ → Result X RecordFault
+first_of reading bytes = do
+  x ← reading (record { left = bytes; at = 0 })
+  Ok x.0
+
 -- ---- a value made of its outline and of the bytes that spell it, which are cut off where it begins
 -- the bytes begin so
 abbrev pub IsFront : List ℕ → List ℕ → Type 0

@@ -1,4 +1,4 @@
-ghost use Rattle.std.specs.Prelude.{◌≡◌};
+ghost use Rattle.std.specs.Prelude.{◌≡◌, Ok};
 ghost use Rattle.nr_bytes.specs.Answers.{Gives, GivesRead};
 ghost use Rattle.nr_records.specs.Reading.{all_of};
 ghost use Rattle.nr_records.specs.declared.fault.RecordFault.TheVariants.{Memory};
@@ -28,7 +28,7 @@ pub struct BlocksFile {
 
 /// What a blocks file holds, with the places of its transactions.
 #[derive(Drop)]
-struct FileOutline {
+pub(crate) struct FileOutline {
     version: Version,
     blocks: List<Outline>,
 }
@@ -86,6 +86,18 @@ fn outline_of(alloc: Global, bytes: &[u8]) -> Result<FileOutline, RecordFault>
     Ok(outline)
 }
 
+/// The file that all of the bytes spell, of its outline.
+fn made_file(alloc: Global, outline: FileOutline, bytes: Vec<u8>) -> Result<BlocksFile, RecordFault>
+    requires { all_of file_outline_at bytes.items ≡ Ok outline }
+    ensures { Gives Memory result (all_of blocks_at bytes.items) }
+{
+    let FileOutline { version, blocks } = outline;
+    match make_blocks(alloc, blocks, bytes) {
+        Ok(blocks) => Ok(BlocksFile { version, blocks }),
+        Err(fault) => Err(fault),
+    }
+}
+
 /// The blocks file that all of the bytes spell. They are read twice: the first time for its faults and for where its
 /// transactions begin, and then from the end, and given back while values are made.
 ///
@@ -95,10 +107,8 @@ fn outline_of(alloc: Global, bytes: &[u8]) -> Result<FileOutline, RecordFault>
 pub(crate) fn decode_blocks(alloc: Global, bytes: Vec<u8>) -> Result<BlocksFile, RecordFault>
     ensures { Gives Memory result (all_of blocks_at bytes.items) }
 {
-    let outline = outline_of(alloc, &bytes)?;
-    let blocks = make_blocks(alloc, outline.blocks, bytes)?;
-    Ok(BlocksFile {
-        version: outline.version,
-        blocks,
-    })
+    match outline_of(alloc, bytes.as_slice()) {
+        Ok(outline) => made_file(alloc, outline, bytes),
+        Err(fault) => Err(fault),
+    }
 }

@@ -2,13 +2,13 @@
 //! a file and its values never stand both.
 
 ghost use Rattle.std.specs.List.{AllByRecursion, flat_map};
-ghost use Rattle.std.specs.Prelude.{◌≡◌, ℕ, ◌++◌, length, List as Items, Ok};
+ghost use Rattle.std.specs.Prelude.{◌≡◌, ℕ, ◌++◌, length, drop, List as Items, Ok, Some};
 ghost use Rattle.nr_blocks.specs.BlocksFiles.{IsBlock, IsChunk, block_bytes, chunk_bytes};
-ghost use Rattle.nr_blocks.specs.Outlines.{IsFront, Makes, block_outline, chunk_outline, outlines as outlines_of, place as its_place};
+ghost use Rattle.nr_blocks.specs.Outlines.{IsFront, Makes, first_of, block_outline, chunk_outline, outlines as outlines_of, place as its_place};
 ghost use Rattle.nr_blocks.specs.declared.block.Block.{Block as Blocks};
 ghost use Rattle.nr_blocks.specs.declared.version.Version.{Version};
 ghost use Rattle.nr_bytes.specs.Answers.{Gives};
-ghost use Rattle.nr_records.specs.Transactions.{IsTransaction, transaction_bytes};
+ghost use Rattle.nr_records.specs.Transactions.{IsTransaction, transaction_at, transaction_bytes};
 ghost use Rattle.nr_records.specs.declared.fault.RecordFault.TheVariants.{Memory};
 
 use crate::block::Block;
@@ -17,18 +17,35 @@ use nr_bytes::{List, Reader};
 use nr_records::{RecordFault, Spelled, Transaction};
 use std::alloc::Global;
 
-/// The transaction that begins at a place.
-fn transaction_in(alloc: Global, bytes: &[u8], place: usize) -> Result<Transaction, RecordFault>
-    ensures { Makes (λ made. made) transaction_bytes IsTransaction its_place result place bytes.now bytes.now }
+/// What stands from a place on.
+fn dropped(bytes: &[u8], place: usize) -> &[u8]
+    ensures { result.now ≡ drop place bytes.now }
 {
-    if bytes.len() < place {
-        return Err(RecordFault::Short { at: place });
+    if place <= bytes.len() {
+        &bytes[place..]
+    } else {
+        &[]
     }
-    let mut reader = Reader::new(&bytes[place..]);
-    Transaction::read(alloc, &mut reader)
 }
 
-/// The transaction that begins at a place, and nothing of the bytes from there on.
+/// The transaction at the front of some bytes.
+#[tactic(auto, unfolding(crate::specs::Outlines::first_of))]
+fn first_transaction(alloc: Global, bytes: &[u8]) -> Result<Transaction, RecordFault>
+    ensures { Gives Memory result (first_of transaction_at bytes.now) }
+{
+    let mut reader = Reader::new(bytes);
+    let transaction = Transaction::read(alloc, &mut reader)?;
+    Ok(transaction)
+}
+
+/// The transaction that begins at a place.
+fn transaction_in(alloc: Global, bytes: &[u8], place: usize) -> Result<Transaction, RecordFault>
+    ensures { Gives Memory result (first_of transaction_at (drop place bytes.now)) }
+{
+    first_transaction(alloc, dropped(bytes, place))
+}
+
+/// The transaction that begins at a place. The bytes from there on are given back.
 fn make_transaction(
     alloc: Global,
     place: usize,
@@ -36,10 +53,14 @@ fn make_transaction(
 ) -> Result<Transaction, RecordFault>
     ensures { Makes (λ made. made) transaction_bytes IsTransaction its_place result place bytes.old.items bytes.new.items }
 {
-    let transaction = transaction_in(alloc, bytes, place)?;
-    bytes.truncate(place);
-    bytes.shrink_to_fit();
-    Ok(transaction)
+    match transaction_in(alloc, bytes.as_slice(), place) {
+        Ok(transaction) => {
+            bytes.truncate(place);
+            bytes.shrink_to_fit();
+            Ok(transaction)
+        }
+        Err(fault) => Err(fault),
+    }
 }
 
 fn make_transactions(
@@ -60,6 +81,20 @@ fn make_transactions(
     Ok(transactions)
 }
 
+/// The transactions of a chunk that is there.
+fn make_there(
+    alloc: Global,
+    places: List<usize>,
+    bytes: &mut Vec<u8>,
+) -> Result<Option<List<Transaction>>, RecordFault>
+    ensures { Makes (λ made. made) chunk_bytes IsChunk chunk_outline result (Some places) bytes.old.items bytes.new.items }
+{
+    match make_transactions(alloc, places, bytes) {
+        Ok(transactions) => Ok(Some(List::of(transactions))),
+        Err(fault) => Err(fault),
+    }
+}
+
 fn make_chunk(
     alloc: Global,
     places: Option<List<usize>>,
@@ -69,10 +104,7 @@ fn make_chunk(
 {
     match places {
         None => Ok(None),
-        Some(places) => {
-            let transactions = make_transactions(alloc, places, bytes)?;
-            Ok(Some(List::of(transactions)))
-        }
+        Some(places) => make_there(alloc, places, bytes),
     }
 }
 
@@ -104,13 +136,15 @@ fn make_block(alloc: Global, outline: Outline, bytes: &mut Vec<u8>) -> Result<Bl
         price,
         chunks,
     } = outline;
-    let chunks = make_chunks(alloc, chunks, bytes)?;
-    Ok(Block {
-        height,
-        timestamp,
-        price,
-        chunks: List::of(chunks),
-    })
+    match make_chunks(alloc, chunks, bytes) {
+        Ok(chunks) => Ok(Block {
+            height,
+            timestamp,
+            price,
+            chunks: List::of(chunks),
+        }),
+        Err(fault) => Err(fault),
+    }
 }
 
 fn made_of(
@@ -148,6 +182,8 @@ pub fn make_blocks(
         → IsFront (front ++ flat_map block_bytes blocks) bytes.items → Gives Memory result (Ok blocks) }
 {
     let mut left = bytes;
-    let blocks = made_of(alloc, outlines, &mut left)?;
-    Ok(List::of(blocks))
+    match made_of(alloc, outlines, &mut left) {
+        Ok(blocks) => Ok(List::of(blocks)),
+        Err(fault) => Err(fault),
+    }
 }
