@@ -1,5 +1,6 @@
 ghost use Rattle.std.specs.Prelude.{◌≡◌, Ok};
 ghost use Rattle.nr_bytes.specs.Answers.{Gives, GivesRead};
+ghost use Rattle.nr_bytes.specs.Numbers.{IsBytes};
 ghost use Rattle.nr_records.specs.Reading.{all_of};
 ghost use Rattle.nr_records.specs.declared.fault.RecordFault.TheVariants.{Memory};
 ghost use Rattle.nr_blocks.specs.Outlines.{file_outline_at};
@@ -86,9 +87,16 @@ fn outline_of(alloc: Global, bytes: &[u8]) -> Result<FileOutline, RecordFault>
     Ok(outline)
 }
 
+/// Each of some bytes is below 256.
+pub fn bytes_law(_bytes: &[u8])
+    ensures { IsBytes _bytes.now }
+{
+}
+
 /// The file that all of the bytes spell, of its outline.
 fn made_file(alloc: Global, outline: FileOutline, bytes: Vec<u8>) -> Result<BlocksFile, RecordFault>
-    requires { all_of file_outline_at bytes.items ≡ Ok outline }
+    requires outlined { all_of file_outline_at bytes.items ≡ Ok outline }
+    requires bytes { IsBytes bytes.items }
     ensures { Gives Memory result (all_of blocks_at bytes.items) }
 {
     let FileOutline { version, blocks } = outline;
@@ -107,7 +115,9 @@ fn made_file(alloc: Global, outline: FileOutline, bytes: Vec<u8>) -> Result<Bloc
 pub(crate) fn decode_blocks(alloc: Global, bytes: Vec<u8>) -> Result<BlocksFile, RecordFault>
     ensures { Gives Memory result (all_of blocks_at bytes.items) }
 {
-    match outline_of(alloc, bytes.as_slice()) {
+    let all = bytes.as_slice();
+    bytes_law(all);
+    match outline_of(alloc, all) {
         Ok(outline) => made_file(alloc, outline, bytes),
         Err(fault) => Err(fault),
     }

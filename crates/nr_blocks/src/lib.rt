@@ -26,7 +26,7 @@ mod version;
 
 pub use block::Block;
 pub use block_checks::MOST_BLOCKS;
-pub use blocks_file::BlocksFile;
+pub use blocks_file::{BlocksFile, bytes_law};
 pub use fault::{BlocksFault, GenesisFault};
 pub use first_state::fill;
 pub use genesis::Genesis;

@@ -15,7 +15,7 @@ ghost use Rattle.nr_blocks.specs.declared.version.Version.{Version};
 
 use crate::block::Block;
 use crate::block_checks::check_blocks;
-use crate::blocks_file::decode_blocks;
+use crate::blocks_file::{bytes_law, decode_blocks};
 use crate::entry_checks::{check_code_hashes, check_owners, check_trie_keys, check_usages};
 use crate::fault::{BlocksFault, GenesisFault};
 use crate::genesis::Genesis;
@@ -101,5 +101,6 @@ pub fn read_blocks(alloc: Global, bytes: Vec<u8>, shards: u32) -> Result<List<Bl
     // What is spelled so is read, unless memory runs out.
     ensures only { (version : Version) (list : Items Blocks) → AreBlocks version shards list → bytes.items ≡ blocks_spelling version list → Gives blocks.Memory result (Ok list) }
 {
+    bytes_law(bytes.as_slice());
     blocks_of(alloc, bytes, shards)
 }

@@ -19,7 +19,7 @@ use crate::chain_file::ChainFile;
 use crate::checks::check_file;
 use crate::fault::ChainFault;
 use crate::third::{begins_third, take_third};
-use nr_blocks::{Block, BlocksFault, read_blocks};
+use nr_blocks::{Block, BlocksFault, bytes_law, read_blocks};
 use nr_bytes::List;
 use std::alloc::Global;
 
@@ -45,6 +45,7 @@ fn third_file(alloc: Global, bytes: Vec<u8>, shards: u32) -> Result<ChainFile, C
         → bytes.items ≡ blocks_spelling version bs
         → Gives (chain.Blocks blocks.Memory) result (Ok (plain_file bs)) }
 {
+    bytes_law(bytes.as_slice());
     judged(alloc, bytes, shards)
 }
 
@@ -79,8 +80,8 @@ fn plain_file(alloc: Global, bytes: Vec<u8>, shards: u32) -> Result<ChainFile, C
 /// Reads a blocks file of any version for a chain that begins with this many shards: the bytes
 /// `NRB1`, `NRB2` or `NRB3`; behind `NRB3` the height from which there are other boundaries, and
 /// these, or nothing; the blocks, and the end. Behind `NRB2` and `NRB3` each block has a gas price,
-/// and behind `NRB1` none has one. The bytes are given back from the end while transactions are made: at no time do more
-/// than the file, its largest transaction and the places of all stand beside what was made.
+/// and behind `NRB1` none has one. The bytes are given back from the end while transactions
+/// are made.
 ///
 /// # Errors
 ///
@@ -103,7 +104,7 @@ pub fn read_chain(alloc: Global, bytes: Vec<u8>, shards: u32) -> Result<ChainFil
         → bytes.items ≡ blocks_spelling version bs
         → Gives (chain.Blocks blocks.Memory) result (Ok (plain_file bs)) }
 {
-    if begins_third(&bytes) {
+    if begins_third(bytes.as_slice()) {
         third_file(alloc, bytes, shards)
     } else {
         plain_file(alloc, bytes, shards)

@@ -1,4 +1,4 @@
-use Rattle.std.proofs.Common.{ℕ, ◌+◌, length, subst, sym}
+use Rattle.std.proofs.Common.{ℕ, ◌+◌, length, refl, subst, sym}
 use Rattle.nr_reshard.specs.declared.chain_file.ChainFile.{ChainFile}
 use Rattle.nr_shell.specs.Answers.{Judges}
 use Rattle.nr_shell.proofs.Leading.{read_follows, stop_follows}
