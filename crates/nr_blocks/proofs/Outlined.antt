@@ -6,14 +6,14 @@ use Rattle.std.specs.List.{AllByRecursion, flat_map}
 use Rattle.nr_bytes.specs.Numbers.{IsBytes, little}
 use Rattle.nr_bytes.specs.Answers.{Gives}
 use Rattle.nr_bytes.specs.Reading.{Input, ◌>>=◌, end_at}
-use Rattle.nr_bytes.specs.Fields.{items_at, lifted, mapped, pair}
+use Rattle.nr_bytes.specs.Fields.{all_of, items_at, lifted, list_at, mapped, pair}
 use Rattle.nr_bytes.specs.Spelling.{IsRead}
 use Rattle.nr_bytes.proofs.Fields.{nat_law}
 use Rattle.nr_bytes.proofs.Whole.{whole_taken}
 use Rattle.nr_records.specs.Fault.{record_fault}
 use Rattle.nr_records.specs.OptionLaw.{option_law}
 use Rattle.nr_records.specs.Options.{option_at, option_body}
-use Rattle.nr_records.specs.Reading.{Read, all_of, list_at, nat_at}
+use Rattle.nr_records.specs.Reading.{Read, nat_at}
 use Rattle.nr_records.specs.TransactionLaw.{transaction_law}
 use Rattle.nr_records.specs.Transactions.{transaction_at, transaction_bytes}
 use Rattle.nr_records.specs.declared.fault.RecordFault.{RecordFault}
@@ -32,11 +32,11 @@ use Rattle.nr_blocks.specs.declared.outline.Outline.{Outline}
 use Rattle.nr_blocks.specs.declared.version.Version.{Version}
 
 -- the outline of what is read
-abbrev pub outlined : {X Y : Type 0} → (ℕ → X → Y) → (Input → Read X) → Input → Read Y
-outlined outline reading s = reading s >>= λ x. Ok (outline s.at x.0, x.1)
+abbrev pub outline_read : {X Y : Type 0} → (ℕ → X → Y) → (Input → Read X) → Input → Read Y
+outline_read outline reading s = reading s >>= λ x. Ok (outline s.at x.0, x.1)
 
 abbrev pub IsOutlined : {X Y : Type 0} → (ℕ → X → Y) → (Input → Read X) → (Input → Read Y) → Type 0
-IsOutlined outline reading other = (s : Input) → IsBytes s.left → other s ≡ outlined outline reading s
+IsOutlined outline reading other = (s : Input) → IsBytes s.left → other s ≡ outline_read outline reading s
 
 abbrev pub answered : {X : Type 0} → X × Input → Read X
 answered p = Ok p
@@ -73,7 +73,7 @@ items_are {X} {Y} r a P law q o same (suc n) = λ s fits. go s fits (r s) refl
     behind s x (Err f) e = refl
 
     go : (s : Input) → IsBytes s.left → (read : Read X) → r s ≡ read
-        → items_at q (suc n) s ≡ outlined (outlines a o) (items_at r (suc n)) s
+        → items_at q (suc n) s ≡ outline_read (outlines a o) (items_at r (suc n)) s
     go s fits (Err f) e = rw (same s fits, e) refl
     go s fits (Ok x) e =
         let takes = law.taken s x fits e in
@@ -88,7 +88,7 @@ unfolding little
 length_one n = refl
 
 pub list_is : {X Y : Type 0} (r : Input → Read X) (a : X → List ℕ) (P : X → Type 0) → IsRead r a P → (q : Input → Read Y)
-    (o : ℕ → X → Y) → IsOutlined o r q → IsOutlined (list_outline a o) (list_at r) (list_at q)
+    (o : ℕ → X → Y) → IsOutlined o r q → IsOutlined (list_outline a o) (list_at record_fault r) (list_at record_fault q)
 unfolding list_at
 list_is {X} {Y} r a P law q o same = λ s fits. go s fits (nat_at 4 s) refl
   where
@@ -98,7 +98,7 @@ list_is {X} {Y} r a P law q o same = λ s fits. go s fits (nat_at 4 s) refl
     behind s t (Err f) e = refl
 
     go : (s : Input) → IsBytes s.left → (count : Read ℕ) → nat_at 4 s ≡ count
-        → list_at q s ≡ outlined (list_outline a o) (list_at r) s
+        → list_at record_fault q s ≡ outline_read (list_outline a o) (list_at record_fault r) s
     go s fits (Err f) e = rw e refl
     go s fits (Ok n) e =
         let takes = (nat_law record_fault 4).taken s n fits e in
@@ -124,7 +124,7 @@ option_is {X} {Y} r q o same = λ s fits. go s fits (nat_at 1 s) refl
     body s t (suc (suc b)) fits e = refl
 
     go : (s : Input) → IsBytes s.left → (ordinal : Read ℕ) → nat_at 1 s ≡ ordinal
-        → option_at q s ≡ outlined (option_outline o) (option_at r) s
+        → option_at q s ≡ outline_read (option_outline o) (option_at r) s
     go s fits (Err f) e = rw e refl
     go s fits (Ok n) e =
         let takes = (nat_law record_fault 1).taken s n fits e in
@@ -144,7 +144,7 @@ pair_is {X} {Y} {Z} f a P law r q o same = λ s fits. go s fits (f s) refl
     behind s x (Ok y) e = ap (λ (m : ℕ). answered ((x.0, o m y.0), y.1)) e
     behind s x (Err g) e = refl
 
-    go : (s : Input) → IsBytes s.left → (first : Read X) → f s ≡ first → pair f q s ≡ outlined (with_first a o) (pair f r) s
+    go : (s : Input) → IsBytes s.left → (first : Read X) → f s ≡ first → pair f q s ≡ outline_read (with_first a o) (pair f r) s
     go s fits (Err g) e = rw e refl
     go s fits (Ok x) e =
         let takes = law.taken s x fits e in
@@ -163,7 +163,7 @@ mapped_is {X} {Y} {V} {W} m n r q o p square same = λ s fits. rw (same s fits) 
 -- ---- a chunk, a block, and blocks
 chunk_is : IsOutlined chunk_outline chunk_at chunk_outline_at
 chunk_is =
-    option_is (list_at transaction_at) places_at (list_outline transaction_bytes place)
+    option_is (list_at record_fault transaction_at) places_at (list_outline transaction_bytes place)
     (list_is transaction_at transaction_bytes _ transaction_law (placed transaction_at) place (placed_is transaction_at))
 
 block_is : (version : Version) → IsOutlined block_outline (block_at version) (outline_at version)
@@ -176,7 +176,7 @@ block_is version =
     (list_is chunk_at chunk_bytes _ chunk_law chunk_outline_at chunk_outline chunk_is))))
 
 pub blocks_are : (version : Version)
-    → IsOutlined (list_outline block_bytes block_outline) (list_at (block_at version)) (list_at (outline_at version))
+    → IsOutlined (list_outline block_bytes block_outline) (list_at record_fault (block_at version)) (list_at record_fault (outline_at version))
 blocks_are version =
     list_is (block_at version) block_bytes _ (block_law version) (outline_at version) block_outline (block_is version)
 
@@ -195,12 +195,12 @@ file_is = λ s fits. go s fits (version_at s) refl
     behind s version (Err f) e = refl
 
     go : (s : Input) → IsBytes s.left → (version : Read Version) → version_at s ≡ version
-        → file_outline_at s ≡ outlined file_outline blocks_at s
+        → file_outline_at s ≡ outline_read file_outline blocks_at s
     go s fits (Err f) e = rw e refl
     go s fits (Ok v) e =
         let takes = version_law.taken s v fits e in
         rw (e, blocks_are v.0 v.1 takes.1.bytes)
-        (behind s v (list_at (block_at v.0) v.1) (omega (arith, takes.1.at, magic_size v.0)))
+        (behind s v (list_at record_fault (block_at v.0) v.1) (omega (arith, takes.1.at, magic_size v.0)))
 
 -- ---- all of the bytes
 module _ {X Y : Type 0} (r : Input → Read X) (q : Input → Read Y) (o : ℕ → X → Y) (same : IsOutlined o r q) (bytes : List ℕ)
@@ -208,7 +208,7 @@ module _ {X Y : Type 0} (r : Input → Read X) (q : Input → Read Y) (o : ℕ �
   abbrev ended : {Z : Type 0} → Z × Input → Result Z RecordFault
   ended z = lifted record_fault (end_at z.1) >>= λ u. Ok z.0
 
-  all_is : all_of q bytes ≡ (all_of r bytes >>= λ x. Ok (o 0 x))
+  all_is : all_of record_fault q bytes ≡ (all_of record_fault r bytes >>= λ x. Ok (o 0 x))
   unfolding all_of
   all_is = rw (same (record { left = bytes; at = 0 }) fits) (go (r (record { left = bytes; at = 0 })))
     where
@@ -221,18 +221,18 @@ module _ {X Y : Type 0} (r : Input → Read X) (q : Input → Read Y) (o : ℕ �
       go (Ok x) = end x.0 (lifted record_fault (end_at x.1))
       go (Err f) = refl
 
-  pub all_fault : (e : RecordFault) → all_of q bytes ≡ Err e → all_of r bytes ≡ Err e
-  all_fault e is = go (all_of r bytes) (sym all_is ∙ is)
+  pub all_fault : (e : RecordFault) → all_of record_fault q bytes ≡ Err e → all_of record_fault r bytes ≡ Err e
+  all_fault e is = go (all_of record_fault r bytes) (sym all_is ∙ is)
     where
       go : (read : Result X RecordFault) → (read >>= λ x. made (o 0 x)) ≡ Err e → read ≡ Err e
       go (Ok x) is = absurd cc
       go (Err f) is = cc
 
-  pub all_outline : (y : Y) → all_of q bytes ≡ Ok y → (x : X) × (all_of r bytes ≡ Ok x) × (y ≡ o 0 x)
-  all_outline y is = go (all_of r bytes) refl (sym all_is ∙ is)
+  pub all_outline : (y : Y) → all_of record_fault q bytes ≡ Ok y → (x : X) × (all_of record_fault r bytes ≡ Ok x) × (y ≡ o 0 x)
+  all_outline y is = go (all_of record_fault r bytes) refl (sym all_is ∙ is)
     where
-      go : (read : Result X RecordFault) → all_of r bytes ≡ read → (read >>= λ x. made (o 0 x)) ≡ Ok y
-          → (x : X) × (all_of r bytes ≡ Ok x) × (y ≡ o 0 x)
+      go : (read : Result X RecordFault) → all_of record_fault r bytes ≡ read → (read >>= λ x. made (o 0 x)) ≡ Ok y
+          → (x : X) × (all_of record_fault r bytes ≡ Ok x) × (y ≡ o 0 x)
       go (Ok x) e is = (x, e, cc)
       go (Err f) e is = absurd cc
 
@@ -270,11 +270,11 @@ module _ {bytes : List ℕ} {is : List Outline} {bs : List Block} (file : IsFile
       these e = cc
 
 module _ (bytes : List ℕ) (fits : IsBytes bytes) where
-  pub file_fault : (e : RecordFault) → all_of file_outline_at bytes ≡ Err e → all_of blocks_at bytes ≡ Err e
+  pub file_fault : (e : RecordFault) → all_of record_fault file_outline_at bytes ≡ Err e → all_of record_fault blocks_at bytes ≡ Err e
   file_fault e is = all_fault blocks_at file_outline_at file_outline file_is bytes fits e is
 
-  file_of : (is : FileOutline) → all_of file_outline_at bytes ≡ Ok is
-      → (f : BlocksFile) × (all_of blocks_at bytes ≡ Ok f) × (is.version ≡ f.version) × IsFileOf bytes is.blocks f.blocks
+  file_of : (is : FileOutline) → all_of record_fault file_outline_at bytes ≡ Ok is
+      → (f : BlocksFile) × (all_of record_fault blocks_at bytes ≡ Ok f) × (is.version ≡ f.version) × IsFileOf bytes is.blocks f.blocks
   file_of is read =
       let x = all_outline blocks_at file_outline_at file_outline file_is bytes fits is read in
       let f : BlocksFile = x.0 in
@@ -296,12 +296,12 @@ module _ (bytes : List ℕ) (fits : IsBytes bytes) where
         },
       )
 
-  pub made_fault : (is : FileOutline) (e : RecordFault) → all_of file_outline_at bytes ≡ Ok is
-      → BlocksMade is.blocks bytes (Err e) → e ≢ Memory → all_of blocks_at bytes ≡ Err e
+  pub made_fault : (is : FileOutline) (e : RecordFault) → all_of record_fault file_outline_at bytes ≡ Ok is
+      → BlocksMade is.blocks bytes (Err e) → e ≢ Memory → all_of record_fault blocks_at bytes ≡ Err e
   made_fault is e read made other = absurd (never_refused (file_of is read).3 e made other)
 
-  pub made_file : (is : FileOutline) (bs : List Block) → all_of file_outline_at bytes ≡ Ok is
-      → BlocksMade is.blocks bytes (Ok bs) → all_of blocks_at bytes ≡ Ok (blocks_file is.version bs)
+  pub made_file : (is : FileOutline) (bs : List Block) → all_of record_fault file_outline_at bytes ≡ Ok is
+      → BlocksMade is.blocks bytes (Ok bs) → all_of record_fault blocks_at bytes ≡ Ok (blocks_file is.version bs)
   made_file is bs read made =
       let f = file_of is read in
       f.1 ∙ (λ i. Ok (blocks_file (sym f.2 i) (same_blocks f.3 bs made i)))

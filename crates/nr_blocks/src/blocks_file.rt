@@ -90,8 +90,7 @@ fn outline_of(alloc: Global, bytes: &[u8]) -> Result<FileOutline, RecordFault>
 /// Each of some bytes is below 256.
 pub fn bytes_law(_bytes: &[u8])
     ensures { IsBytes _bytes.now }
-{
-}
+{}
 
 /// The file that all of the bytes spell, of its outline.
 fn made_file(alloc: Global, outline: FileOutline, bytes: Vec<u8>) -> Result<BlocksFile, RecordFault>

@@ -4,7 +4,7 @@ use Rattle.std.proofs.Common.{append_assoc, arith}
 use Rattle.std.proofs.lemmas.List.{length-append}
 use Rattle.std.specs.List.{flat_map}
 use Rattle.nr_blocks.proofs.Outlined.{BlocksMade, IsFileOf, IsOutlined, all_fault, all_outline, answered, blocks_are}
-use Rattle.nr_blocks.proofs.Outlined.{length_four, mapped_is, never_refused, outlined, pair_is, same_blocks}
+use Rattle.nr_blocks.proofs.Outlined.{length_four, mapped_is, never_refused, outline_read, pair_is, same_blocks}
 use Rattle.nr_blocks.specs.BlocksFiles.{block_at, block_bytes}
 use Rattle.nr_blocks.specs.Files.{headed, magic_at}
 use Rattle.nr_blocks.specs.Outlines.{block_outline, list_outline, outline_at, outlines}
@@ -43,7 +43,7 @@ headed_is {X} {Y} magic r q o same = λ s fits. go s fits (magic_at magic s) ref
     behind s word (Err f) e = refl
 
     go : (s : Input) → IsBytes s.left → (word : Read (List ℕ)) → magic_at magic s ≡ word
-        → headed magic q s ≡ outlined (behind_word o) (headed magic r) s
+        → headed magic q s ≡ outline_read (behind_word o) (headed magic r) s
     go s fits (Err f) e = rw e refl
     go s fits (Ok w) e =
         let takes = (magic_law magic).taken s w fits e in
