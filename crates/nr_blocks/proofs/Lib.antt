@@ -1,4 +1,7 @@
 pub mod Turns
+mod LastFirst
+mod Pieces
+pub mod Outlined
 mod Entries
 mod Spellings
 pub mod Filling
