@@ -1,3 +1,5 @@
+//! Blocks files with prices, whole, cut and damaged.
+
 use nr_blocks::{Block, BlocksFault, BlocksFile, Version, read_blocks};
 use nr_bytes::List;
 use nr_records::{Spelled, decode, encode};

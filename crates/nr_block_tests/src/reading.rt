@@ -1,3 +1,5 @@
+//! Genesis and blocks files, whole, cut and damaged.
+
 use nr_blocks::{
     Block, BlocksFault, GenesisEntry, GenesisFault, GenesisFile, read_blocks, read_genesis,
 };

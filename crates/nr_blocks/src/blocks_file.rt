@@ -1,3 +1,5 @@
+//! What a blocks file of the first two versions holds, its reading and its writing.
+
 ghost use Rattle.std.specs.Prelude.{◌≡◌, Ok};
 ghost use Rattle.nr_bytes.specs.Answers.{Gives, GivesRead};
 ghost use Rattle.nr_bytes.specs.Numbers.{IsBytes};

@@ -1,3 +1,4 @@
+-- The goals of `blocks_file::bytes_law` that no tactic closes.
 use Rattle.std.proofs.Common.{arith}
 use Rattle.nr_blocks.proofs.blocks_file.bytes_law.Goals as goal
 

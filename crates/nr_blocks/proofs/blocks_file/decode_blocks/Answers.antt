@@ -1,3 +1,4 @@
+-- The goals of `blocks_file::decode_blocks` that no tactic closes.
 use Rattle.std.proofs.Common.{◌≡◌, List, ℕ, Ok, Err, subst}
 use Rattle.nr_bytes.specs.Numbers.{IsBytes}
 use Rattle.nr_records.specs.Reading.{all_of}

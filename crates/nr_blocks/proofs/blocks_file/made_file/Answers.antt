@@ -1,3 +1,4 @@
+-- The goals of `blocks_file::made_file` that no tactic closes.
 use Rattle.nr_blocks.proofs.Outlined.{made_fault, made_file}
 use Rattle.nr_blocks.proofs.blocks_file.made_file.Goals as goal
 

@@ -1,3 +1,4 @@
+-- The goals of `making::made_of` that no tactic closes.
 use Rattle.std.proofs.lemmas.Result.{err_from_is_err_and}
 use Rattle.nr_blocks.specs.BlocksFiles.{IsBlock, block_bytes}
 use Rattle.nr_blocks.specs.Outlines.{block_outline}

@@ -1,3 +1,4 @@
+-- What holds at the loops of `making::made_of`.
 use Rattle.std.proofs.Common.{vec_len}
 use Rattle.nr_blocks.specs.BlocksFiles.{IsBlock, block_bytes}
 use Rattle.nr_blocks.specs.Outlines.{block_outline}

@@ -1,3 +1,4 @@
+-- The goals of `making::make_block` that no tactic closes.
 use Rattle.nr_blocks.proofs.Pieces.{block_fault, block_made}
 use Rattle.nr_blocks.proofs.making.make_block.Goals as goal
 

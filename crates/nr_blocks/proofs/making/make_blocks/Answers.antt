@@ -1,3 +1,4 @@
+-- The goals of `making::make_blocks` that no tactic closes.
 use Rattle.nr_blocks.proofs.making.make_blocks.Goals as goal
 
 pub returns-in-Ok : goal.returns-in-Ok

@@ -1,3 +1,4 @@
+-- The goals of `making::make_chunk` that no tactic closes.
 use Rattle.nr_blocks.proofs.Pieces.{no_chunk}
 use Rattle.nr_blocks.proofs.making.make_chunk.Goals as goal
 

@@ -1,3 +1,4 @@
+-- The goals of `making::make_chunks` that no tactic closes.
 use Rattle.std.proofs.lemmas.Result.{err_from_is_err_and}
 use Rattle.nr_blocks.specs.BlocksFiles.{IsChunk, chunk_bytes}
 use Rattle.nr_blocks.specs.Outlines.{chunk_outline}

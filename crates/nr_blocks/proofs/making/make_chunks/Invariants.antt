@@ -1,3 +1,4 @@
+-- What holds at the loops of `making::make_chunks`.
 use Rattle.std.proofs.Common.{vec_len}
 use Rattle.nr_blocks.specs.BlocksFiles.{IsChunk, chunk_bytes}
 use Rattle.nr_blocks.specs.Outlines.{chunk_outline}

@@ -1,3 +1,4 @@
+-- The goals of `making::make_there` that no tactic closes.
 use Rattle.nr_blocks.proofs.Pieces.{fault_chunk, some_chunk}
 use Rattle.nr_blocks.proofs.making.make_there.Goals as goal
 

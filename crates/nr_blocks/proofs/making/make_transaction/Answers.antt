@@ -1,3 +1,4 @@
+-- The goals of `making::make_transaction` that no tactic closes.
 use Rattle.std.proofs.Common.{◌∙◌}
 use Rattle.nr_blocks.proofs.Pieces.{made_and_cut, not_made}
 use Rattle.nr_blocks.proofs.making.make_transaction.Goals as goal

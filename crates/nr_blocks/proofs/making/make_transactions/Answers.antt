@@ -1,3 +1,4 @@
+-- The goals of `making::make_transactions` that no tactic closes.
 use Rattle.std.proofs.lemmas.Result.{err_from_is_err_and}
 use Rattle.nr_records.specs.Transactions.{IsTransaction, transaction_bytes}
 use Rattle.nr_blocks.specs.Outlines.{place}

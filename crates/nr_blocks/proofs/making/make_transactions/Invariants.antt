@@ -1,3 +1,4 @@
+-- What holds at the loops of `making::make_transactions`.
 use Rattle.std.proofs.Common.{vec_len}
 use Rattle.nr_records.specs.Transactions.{IsTransaction, transaction_bytes}
 use Rattle.nr_blocks.specs.Outlines.{place}

@@ -1,3 +1,4 @@
+-- The goals of `outline::chunks_of` that no tactic closes.
 use Rattle.std.proofs.lemmas.Result.{err_from_is_err_and}
 use Rattle.nr_bytes.specs.Fields.{items_at}
 use Rattle.nr_bytes.proofs.Items.{goes_on, ends, is_done}

@@ -1,3 +1,4 @@
+-- What holds at the loops of `outline::chunks_of`.
 use Rattle.std.proofs.Common.{◌≡◌, ◌-◌}
 use Rattle.nr_bytes.specs.Fields.{items_at}
 use Rattle.nr_bytes.proofs.Items.{with_front}

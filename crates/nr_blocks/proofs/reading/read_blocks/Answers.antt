@@ -1,3 +1,4 @@
+-- The goals of `reading::read_blocks` that no tactic closes.
 use Rattle.std.proofs.Common.{ap, subst, ◌∙◌}
 use Rattle.nr_bytes.specs.Answers.{Gives}
 use Rattle.nr_bytes.specs.Numbers.{IsBytes}

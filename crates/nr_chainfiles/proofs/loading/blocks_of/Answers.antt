@@ -1,3 +1,4 @@
+-- The goals of `loading::blocks_of` that no tactic closes.
 use Rattle.std.proofs.Common.{ℕ, ◌+◌, length, refl, subst, sym}
 use Rattle.nr_reshard.specs.declared.chain_file.ChainFile.{ChainFile}
 use Rattle.nr_shell.specs.Answers.{Judges}

@@ -1,3 +1,4 @@
+-- The goals of `reading::third_file` that no tactic closes.
 use Rattle.std.proofs.Common.{subst}
 use Rattle.nr_bytes.specs.Numbers.{IsBytes}
 use Rattle.nr_reshard.proofs.Sound.{third_before, third_found, third_gives, third_only, third_priced, third_whole}

@@ -1,3 +1,4 @@
+-- The goals of `third::made_third` that no tactic closes.
 use Rattle.nr_reshard.proofs.Outlined.{made_fault, made_file}
 use Rattle.nr_reshard.proofs.third.made_third.Goals as goal
 
