@@ -64,20 +64,20 @@ items_are : {X Y : Type 0} (r : Input → Read X) (a : X → List ℕ) (P : X �
     (o : ℕ → X → Y) → IsOutlined o r q → (n : ℕ) → IsOutlined (outlines a o) (items_at r n) (items_at q n)
 unfolding items_at outlines
 items_are r a P law q o same zero = λ s fits. refl
-items_are {X} {Y} r a P law q o same (suc n) = λ s fits. go s fits (r s) refl
+items_are {X} {Y} r a P law q o same (suc n) = λ s fits. go (items_are r a P law q o same n) s fits (r s) refl
   where
     behind : (s : Input) (x : X × Input) → (others : Read (List X)) → x.1.at ≡ s.at + length (a x.0)
-        → ((others >>= λ l. Ok (outlines a o x.1.at l.0, l.1)) >>= λ l. answered (o s.at x.0 ∷ l.0, l.1))
-        ≡ ((others >>= λ l. Ok (x.0 ∷ l.0, l.1)) >>= λ l. answered (outlines a o s.at l.0, l.1))
+        → ((others >>= λ l. answered (outlines a o x.1.at l.0, l.1)) >>= λ l. answered (o s.at x.0 ∷ l.0, l.1))
+        ≡ ((others >>= λ l. answered (x.0 ∷ l.0, l.1)) >>= λ l. answered (outlines a o s.at l.0, l.1))
     behind s x (Ok l) e = ap (λ (m : ℕ). answered (o s.at x.0 ∷ outlines a o m l.0, l.1)) e
     behind s x (Err f) e = refl
 
-    go : (s : Input) → IsBytes s.left → (read : Read X) → r s ≡ read
+    go : IsOutlined (outlines a o) (items_at r n) (items_at q n) → (s : Input) → IsBytes s.left → (read : Read X) → r s ≡ read
         → items_at q (suc n) s ≡ outline_read (outlines a o) (items_at r (suc n)) s
-    go s fits (Err f) e = rw (same s fits, e) refl
-    go s fits (Ok x) e =
+    go others s fits (Err f) e = rw (same s fits, e) refl
+    go others s fits (Ok x) e =
         let takes = law.taken s x fits e in
-        rw (same s fits, e, items_are r a P law q o same n x.1 takes.1.bytes) (behind s x (items_at r n x.1) takes.1.at)
+        rw (same s fits, e, others x.1 takes.1.bytes) (behind s x (items_at r n x.1) takes.1.at)
 
 pub length_four : (n : ℕ) → length (little 4 n) ≡ 4
 unfolding little
@@ -112,7 +112,7 @@ unfolding option_at
 option_is {X} {Y} r q o same = λ s fits. go s fits (nat_at 1 s) refl
   where
     behind : (s t : Input) (read : Read X) → t.at ≡ s.at + 1
-        → ((read >>= λ x. Ok (o t.at x.0, x.1)) >>= λ y. answered (Some y.0, y.1))
+        → ((read >>= λ x. answered (o t.at x.0, x.1)) >>= λ y. answered (Some y.0, y.1))
         ≡ ((read >>= λ x. answered (Some x.0, x.1)) >>= λ x. answered (option_outline o s.at x.0, x.1))
     behind s t (Ok x) e = ap (λ (m : ℕ). answered (Some (o m x.0), x.1)) e
     behind s t (Err f) e = refl
@@ -139,8 +139,8 @@ pub pair_is : {X Y Z : Type 0} (f : Input → Read X) (a : X → List ℕ) (P : 
 pair_is {X} {Y} {Z} f a P law r q o same = λ s fits. go s fits (f s) refl
   where
     behind : (s : Input) (x : X × Input) (read : Read Y) → x.1.at ≡ s.at + length (a x.0)
-        → ((read >>= λ y. Ok (o x.1.at y.0, y.1)) >>= λ z. answered ((x.0, z.0), z.1))
-        ≡ ((read >>= λ y. Ok ((x.0, y.0), y.1)) >>= λ p. answered (with_first a o s.at p.0, p.1))
+        → ((read >>= λ y. answered (o x.1.at y.0, y.1)) >>= λ z. answered ((x.0, z.0), z.1))
+        ≡ ((read >>= λ y. answered ((x.0, y.0), y.1)) >>= λ p. answered (with_first a o s.at p.0, p.1))
     behind s x (Ok y) e = ap (λ (m : ℕ). answered ((x.0, o m y.0), y.1)) e
     behind s x (Err g) e = refl
 
@@ -155,8 +155,8 @@ pub mapped_is : {X Y V W : Type 0} (m : X → Y) (n : V → W) (r : Input → Re
     → IsOutlined p (mapped m r) (mapped n q)
 mapped_is {X} {Y} {V} {W} m n r q o p square same = λ s fits. rw (same s fits) (go s.at (r s))
   where
-    go : (at : ℕ) (read : Read X) → ((read >>= λ x. Ok (o at x.0, x.1)) >>= λ v. answered (n v.0, v.1))
-        ≡ ((read >>= λ x. Ok (m x.0, x.1)) >>= λ y. answered (p at y.0, y.1))
+    go : (at : ℕ) (read : Read X) → ((read >>= λ x. answered (o at x.0, x.1)) >>= λ v. answered (n v.0, v.1))
+        ≡ ((read >>= λ x. answered (m x.0, x.1)) >>= λ y. answered (p at y.0, y.1))
     go at (Ok x) = ap (λ (w : W). answered (w, x.1)) (square at x.0)
     go at (Err f) = refl
 
@@ -189,8 +189,8 @@ unfolding blocks_at file_outline_at
 file_is = λ s fits. go s fits (version_at s) refl
   where
     behind : (s : Input) (version : Version × Input) (read : Read (List Block)) → version.1.at ≡ s.at + 4
-        → ((read >>= λ l. Ok (list_outline block_bytes block_outline version.1.at l.0, l.1)) >>= λ l. answered (outline_file version.0 l.0, l.1))
-        ≡ ((read >>= λ l. Ok (blocks_file version.0 l.0, l.1)) >>= λ f. answered (file_outline s.at f.0, f.1))
+        → ((read >>= λ l. answered (list_outline block_bytes block_outline version.1.at l.0, l.1)) >>= λ l. answered (outline_file version.0 l.0, l.1))
+        ≡ ((read >>= λ l. answered (blocks_file version.0 l.0, l.1)) >>= λ f. answered (file_outline s.at f.0, f.1))
     behind s version (Ok l) e = ap (λ (m : ℕ). answered (outline_file version.0 (list_outline block_bytes block_outline m l.0), l.1)) e
     behind s version (Err f) e = refl
 
@@ -208,7 +208,7 @@ module _ {X Y : Type 0} (r : Input → Read X) (q : Input → Read Y) (o : ℕ �
   abbrev ended : {Z : Type 0} → Z × Input → Result Z RecordFault
   ended z = lifted record_fault (end_at z.1) >>= λ u. Ok z.0
 
-  all_is : all_of record_fault q bytes ≡ (all_of record_fault r bytes >>= λ x. Ok (o 0 x))
+  all_is : all_of record_fault q bytes ≡ (all_of record_fault r bytes >>= λ x. made (o 0 x))
   unfolding all_of
   all_is = rw (same (record { left = bytes; at = 0 }) fits) (go (r (record { left = bytes; at = 0 })))
     where
@@ -217,7 +217,7 @@ module _ {X Y : Type 0} (r : Input → Read X) (q : Input → Read Y) (o : ℕ �
       end x (Ok u) = refl
       end x (Err f) = refl
 
-      go : (read : Read X) → ((read >>= λ x. Ok (o 0 x.0, x.1)) >>= ended) ≡ ((read >>= ended) >>= λ x. made (o 0 x))
+      go : (read : Read X) → ((read >>= λ x. answered (o 0 x.0, x.1)) >>= ended) ≡ ((read >>= ended) >>= λ x. made (o 0 x))
       go (Ok x) = end x.0 (lifted record_fault (end_at x.1))
       go (Err f) = refl
 

@@ -6,12 +6,12 @@ use Rattle.nr_blocks.specs.Outlines.{file_outline_at}
 use Rattle.nr_blocks.proofs.Outlined.{file_fault}
 use Rattle.nr_blocks.proofs.blocks_file.decode_blocks.Goals as goal
 
-pub made_file-requires-outlined : goal.made_file-requires-outlined
-made_file-requires-outlined c =
+pub made_file-requires-clause-outlined : goal.made_file-requires-clause-outlined
+made_file-requires-clause-outlined c =
     subst (λ (l : List ℕ). all_of file_outline_at l ≡ Ok c.in-Ok.outline) c.as_slice-all.ensures.value c.in-Ok.ensures
 
-pub made_file-requires-bytes : goal.made_file-requires-bytes
-made_file-requires-bytes c = subst IsBytes c.as_slice-all.ensures.value c.bytes_law.ensures
+pub made_file-requires-clause-bytes : goal.made_file-requires-clause-bytes
+made_file-requires-clause-bytes c = subst IsBytes c.as_slice-all.ensures.value c.bytes_law.ensures
 
 pub returns-in-Err : goal.returns-in-Err
 returns-in-Err c = λ other.

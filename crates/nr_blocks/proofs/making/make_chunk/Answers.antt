@@ -3,4 +3,4 @@ use Rattle.nr_blocks.proofs.Pieces.{no_chunk}
 use Rattle.nr_blocks.proofs.making.make_chunk.Goals as goal
 
 pub returns-in-None : goal.returns-in-None
-returns-in-None c = no_chunk c.args.bytes.now.items
+returns-in-None c = rw c.in-None.is (no_chunk c.args.bytes.now.items)
