@@ -6,12 +6,12 @@ use Rattle.nr_reshard.specs.Outlines.{third_outline_at}
 use Rattle.nr_reshard.proofs.Outlined.{third_fault}
 use Rattle.nr_reshard.proofs.third.take_third.Goals as goal
 
-pub made_third-requires-outlined : goal.made_third-requires-outlined
-made_third-requires-outlined c =
+pub made_third-requires-clause-outlined : goal.made_third-requires-clause-outlined
+made_third-requires-clause-outlined c =
     subst (λ (l : List ℕ). all_of third_outline_at l ≡ Ok c.in-Ok.outline) c.as_slice-all.ensures.value c.in-Ok.ensures
 
-pub made_third-requires-bytes : goal.made_third-requires-bytes
-made_third-requires-bytes c = subst IsBytes c.as_slice-all.ensures.value c.bytes_law.ensures
+pub made_third-requires-clause-bytes : goal.made_third-requires-clause-bytes
+made_third-requires-clause-bytes c = subst IsBytes c.as_slice-all.ensures.value c.bytes_law.ensures
 
 pub returns-in-Err : goal.returns-in-Err
 returns-in-Err c = λ other.
