@@ -7,7 +7,7 @@ use Rattle.std.proofs.lemmas.Grind.{flat_map-append}
 use Rattle.std.proofs.lemmas.List.{append-nil, length-append, reverse-append}
 use Rattle.nr_records.specs.declared.fault.RecordFault.{RecordFault}
 use Rattle.nr_records.specs.declared.fault.RecordFault.TheVariants.{Memory}
-use Rattle.nr_blocks.specs.Outlines.{IsFront, Makes, MakesIt, outlines}
+use Rattle.nr_blocks.specs.Outlines.{IsFront, Makes, outlines}
 
 -- the bytes begin with less too
 pub front_of : (front more bytes : List ℕ) → IsFront (front ++ more) bytes → IsFront front bytes
@@ -56,8 +56,10 @@ module _ {X Y : Type 0} (spelling : X → List ℕ) (outline : ℕ → X → Y) 
   has_last [] at [] last e = absurd (cons_is_not last [] e)
   has_last [] at (y ∷ is) last e = absurd (cons_is_not y (is ++ last ∷ []) e)
   has_last (x ∷ xs) at [] last e =
-      let e0 : last ≡ outline at x = first_is last (outline at x) [] (outlines spelling outline (at + length (spelling x)) xs) e in
-      let e1 : [] ≡ outlines spelling outline (at + length (spelling x)) xs = others_are last (outline at x) [] (outlines spelling outline (at + length (spelling x)) xs) e in
+      let e0 : last ≡ outline at x =
+      first_is last (outline at x) [] (outlines spelling outline (at + length (spelling x)) xs) e in
+      let e1 : [] ≡ outlines spelling outline (at + length (spelling x)) xs =
+      others_are last (outline at x) [] (outlines spelling outline (at + length (spelling x)) xs) e in
       let zero_on : at ≡ at + 0 = omega arith in
       record {
         others = [];
@@ -69,7 +71,8 @@ module _ {X Y : Type 0} (spelling : X → List ℕ) (outline : ℕ → X → Y) 
   has_last (x ∷ xs) at (y ∷ is) last e =
       let behind : ℕ = at + length (spelling x) in
       let e0 : y ≡ outline at x = first_is y (outline at x) (is ++ last ∷ []) (outlines spelling outline behind xs) e in
-      let e1 : is ++ last ∷ [] ≡ outlines spelling outline behind xs = others_are y (outline at x) (is ++ last ∷ []) (outlines spelling outline behind xs) e in
+      let e1 : is ++ last ∷ [] ≡ outlines spelling outline behind xs =
+      others_are y (outline at x) (is ++ last ∷ []) (outlines spelling outline behind xs) e in
       let inner = has_last xs behind is last e1 in
       let far : behind + length (flat_map spelling inner.others) ≡ at + length (flat_map spelling (x ∷ inner.others)) =
       omega (arith, length-append (spelling x) (flat_map spelling inner.others)) in
@@ -114,7 +117,8 @@ module _ {X Y : Type 0} (spelling : X → List ℕ) (outline : ℕ → X → Y) 
     }
 
     -- the last of those that are left is made next
-    pub record IsNext (xs : List X) (front : List ℕ) (is : List Y) (last : Y) (made : List X) (bytes : List ℕ) : Type 0 where
+    pub record IsNext (xs : List X) (front : List ℕ) (is : List Y) (last : Y) (made : List X)
+        (bytes : List ℕ) : Type 0 where
       pub others : List X
       pub x : X
       pub fit : AllByRecursion fits others
@@ -132,7 +136,8 @@ module _ {X Y : Type 0} (spelling : X → List ℕ) (outline : ℕ → X → Y) 
         let text : flat_map spelling (two.others ++ two.x ∷ []) ≡ flat_map spelling two.others ++ spelling two.x =
         flat_map-append spelling two.others (two.x ∷ [])
         ∙ ap (λ (l : List ℕ). flat_map spelling two.others ++ l) (append-nil (spelling two.x)) in
-        let far : length front + length (flat_map spelling two.others) ≡ length (front ++ flat_map spelling two.others) =
+        let far : length front + length (flat_map spelling two.others)
+        ≡ length (front ++ flat_map spelling two.others) =
         omega (arith, length-append front (flat_map spelling two.others)) in
         record {
           others = two.others;
@@ -148,7 +153,8 @@ module _ {X Y : Type 0} (spelling : X → List ℕ) (outline : ℕ → X → Y) 
               ∙ sym (append_assoc front (flat_map spelling two.others) (spelling two.x))) left.spelled;
         }
 
-    pub goes_on : (all : List Y) (old : List ℕ) (more is : List Y) (last : Y) (made : List X) (v : X) (bytes after : List ℕ)
+    pub goes_on : (all : List Y) (old : List ℕ) (more is : List Y) (last : Y) (made : List X) (v : X)
+        (bytes after : List ℕ)
         → more ≡ is ++ last ∷ [] → Makes (λ (v : X). v) spelling fits outline (Ok v) last bytes after
         → Goes all old more made bytes → Goes all old is (made ++ v ∷ []) after
     goes_on all old more is last made v bytes after e step goes = λ xs front fit outlined spelled.
@@ -165,9 +171,11 @@ module _ {X Y : Type 0} (spelling : X → List ℕ) (outline : ℕ → X → Y) 
         }
 
     pub stops : (all : List Y) (old : List ℕ) (more is : List Y) (last : Y) (made : List X) (fault : RecordFault)
-        (bytes after : List ℕ) → more ≡ is ++ last ∷ [] → Makes (λ (v : X). v) spelling fits outline (Err fault) last bytes after
+        (bytes after : List ℕ) → more ≡ is ++ last ∷ []
+        → Makes (λ (v : X). v) spelling fits outline (Err fault) last bytes after
         → Goes all old more made bytes → (new : List ℕ)
-        → Makes (λ (v : Vec X). v.items) (flat_map spelling) (AllByRecursion fits) (outlines spelling outline) (Err fault) all
+        → Makes (λ (v : Vec X). v.items) (flat_map spelling) (AllByRecursion fits) (outlines spelling outline)
+        (Err fault) all
         old new
     stops all old more is last made fault bytes after e step goes new = λ xs front fit outlined spelled.
         let n = next xs front is last made bytes
@@ -176,13 +184,15 @@ module _ {X Y : Type 0} (spelling : X → List ℕ) (outline : ℕ → X → Y) 
         (λ other. absurd (no_fault n.x fault (refused other)), tt)
 
     pub wants : (all : List Y) (old new : List ℕ)
-        → Makes (λ (v : Vec X). v.items) (flat_map spelling) (AllByRecursion fits) (outlines spelling outline) (Err Memory) all
+        → Makes (λ (v : Vec X). v.items) (flat_map spelling) (AllByRecursion fits) (outlines spelling outline)
+        (Err Memory) all
         old new
     wants all old new = λ xs front fit outlined spelled. (λ other. absurd (other refl), tt)
 
     pub ends : (all : List Y) (old : List ℕ) (is : List Y) (made : List X) (v : Vec X) (bytes : List ℕ) → is ≡ []
         → v.items ≡ reverse made → Goes all old is made bytes
-        → Makes (λ (v : Vec X). v.items) (flat_map spelling) (AllByRecursion fits) (outlines spelling outline) (Ok v) all old
+        → Makes (λ (v : Vec X). v.items) (flat_map spelling) (AllByRecursion fits) (outlines spelling outline) (Ok v)
+        all old
         bytes
     ends all old is made v bytes e same goes = λ xs front fit outlined spelled.
         let left = goes xs front fit outlined spelled in

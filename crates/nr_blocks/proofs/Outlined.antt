@@ -1,5 +1,5 @@
 -- The outline of a file is read as the file is: with the same faults, and of what is read it is the outline.
-use Rattle.std.proofs.Common.{◌≡◌, ◌≢◌, ℕ, zero, suc, ◌+◌, List, [], ◌∷◌, ◌++◌, length, Option, Some, None, Result, Ok}
+use Rattle.std.proofs.Common.{◌≡◌, ◌≢◌, ℕ, zero, suc, ◌+◌, List, [], ◌∷◌, ◌++◌, length, Some, Result, Ok}
 use Rattle.std.proofs.Common.{Err, refl, sym, ap, ◌∙◌, append_assoc, arith}
 use Rattle.std.proofs.lemmas.List.{append-nil, length-append}
 use Rattle.std.specs.List.{AllByRecursion, flat_map}
@@ -11,7 +11,6 @@ use Rattle.nr_bytes.specs.Spelling.{IsRead}
 use Rattle.nr_bytes.proofs.Fields.{nat_law}
 use Rattle.nr_bytes.proofs.Whole.{whole_taken}
 use Rattle.nr_records.specs.Fault.{record_fault}
-use Rattle.nr_records.specs.OptionLaw.{option_law}
 use Rattle.nr_records.specs.Options.{option_at, option_body}
 use Rattle.nr_records.specs.Reading.{Read, nat_at}
 use Rattle.nr_records.specs.TransactionLaw.{transaction_law}
@@ -19,12 +18,12 @@ use Rattle.nr_records.specs.Transactions.{transaction_at, transaction_bytes}
 use Rattle.nr_records.specs.declared.fault.RecordFault.{RecordFault}
 use Rattle.nr_records.specs.declared.fault.RecordFault.TheVariants.{Memory}
 use Rattle.nr_blocks.specs.BlockLaws.{block_law, chunk_law, price_law}
-use Rattle.nr_blocks.specs.BlocksFiles.{IsBlock, block_at, block_bytes, block_of, chunk_at, chunk_bytes, price_at}
-use Rattle.nr_blocks.specs.BlocksFiles.{price_bytes}
+use Rattle.nr_blocks.specs.BlocksFiles.{IsBlock, block_at, block_bytes, block_of, chunk_at, chunk_bytes}
 use Rattle.nr_blocks.specs.FileLaws.{blocks_law, magic_size, version_law}
 use Rattle.nr_blocks.specs.Files.{IsBlocksFile, blocks_at, blocks_bytes, blocks_magic, version_at}
 use Rattle.nr_blocks.specs.Outlines.{IsFront, block_outline, chunk_outline, chunk_outline_at, file_outline_at}
-use Rattle.nr_blocks.specs.Outlines.{list_outline, option_outline, outline_at, outline_of, outlines, place, placed, places_at}
+use Rattle.nr_blocks.specs.Outlines.{list_outline, option_outline, outline_at, outline_of, outlines, place}
+use Rattle.nr_blocks.specs.Outlines.{placed, places_at}
 use Rattle.nr_blocks.specs.declared.block.Block.{Block}
 use Rattle.nr_blocks.specs.declared.blocks_file.BlocksFile.{BlocksFile}
 use Rattle.nr_blocks.specs.declared.blocks_file.FileOutline.{FileOutline}
@@ -72,7 +71,8 @@ items_are {X} {Y} r a P law q o same (suc n) = λ s fits. go (items_are r a P la
     behind s x (Ok l) e = ap (λ (m : ℕ). answered (o s.at x.0 ∷ outlines a o m l.0, l.1)) e
     behind s x (Err f) e = refl
 
-    go : IsOutlined (outlines a o) (items_at r n) (items_at q n) → (s : Input) → IsBytes s.left → (read : Read X) → r s ≡ read
+    go : IsOutlined (outlines a o) (items_at r n) (items_at q n) → (s : Input) → IsBytes s.left → (read : Read X)
+        → r s ≡ read
         → items_at q (suc n) s ≡ outline_read (outlines a o) (items_at r (suc n)) s
     go others s fits (Err f) e = rw (same s fits, e) refl
     go others s fits (Ok x) e =
@@ -87,13 +87,15 @@ length_one : (n : ℕ) → length (little 1 n) ≡ 1
 unfolding little
 length_one n = refl
 
-pub list_is : {X Y : Type 0} (r : Input → Read X) (a : X → List ℕ) (P : X → Type 0) → IsRead r a P → (q : Input → Read Y)
+pub list_is : {X Y : Type 0} (r : Input → Read X) (a : X → List ℕ) (P : X → Type 0) → IsRead r a P
+    → (q : Input → Read Y)
     (o : ℕ → X → Y) → IsOutlined o r q → IsOutlined (list_outline a o) (list_at record_fault r) (list_at record_fault q)
 unfolding list_at
 list_is {X} {Y} r a P law q o same = λ s fits. go s fits (nat_at 4 s) refl
   where
     behind : (s t : Input) (others : Read (List X)) → t.at ≡ s.at + 4
-        → (others >>= λ l. answered (outlines a o t.at l.0, l.1)) ≡ (others >>= λ l. answered (list_outline a o s.at l.0, l.1))
+        → (others >>= λ l. answered (outlines a o t.at l.0, l.1))
+        ≡ (others >>= λ l. answered (list_outline a o s.at l.0, l.1))
     behind s t (Ok l) e = ap (λ (m : ℕ). answered (outlines a o m l.0, l.1)) e
     behind s t (Err f) e = refl
 
@@ -134,7 +136,8 @@ option_is {X} {Y} r q o same = λ s fits. go s fits (nat_at 1 s) refl
 abbrev with_first : {X Y Z : Type 0} → (X → List ℕ) → (ℕ → Y → Z) → ℕ → X × Y → X × Z
 with_first a o at p = (p.0, o (at + length (a p.0)) p.1)
 
-pub pair_is : {X Y Z : Type 0} (f : Input → Read X) (a : X → List ℕ) (P : X → Type 0) → IsRead f a P → (r : Input → Read Y)
+pub pair_is : {X Y Z : Type 0} (f : Input → Read X) (a : X → List ℕ) (P : X → Type 0) → IsRead f a P
+    → (r : Input → Read Y)
     (q : Input → Read Z) (o : ℕ → Y → Z) → IsOutlined o r q → IsOutlined (with_first a o) (pair f r) (pair f q)
 pair_is {X} {Y} {Z} f a P law r q o same = λ s fits. go s fits (f s) refl
   where
@@ -144,7 +147,8 @@ pair_is {X} {Y} {Z} f a P law r q o same = λ s fits. go s fits (f s) refl
     behind s x (Ok y) e = ap (λ (m : ℕ). answered ((x.0, o m y.0), y.1)) e
     behind s x (Err g) e = refl
 
-    go : (s : Input) → IsBytes s.left → (first : Read X) → f s ≡ first → pair f q s ≡ outline_read (with_first a o) (pair f r) s
+    go : (s : Input) → IsBytes s.left → (first : Read X) → f s ≡ first
+        → pair f q s ≡ outline_read (with_first a o) (pair f r) s
     go s fits (Err g) e = rw e refl
     go s fits (Ok x) e =
         let takes = law.taken s x fits e in
@@ -164,7 +168,8 @@ mapped_is {X} {Y} {V} {W} m n r q o p square same = λ s fits. rw (same s fits) 
 chunk_is : IsOutlined chunk_outline chunk_at chunk_outline_at
 chunk_is =
     option_is (list_at record_fault transaction_at) places_at (list_outline transaction_bytes place)
-    (list_is transaction_at transaction_bytes _ transaction_law (placed transaction_at) place (placed_is transaction_at))
+    (list_is transaction_at transaction_bytes _ transaction_law (placed transaction_at) place
+    (placed_is transaction_at))
 
 block_is : (version : Version) → IsOutlined block_outline (block_at version) (outline_at version)
 unfolding block_at outline_at
@@ -176,7 +181,8 @@ block_is version =
     (list_is chunk_at chunk_bytes _ chunk_law chunk_outline_at chunk_outline chunk_is))))
 
 pub blocks_are : (version : Version)
-    → IsOutlined (list_outline block_bytes block_outline) (list_at record_fault (block_at version)) (list_at record_fault (outline_at version))
+    → IsOutlined (list_outline block_bytes block_outline) (list_at record_fault (block_at version))
+    (list_at record_fault (outline_at version))
 blocks_are version =
     list_is (block_at version) block_bytes _ (block_law version) (outline_at version) block_outline (block_is version)
 
@@ -189,9 +195,11 @@ unfolding blocks_at file_outline_at
 file_is = λ s fits. go s fits (version_at s) refl
   where
     behind : (s : Input) (version : Version × Input) (read : Read (List Block)) → version.1.at ≡ s.at + 4
-        → ((read >>= λ l. answered (list_outline block_bytes block_outline version.1.at l.0, l.1)) >>= λ l. answered (outline_file version.0 l.0, l.1))
+        → ((read >>= λ l. answered (list_outline block_bytes block_outline version.1.at l.0, l.1))
+        >>= λ l. answered (outline_file version.0 l.0, l.1))
         ≡ ((read >>= λ l. answered (blocks_file version.0 l.0, l.1)) >>= λ f. answered (file_outline s.at f.0, f.1))
-    behind s version (Ok l) e = ap (λ (m : ℕ). answered (outline_file version.0 (list_outline block_bytes block_outline m l.0), l.1)) e
+    behind s version (Ok l) e =
+        ap (λ (m : ℕ). answered (outline_file version.0 (list_outline block_bytes block_outline m l.0), l.1)) e
     behind s version (Err f) e = refl
 
     go : (s : Input) → IsBytes s.left → (version : Read Version) → version_at s ≡ version
@@ -203,7 +211,8 @@ file_is = λ s fits. go s fits (version_at s) refl
         (behind s v (list_at record_fault (block_at v.0) v.1) (omega (arith, takes.1.at, magic_size v.0)))
 
 -- ---- all of the bytes
-module _ {X Y : Type 0} (r : Input → Read X) (q : Input → Read Y) (o : ℕ → X → Y) (same : IsOutlined o r q) (bytes : List ℕ)
+module _ {X Y : Type 0} (r : Input → Read X) (q : Input → Read Y) (o : ℕ → X → Y) (same : IsOutlined o r q)
+    (bytes : List ℕ)
     (fits : IsBytes bytes) where
   abbrev ended : {Z : Type 0} → Z × Input → Result Z RecordFault
   ended z = lifted record_fault (end_at z.1) >>= λ u. Ok z.0
@@ -217,7 +226,8 @@ module _ {X Y : Type 0} (r : Input → Read X) (q : Input → Read Y) (o : ℕ �
       end x (Ok u) = refl
       end x (Err f) = refl
 
-      go : (read : Read X) → ((read >>= λ x. answered (o 0 x.0, x.1)) >>= ended) ≡ ((read >>= ended) >>= λ x. made (o 0 x))
+      go : (read : Read X) → ((read >>= λ x. answered (o 0 x.0, x.1)) >>= ended)
+          ≡ ((read >>= ended) >>= λ x. made (o 0 x))
       go (Ok x) = end x.0 (lifted record_fault (end_at x.1))
       go (Err f) = refl
 
@@ -228,7 +238,8 @@ module _ {X Y : Type 0} (r : Input → Read X) (q : Input → Read Y) (o : ℕ �
       go (Ok x) is = absurd cc
       go (Err f) is = cc
 
-  pub all_outline : (y : Y) → all_of record_fault q bytes ≡ Ok y → (x : X) × (all_of record_fault r bytes ≡ Ok x) × (y ≡ o 0 x)
+  pub all_outline : (y : Y) → all_of record_fault q bytes ≡ Ok y
+      → (x : X) × (all_of record_fault r bytes ≡ Ok x) × (y ≡ o 0 x)
   all_outline y is = go (all_of record_fault r bytes) refl (sym all_is ∙ is)
     where
       go : (read : Result X RecordFault) → all_of record_fault r bytes ≡ read → (read >>= λ x. made (o 0 x)) ≡ Ok y
@@ -270,11 +281,13 @@ module _ {bytes : List ℕ} {is : List Outline} {bs : List Block} (file : IsFile
       these e = cc
 
 module _ (bytes : List ℕ) (fits : IsBytes bytes) where
-  pub file_fault : (e : RecordFault) → all_of record_fault file_outline_at bytes ≡ Err e → all_of record_fault blocks_at bytes ≡ Err e
+  pub file_fault : (e : RecordFault) → all_of record_fault file_outline_at bytes ≡ Err e
+      → all_of record_fault blocks_at bytes ≡ Err e
   file_fault e is = all_fault blocks_at file_outline_at file_outline file_is bytes fits e is
 
   file_of : (is : FileOutline) → all_of record_fault file_outline_at bytes ≡ Ok is
-      → (f : BlocksFile) × (all_of record_fault blocks_at bytes ≡ Ok f) × (is.version ≡ f.version) × IsFileOf bytes is.blocks f.blocks
+      → (f : BlocksFile) × (all_of record_fault blocks_at bytes ≡ Ok f) × (is.version ≡ f.version)
+      × IsFileOf bytes is.blocks f.blocks
   file_of is read =
       let x = all_outline blocks_at file_outline_at file_outline file_is bytes fits is read in
       let f : BlocksFile = x.0 in
@@ -291,7 +304,8 @@ module _ (bytes : List ℕ) (fits : IsBytes bytes) where
           version = f.version;
           front = word ++ count;
           fit = taken.0.1;
-          outlined = ap (λ (o : FileOutline). o.blocks) x.2 ∙ ap (λ n. outlines block_bytes block_outline n f.blocks) size;
+          outlined = ap (λ (o : FileOutline). o.blocks) x.2 ∙ ap (λ n. outlines block_bytes block_outline n f.blocks)
+              size;
           spelled = taken.1 ∙ sym (append_assoc word count (flat_map block_bytes f.blocks));
         },
       )

@@ -1,5 +1,6 @@
 -- Transactions, chunks and blocks made of their outlines and bytes.
-use Rattle.std.proofs.Common.{◌≡◌, ◌≢◌, ℕ, ◌+◌, List, [], ◌∷◌, ◌++◌, length, drop, take, Some, None, Result, Ok, Err, refl}
+use Rattle.std.proofs.Common.{◌≡◌, ◌≢◌, ℕ, ◌+◌, List, [], ◌∷◌, ◌++◌, length, drop, take, Some, None, Result}
+use Rattle.std.proofs.Common.{Ok, Err, refl}
 use Rattle.std.proofs.Common.{sym, ap, subst, ◌∙◌, append_assoc, arith}
 use Rattle.std.proofs.lemmas.List.{append-nil, length-append}
 use Rattle.std.proofs.Math.Seq.{drop-append_seam, take-append_seam}
@@ -12,7 +13,8 @@ use Rattle.nr_records.specs.declared.fault.RecordFault.{RecordFault}
 use Rattle.nr_records.specs.declared.fault.RecordFault.TheVariants.{Memory}
 use Rattle.nr_records.specs.declared.transaction.Transaction.{Transaction}
 use Rattle.nr_blocks.specs.BlocksFiles.{Chunk, IsBlock, IsChunk, block_bytes, chunk_bytes, price_bytes}
-use Rattle.nr_blocks.specs.Outlines.{IsFront, Makes, MakesIt, Places, block_outline, chunk_outline, chunks_place, first_of}
+use Rattle.nr_blocks.specs.Outlines.{IsFront, Makes, MakesIt, Places, block_outline, chunk_outline}
+use Rattle.nr_blocks.specs.Outlines.{chunks_place, first_of}
 use Rattle.nr_blocks.specs.Outlines.{list_outline, outlines, place}
 use Rattle.nr_blocks.specs.declared.block.Block.{Block}
 use Rattle.nr_blocks.specs.declared.outline.Outline.{Outline}
@@ -46,7 +48,8 @@ MakesTransaction = Makes (λ (v : Transaction). v) transaction_bytes IsTransacti
 pub made_and_cut : (bytes slice new : List ℕ) (at : ℕ) (v : Transaction) → slice ≡ bytes → new ≡ take at bytes
     → first_of transaction_at (drop at slice) ≡ Ok v → MakesTransaction (Ok v) at bytes new
 made_and_cut bytes slice new at v same cut read = λ x front fits is whole. (
-  sym (reads_it bytes front at x fits is whole) ∙ ap (λ (l : List ℕ). first_of transaction_at (drop at l)) (sym same) ∙ read,
+  sym (reads_it bytes front at x fits is whole) ∙ ap (λ (l : List ℕ). first_of transaction_at (drop at l)) (sym same)
+      ∙ read,
   subst (IsFront front) (sym cut) (cut_there front (transaction_bytes x) bytes at is whole),
 )
 
@@ -111,7 +114,8 @@ module _ (bytes new places : List ℕ) where
       go None front fits is whole = absurd (not_there places is)
       go (Some l) front fits is whole =
           let made = inside (Ok v) makes l front fits is whole in
-          (ap (λ (l : List Transaction). some (Some l)) (its_value l v.items made.0), front_of front (head l) new made.1)
+          (ap (λ (l : List Transaction). some (Some l)) (its_value l v.items made.0), front_of front (head l) new
+          made.1)
 
   pub fault_chunk : (fault : RecordFault) → MakesTransactions (Err fault) places bytes new
       → MakesChunk (Err fault) (Some places) bytes new
@@ -155,7 +159,8 @@ block_size front b =
 
 abbrev MakesChunks : Result (Vec Chunk) RecordFault → List Places → List ℕ → List ℕ → Type 0
 MakesChunks =
-    Makes (λ (v : Vec Chunk). v.items) (flat_map chunk_bytes) (AllByRecursion IsChunk) (outlines chunk_bytes chunk_outline)
+    Makes (λ (v : Vec Chunk). v.items) (flat_map chunk_bytes) (AllByRecursion IsChunk)
+        (outlines chunk_bytes chunk_outline)
 
 abbrev pub with_chunks : Outline → List Chunk → Block
 with_chunks o l = record { height = o.height; timestamp = o.timestamp; price = o.price; chunks = l }
@@ -169,16 +174,19 @@ module _ (version : Version) (bytes new : List ℕ) (is : Outline) where
       → MakesIt (λ (v : Vec Chunk). v.items) b.chunks (front ++ block_head b) r new
   within r makes b front fits same whole =
       makes b.chunks (front ++ block_head b) fits.1.1.1.1
-      (ap (λ (o : Outline). o.chunks) same ∙ ap (λ n. outlines chunk_bytes chunk_outline n b.chunks) (block_size front b))
+      (ap (λ (o : Outline). o.chunks) same ∙ ap (λ n. outlines chunk_bytes chunk_outline n b.chunks)
+      (block_size front b))
       (subst (λ (t : List ℕ). IsFront t bytes)
-      (ap (λ (l : List ℕ). front ++ l) (head_text b) ∙ sym (append_assoc front (block_head b) (flat_map chunk_bytes b.chunks)))
+      (ap (λ (l : List ℕ). front ++ l) (head_text b) ∙ sym (append_assoc front (block_head b)
+      (flat_map chunk_bytes b.chunks)))
       whole)
 
   pub block_made : (v : Vec Chunk) → MakesChunks (Ok v) is.chunks bytes new
       → MakesBlock version (Ok (with_chunks is v.items)) is bytes new
   block_made v makes = λ b front fits same whole.
       let made = within (Ok v) makes b front fits same whole in
-      (λ i. some (with_chunks (sym same i) (its_value b.chunks v.items made.0 i)), front_of front (block_head b) new made.1)
+      (λ i. some (with_chunks (sym same i) (its_value b.chunks v.items made.0 i)), front_of front (block_head b) new
+      made.1)
 
   pub block_fault : (fault : RecordFault) → MakesChunks (Err fault) is.chunks bytes new
       → MakesBlock version (Err fault) is bytes new

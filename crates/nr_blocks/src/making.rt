@@ -4,7 +4,8 @@
 ghost use Rattle.std.specs.List.{AllByRecursion, flat_map};
 ghost use Rattle.std.specs.Prelude.{◌≡◌, ℕ, ◌++◌, length, drop, List as Items, Ok, Some};
 ghost use Rattle.nr_blocks.specs.BlocksFiles.{IsBlock, IsChunk, block_bytes, chunk_bytes};
-ghost use Rattle.nr_blocks.specs.Outlines.{IsFront, Makes, first_of, block_outline, chunk_outline, outlines as outlines_of, place as its_place};
+ghost use Rattle.nr_blocks.specs.Outlines.{IsFront, Makes, first_of, block_outline, chunk_outline};
+ghost use Rattle.nr_blocks.specs.Outlines.{outlines as outlines_of, place as its_place};
 ghost use Rattle.nr_blocks.specs.declared.block.Block.{Block as Blocks};
 ghost use Rattle.nr_blocks.specs.declared.version.Version.{Version};
 ghost use Rattle.nr_bytes.specs.Answers.{Gives};
@@ -51,7 +52,8 @@ fn make_transaction(
     place: usize,
     bytes: &mut Vec<u8>,
 ) -> Result<Transaction, RecordFault>
-    ensures { Makes (λ made. made) transaction_bytes IsTransaction its_place result place bytes.old.items bytes.new.items }
+    ensures { Makes (λ made. made) transaction_bytes IsTransaction its_place result place bytes.old.items
+        bytes.new.items }
 {
     match transaction_in(alloc, bytes.as_slice(), place) {
         Ok(transaction) => {
@@ -87,7 +89,8 @@ fn make_there(
     places: List<usize>,
     bytes: &mut Vec<u8>,
 ) -> Result<Option<List<Transaction>>, RecordFault>
-    ensures { Makes (λ made. made) chunk_bytes IsChunk chunk_outline result (Some places) bytes.old.items bytes.new.items }
+    ensures { Makes (λ made. made) chunk_bytes IsChunk chunk_outline result (Some places) bytes.old.items
+        bytes.new.items }
 {
     match make_transactions(alloc, places, bytes) {
         Ok(transactions) => Ok(Some(List::of(transactions))),
@@ -128,7 +131,8 @@ fn make_chunks(
 
 fn make_block(alloc: Global, outline: Outline, bytes: &mut Vec<u8>) -> Result<Block, RecordFault>
     ensures { (version : Version)
-        → Makes (λ made. made) block_bytes (IsBlock version) block_outline result outline bytes.old.items bytes.new.items }
+        → Makes (λ made. made) block_bytes (IsBlock version) block_outline result outline bytes.old.items
+        bytes.new.items }
 {
     let Outline {
         height,

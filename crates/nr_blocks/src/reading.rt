@@ -96,11 +96,13 @@ fn blocks_of(alloc: Global, bytes: Vec<u8>, shards: u32) -> Result<List<Block>, 
 pub fn read_blocks(alloc: Global, bytes: Vec<u8>, shards: u32) -> Result<List<Block>, BlocksFault>
     ensures gives { Gives blocks.Memory result (blocks_read shards bytes.items) }
     // What is read is spelled so, in one of the versions.
-    ensures found { IfOk result (λ list. (version : Version) × AreBlocks version shards list × (bytes.items ≡ blocks_spelling version list)) }
+    ensures found { IfOk result (λ list. (version : Version) × AreBlocks version shards list
+        × (bytes.items ≡ blocks_spelling version list)) }
     // The price of each block, where it has one, is below 2^64.
     ensures priced { IfOk result (λ list. AllByRecursion FitsPrice list) }
     // What is spelled so is read, unless memory runs out.
-    ensures only { (version : Version) (list : Items Blocks) → AreBlocks version shards list → bytes.items ≡ blocks_spelling version list → Gives blocks.Memory result (Ok list) }
+    ensures only { (version : Version) (list : Items Blocks) → AreBlocks version shards list
+        → bytes.items ≡ blocks_spelling version list → Gives blocks.Memory result (Ok list) }
 {
     bytes_law(bytes.as_slice());
     blocks_of(alloc, bytes, shards)

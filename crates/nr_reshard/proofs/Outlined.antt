@@ -37,8 +37,10 @@ headed_is : {X Y : Type 0} (magic : List ℕ) (r : Input → Read X) (q : Input 
 headed_is {X} {Y} magic r q o same = λ s fits. go s fits (magic_at magic s) refl
   where
     behind : (s : Input) (word : List ℕ × Input) (read : Read X) → word.1.at ≡ s.at + 4
-        → (((read >>= λ x. answered (o word.1.at x.0, x.1)) >>= λ y. answered ((word.0, y.0), y.1)) >>= λ p. answered (p.0.1, p.1))
-        ≡ (((read >>= λ x. answered ((word.0, x.0), x.1)) >>= λ p. answered (p.0.1, p.1)) >>= λ x. answered (behind_word o s.at x.0, x.1))
+        → (((read >>= λ x. answered (o word.1.at x.0, x.1)) >>= λ y. answered ((word.0, y.0), y.1))
+        >>= λ p. answered (p.0.1, p.1))
+        ≡ (((read >>= λ x. answered ((word.0, x.0), x.1)) >>= λ p. answered (p.0.1, p.1))
+        >>= λ x. answered (behind_word o s.at x.0, x.1))
     behind s word (Ok x) e = ap (λ (m : ℕ). answered (o m x.0, x.1)) e
     behind s word (Err f) e = refl
 
@@ -65,7 +67,8 @@ unfolding third_at third_outline_at
 third_is =
     headed_is third_magic _ _ third_outline_in
     (mapped_is file_of outline_of _ _ _ third_outline_in (λ at f. refl)
-    (pair_is (option_at reshard_at) (option_bytes reshard_bytes) _ (option_law _ _ _ reshard_law) _ _ _ (blocks_are Two)))
+    (pair_is (option_at reshard_at) (option_bytes reshard_bytes) _ (option_law _ _ _ reshard_law) _ _ _
+    (blocks_are Two)))
 
 abbrev chain_file : Option Reshard → List Block → ChainFile
 chain_file reshard bs = record { reshard = reshard; blocks = bs }
@@ -85,7 +88,8 @@ module _ (bytes : List ℕ) (fits : IsBytes bytes) where
       let count = little 4 (length f.blocks) in
       let text = flat_map block_bytes f.blocks in
       let size : 0 + 4 + length change + 4 ≡ length (third_magic ++ (change ++ count)) =
-      omega (arith, length-append third_magic (change ++ count), length-append change count, length_four (length f.blocks)) in (
+      omega (arith, length-append third_magic (change ++ count), length-append change count,
+      length_four (length f.blocks)) in (
         f,
         x.1,
         ap (λ (o : ThirdOutline). o.reshard) x.2,
@@ -93,7 +97,8 @@ module _ (bytes : List ℕ) (fits : IsBytes bytes) where
           version = Two;
           front = third_magic ++ (change ++ count);
           fit = taken.0.1.1;
-          outlined = ap (λ (o : ThirdOutline). o.blocks) x.2 ∙ ap (λ n. outlines block_bytes block_outline n f.blocks) size;
+          outlined = ap (λ (o : ThirdOutline). o.blocks) x.2 ∙ ap (λ n. outlines block_bytes block_outline n f.blocks)
+              size;
           spelled = taken.1
               ∙ sym (append_assoc third_magic (change ++ count) text
               ∙ ap (λ (l : List ℕ). third_magic ++ l) (append_assoc change count text));

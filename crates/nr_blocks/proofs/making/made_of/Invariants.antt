@@ -8,7 +8,8 @@ use Rattle.nr_blocks.proofs.making.made_of.Given as goal
 
 abbrev pub invariant-loop-outline : goal.invariant-loop-outline
 invariant-loop-outline l =
-    (version : Version) → Goes block_bytes block_outline (IsBlock version) l.fn.outlines l.initial.bytes.items l.left.items l.blocks.items l.bytes.items
+    (version : Version) → Goes block_bytes block_outline (IsBlock version) l.fn.outlines l.initial.bytes.items
+    l.left.items l.blocks.items l.bytes.items
 
 abbrev pub decreases-loop-outline : goal.decreases-loop-outline
 decreases-loop-outline l = vec_len l.left

@@ -6,8 +6,10 @@ pub returns-in-Ok : goal.returns-in-Ok
 returns-in-Ok c =
     rw c.of.ensures
     (λ version.
-    block_made version c.args.bytes.now.items c.make_chunks.new.bytes.items c.args.outline c.in-Ok.chunks c.in-Ok.ensures)
+    block_made version c.args.bytes.now.items c.make_chunks.new.bytes.items c.args.outline c.in-Ok.chunks
+    c.in-Ok.ensures)
 
 pub returns-in-Err : goal.returns-in-Err
 returns-in-Err c = λ version.
-    block_fault version c.args.bytes.now.items c.make_chunks.new.bytes.items c.args.outline c.in-Err.fault c.in-Err.ensures
+    block_fault version c.args.bytes.now.items c.make_chunks.new.bytes.items c.args.outline c.in-Err.fault
+    c.in-Err.ensures

@@ -7,7 +7,8 @@ use Rattle.nr_blocks.proofs.making.make_transactions.Given as goal
 
 abbrev pub invariant-loop-place : goal.invariant-loop-place
 invariant-loop-place l =
-    Goes transaction_bytes place IsTransaction l.fn.places l.initial.bytes.items l.left.items l.transactions.items l.bytes.items
+    Goes transaction_bytes place IsTransaction l.fn.places l.initial.bytes.items l.left.items l.transactions.items
+    l.bytes.items
 
 abbrev pub decreases-loop-place : goal.decreases-loop-place
 decreases-loop-place l = vec_len l.left

@@ -18,7 +18,8 @@ pub loop-preserved : goal.loop-preserved
 loop-preserved c =
     rw c.in_ok-push.ensures.items
     (goes_on chunk_outline_at c.loop.chunks.items c.args.count c.loop.counter c.loop.reader c.in_ok-chunk.chunk
-    c.read_chunk.new.reader (items_at chunk_outline_at c.args.count c.args.reader.now) c.loop-test.true c.in_ok-chunk.ensures
+    c.read_chunk.new.reader (items_at chunk_outline_at c.args.count c.args.reader.now) c.loop-test.true
+    c.in_ok-chunk.ensures
     c.loop.invariant)
 
 pub returns : goal.returns

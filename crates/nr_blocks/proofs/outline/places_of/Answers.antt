@@ -19,7 +19,8 @@ pub loop-preserved : goal.loop-preserved
 loop-preserved c =
     rw c.in_ok-push.ensures.items
     (goes_on (placed transaction_at) c.loop.places.items c.args.count c.loop.counter c.loop.reader c.in_ok-place.place
-    c.read_place.new.reader (items_at (placed transaction_at) c.args.count c.args.reader.now) c.loop-test.true c.in_ok-place.ensures
+    c.read_place.new.reader (items_at (placed transaction_at) c.args.count c.args.reader.now) c.loop-test.true
+    c.in_ok-place.ensures
     c.loop.invariant)
 
 pub returns : goal.returns

@@ -13,7 +13,8 @@ returns-in-Ok-clause-follows g c =
     rw (sym c.of_blocks.ensures.value)
     (read_follows (by_blocks_bytes refusal (length c.args.genesis.now.layout + 1))
     (c.in-Ok.ensures refuses c.of_blocks.ensures.refuses) refl
-    (subst (λ (n : ℕ). Judges refuses (λ (x : ChainFile). x) c.blocks_in.result (by_blocks_bytes refusal n c.in-Ok.bytes.items))
+    (subst (λ (n : ℕ). Judges refuses (λ (x : ChainFile). x) c.blocks_in.result
+    (by_blocks_bytes refusal n c.in-Ok.bytes.items))
     c.shards.ensures.count c.blocks_in.ensures.judges))
 
 pub returns-in-Err-clause-follows : goal.returns-in-Err-clause-follows
