@@ -1,6 +1,5 @@
 //! Blocks without their transactions, of which the places stand in their stead.
 
-ghost use Rattle.nr_blocks.specs.BlocksFiles.{price_at};
 ghost use Rattle.nr_blocks.specs.Outlines.{chunk_outline_at, outline_at, placed, places_at};
 ghost use Rattle.nr_bytes.specs.Answers.{GivesAs, GivesRead};
 ghost use Rattle.nr_bytes.specs.Fields.{items_at};

@@ -1,24 +1,22 @@
 -- The outline of a file of the third version is read as the file is, and what is made of it is the file.
-use Rattle.std.proofs.Common.{◌≡◌, ◌≢◌, ℕ, ◌+◌, List, ◌++◌, length, Option, Result, Ok, Err, refl, sym, ap, ◌∙◌}
+use Rattle.std.proofs.Common.{◌≡◌, ◌≢◌, ℕ, ◌+◌, List, ◌++◌, length, Option, Ok, Err, refl, sym, ap, ◌∙◌}
 use Rattle.std.proofs.Common.{append_assoc, arith}
 use Rattle.std.proofs.lemmas.List.{length-append}
 use Rattle.std.specs.List.{flat_map}
 use Rattle.nr_blocks.proofs.Outlined.{BlocksMade, IsFileOf, IsOutlined, all_fault, all_outline, answered, blocks_are}
 use Rattle.nr_blocks.proofs.Outlined.{length_four, mapped_is, never_refused, outline_read, pair_is, same_blocks}
-use Rattle.nr_blocks.specs.BlocksFiles.{block_at, block_bytes}
+use Rattle.nr_blocks.specs.BlocksFiles.{block_bytes}
 use Rattle.nr_blocks.specs.Files.{headed, magic_at}
-use Rattle.nr_blocks.specs.Outlines.{block_outline, list_outline, outline_at, outlines}
+use Rattle.nr_blocks.specs.Outlines.{block_outline, list_outline, outlines}
 use Rattle.nr_blocks.specs.declared.block.Block.{Block}
-use Rattle.nr_blocks.specs.declared.outline.Outline.{Outline}
 use Rattle.nr_blocks.specs.declared.version.Version.TheVariants.{Two}
 use Rattle.nr_bytes.proofs.Whole.{whole_taken}
-use Rattle.nr_bytes.specs.Fields.{pair}
 use Rattle.nr_bytes.specs.Numbers.{IsBytes, little}
 use Rattle.nr_bytes.specs.Reading.{Input, ◌>>=◌}
 use Rattle.nr_records.specs.Fault.{record_fault}
 use Rattle.nr_records.specs.OptionLaw.{option_law}
 use Rattle.nr_records.specs.Options.{option_at, option_bytes}
-use Rattle.nr_records.specs.Reading.{Read, all_of, list_at}
+use Rattle.nr_records.specs.Reading.{Read, all_of}
 use Rattle.nr_records.specs.declared.fault.RecordFault.{RecordFault}
 use Rattle.nr_records.specs.declared.fault.RecordFault.TheVariants.{Memory}
 use Rattle.nr_reshard.specs.FileLaws.{magic_law, reshard_law, third_law}
