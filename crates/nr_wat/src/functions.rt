@@ -196,14 +196,13 @@ fn push_function_head(imported: usize, number: usize, text: &mut String) -> Resu
 }
 
 /// The type of each of these locals.
+#[tactic(auto, using(crate::proofs::Listed::is_there, crate::proofs::Listed::one_more))]
 fn types_of(alloc: Global, locals: &Locals) -> Result<Vec<ValType>, AllocError>
     ensures { IfOk result (λ v. v.items ≡ locals.now) }
 {
     let mut types = Vec::new(alloc);
     for number in 0..locals.len() {
-        if let Some(kind) = locals.get(number) {
-            types.push(kind)?;
-        }
+        types.push(locals.get(number).unwrap())?;
     }
     Ok(types)
 }
