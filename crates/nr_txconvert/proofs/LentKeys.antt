@@ -1,14 +1,14 @@
 -- What is read of a key's bytes.
-use Rattle.std.proofs.Common.{◌≡◌, ℕ, zero, suc, ◌+◌, ◌<◌, ◌≤◌, List, [], ◌∷◌, ◌++◌, ◌%◌, length, drop, Option, Some, None, Ok, refl, sym, ap, subst, ◌∙◌, append_assoc, arith}
+use Rattle.std.proofs.Common.{◌≡◌, ℕ, ◌+◌, ◌<◌, ◌≤◌, List, [], ◌∷◌, ◌++◌, ◌%◌, length, drop, Option, Some, None, Ok, refl, sym, ap, subst, ◌∙◌, append_assoc, arith}
 use Rattle.std.specs.Prelude.{IsSome, unwrap_or}
 use Rattle.std.proofs.lemmas.List.{length-append, drop_at}
 use Rattle.nr_bytes.specs.Numbers.{little, IsBytes}
 use Rattle.nr_bytes.specs.Reading.{Input, number_at}
-use Rattle.nr_bytes.specs.Spelling.{before, behind, list, IsString, FitsList}
+use Rattle.nr_bytes.specs.Spelling.{before, behind, list}
 use Rattle.nr_bytes.specs.Writing.{counted_bytes}
 use Rattle.nr_bytes.proofs.Fields.{nat_law, string_law}
 use Rattle.nr_bytes.proofs.Numbers.{length-little}
-use Rattle.nr_bytes.proofs.Steps.{answer, ok_is, lifted_ok}
+use Rattle.nr_bytes.proofs.Steps.{ok_is, lifted_ok}
 use Rattle.nr_bytes.proofs.Whole.{whole_taken, whole_again}
 use Rattle.nr_records.specs.AccessKeyLaws.{call_permission_law}
 use Rattle.nr_records.specs.AccessKeys.{call_permission_at, call_permission_bytes, IsCallPermission, permission_bytes, IsPermission, access_key_bytes, IsAccessKey}

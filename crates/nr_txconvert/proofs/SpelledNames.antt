@@ -1,5 +1,5 @@
 -- Names as they are spelled: one is told apart from those behind it.
-use Rattle.std.proofs.Common.{◌≡◌, ℕ, ◌+◌, ◌<◌, ◌≤◌, Bool, true, false, List, [], ◌∷◌, ◌++◌, length, drop, Option, Some, None, Result, Ok, Err, refl, sym, ap, subst, ◌∙◌, eqb, arith}
+use Rattle.std.proofs.Common.{◌≡◌, ℕ, ◌+◌, ◌≤◌, Bool, true, false, List, [], ◌∷◌, ◌++◌, length, drop, Option, Some, None, Result, Ok, Err, refl, sym, ap, subst, ◌∙◌, arith}
 use Rattle.std.specs.Prelude.{◌==◌, ◌||◌, IsSome, unwrap_or}
 use Rattle.std.specs.List.{list_any, flat_map, AllByRecursion}
 use Rattle.std.specs.Str.{bytes_eq}
@@ -17,7 +17,6 @@ use Rattle.nr_bytes.proofs.Whole.{whole_taken, whole_again}
 use Rattle.nr_records.specs.Fault.{record_fault}
 use Rattle.nr_records.specs.Reading.{all_of, list_at, string_at}
 use Rattle.nr_records.specs.declared.fault.RecordFault.{RecordFault}
-use Rattle.nr_bytes.specs.declared.fault.BytesFault.{BytesFault}
 use Rattle.nr_columns.specs.Tables.{read_of}
 use Rattle.nr_txconvert.specs.Names.{names_read, names_in, SpellNames, IsLeft}
 
