@@ -35,10 +35,10 @@ headed_is : {X Y : Type 0} (magic : List ℕ) (r : Input → Read X) (q : Input 
 headed_is {X} {Y} magic r q o same = λ s fits. go s fits (magic_at magic s) refl
   where
     behind : (s : Input) (word : List ℕ × Input) (read : Read X) → word.1.at ≡ s.at + 4
-        → (((read >>= λ x. answered (o word.1.at x.0, x.1)) >>= λ y. answered ((word.0, y.0), y.1))
-        >>= λ p. answered (p.0.1, p.1))
-        ≡ (((read >>= λ x. answered ((word.0, x.0), x.1)) >>= λ p. answered (p.0.1, p.1))
-        >>= λ x. answered (behind_word o s.at x.0, x.1))
+        → (((read >>= λ x. answered (o word.1.at x.0, x.1)) >>= λ y. answered {X = List ℕ × Y} ((word.0, y.0), y.1))
+        >>= λ p. answered {X = Y} (p.0.1, p.1))
+        ≡ (((read >>= λ x. answered {X = List ℕ × X} ((word.0, x.0), x.1)) >>= λ p. answered {X = X} (p.0.1, p.1))
+        >>= λ x. answered {X = Y} (behind_word o s.at x.0, x.1))
     behind s word (Ok x) e = ap (λ (m : ℕ). answered (o m x.0, x.1)) e
     behind s word (Err f) e = refl
 

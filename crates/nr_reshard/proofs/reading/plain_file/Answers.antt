@@ -1,6 +1,4 @@
 -- The goals of `reading::plain_file` that no tactic closes.
-use Rattle.std.proofs.Common.{sym, subst}
-use Rattle.nr_bytes.specs.Answers.{Gives}
 use Rattle.nr_reshard.proofs.Sound.{plain_before, plain_found, plain_gives, plain_only, plain_priced, plain_whole}
 use Rattle.nr_reshard.proofs.reading.plain_file.Goals as goal
 
