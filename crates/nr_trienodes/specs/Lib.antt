@@ -11,3 +11,5 @@ pub mod NodeBytes
 pub mod SharedBytes
 pub mod Bodies
 pub mod Own
+pub mod Merging
+pub mod Opened

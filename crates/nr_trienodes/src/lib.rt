@@ -9,9 +9,11 @@ mod finding;
 mod hashing;
 mod listing;
 mod making;
+mod merging;
 mod names;
 mod node_bytes;
 mod nodes;
+mod open_way;
 mod packed;
 mod putting;
 mod settling;
@@ -22,4 +24,5 @@ mod trimming;
 mod turn;
 
 pub use fault::NodesFault;
+pub use merging::{Change, CountedRoot};
 pub use nodes::{NodeId, Nodes};
