@@ -1,13 +1,11 @@
-//! Changes of the arena of nodes, which always has room for one more.
+//! Room in the arena of nodes, which is trimmed before a change where it has grown.
 
-ghost use Rattle.std.specs.Prelude.{◌≡◌, ◌≤◌, ◌+◌, ◌*◌, ◌^◌, Some, cond, length, min, IfOk, IfSome, OnOk};
-ghost use Rattle.std.specs.FinMap as map;
-ghost use Rattle.nr_triedef.specs.Node.{nibbles};
+ghost use Rattle.std.specs.Prelude.{◌≡◌, ◌≤◌, ◌+◌, ◌^◌, cond, length, min, IfOk, IfSome, OnOk};
 ghost use Rattle.nr_triedef.specs.Stores.{most_entries, IsSizedEntry};
-ghost use Rattle.nr_trienodes.specs.Roots.{IsRoot, contents, Keeps, IsChanged};
-ghost use Rattle.nr_trieupdate.specs.Levels.{most_nodes, AreFew, AreMoved, IsBounded};
+ghost use Rattle.nr_trienodes.specs.Roots.{IsRoot};
+ghost use Rattle.nr_trieupdate.specs.Room.{most_nodes, IsFew, IsMoved, IsBounded};
 
-use nr_trienodes::{NodeId, Nodes, NodesFault};
+use nr_trienodes::{NodeId, Nodes};
 use std::alloc::AllocError;
 
 // Beyond a quarter of what stays at a trim of all nodes, an arena may grow by this many until the next.
@@ -54,93 +52,57 @@ pub(crate) fn first_limits() -> Limits
     limits_of(0, SLACK)
 }
 
-// Trims the whole arena to the tries of the roots. The roots stay where memory ran out.
-fn trim_all(nodes: &mut Nodes, roots: &mut [Option<NodeId>]) -> Result<Limits, AllocError>
-    requires nine { length roots.old ≡ 9 }
-    requires few { AreFew nodes.old roots.old }
-    ensures moved { AreMoved nodes.old roots.old nodes.new roots.new }
+// Trims the young nodes to the trie of the root. The root stays where memory ran out.
+fn trim_young(nodes: &mut Nodes, root: &mut Option<NodeId>, oldest: usize) -> Result<(), AllocError>
+    requires { IsRoot nodes.old root.old }
+    ensures { IsMoved nodes.old nodes.new root.old root.new }
+{
+    let mut roots = [*root];
+    nodes.trim_young(oldest, &mut roots)?;
+    *root = roots[0];
+    Ok(())
+}
+
+// Trims the whole arena to the trie of the root. The root stays where memory ran out.
+fn trim_all(nodes: &mut Nodes, root: &mut Option<NodeId>) -> Result<Limits, AllocError>
+    requires { IsFew nodes.old root.old }
+    ensures moved { IsMoved nodes.old nodes.new root.old root.new }
     ensures room { OnOk result (length nodes.new ≤ most_nodes) }
     ensures bounded { IfOk result (λ limits. IsBounded limits) }
 {
-    nodes.trim(roots)?;
+    let mut roots = [*root];
+    nodes.trim(&mut roots)?;
+    *root = roots[0];
     let held = nodes.len();
     Ok(limits_of(held, held + held / 4 + SLACK))
 }
 
-/// Trims the arena to the tries of the roots where it holds more nodes than the limits allow: its
-/// young nodes, and behind that all, where few more could be made until then. Gives the next limits.
+/// Trims the arena to the trie of the root where it holds more nodes than the limits allow: its young
+/// nodes, and behind that all, where few more could be made until then. Gives the next limits.
 ///
 /// # Errors
 ///
-/// Where memory ran out. The roots then stand for what they did.
+/// Where memory ran out. The root then stands for what it did.
 pub(crate) fn make_room(
     nodes: &mut Nodes,
-    roots: &mut [Option<NodeId>],
+    root: &mut Option<NodeId>,
     limits: Limits,
 ) -> Result<Limits, AllocError>
-    requires nine { length roots.old ≡ 9 }
-    requires few { AreFew nodes.old roots.old }
+    requires few { IsFew nodes.old root.old }
     requires bounded { IsBounded limits }
-    ensures moved { AreMoved nodes.old roots.old nodes.new roots.new }
+    ensures moved { IsMoved nodes.old nodes.new root.old root.new }
     ensures room { OnOk result (length nodes.new ≤ most_nodes) }
     ensures bounded { IfOk result (λ limits. IsBounded limits) }
 {
     if nodes.len() <= limits.young {
         return Ok(limits);
     }
-    nodes.trim_young(limits.oldest, roots)?;
+    trim_young(nodes, root, limits.oldest)?;
     let held = nodes.len();
     if limits.all.saturating_sub(held) >= LEAST_YOUNG {
         return Ok(limits_of(held, limits.all));
     }
-    trim_all(nodes, roots)
-}
-
-/// Puts a value at a key.
-///
-/// # Errors
-///
-/// Where memory ran out. The arena is then as it was. It is never full.
-pub(crate) fn put(
-    nodes: &mut Nodes,
-    root: Option<NodeId>,
-    key: &[u8],
-    value: &[u8],
-) -> Result<NodeId, AllocError>
-    requires root { IsRoot nodes.old root }
-    requires sized { IsSizedEntry key.now value.now }
-    requires room { length nodes.old ≤ most_nodes }
-    ensures kept { Keeps nodes.old nodes.new }
-    ensures put { IfOk result (λ id. IsChanged nodes.old nodes.new root (Some id) (map.insert (contents nodes.old root) key.now value.now) (2 * length (nibbles key.now) + 3)) }
-{
-    match nodes.put(root, key, value) {
-        Ok(id) => Ok(id),
-        Err(NodesFault::Memory) => Err(AllocError),
-        Err(NodesFault::Full { .. }) => unreachable!(),
-    }
-}
-
-/// Takes a key out.
-///
-/// # Errors
-///
-/// Where memory ran out. The arena is then as it was. It is never full.
-pub(crate) fn cut(
-    nodes: &mut Nodes,
-    root: Option<NodeId>,
-    key: &[u8],
-) -> Result<Option<NodeId>, AllocError>
-    requires root { IsRoot nodes.old root }
-    requires short { length key.now ≤ 70000000 }
-    requires room { length nodes.old ≤ most_nodes }
-    ensures kept { Keeps nodes.old nodes.new }
-    ensures cut { IfOk result (λ id. IsChanged nodes.old nodes.new root id (map.remove (contents nodes.old root) key.now) (2 * length (nibbles key.now) + 3)) }
-{
-    match nodes.cut(root, key) {
-        Ok(id) => Ok(id),
-        Err(NodesFault::Memory) => Err(AllocError),
-        Err(NodesFault::Full { .. }) => unreachable!(),
-    }
+    trim_all(nodes, root)
 }
 
 // The most entries that a store holds.
