@@ -22,6 +22,7 @@ mod spare;
 mod threads;
 mod trimming;
 mod turn;
+mod wide_bytes;
 
 pub use fault::NodesFault;
 pub use merging::{Change, CountedRoot};
