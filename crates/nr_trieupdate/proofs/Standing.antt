@@ -1,7 +1,7 @@
 -- The root of a trie after its arena was trimmed, or changed.
 use Rattle.std.proofs.Common.{◌≡◌, ℕ, ◌+◌, ◌*◌, ◌≤◌, List, [], ◌∷◌, Option, None, length, get_or, refl, sym, ap, ◌∙◌, subst, arith}
 use Rattle.std.proofs.lemmas.List.Sums.{sum_by-cons}
-use Rattle.std.specs.Prelude.{sum_by}
+use Rattle.std.specs.Prelude.{sum_by, Result, Ok, Err, OnErr}
 use Rattle.std.specs.FinMap.{entries}
 use Rattle.nr_triedef.specs.Root.{Contents}
 use Rattle.nr_triedef.specs.Stores.{IsSized}
@@ -41,6 +41,11 @@ moved_kept u v w top mid a k = record { root = k.root mid a.root; held = k.map m
 
 pub moved_same : (v w : Arena) (top : Option NodeId) → IsRoot v top → Keeps v w → IsMoved v w top top
 moved_same v w top root k = record { root = k.root top root; held = k.map top root; debt = k.cost top root }
+
+-- ---- what holds anyway, where a call fails
+pub on_err : {A E P : Type 0} (r : Result A E) → P → OnErr r P
+on_err (Ok x) h = tt
+on_err (Err e) h = h
 
 -- ---- the root with its count
 pub few_level : (v : Arena) (top : CountedRoot) → IsLevel v top → IsFew v top.root

@@ -1,6 +1,7 @@
-use Rattle.std.proofs.Common.{ap, ◌∙◌, arith}
+use Rattle.std.proofs.Common.{◌≤◌, ap, ◌∙◌, arith}
+use Rattle.nr_trienodes.specs.Roots.{cost}
 use Rattle.nr_trienodes.specs.Merging.{merged, merge_weight}
-use Rattle.nr_trieupdate.proofs.Standing.{few_level, count_moved, moved_kept, merged_behind, level_merged}
+use Rattle.nr_trieupdate.proofs.Standing.{on_err, few_level, count_moved, moved_kept, merged_behind, level_merged}
 use Rattle.nr_trieupdate.proofs.base.Base.merge.Goals as goal
 
 pub make_room-requires-clause-few : goal.make_room-requires-clause-few
@@ -10,12 +11,15 @@ pub merge-requires-clause-count : goal.merge-requires-clause-count
 merge-requires-clause-count c = count_moved c.self.inside.nodes c.make_room.new.nodes c.self.inside.top c.make_room.new.root c.self.invariant.level c.in_ok-self-inside.ensures.moved
 
 pub returns-in_err-self-inside-clause-less : goal.returns-in_err-self-inside-clause-less
-returns-in_err-self-inside-clause-less c = omega (arith, c.in_err-self-inside.ensures.moved.debt, ap (λ v. v.unhashed) c.self.view_is)
+returns-in_err-self-inside-clause-less c =
+    let less : cost c.make_room.new.nodes c.make_room.new.root ≤ c.args.self.now.unhashed = omega (arith, c.in_err-self-inside.ensures.moved.debt, ap (λ v. v.unhashed) c.self.view_is) in
+    on_err c.from_residual.result less
 
 pub returns-in_err-top-clause-less : goal.returns-in_err-top-clause-less
 returns-in_err-top-clause-less c =
     let moved = moved_kept c.self.inside.nodes c.make_room.new.nodes c.merge.new.self c.self.inside.top.root c.make_room.new.root c.in_ok-self-inside.ensures.moved c.in_err-top.ensures.kept in
-    omega (arith, moved.debt, ap (λ v. v.unhashed) c.self.view_is)
+    let less : cost c.merge.new.self c.make_room.new.root ≤ c.args.self.now.unhashed = omega (arith, moved.debt, ap (λ v. v.unhashed) c.self.view_is) in
+    on_err c.from_residual-in_err-top.result less
 
 pub returns-clause-ok : goal.returns-clause-ok
 returns-clause-ok c =
