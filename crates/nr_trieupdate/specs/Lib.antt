@@ -1,7 +1,7 @@
 pub mod BaseView
 pub mod Bases
-pub mod Levels
 pub mod Moving
 pub mod Overlays
+pub mod Room
 pub mod Tries
 pub mod View
