@@ -32,9 +32,10 @@ fn three(nodes: &mut Nodes) -> Result<([u8; 32], usize), AllocError> {
     seen(nodes, top)
 }
 
-/// Four keys out of order, one of them twice.
+/// Four keys out of order, one of them twice, with another value first.
 fn four(nodes: &mut Nodes) -> Result<([u8; 32], usize), AllocError> {
-    let changes = [put(b"c"), put(b"b1"), put(b"ab"), put(b"a"), put(b"c")];
+    let other = Change::of(b"c", Some(b"x"));
+    let changes = [other, put(b"b1"), put(b"ab"), put(b"a"), put(b"c")];
     let top = nodes.merge(CountedRoot::none(), &changes)?;
     seen(nodes, top)
 }

@@ -598,8 +598,8 @@ impl Nodes {
     ///
     /// # Errors
     ///
-    /// Want of memory, as which count a value of 2^32 bytes or more, a usage that passes u64 and 2^32
-    /// nodes. The nodes are then as they were.
+    /// Where memory ran out. A value of 2^32 bytes or more, a usage that passes u64, a count that passes
+    /// usize, and 2^32 nodes count as that. The nodes are then as they were.
     #[tactic(auto, using(crate::proofs::Merged::merged_none, crate::proofs::Merged::merged_one, crate::proofs::Changed::keeps_refl))]
     pub fn merge(
         &mut self,
