@@ -1,3 +1,4 @@
+-- The goals of `lending::lent_entries` that no tactic closes.
 use Rattle.nr_store.proofs.Listed.{lent_walked}
 use Rattle.nr_store.proofs.lending.lent_entries.Goals as goal
 

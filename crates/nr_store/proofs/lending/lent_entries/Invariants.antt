@@ -1,3 +1,4 @@
+-- What holds at the loops of `lending::lent_entries`.
 use Rattle.std.proofs.Common.{◌≡◌, ◌++◌}
 use Rattle.nr_store.specs.Plain.{keyed, filled}
 use Rattle.nr_store.proofs.lending.lent_entries.Given as goal

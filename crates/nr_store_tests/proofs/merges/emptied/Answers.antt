@@ -1,3 +1,4 @@
+-- The goals of `merges::emptied` that no tactic closes.
 use Rattle.nr_store_tests.proofs.merges.emptied.Goals as goal
 
 pub find-requires : goal.find-requires

@@ -1,3 +1,4 @@
+-- The goals of `merging::change_one` that no tactic closes.
 use Rattle.std.proofs.Common.{◌+◌, ◌*◌, length}
 use Rattle.nr_triedef.specs.Node.{nibbles}
 use Rattle.nr_trienodes.proofs.Counts.{one_counted}

@@ -1,3 +1,4 @@
+-- The goals of `merging::change_several` that no tactic closes.
 use Rattle.nr_trienodes.proofs.Merged.{is_merged, is_counted, merges_named, merged_few}
 use Rattle.nr_trienodes.proofs.merging.change_several.Goals as goal
 

@@ -1,3 +1,4 @@
+-- The goals of `merging::close` that no tactic closes.
 use Rattle.std.proofs.Common.{◌≡◌, ap, refl, ◌∙◌, subst, length, set}
 use Rattle.nr_trienodes.specs.Turns.{Settles}
 use Rattle.nr_trienodes.specs.declared.open_way.OpenNode.{OpenNode}

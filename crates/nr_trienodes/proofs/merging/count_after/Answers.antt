@@ -1,3 +1,4 @@
+-- The goals of `merging::count_after` that no tactic closes.
 use Rattle.std.proofs.Common.{ap, sym, ◌∙◌}
 use Rattle.std.specs.Option.{option_copied}
 use Rattle.nr_trienodes.specs.Merging.{Changing}

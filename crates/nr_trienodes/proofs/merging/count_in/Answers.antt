@@ -1,3 +1,4 @@
+-- The goals of `merging::count_in` that no tactic closes.
 use Rattle.std.proofs.Common.{ap, ◌∙◌, List, ℕ, Option}
 use Rattle.std.specs.Prelude.{is_some}
 use Rattle.nr_trienodes.proofs.merging.count_in.Goals as goal

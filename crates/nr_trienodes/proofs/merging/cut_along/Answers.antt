@@ -1,3 +1,4 @@
+-- The goals of `merging::cut_along` that no tactic closes.
 use Rattle.std.proofs.Common.{◌+◌, length, None, false, refl, subst, arith}
 use Rattle.nr_triedef.specs.Node.{nibbles}
 use Rattle.nr_trienodes.specs.Turns.{left}

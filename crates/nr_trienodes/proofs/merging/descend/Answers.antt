@@ -1,3 +1,4 @@
+-- The goals of `merging::descend` that no tactic closes.
 use Rattle.std.proofs.Common.{sym, subst}
 use Rattle.nr_trienodes.specs.Opened.{IsOpened}
 use Rattle.nr_trienodes.specs.declared.open_way.OpenNode.{OpenNode}

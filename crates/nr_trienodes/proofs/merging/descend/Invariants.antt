@@ -1,3 +1,4 @@
+-- What holds at the loops of `merging::descend`.
 use Rattle.std.proofs.Common.{length}
 use Rattle.nr_trienodes.specs.Turns.{left}
 use Rattle.nr_trienodes.specs.Opened.{IsAlong, Steady}

@@ -1,3 +1,4 @@
+-- The goals of `merging::finish` that no tactic closes.
 use Rattle.std.proofs.Common.{arith}
 use Rattle.nr_trienodes.proofs.Sets.{extends_trans}
 use Rattle.nr_trienodes.proofs.Moves.{steady_trans, finished}

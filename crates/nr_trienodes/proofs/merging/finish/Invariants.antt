@@ -1,3 +1,4 @@
+-- What holds at the loops of `merging::finish`.
 use Rattle.std.proofs.Common.{length}
 use Rattle.nr_trienodes.specs.Opened.{Steady}
 use Rattle.nr_trienodes.proofs.merging.finish.Given as goal

@@ -1,3 +1,4 @@
+-- The goals of `merging::fork` that no tactic closes.
 use Rattle.std.proofs.Common.{ap, ◌∙◌}
 use Rattle.std.proofs.Common.{List, ℕ}
 use Rattle.nr_trienodes.specs.Tries.{stripped}

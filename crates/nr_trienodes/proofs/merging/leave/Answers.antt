@@ -1,3 +1,4 @@
+-- The goals of `merging::leave` that no tactic closes.
 use Rattle.std.proofs.Common.{arith}
 use Rattle.nr_trienodes.specs.Opened.{path}
 use Rattle.nr_trienodes.proofs.Sets.{extends_trans}

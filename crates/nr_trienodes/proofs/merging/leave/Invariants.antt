@@ -1,3 +1,4 @@
+-- What holds at the loops of `merging::leave`.
 use Rattle.std.proofs.Common.{length}
 use Rattle.nr_trienodes.specs.Opened.{IsAlong, Steady}
 use Rattle.nr_trienodes.proofs.merging.leave.Given as goal

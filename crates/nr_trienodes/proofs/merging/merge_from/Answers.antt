@@ -1,3 +1,4 @@
+-- The goals of `merging::merge_from` that no tactic closes.
 use Rattle.std.proofs.Common.{ap, arith}
 use Rattle.nr_trienodes.specs.Merging.{Changing}
 use Rattle.nr_trienodes.proofs.Sets.{extends_trans}

@@ -1,3 +1,4 @@
+-- What holds at the loops of `merging::merge_from`.
 use Rattle.std.proofs.Common.{take}
 use Rattle.nr_trienodes.proofs.Merged.{Merging}
 use Rattle.nr_trienodes.proofs.merging.merge_from.Given as goal

@@ -1,3 +1,4 @@
+-- The goals of `merging::put_along` that no tactic closes.
 use Rattle.std.proofs.Common.{◌+◌, ℕ, List, Option, length, Some, ap, refl, subst, arith}
 use Rattle.nr_triedef.specs.Node.{nibbles}
 use Rattle.nr_trienodes.specs.Turns.{left, Sets, stands_for}

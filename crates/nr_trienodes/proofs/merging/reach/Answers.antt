@@ -1,3 +1,4 @@
+-- The goals of `merging::reach` that no tactic closes.
 use Rattle.std.proofs.Common.{ap, ◌∙◌, List, ℕ}
 use Rattle.nr_trienodes.specs.Tries.{stripped}
 use Rattle.nr_trienodes.specs.Turns.{left}

@@ -1,3 +1,4 @@
+-- The goals of `merging::regrow` that no tactic closes.
 use Rattle.std.proofs.Common.{refl}
 use Rattle.nr_trienodes.proofs.Moves.{regrown}
 use Rattle.nr_trienodes.proofs.merging.regrow.Goals as goal

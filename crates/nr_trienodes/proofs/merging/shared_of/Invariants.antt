@@ -1,3 +1,4 @@
+-- What holds at the loops of `merging::shared_of`.
 use Rattle.std.proofs.Common.{◌-◌, ◌≡◌, ◌≤◌, take}
 use Rattle.nr_trienodes.proofs.merging.shared_of.Given as goal
 

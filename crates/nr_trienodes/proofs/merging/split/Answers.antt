@@ -1,3 +1,4 @@
+-- The goals of `merging::split` that no tactic closes.
 use Rattle.std.proofs.Common.{◌≡◌, ℕ, List, Option, ap, refl, subst, ◌∙◌, set}
 use Rattle.nr_trienodes.specs.Shape.{no_children}
 use Rattle.nr_trienodes.specs.Turns.{Settles}

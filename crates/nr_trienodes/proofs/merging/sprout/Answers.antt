@@ -1,3 +1,4 @@
+-- The goals of `merging::sprout` that no tactic closes.
 use Rattle.std.proofs.Common.{◌≡◌, ap, sym, subst, ◌∙◌}
 use Rattle.nr_triedef.specs.Node.{IsNibbles}
 use Rattle.nr_trienodes.specs.declared.open_way.OpenNode.{OpenNode}

@@ -1,3 +1,4 @@
+-- The goals of `merging::top_of` that no tactic closes.
 use Rattle.nr_trienodes.proofs.Moves.{top_some}
 use Rattle.nr_trienodes.proofs.merging.top_of.Goals as goal
 

@@ -1,3 +1,4 @@
+-- The goals of `merging::work_in` that no tactic closes.
 use Rattle.nr_trienodes.proofs.Sets.{extends_trans}
 use Rattle.nr_trienodes.proofs.merging.work_in.Goals as goal
 

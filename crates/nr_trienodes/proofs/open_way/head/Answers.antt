@@ -1,3 +1,4 @@
+-- The goals of `open_way::head` that no tactic closes.
 use Rattle.std.proofs.Common.{◌≡◌, ◌+◌, length, ap, refl, ◌∙◌, sym, arith}
 use Rattle.nr_trienodes.specs.Opened.{shape_of}
 use Rattle.nr_trienodes.proofs.Keys.{goes_by}

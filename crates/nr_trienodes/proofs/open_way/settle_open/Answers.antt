@@ -1,3 +1,4 @@
+-- The goals of `open_way::settle_open` that no tactic closes.
 use Rattle.std.proofs.Common.{◌≡◌, false}
 use Rattle.std.specs.Prelude.{is_some}
 use Rattle.nr_trienodes.proofs.Settled.{settles_none, settles_single}

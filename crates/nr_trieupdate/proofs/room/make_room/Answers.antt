@@ -1,3 +1,4 @@
+-- The goals of `room::make_room` that no tactic closes.
 use Rattle.nr_trieupdate.proofs.Standing.{both_moved, few_moved}
 use Rattle.nr_trieupdate.proofs.room.make_room.Goals as goal
 

@@ -1,3 +1,4 @@
+-- The goals of `room::trim_all` that no tactic closes.
 use Rattle.std.proofs.Common.{◌≤◌, length, refl, arith}
 use Rattle.nr_trieupdate.proofs.Standing.{moved_one, unmoved, few_nodes}
 use Rattle.nr_trieupdate.proofs.room.trim_all.Goals as goal

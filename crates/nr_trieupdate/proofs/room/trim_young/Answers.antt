@@ -1,3 +1,4 @@
+-- The goals of `room::trim_young` that no tactic closes.
 use Rattle.std.proofs.Common.{refl}
 use Rattle.nr_trieupdate.proofs.Standing.{moved_one, unmoved}
 use Rattle.nr_trieupdate.proofs.room.trim_young.Goals as goal

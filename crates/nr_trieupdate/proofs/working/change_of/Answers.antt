@@ -1,3 +1,4 @@
+-- The goals of `working::change_of` that no tactic closes.
 use Rattle.std.proofs.Common.{ap, ◌∙◌}
 use Rattle.nr_trieupdate.specs.Overlays.{kept}
 use Rattle.nr_trieupdate.proofs.working.change_of.Goals as goal

@@ -1,3 +1,4 @@
+-- What holds at the loops of `working::changes_of`.
 use Rattle.std.proofs.Common.{◌≡◌, take}
 use Rattle.std.specs.Prelude.{map}
 use Rattle.nr_trieupdate.specs.Overlays.{change_of}

@@ -1,3 +1,4 @@
+-- The goals of `working::root_over` that no tactic closes.
 use Rattle.std.proofs.Common.{List, ap, ◌∙◌, arith}
 use Rattle.nr_triedef.specs.Root.{root_of}
 use Rattle.nr_trienodes.specs.Merging.{Changing, merged, merge_weight}

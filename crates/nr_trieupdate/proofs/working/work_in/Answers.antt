@@ -1,3 +1,4 @@
+-- The goals of `working::work_in` that no tactic closes.
 use Rattle.std.proofs.Common.{List, ap, sym, ◌∙◌, subst, arith}
 use Rattle.nr_triedef.specs.Stores.{IsSized}
 use Rattle.nr_trienodes.specs.Merging.{Changing, merged, merge_weight}

@@ -1,3 +1,4 @@
+-- The goals of `plain::PlainStore::clear` that no tactic closes.
 use Rattle.std.proofs.Common.{◌≡◌, sym, subst, ap}
 use Rattle.nr_triedef.specs.Stores.{IsSized}
 use Rattle.nr_store.specs.Plain.{HaveSlots, held_in}

@@ -1,3 +1,4 @@
+-- The goals of `merging::CountedRoot::none` that no tactic closes.
 use Rattle.nr_trienodes.proofs.Counts.{none_counted}
 use Rattle.nr_trienodes.proofs.merging.CountedRoot.none.Goals as goal
 

@@ -1,3 +1,4 @@
+-- The goals of `nodes::Nodes::push` that no tactic closes.
 use Rattle.std.proofs.Common.{◌∙◌, List, ℕ, subst, sym}
 use Rattle.nr_triedef.specs.Node.{IsNibbles}
 use Rattle.nr_trienodes.specs.Views.{Adds}

@@ -1,3 +1,4 @@
+-- The goals of `nodes::Nodes::push_held` that no tactic closes.
 use Rattle.std.proofs.Common.{◌∙◌, ◌<◌, ◌+◌, ◌^◌, ap, refl, List, arith}
 use Rattle.std.specs.Prelude.{ℕ}
 use Rattle.nr_trienodes.specs.Tries.{own_usage}

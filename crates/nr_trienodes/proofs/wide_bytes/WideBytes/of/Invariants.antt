@@ -1,3 +1,4 @@
+-- What holds at the loops of `wide_bytes::WideBytes::of`.
 use Rattle.std.proofs.Common.{◌≡◌, ◌<◌, ℕ, length, get_or}
 use Rattle.nr_trienodes.proofs.wide_bytes.WideBytes.of.Given as goal
 

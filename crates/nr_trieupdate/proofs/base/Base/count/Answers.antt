@@ -1,3 +1,4 @@
+-- The goals of `base::Base::count` that no tactic closes.
 use Rattle.std.proofs.Common.{◌∙◌, ap, length}
 use Rattle.std.specs.FinMap.{entries}
 use Rattle.nr_trieupdate.proofs.base.Base.count.Goals as goal

@@ -1,3 +1,4 @@
+-- The goals of `base::Base::merge` that no tactic closes.
 use Rattle.std.proofs.Common.{◌≤◌, ap, ◌∙◌, arith}
 use Rattle.nr_trienodes.specs.Roots.{cost}
 use Rattle.nr_trienodes.specs.Merging.{merged, merge_weight}

@@ -1,3 +1,4 @@
+-- The goals of `base::Base::new` that no tactic closes.
 use Rattle.nr_trieupdate.proofs.Counting.{held_none, cost_none, level_none}
 use Rattle.nr_trieupdate.proofs.base.Base.new.Goals as goal
 

@@ -1,3 +1,4 @@
+-- The goals of `base::Base::root` that no tactic closes.
 use Rattle.std.proofs.Common.{ap, arith}
 use Rattle.nr_trieupdate.proofs.base.Base.root.Goals as goal
 

@@ -1,3 +1,4 @@
+-- The goals of `base::Base::root_with` that no tactic closes.
 use Rattle.std.proofs.Common.{ap, ◌∙◌, arith}
 use Rattle.nr_triedef.specs.Root.{root_of}
 use Rattle.nr_trienodes.specs.Merging.{merged, merge_weight}

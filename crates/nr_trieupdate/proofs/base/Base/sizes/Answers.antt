@@ -1,3 +1,4 @@
+-- The goals of `base::Base::sizes` that no tactic closes.
 use Rattle.std.proofs.Common.{subst}
 use Rattle.nr_triedef.specs.Stores.{IsSized}
 use Rattle.nr_trieupdate.proofs.base.Base.sizes.Goals as goal

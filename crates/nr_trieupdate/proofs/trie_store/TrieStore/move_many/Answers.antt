@@ -1,3 +1,4 @@
+-- The goals of `trie_store::TrieStore::move_many` that no tactic closes.
 use Rattle.std.proofs.Common.{◌≡◌, ◌≤◌, [], refl, ap, sym, ◌∙◌, subst, arith, length}
 use Rattle.nr_triedef.specs.Stores.{IsSized}
 use Rattle.nr_trieupdate.proofs.Stored.{settled_count, settled_layers, nothing_stands}

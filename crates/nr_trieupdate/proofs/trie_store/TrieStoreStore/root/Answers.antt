@@ -1,3 +1,4 @@
+-- The goals of `trie_store::TrieStoreStore::root` that no tactic closes.
 use Rattle.std.proofs.Common.{◌≡◌, [], refl, ap, sym, ◌∙◌, subst, arith, length}
 use Rattle.nr_triedef.specs.Root.{root_of}
 use Rattle.nr_triedef.specs.Stores.{IsSized}
