@@ -1,5 +1,7 @@
--- Open nodes along a key: the map that stands under the root once they are closed, and what turns of the way change of it. This project's own.
-use Rattle.std.specs.Prelude.{◌≡◌, ◌==◌, ℕ, ◌+◌, ◌*◌, ◌<◌, ◌≤◌, Bool, false, cond, List, [], ◌∷◌, ◌++◌, length, is_some, count_by, sum_by, slice_set, Option, Some, None}
+-- Open nodes along a key: the map that stands under the root once they are closed, and what turns of the way change
+-- of it. This project's own.
+use Rattle.std.specs.Prelude.{◌≡◌, ◌==◌, ℕ, ◌+◌, ◌*◌, ◌<◌, ◌≤◌, Bool, false, cond, List, [], ◌∷◌, ◌++◌, length, is_some}
+use Rattle.std.specs.Prelude.{count_by, sum_by, slice_set, Option, Some, None}
 use Rattle.std.specs.List.{AllByRecursion}
 use Rattle.std.specs.FinMap.{get, entries}
 use Rattle.nr_triedef.specs.Node.{nibbles, IsNibbles}
@@ -146,16 +148,19 @@ Reads f m = (q : List ℕ) → f (nibbles q) ≡ get m q
 
 -- the count of a map's entries becomes theirs with another value at a key, or with none, where the key was there or not
 abbrev pub CountsOn : Bool → List ℕ → Option (List ℕ) → ℕ → ℕ → Type 0
-CountsOn found k o before after = (m : Contents) → found ≡ is_some (get m k) → before ≡ length (entries m) → after ≡ length (entries (with_value m k o))
+CountsOn found k o before after =
+    (m : Contents) → found ≡ is_some (get m k) → before ≡ length (entries m) → after ≡ length (entries (with_value m k o))
 
 -- it becomes theirs after all changes
 abbrev pub CountsAll : Answer → List Changing → ℕ → ℕ → Type 0
-CountsAll f changes before after = (m : Contents) → Reads f m → before ≡ length (entries m) → after ≡ length (entries (merged changes m))
+CountsAll f changes before after =
+    (m : Contents) → Reads f m → before ≡ length (entries m) → after ≡ length (entries (merged changes m))
 
 -- a node, or none, that stands for what an older one does but for the changes, and how many entries that is
-pub record Merges (old new : List Shape) (root id : Option ℕ) (changes : List Changing) (before after : ℕ) : Type 0 where
-  pub there : IsIn (length new) id
-  pub sets : AllSet changes (found_in old root) (found_in new id)
-  pub counts : CountsAll (found_in old root) changes before after
-  pub few : length new ≤ length old + merge_count changes + 1
-  pub cost : cost_in new id ≤ cost_in old root + 2 * merge_count changes + 2
+pub record Merges (old new : List Shape) (root id : Option ℕ) (changes : List Changing) (before after : ℕ) : Type 0
+  where
+    pub there : IsIn (length new) id
+    pub sets : AllSet changes (found_in old root) (found_in new id)
+    pub counts : CountsAll (found_in old root) changes before after
+    pub few : length new ≤ length old + merge_count changes + 1
+    pub cost : cost_in new id ≤ cost_in old root + 2 * merge_count changes + 2

@@ -1,6 +1,7 @@
 //! Many changes worked in at once: each node along their keys is opened once, and made once.
 
-ghost use Rattle.std.specs.Prelude.{◌≡◌, ◌≢◌, ◌<◌, ◌≤◌, ◌+◌, ◌*◌, ◌-◌, ◌∷◌, [], ℕ, List as Items, true, cond, is_some, None, Some, length, take, drop, slice_index, IfOk, OnOk, OnErr};
+ghost use Rattle.std.specs.Prelude.{◌≡◌, ◌≢◌, ◌<◌, ◌≤◌, ◌+◌, ◌*◌, ◌-◌, ◌∷◌, [], ℕ, List as Items, true, cond};
+ghost use Rattle.std.specs.Prelude.{is_some, None, Some, length, take, drop, slice_index, IfOk, OnOk, OnErr};
 ghost use Rattle.std.specs.Option.{option_copied};
 ghost use Rattle.std.specs.FinMap as map;
 ghost use Rattle.nr_triedef.specs.Node.{nibbles};
@@ -9,7 +10,8 @@ ghost use Rattle.nr_trienodes.specs.Tries.{stripped, found_in, cost_in};
 ghost use Rattle.nr_trienodes.specs.Views.{IsIn};
 ghost use Rattle.nr_trienodes.specs.Turns.{Extends, GoesBy, Parts, left};
 ghost use Rattle.nr_trienodes.specs.Roots.{IsRoot, IsChanged, contents, name_in, Keeps};
-ghost use Rattle.nr_trienodes.specs.Opened.{IsWay, IsAlong, Steady, Alters, HeadsSo, is_bare, shape_of, holds, way_cost, Merges, TopsSo, StartsSo, CountsOn, CountsAll};
+ghost use Rattle.nr_trienodes.specs.Opened.{IsWay, IsAlong, Steady, Alters, HeadsSo, is_bare, shape_of, holds};
+ghost use Rattle.nr_trienodes.specs.Opened.{way_cost, Merges, TopsSo, StartsSo, CountsOn, CountsAll};
 ghost use Rattle.nr_trienodes.specs.Merging.{with_value, merged, merge_weight};
 ghost use Rattle.nr_trienodes.specs.declared.turn.Turn.TheVariants.{Stops};
 
@@ -159,7 +161,8 @@ fn leave(nodes: &mut Nodes, way: &mut OpenWay, last: &[u8], key: &[u8]) -> Resul
 fn descend(nodes: &Nodes, way: &mut OpenWay, key: &[u8]) -> Result<Stop, AllocError>
     requires way { IsWay nodes.now way.old }
     requires along { IsAlong key.now way.old }
-    ensures steady { OnOk result (Steady nodes.now nodes.now way.old way.new (length (left key.now way.old.at)) (length (left key.now way.new.at))) }
+    ensures steady { OnOk result (Steady nodes.now nodes.now way.old way.new (length (left key.now way.old.at))
+        (length (left key.now way.new.at))) }
     ensures along { OnOk result (IsAlong key.now way.new) }
     ensures stops { IfOk result (λ stop. HeadsSo (length nodes.now) way.new.top key.now way.new.at (Stops stop)) }
 {
@@ -326,7 +329,8 @@ fn put_along(
 ) -> Result<bool, AllocError>
     requires way { IsWay nodes.old way.old }
     requires along { IsAlong key.now way.old }
-    ensures put { OnOk result (Alters nodes.old nodes.new way.old way.new (nibbles key.now) (Some value.now) (length (nibbles key.now) + 1) 0) }
+    ensures put { OnOk result (Alters nodes.old nodes.new way.old way.new (nibbles key.now) (Some value.now)
+        (length (nibbles key.now) + 1) 0) }
     ensures found { IfOk result (λ found. found ≡ is_some (holds nodes.old way.old (nibbles key.now))) }
     ensures along { OnOk result (IsAlong key.now way.new) }
     ensures grows { Extends nodes.old nodes.new }
@@ -343,7 +347,8 @@ fn put_along(
 fn cut_along(nodes: &Nodes, way: &mut OpenWay, key: &[u8]) -> Result<bool, AllocError>
     requires way { IsWay nodes.now way.old }
     requires along { IsAlong key.now way.old }
-    ensures cut { OnOk result (Alters nodes.now nodes.now way.old way.new (nibbles key.now) None (length (nibbles key.now) + 1) 0) }
+    ensures cut { OnOk result (Alters nodes.now nodes.now way.old way.new (nibbles key.now) None
+        (length (nibbles key.now) + 1) 0) }
     ensures found { IfOk result (λ found. found ≡ is_some (holds nodes.now way.old (nibbles key.now))) }
     ensures along { OnOk result (IsAlong key.now way.new) }
 {
@@ -368,7 +373,8 @@ fn work_in(
 ) -> Result<bool, AllocError>
     requires way { IsWay nodes.old way.old }
     requires along { IsAlong last.now way.old }
-    ensures alters { OnOk result (Alters nodes.old nodes.new way.old way.new (nibbles change.now.0) change.now.1 (length (nibbles change.now.0) + 1) 0) }
+    ensures alters { OnOk result (Alters nodes.old nodes.new way.old way.new (nibbles change.now.0) change.now.1
+        (length (nibbles change.now.0) + 1) 0) }
     ensures found { IfOk result (λ found. found ≡ is_some (holds nodes.old way.old (nibbles change.now.0))) }
     ensures along { OnOk result (IsAlong change.now.0 way.new) }
     ensures grows { Extends nodes.old nodes.new }
@@ -430,7 +436,8 @@ fn count_in(
 ) -> Result<(), AllocError>
     requires way { IsWay nodes.old way.old }
     requires along { IsAlong last.now way.old }
-    ensures alters { OnOk result (Alters nodes.old nodes.new way.old way.new (nibbles change.now.0) change.now.1 (length (nibbles change.now.0) + 1) 0) }
+    ensures alters { OnOk result (Alters nodes.old nodes.new way.old way.new (nibbles change.now.0) change.now.1
+        (length (nibbles change.now.0) + 1) 0) }
     ensures counts { OnOk result (CountsAll (holds nodes.old way.old) (change.now ∷ []) count.old count.new) }
     ensures along { OnOk result (IsAlong change.now.0 way.new) }
     ensures grows { Extends nodes.old nodes.new }
@@ -519,7 +526,8 @@ fn change_root(
     change: &Change<'_>,
 ) -> Result<Option<NodeId>, AllocError>
     requires { IsRoot nodes.old root }
-    ensures changed { IfOk result (λ id. IsChanged nodes.old nodes.new root id (with_value (contents nodes.old root) change.now.0 change.now.1) (2 * length (nibbles change.now.0) + 3)) }
+    ensures changed { IfOk result (λ id. IsChanged nodes.old nodes.new root id
+        (with_value (contents nodes.old root) change.now.0 change.now.1) (2 * length (nibbles change.now.0) + 3)) }
     ensures kept { Keeps nodes.old nodes.new }
     ensures few { length nodes.new ≤ length nodes.old + 2 * length (nibbles change.now.0) + 3 }
     ensures err { OnErr result (nodes.new ≡ nodes.old) }
@@ -545,7 +553,8 @@ fn change_one(
 ) -> Result<CountedRoot, AllocError>
     requires root { IsRoot nodes.old from.root }
     requires count { from.count ≡ length (map.entries (contents nodes.old from.root)) }
-    ensures changed { IfOk result (λ to. IsChanged nodes.old nodes.new from.root to.root (with_value (contents nodes.old from.root) change.now.0 change.now.1) (2 * length (nibbles change.now.0) + 3)) }
+    ensures changed { IfOk result (λ to. IsChanged nodes.old nodes.new from.root to.root
+        (with_value (contents nodes.old from.root) change.now.0 change.now.1) (2 * length (nibbles change.now.0) + 3)) }
     ensures counted { IfOk result (λ to. to.count ≡ length (map.entries (contents nodes.new to.root))) }
     ensures kept { Keeps nodes.old nodes.new }
     ensures few { length nodes.new ≤ length nodes.old + 2 * length (nibbles change.now.0) + 3 }
@@ -567,7 +576,8 @@ fn change_several(
     requires root { IsRoot nodes.old from.root }
     requires count { from.count ≡ length (map.entries (contents nodes.old from.root)) }
     requires several { 2 ≤ length changes.now }
-    ensures merged { IfOk result (λ to. IsChanged nodes.old nodes.new from.root to.root (merged changes.now (contents nodes.old from.root)) (merge_weight changes.now)) }
+    ensures merged { IfOk result (λ to. IsChanged nodes.old nodes.new from.root to.root
+        (merged changes.now (contents nodes.old from.root)) (merge_weight changes.now)) }
     ensures counted { IfOk result (λ to. to.count ≡ length (map.entries (contents nodes.new to.root))) }
     ensures kept { Keeps nodes.old nodes.new }
     ensures few { length nodes.new ≤ length nodes.old + merge_weight changes.now }
@@ -608,7 +618,8 @@ impl Nodes {
     ) -> Result<CountedRoot, AllocError>
         requires root { IsRoot self.old from.root }
         requires count { from.count ≡ length (map.entries (contents self.old from.root)) }
-        ensures merged { IfOk result (λ to. IsChanged self.old self.new from.root to.root (merged changes.now (contents self.old from.root)) (merge_weight changes.now)) }
+        ensures merged { IfOk result (λ to. IsChanged self.old self.new from.root to.root
+            (merged changes.now (contents self.old from.root)) (merge_weight changes.now)) }
         ensures counted { IfOk result (λ to. to.count ≡ length (map.entries (contents self.new to.root))) }
         ensures kept { Keeps self.old self.new }
         ensures few { length self.new ≤ length self.old + merge_weight changes.now }

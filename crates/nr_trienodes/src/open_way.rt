@@ -178,7 +178,9 @@ fn join_open(nodes: &mut Nodes, front: NodeBytes, nibble: u8, child: u32) -> Res
     requires child { child < length nodes.old }
     ensures few { length nodes.new ≤ length nodes.old + 1 }
     ensures grows { Extends nodes.old nodes.new }
-    ensures joined { IfOk result (λ id. Settles nodes.old nodes.new (front ++ nibble ∷ (shape_at nodes.old child).part) (shape_at nodes.old child).value (shape_at nodes.old child).below (Some id)) }
+    ensures joined { IfOk result (λ id. Settles nodes.old nodes.new
+        (front ++ nibble ∷ (shape_at nodes.old child).part) (shape_at nodes.old child).value
+        (shape_at nodes.old child).below (Some id)) }
     ensures sound { Sound nodes.old }
 {
     let _count = nodes.count();

@@ -13,4 +13,6 @@ abbrev pub contents_code : Coded Contents
 contents_code = code (coded_list coded_ℕ) (coded_list coded_ℕ)
 
 abbrev pub base_code : Coded BaseView
-base_code = code_by (Contents × ℕ) (coded× contents_code coded_ℕ) (λ v. (v.contents, v.unhashed)) (λ p. record { contents = p.0; unhashed = p.1 }) (λ _. refl)
+base_code =
+    code_by (Contents × ℕ) (coded× contents_code coded_ℕ) (λ v. (v.contents, v.unhashed))
+    (λ p. record { contents = p.0; unhashed = p.1 }) (λ _. refl)
