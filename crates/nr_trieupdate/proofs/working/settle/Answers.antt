@@ -1,5 +1,5 @@
 -- The goals of `working::settle` that no tactic closes.
-use Rattle.std.proofs.Common.{refl, sym, ◌∙◌, arith}
+use Rattle.std.proofs.Common.{refl, sym, ◌∙◌}
 use Rattle.nr_trieupdate.proofs.Moved.{stays, all_moved}
 use Rattle.nr_trieupdate.proofs.working.settle.Goals as goal
 
