@@ -471,7 +471,7 @@ fn words_and_files_are_refused_in_order(rt: HostRuntime) -> Result<(), Fail> {
 }
 
 /// A block with a call of go by alice, with these members for its block's hash and its arguments.
-fn call_text(alloc: Global, hash: &str, args: &str) -> Result<String, Fail> {
+pub(crate) fn call_text(alloc: Global, hash: &str, args: &str) -> Result<String, Fail> {
     Ok(format!(in alloc;
         "{{\"blocks\": [{{\"height\": 1, \"timestamp\": 0, \"chunks\": [[{{\"signer_id\": \"alice\",\
         \"public_key\": \"ed25519:0101010101010101010101010101010101010101010101010101010101010101\",\
@@ -493,7 +493,7 @@ fn arguments_may_be_a_text_and_a_hash_left_out(rt: HostRuntime) -> Result<(), Fa
     for (hash, args) in [
         (NO_HASH, "{\"text\": \"{\\\"\u{e9}\\\"}\"}"),
         ("", "\"7b22c3a9227d\""),
-        ("", "{\"text\": \"{\\\"\\u00e9\\\"}\", \"json\": 5}"),
+        ("", "{\"text\": \"{\\\"\\u00e9\\\"}\", \"JSON\": 5}"),
     ] {
         let short = call_text(alloc, hash, args)?;
         let (again, same) = ended(alloc, &["blocks", "F"], short.as_str().as_bytes())?;
@@ -506,11 +506,23 @@ fn arguments_may_be_a_text_and_a_hash_left_out(rt: HostRuntime) -> Result<(), Fa
 #[test]
 fn wrong_arguments_and_hashes_are_told(rt: HostRuntime) -> Result<(), Fail> {
     let alloc = rt.alloc();
-    let rows: [(&str, &str, &str); 5] = [
+    let rows: [(&str, &str, &str); 7] = [
         (
             "",
-            "{\"json\": 5}",
+            "{}",
             ".blocks[0].chunks[0][0].actions[0].FunctionCall.args.text is missing",
+        ),
+        (
+            "",
+            "{\"json\": {\"a\": [1, 2.5]}, \"text\": \"hi\"}",
+            ".blocks[0].chunks[0][0].actions[0].FunctionCall.args.json has a number that is no whole one of 64 \
+            bits: it may stand in a `text`",
+        ),
+        (
+            "",
+            "{\"json\": 18446744073709551616}",
+            ".blocks[0].chunks[0][0].actions[0].FunctionCall.args.json has a number that is no whole one of 64 \
+            bits: it may stand in a `text`",
         ),
         (
             "",

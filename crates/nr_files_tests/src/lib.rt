@@ -10,4 +10,6 @@ mod gathered;
 #[cfg(test)]
 mod people;
 #[cfg(test)]
+mod spelled;
+#[cfg(test)]
 mod texts;
