@@ -84,7 +84,8 @@ const PART_JSON: &str = "{
   \"texts\": [
     \"ff\"
   ]
-}";
+}
+";
 
 /// The proof of an item.
 const PROOF: &str = "proof receipt 1 2 3 4
@@ -103,7 +104,8 @@ const PROOF_JSON: &str = "{
   ],
   \"place\": 3,
   \"shard\": 2
-}";
+}
+";
 
 /// How a command over one file ends, and what is written.
 pub(crate) fn ended(alloc: Global, words: &[&str], file: &[u8]) -> Result<(Status, Vec<u8>), Fail> {
@@ -357,7 +359,7 @@ fn a_report_and_a_line_are_told(rt: HostRuntime) -> Result<(), Fail> {
 #[test]
 fn bytes_are_told_in_hexadecimal(rt: HostRuntime) -> Result<(), Fail> {
     let alloc = rt.alloc();
-    let rows: [(&[u8], &[u8]); 2] = [(b"\0asm\xff", b"\"0061736dff\""), (b"", b"\"\"")];
+    let rows: [(&[u8], &[u8]); 2] = [(b"\0asm\xff", b"\"0061736dff\"\n"), (b"", b"\"\"\n")];
     for (bytes, json) in rows {
         let (told, text) = ended(alloc, &["hex", "F"], bytes)?;
         assert_eq!(rt; told.exit_status(), 0);
@@ -433,39 +435,6 @@ fn entries_that_do_not_hold_together_are_told(rt: HostRuntime) -> Result<(), Fai
             refuses(alloc, &["genesis", "free", "F"], text, line)?,
             "{text}"
         );
-    }
-    Ok(())
-}
-
-#[test]
-fn words_are_told(rt: HostRuntime) -> Result<(), Fail> {
-    let alloc = rt.alloc();
-    let (told, version) = ended(alloc, &["version"], b"")?;
-    assert_eq!(rt; told.exit_status(), 0);
-    assert_eq!(rt; version.as_slice(), b"near_files 0.1.0\n".as_slice());
-    let (helped, help) = ended(alloc, &["help"], b"")?;
-    assert_eq!(rt; helped.exit_status(), 0);
-    assert!(rt; help.starts_with(b"near_files genesis CONFIG JSON\n"));
-    Ok(())
-}
-
-#[test]
-fn words_and_files_are_refused_in_order(rt: HostRuntime) -> Result<(), Fail> {
-    let alloc = rt.alloc();
-    let rows: [(&[&str], &str); 8] = [
-        (&[], "1"),
-        (&["help", "gen"], "1"),
-        (&["version", "1"], "1"),
-        (&["blocks", "-F"], "1"),
-        (&["genesis", "", "G"], "1"),
-        (&["genesis", "C", "F"], "5"),
-        (&["genesis", "F", "G"], "2 1 0"),
-        (&["genesis", "free", "G"], "5"),
-    ];
-    for (words, line) in rows {
-        let (status, written) = ended(alloc, words, b"")?;
-        assert_eq!(rt; format!(in alloc; "{status}")?.as_str(), line);
-        assert!(rt; written.is_empty());
     }
     Ok(())
 }

@@ -13,3 +13,5 @@ mod people;
 mod spelled;
 #[cfg(test)]
 mod texts;
+#[cfg(test)]
+mod words;
