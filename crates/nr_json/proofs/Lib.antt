@@ -1,4 +1,6 @@
 pub mod Amounts
+pub mod Halves
+pub mod Whole
 pub mod Loops
 pub mod Only
 pub mod PlainLaws
