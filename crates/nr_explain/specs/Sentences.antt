@@ -99,7 +99,7 @@ gathered_chunks =
     gathered (codes "0") (codes "its file is longer than 268435456 bytes.") zero_told
     ∷ gathered (codes "1") (codes "the field at byte ") unread
     ∷ gathered (codes "2") (codes "a node or a value that it needs is missing.") zero_told
-    ∷ gathered (codes "3") (codes "the text of a node has not its form.") zero_told
+    ∷ gathered (codes "3") (codes "the text of a node has not its form or doesn't fit its place or its children, or a value has another length than its node tells.") zero_told
     ∷ gathered (codes "4") (codes "its entries are no state.") zero_told
     ∷ gathered (codes "5") (codes "the action at byte ") (number (codes " (from 0) is one of staking."))
     ∷ gathered (codes "6") (codes "a gas price, gas, the tokens or the delayed receipts pass their limit.") zero_told
@@ -114,7 +114,7 @@ state_parts =
     ∷ parts (codes "2") (codes "part ") (number (codes " (from 0) has a number or a count that no part has."))
     ∷ parts (codes "3") (codes "part ") (number (codes " (from 0) has another root than the one asked for."))
     ∷ parts (codes "4") (codes "part ") (number (codes " (from 0) lacks a node that it needs."))
-    ∷ parts (codes "5") (codes "part ") (number (codes " (from 0) has the text of a node that has not its form."))
+    ∷ parts (codes "5") (codes "part ") (number (codes " (from 0) has the text of a node that has not its form, or doesn't fit its place or its children."))
     ∷ parts (codes "6") (codes "entry ") (number (codes " (from 0) of a part is not the one that its nodes have."))
     ∷ parts (codes "7") (codes "part ") (number (codes " (from 0) has another number, or another count of parts."))
     ∷ parts (codes "8") (codes "together they have another root than the one asked for.") zero_told

@@ -10,7 +10,7 @@ reported =
     ∷ (word (codes "run") (codes "Receipt ") ∷ hash (codes " ran to its end. ") ∷ word (codes "value") (codes "It gave ") ∷ word (codes "-") (codes "no bytes. ") ∷ number (codes " gas and ") ∷ amount (codes " tokens were burnt.") ∷ [])
     ∷ (word (codes "run") (codes "Receipt ") ∷ hash (codes " ran to its end. ") ∷ word (codes "value") (codes "It gave the bytes ") ∷ bytes (codes ". ") ∷ number (codes " gas and ") ∷ amount (codes " tokens were burnt.") ∷ [])
     ∷ (word (codes "run") (codes "Receipt ") ∷ hash (codes " ran to its end. ") ∷ word (codes "promise") (codes "Its value will be that of receipt ") ∷ hash (codes ". ") ∷ number (codes " gas and ") ∷ amount (codes " tokens were burnt.") ∷ [])
-    ∷ (word (codes "run") (codes "Receipt ") ∷ hash (codes " didn't run, since its inputs clash with what stands. ") ∷ word (codes "clash") [] ∷ figure (codes "0") (codes "No gas and ") ∷ amount (codes " tokens were burnt.") ∷ [])
+    ∷ (word (codes "run") (codes "Receipt ") ∷ hash (codes " didn't run, since two of its inputs are equal, or a receipt that is postponed at its receiver has one of them or its id. ") ∷ word (codes "clash") [] ∷ figure (codes "0") (codes "No gas and ") ∷ amount (codes " tokens were burnt.") ∷ [])
     ∷ (word (codes "log") (codes "The receipt logged ") ∷ word (codes "-") (codes "no bytes.") ∷ [])
     ∷ (word (codes "log") (codes "The receipt logged the bytes ") ∷ bytes (codes ".") ∷ [])
     ∷ (word (codes "post") (codes "Receipt ") ∷ hash (codes " is postponed, since it waits for data.") ∷ [])

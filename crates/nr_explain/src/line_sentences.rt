@@ -187,8 +187,8 @@ static FAILURES: [&[Field]; 14] = [
         Figure("0"): "", Number: " gas and ", Amount: " tokens were burnt."
     ],
     fields![
-        Word("run"): "Receipt ", Hash: " failed at action ", Word("failure"): "",
-        Number: " (from 0): ", Figure("10"): "the receiver can't pay for its storage. ",
+        Word("run"): "Receipt ", Hash: " failed after its actions (", Word("failure"): "",
+        Number: " in all): ", Figure("10"): "the receiver can't pay for its storage. ",
         Figure("0"): "", Number: " gas and ", Amount: " tokens were burnt."
     ],
     fields![
@@ -229,7 +229,8 @@ static BAD_CODES: [&[Field]; 13] = [
     fields![
         Word("run"): "Receipt ", Hash: " failed at action ", Word("failure"): "",
         Number: " (from 0): ", Figure("13"): "the code is no valid module: ",
-        Figure("3"): "a section or a body is out of order, of another size or another count. ",
+        Figure("3"): "the magic number, the version, or the id, order, size or count of a section or a body \
+        is wrong. ",
         Number: " gas and ", Amount: " tokens were burnt."
     ],
     fields![
@@ -251,7 +252,8 @@ static BAD_CODES: [&[Field]; 13] = [
     fields![
         Word("run"): "Receipt ", Hash: " failed at action ", Word("failure"): "",
         Number: " (from 0): ", Figure("13"): "the code is no valid module: ",
-        Figure("7"): "a list is too long. ", Number: " gas and ", Amount: " tokens were burnt."
+        Figure("7"): "it has too many bytes of code, entries of a list, locals, blocks in one another or \
+        results of a type. ", Number: " gas and ", Amount: " tokens were burnt."
     ],
     fields![
         Word("run"): "Receipt ", Hash: " failed at action ", Word("failure"): "",
@@ -262,14 +264,15 @@ static BAD_CODES: [&[Field]; 13] = [
     fields![
         Word("run"): "Receipt ", Hash: " failed at action ", Word("failure"): "",
         Number: " (from 0): ", Figure("13"): "the code is no valid module: ",
-        Figure("12"): "what an index names isn't there. ", Number: " gas and ",
+        Figure("12"): "a type, function, table, memory, global or local isn't there, an export's name stands \
+        twice, or a constant global is assigned. ", Number: " gas and ",
         Amount: " tokens were burnt."
     ],
     fields![
         Word("run"): "Receipt ", Hash: " failed at action ", Word("failure"): "",
         Number: " (from 0): ", Figure("13"): "the code is no valid module: ",
-        Figure("13"): "a branch has no such label. ", Number: " gas and ",
-        Amount: " tokens were burnt."
+        Figure("13"): "a branch leads past the open blocks, or to labels of unequal type. ",
+        Number: " gas and ", Amount: " tokens were burnt."
     ],
     fields![
         Word("run"): "Receipt ", Hash: " failed at action ", Word("failure"): "",
@@ -476,7 +479,8 @@ static MODULES: [&[Field]; 14] = [
     ],
     fields![
         Word("decode"): "The module can't be read: ",
-        Figure("3"): "a section or a body is out of order, of another size or another count, at byte ",
+        Figure("3"): "the magic number, the version, or the id, order, size or count of a section or a body \
+        is wrong, at byte ",
         Number: " (from 0)."
     ],
     fields![
@@ -493,7 +497,9 @@ static MODULES: [&[Field]; 14] = [
         Number: " (from 0)."
     ],
     fields![
-        Word("decode"): "The module can't be read: ", Figure("7"): "a list is too long, at byte ",
+        Word("decode"): "The module can't be read: ",
+        Figure("7"): "it has too many bytes of code, entries of a list, locals, blocks in one another or \
+        results of a type, at byte ",
         Number: " (from 0)."
     ],
 ];
@@ -510,22 +516,26 @@ static INVALID_MODULES: [&[Field]; 10] = [
         Number: " at instruction ", Number: " (from 0)."
     ],
     fields![
-        Word("valid"): "The module isn't valid: ", Figure("12"): "what an index names isn't there",
+        Word("valid"): "The module isn't valid: ",
+        Figure("12"): "a type, function, table, memory, global or local isn't there, an export's name stands \
+        twice, or a constant global is assigned",
         Figure("4294967295"): ", outside of functions, at entry ", Number: " (from 0)."
     ],
     fields![
         Word("valid"): "The module isn't valid: ",
-        Figure("12"): "what an index names isn't there, in function ", Number: " at instruction ",
+        Figure("12"): "a type, function, table, memory, global or local isn't there, an export's name stands \
+        twice, or a constant global is assigned, in function ", Number: " at instruction ",
         Number: " (from 0)."
     ],
     fields![
-        Word("valid"): "The module isn't valid: ", Figure("13"): "a branch has no such label",
+        Word("valid"): "The module isn't valid: ",
+        Figure("13"): "a branch leads past the open blocks, or to labels of unequal type",
         Figure("4294967295"): ", outside of functions, at entry ", Number: " (from 0)."
     ],
     fields![
         Word("valid"): "The module isn't valid: ",
-        Figure("13"): "a branch has no such label, in function ", Number: " at instruction ",
-        Number: " (from 0)."
+        Figure("13"): "a branch leads past the open blocks, or to labels of unequal type, in function ",
+        Number: " at instruction ", Number: " (from 0)."
     ],
     fields![
         Word("valid"): "The module isn't valid: ", Figure("14"): "a limit is passed",

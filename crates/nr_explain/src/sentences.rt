@@ -158,7 +158,8 @@ static GATHERED_CHUNKS: [&[Field]; 9] = [
     ],
     fields![
         Figure("12"): "The gathered chunk is refused: ",
-        Figure("3"): "the text of a node has not its form.", Figure("0"): ""
+        Figure("3"): "the text of a node has not its form or doesn't fit its place or its children, or a \
+        value has another length than its node tells.", Figure("0"): ""
     ],
     fields![
         Figure("12"): "The gathered chunk is refused: ", Figure("4"): "its entries are no state.",
@@ -206,7 +207,8 @@ static STATE_PARTS: [&[Field]; 10] = [
     ],
     fields![
         Figure("13"): "The state parts are refused: ", Figure("5"): "part ",
-        Number: " (from 0) has the text of a node that has not its form."
+        Number: " (from 0) has the text of a node that has not its form, or doesn't fit its place or its \
+        children."
     ],
     fields![
         Figure("13"): "The state parts are refused: ", Figure("6"): "entry ",

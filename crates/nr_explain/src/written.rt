@@ -27,7 +27,9 @@ static REPORTED: [&[Field]; 21] = [
         Amount: " tokens were burnt."
     ],
     fields![
-        Word("run"): "Receipt ", Hash: " didn't run, since its inputs clash with what stands. ",
+        Word("run"): "Receipt ",
+        Hash: " didn't run, since two of its inputs are equal, or a receipt that is postponed at its receiver \
+        has one of them or its id. ",
         Word("clash"): "", Figure("0"): "No gas and ", Amount: " tokens were burnt."
     ],
     fields![Word("log"): "The receipt logged ", Word("-"): "no bytes."],

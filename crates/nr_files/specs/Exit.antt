@@ -20,7 +20,7 @@ exit_status NoMemory = 7
 abbrev pub status_line : Status → List ℕ
 status_line Done = decimal 0
 status_line Usage = codes "The words are no command. These are:" ++ 10 ∷ help_text
-status_line NoSentence = codes "No program prints these numbers."
+status_line NoSentence = codes "There is no sentence for these words."
 status_line (Config kind entry) = decimal 2 ++ 32 ∷ decimal kind ++ 32 ∷ decimal entry
 status_line TooLong = too_long
 status_line (Faulty line) = line

@@ -39,7 +39,7 @@ impl fmt::Display for Status {
             Status::Config { kind, entry } => write!(f, "{number} {kind} {entry}"),
             Status::TooLong => f.write_str("the file is longer than 268435456 bytes"),
             Status::Faulty { line } => f.write_str(line.inner()),
-            Status::NoSentence => f.write_str("No program prints these numbers."),
+            Status::NoSentence => f.write_str("There is no sentence for these words."),
             Status::Done => write!(f, "{number}"),
             Status::Usage => {
                 let help = help_text();

@@ -8,7 +8,7 @@ pub enum Status {
     Done,
     /// The words are no command.
     Usage,
-    /// No program prints the words that are to be explained.
+    /// There is no sentence for the words that are to be explained.
     NoSentence,
     /// The file is no configuration. The kind is 0 where it is longer than 1 MiB, 1 where it is no JSON
     /// object, 2 where an entry is missing, 3 where it is no whole number, and 4 where it is outside

@@ -348,7 +348,7 @@ fn a_report_and_a_line_are_told(rt: HostRuntime) -> Result<(), Fail> {
     assert_eq!(rt; unknown.exit_status(), 21);
     assert_eq!(rt;
         format!(in alloc; "{unknown}")?.as_str(),
-        "No program prints these numbers."
+        "There is no sentence for these words."
     );
     assert!(rt; nothing.is_empty());
     let (wordless, _) = ended(alloc, &["explain"], b"")?;

@@ -53,6 +53,16 @@ fn statuses_have_sentences(rt: HostRuntime) -> Result<(), Fail> {
             "There is no item at that place: the chunk has only 5 of the kind.",
         ),
         (
+            "12 3 0",
+            "The gathered chunk is refused: the text of a node has not its form or doesn't fit its place or \
+            its children, or a value has another length than its node tells.",
+        ),
+        (
+            "13 5 2",
+            "The state parts are refused: part 2 (from 0) has the text of a node that has not its form, or \
+            doesn't fit its place or its children.",
+        ),
+        (
             "13 7 1",
             "The state parts are refused: part 1 (from 0) has another number, or another count of parts.",
         ),
@@ -98,6 +108,17 @@ fn refusals_and_failures_have_sentences(rt: HostRuntime) -> Result<(), Fail> {
             "run ID failure 0 16 14 5 25",
             "Receipt ID failed at action 0 (from 0): the call asked for what it can't have: the \
             contract gave up. 5 gas and 25 tokens were burnt.",
+        ),
+        (
+            "run ID failure 2 10 0 5 25",
+            "Receipt ID failed after its actions (2 in all): the receiver can't pay for its storage. 5 gas \
+            and 25 tokens were burnt.",
+        ),
+        (
+            "run ID failure 0 13 3 5 25",
+            "Receipt ID failed at action 0 (from 0): the code is no valid module: the magic number, the \
+            version, or the id, order, size or count of a section or a body is wrong. 5 gas and 25 tokens \
+            were burnt.",
         ),
         (
             "no 1 2 0",
@@ -164,13 +185,35 @@ fn lines_of_modules_have_sentences(rt: HostRuntime) -> Result<(), Fail> {
         ("near_module ok", "The module decodes and is valid."),
         (
             "near_module decode 3 8",
-            "The module can't be read: a section or a body is out of order, of another size or \
-            another count, at byte 8 (from 0).",
+            "The module can't be read: the magic number, the version, or the id, order, size or count of a \
+            section or a body is wrong, at byte 8 (from 0).",
+        ),
+        (
+            "decode 7 20",
+            "The module can't be read: it has too many bytes of code, entries of a list, locals, blocks in \
+            one another or results of a type, at byte 20 (from 0).",
         ),
         (
             "valid 11 4294967295 2",
             "The module isn't valid: an operand, a result or a constant has another type, outside \
             of functions, at entry 2 (from 0).",
+        ),
+        (
+            "valid 12 4294967295 2",
+            "The module isn't valid: a type, function, table, memory, global or local isn't there, an \
+            export's name stands twice, or a constant global is assigned, outside of functions, at entry 2 \
+            (from 0).",
+        ),
+        (
+            "valid 12 7 3",
+            "The module isn't valid: a type, function, table, memory, global or local isn't there, an \
+            export's name stands twice, or a constant global is assigned, in function 7 at instruction 3 \
+            (from 0).",
+        ),
+        (
+            "valid 13 7 3",
+            "The module isn't valid: a branch leads past the open blocks, or to labels of unequal type, in \
+            function 7 at instruction 3 (from 0).",
         ),
         (
             "trap 3 12",
@@ -263,8 +306,8 @@ fn lines_of_a_report_have_sentences(rt: HostRuntime) -> Result<(), Fail> {
         ),
         (
             "run ID clash 0 25",
-            "Receipt ID didn't run, since its inputs clash with what stands. No gas and 25 tokens \
-            were burnt.",
+            "Receipt ID didn't run, since two of its inputs are equal, or a receipt that is postponed at its \
+            receiver has one of them or its id. No gas and 25 tokens were burnt.",
         ),
         ("log -", "The receipt logged no bytes."),
         ("log 00ff", "The receipt logged the bytes 00ff."),
