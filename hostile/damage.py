@@ -239,7 +239,7 @@ class Judge:
         if ran.out or ran.err.count(b"\n") != 1 or not ran.err.endswith(b"\n"):
             return False
         if program == "near_files" and ran.status >= shared.FAULTY:
-            return ran.status == shared.FAULTY or ran.err == b"No program prints these numbers.\n"
+            return ran.status == shared.FAULTY or ran.err == b"There is no sentence for these words.\n"
         return ran.err.split()[0] == b"%d" % ran.status and self.is_explained(program, ran.err)
 
     def is_explained(self, program, line):

@@ -17,7 +17,7 @@ pub record Request : Type 0 where
   pub config : List ℕ
   pub file : List ℕ
 
--- what the words ask for: nothing that there is, a sentence of words that no program prints, a file's, or a text that is written
+-- what the words ask for: nothing that there is, a sentence that there isn't, a file's, or a text that is written
 pub data Asked : Type 0 where
   Nothing : Asked
   Unknown : Asked

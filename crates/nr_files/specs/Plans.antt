@@ -18,7 +18,7 @@ by_config r c = and_then (file_plan r.file 268435456 TooLong) (by_bytes r c)
 abbrev pub request_plan : Request → Plan Output Status
 request_plan r = and_then (config_plan Config r.config) (by_config r)
 
--- words that are no command are refused, and so are words to be explained that no program prints
+-- words that are no command are refused, and so are words to be explained that have no sentence
 abbrev pub plan : Asked → Plan Output Status
 plan Nothing = Refuse Usage
 plan Unknown = Refuse NoSentence

@@ -50,7 +50,7 @@ pub(crate) struct Request<'a> {
 pub(crate) enum Asked<'a> {
     /// Nothing that there is.
     Nothing,
-    /// A sentence for words that no program prints.
+    /// A sentence that there isn't.
     Unknown,
     /// A file is made or shown.
     File(Request<'a>),

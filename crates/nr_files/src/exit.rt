@@ -28,8 +28,8 @@ impl Status {
 }
 
 /// What tells the answer: the words of all commands, for words that are none; why a file is refused or that it can't be
-/// read, in words, or that no program prints the words to be explained; otherwise the exit status, and the kind and the
-/// entry of a configuration's fault, in decimal, parted by single spaces. The last line feed is left out.
+/// read, in words, or that there is no sentence for the words to be explained; otherwise the exit status, and the kind
+/// and the entry of a configuration's fault, in decimal, parted by single spaces. The last line feed is left out.
 impl fmt::Display for Status {
     ghost output = { λ status. Some (status_line status) };
 

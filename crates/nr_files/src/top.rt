@@ -185,7 +185,7 @@ fn tell<K: Sink>(alloc: Global, output: Output, sink: &mut K) -> Status
 /// - `Done`: it was written.
 /// - `Usage`: the words are no command, or a file's word is empty or begins with `-`. Nothing was loaded or
 ///   written.
-/// - `NoSentence`: no program prints the words that are to be explained. Nothing was loaded or written.
+/// - `NoSentence`: there is no sentence for the words that are to be explained. Nothing was loaded or written.
 /// - `Config`: the configuration's file is longer than 1 MiB (kind 0), or its first fault, by the kind
 ///   and the entry that `nr_config::Config::read` gives. Nothing was written.
 /// - `TooLong`: the file is longer than 256 MiB. Nothing was written.
