@@ -19,9 +19,11 @@ found_below p bytes i = by (nat_lt (position_or_len p bytes) (length bytes)) ref
     by false e f = absurd cc
 
 alphabet_length : length alphabet ≡ 58
+unfolding alphabet
 alphabet_length = refl
 
 pub digit_below : (character i : ℕ) → digit_of character ≡ Some i → i < 58
+unfolding digit_of
 digit_below character i e =
     let below : i < length alphabet = found_below (λ c. c == character) alphabet i e in
     omega (arith, below, alphabet_length)

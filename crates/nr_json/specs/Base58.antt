@@ -3,11 +3,11 @@ use Rattle.std.specs.Prelude.{ℕ, ◌+◌, ◌*◌, ◌^◌, ◌/◌, ◌%◌, 
 use Rattle.std.specs.Int.{w128, to_be_bytes}
 use Rattle.nr_json.specs.declared.base58.Wide.{Wide}
 
-abbrev pub alphabet : List ℕ
+unfoldable pub alphabet : List ℕ
 alphabet = codes "123456789ABCDEFGHJKLMNPQRSTUVWXYZabcdefghijkmnopqrstuvwxyz"
 
 -- what a character counts, from 0 to 57
-abbrev pub digit_of : ℕ → Option ℕ
+unfoldable pub digit_of : ℕ → Option ℕ
 digit_of character = position (λ c. c == character) alphabet
 
 -- a number with a digit behind it, where that is below 2^256

@@ -1,6 +1,6 @@
 //! 32 bytes in base 58.
 
-ghost use Rattle.std.specs.Prelude.{◌≡◌, ◌<◌, ◌+◌, ◌*◌, ◌^◌, IfSome, option_map};
+ghost use Rattle.std.specs.Prelude.{◌≡◌, ◌<◌, ◌+◌, ◌*◌, ◌^◌, Some, option_map};
 ghost use Rattle.nr_json.specs.Base58.{alphabet, digit_of, with_digit, with_digits, number_bytes, count_ahead, if_whole, base58_of, wide_in};
 
 /// Half of the bits of a half.
@@ -13,6 +13,7 @@ pub(crate) struct Wide {
     pub(crate) low: u128,
 }
 
+#[tactic(auto, unfolding(crate::specs::Base58::alphabet))]
 fn alphabet() -> &'static [u8]
     ensures { result.now ≡ alphabet }
 {
@@ -20,9 +21,9 @@ fn alphabet() -> &'static [u8]
 }
 
 /// What a character counts.
+#[tactic(auto, unfolding(crate::specs::Base58::digit_of))]
 fn digit_of(character: u8) -> Option<usize>
-    ensures value { result ≡ digit_of character }
-    ensures small { IfSome result (λ digit. digit < 58) }
+    ensures { result ≡ digit_of character }
 {
     alphabet().iter().position(|other| *other == character)
 }
@@ -37,15 +38,25 @@ fn times58(number: u128, more: u128) -> (u128, u128)
     (high / QUARTER, high % QUARTER * QUARTER + low % QUARTER)
 }
 
-/// A number with a digit behind it.
-fn with_digit(number: Wide, character: u8) -> Option<Wide>
-    ensures { option_map wide_in result ≡ with_digit (wide_in number) (digit_of character) }
+/// A number with a digit behind it, where that is below 2^256.
+fn with_value(number: Wide, digit: u128) -> Option<Wide>
+    requires { digit < 58 }
+    ensures { option_map wide_in result ≡ with_digit (wide_in number) (Some digit) }
 {
-    let digit = digit_of(character)?;
-    let (carry, low) = times58(number.low, digit as u128);
+    let (carry, low) = times58(number.low, digit);
     let high = number.high.checked_mul(58)?;
     let high = high.checked_add(carry)?;
     Some(Wide { high, low })
+}
+
+/// The same with what a character counts.
+fn with_digit(number: Wide, character: u8) -> Option<Wide>
+    ensures { option_map wide_in result ≡ with_digit (wide_in number) (digit_of character) }
+{
+    match digit_of(character) {
+        Some(digit) => with_value(number, digit as u128),
+        None => None,
+    }
 }
 
 fn with_digits(text: &[u8]) -> Option<Wide>
