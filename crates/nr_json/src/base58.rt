@@ -1,6 +1,7 @@
 //! 32 bytes in base 58.
 
-ghost use Rattle.std.specs.Prelude.{◌≡◌, ◌<◌, ◌+◌, ◌*◌, ◌^◌, Some, option_map};
+ghost use Rattle.std.specs.Prelude.{◌≡◌, ◌<◌, ◌+◌, ◌*◌, ◌^◌, ◌++◌, Some, option_map};
+ghost use Rattle.std.specs.Int.{w128, to_be_bytes};
 ghost use Rattle.nr_json.specs.Base58.{alphabet, digit_of, with_digit, with_digits, number_bytes, count_ahead, if_whole, base58_of, wide_in};
 
 /// Half of the bits of a half.
@@ -72,13 +73,20 @@ fn with_digits(text: &[u8]) -> Option<Wide>
     Some(number)
 }
 
+/// The bytes of two halves, the highest first.
+fn halves_bytes(high: u128, low: u128) -> [u8; 32]
+    ensures { result ≡ to_be_bytes w128 high ++ to_be_bytes w128 low }
+{
+    let mut bytes = [0u8; 32];
+    bytes[..16].copy_from_slice(&high.to_be_bytes());
+    bytes[16..].copy_from_slice(&low.to_be_bytes());
+    bytes
+}
+
 fn number_bytes(number: Wide) -> [u8; 32]
     ensures { result ≡ number_bytes (wide_in number) }
 {
-    let mut bytes = [0; 32];
-    bytes[..16].copy_from_slice(&number.high.to_be_bytes());
-    bytes[16..].copy_from_slice(&number.low.to_be_bytes());
-    bytes
+    halves_bytes(number.high, number.low)
 }
 
 /// How often this byte stands at the front.
