@@ -1,8 +1,9 @@
 //! What is written.
 
 ghost use Rattle.std.specs.Prelude.{IfOk};
+ghost use Rattle.std.specs.Prelude.{◌≡◌};
 ghost use Rattle.nr_files.specs.Answers.{output_in};
-ghost use Rattle.nr_files.specs.Due.{IsWritten};
+ghost use Rattle.nr_files.specs.Due.{IsWritten, laid};
 
 use nr_bytes::Blob;
 use serde_json::Value;
@@ -13,8 +14,25 @@ use std::alloc::{AllocError, Global};
 pub(crate) enum Output {
     /// These bytes.
     Bytes(Blob),
-    /// A text of this value.
+    /// A text of this value, over lines.
     Json(Value),
+    /// A text of this value without spaces.
+    Compact(Value),
+}
+
+/// The same without spaces, where this is asked for.
+pub(crate) fn laid(compact: bool, output: Output) -> Output
+    ensures { output_in result ≡ laid compact (output_in output) }
+{
+    match output {
+        Output::Bytes(bytes) => Output::Bytes(bytes),
+        Output::Json(json) => if compact {
+            Output::Compact(json)
+        } else {
+            Output::Json(json)
+        },
+        Output::Compact(json) => Output::Compact(json),
+    }
 }
 
 /// The bytes that are written.
@@ -28,7 +46,13 @@ pub(crate) fn bytes_of(alloc: Global, output: Output) -> Result<Blob, AllocError
     match output {
         Output::Bytes(bytes) => Ok(bytes),
         Output::Json(json) => {
-            let text = json.to_vec_pretty(alloc)?;
+            let mut text = json.to_vec_pretty(alloc)?;
+            text.push(b'\n')?;
+            Ok(Blob::of(text))
+        }
+        Output::Compact(json) => {
+            let mut text = json.to_vec(alloc)?;
+            text.push(b'\n')?;
             Ok(Blob::of(text))
         }
     }

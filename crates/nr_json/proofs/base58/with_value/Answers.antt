@@ -1,0 +1,6 @@
+use Rattle.std.proofs.Common.{arith}
+use Rattle.nr_json.proofs.Halves.{digit_fits, digit_over}
+use Rattle.nr_json.proofs.base58.with_value.Goals as goal
+
+pub returns : goal.returns
+returns c = digit_fits c.args.number.high c.args.number.low c.args.digit c.times58.result.0 c.times58.result.1 c.times58.ensures (omega arith) (omega arith)
