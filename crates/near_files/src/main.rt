@@ -7,8 +7,8 @@
 //! of `show`, `explain WORDS..`, `help`, `help COMMAND` or `version`, where CONFIG is `free` or the name of a file. The
 //! exit status is 0 where it was written; 1 where the words are no command, 2 where CONFIG is no configuration, 5 where
 //! a file could not be read, 6 where the output could not be written, 7 where memory ran out, 20 where a file is
-//! refused and 21 where there is no sentence for the words to be explained. On standard error then stand the status with
-//! its numbers, for 1 the words of all commands, or for 5, 20 and 21 the words that say what is wrong.
+//! refused and 21 where there is no sentence for the words to be explained. On standard error then stand the status
+//! with its numbers, for 1 the words of all commands, or for 5, 20 and 21 the words that say what is wrong.
 #![tactic(auto)]
 
 use nr_bytes::{FileShelf, StdoutSink};

@@ -2,7 +2,8 @@
 use Rattle.std.specs.Prelude.{◌≡◌, ℕ, Bool, true, false, List, [], ◌∷◌, ◌++◌, cond, Option, Some, None, codes}
 use Rattle.nr_explain.specs.Words.{pieces, is_dash}
 use Rattle.nr_explain.specs.Shown.{beside_bytes}
-use Rattle.nr_explain.specs.Forms.{Kind, Word, Figure, Number, Amount, Hash, Bytes, Entry, Name, Field, Form, form_of, word, figure, number, amount, hash, bytes}
+use Rattle.nr_explain.specs.Forms.{Kind, Word, Figure, Number, Amount, Hash, Bytes, Entry, Name, Field, Form, form_of}
+use Rattle.nr_explain.specs.Forms.{word, figure, number, amount, hash, bytes}
 
 -- ---- the forms, with a member's name for each word
 abbrev pub line : List ℕ → Field

@@ -1,4 +1,5 @@
--- The bytes of a line as a text (UTF-8, RFC 3629), where people can read them as one, as a JSON member (RFC 8259). This project's own.
+-- The bytes of a line as a text (UTF-8, RFC 3629), where people can read them as one, as a JSON member (RFC 8259). This
+-- project's own.
 use Rattle.std.specs.Prelude.{ℕ, List, [], ◌∷◌, ◌++◌, Bool, cond, ◌&&◌, ◌||◌, ◌==◌, not, nat_le, Result, Ok, Err, codes}
 use Rattle.std.specs.List.{list_all}
 use Rattle.std.specs.Str.{is_utf8}

@@ -24,7 +24,8 @@ fn all_printed(bytes: &[u8]) -> bool
 
 /// The text that the bytes are, where they are one.
 fn text_of(bytes: &[u8]) -> Option<&str>
-    ensures { MatchOption result (is_text bytes.now ≡ false) (λ text. (is_text bytes.now ≡ true) × (text.now ≡ bytes.now)) }
+    ensures { MatchOption result (is_text bytes.now ≡ false)
+        (λ text. (is_text bytes.now ≡ true) × (text.now ≡ bytes.now)) }
 {
     match str::from_utf8(bytes) {
         Ok(text) => if all_printed(bytes) { Some(text) } else { None },

@@ -1,5 +1,6 @@
 -- The file that was asked for last, and the status of a command that stopped.
-use Rattle.std.proofs.Common.{◌≡◌, ℕ, Bool, true, false, cond, List, [], ◌∷◌, ◌++◌, length, Option, Some, None, Result, Ok, Err, refl, sym, subst, ap, ◌∙◌, ◌⊎◌, inl, inr, append_assoc}
+use Rattle.std.proofs.Common.{◌≡◌, ℕ, Bool, true, false, cond, List, [], ◌∷◌, ◌++◌, length, Option, Some, None, Result}
+use Rattle.std.proofs.Common.{Ok, Err, refl, sym, subst, ap, ◌∙◌, ◌⊎◌, inl, inr, append_assoc}
 use Rattle.std.specs.Prelude.{nat_lt}
 use Rattle.nr_shell.specs.Answers.{Answers, Breaks, Comes, Stops}
 use Rattle.nr_shell.specs.Plans.{Plan, Answer, Refuse, Ask, Allows, Asks, LeadsBy, Turns, by_length}
@@ -9,7 +10,8 @@ use Rattle.nr_files.specs.Answers.{EndsIn, IsStatusOf, Serves, output_in, refuse
 use Rattle.nr_files.specs.Due.{Output}
 use Rattle.nr_files.specs.declared.output.Output.{Output as CodeOutput}
 use Rattle.nr_files.specs.declared.status.Status.{Status}
-use Rattle.nr_files.specs.declared.status.Status.TheVariants.{Done, Usage, NoSentence, Config, TooLong, Faulty, ReadFault, WriteFault, NoMemory}
+use Rattle.nr_files.specs.declared.status.Status.TheVariants.{Done, Usage, NoSentence, Config, TooLong, Faulty}
+use Rattle.nr_files.specs.declared.status.Status.TheVariants.{ReadFault, WriteFault, NoMemory}
 
 none_more : {A E : Type 0} (limit : ℕ) (long : E) (by_bytes : List ℕ → Plan A E) (bytes : List ℕ) → Asks [] (by_bytes bytes) → Asks [] (by_length limit long by_bytes bytes)
 none_more {A} {E} limit long by_bytes bytes asks = elim (nat_lt limit (length bytes)) as (λ t. Asks {A = A} [] (cond t (Refuse long) (by_bytes bytes))) [ true ↦ tt | false ↦ asks ]

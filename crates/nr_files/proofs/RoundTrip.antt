@@ -31,7 +31,8 @@ use Rattle.nr_json.proofs.FileLaws as forms
 use Rattle.nr_reshard.specs.FileLaws.{third_law}
 use Rattle.nr_reshard.specs.Files.{IsThird, third_at, third_bytes, third_magic}
 use Rattle.nr_reshard.specs.declared.chain_file.ChainFile.{ChainFile}
-use Rattle.nr_files.specs.Due.{Output, Bytes, Json, IsWritten, laid, value_in, made_blocks, shown_blocks, made_genesis, shown_genesis, of_bytes}
+use Rattle.nr_files.specs.Due.{Output, Bytes, Json, IsWritten, laid, value_in, made_blocks, shown_blocks, made_genesis}
+use Rattle.nr_files.specs.Due.{shown_genesis, of_bytes}
 use Rattle.nr_files.specs.Filling.{filled, filled_entry, plain, stated, stated_entry}
 use Rattle.nr_files.specs.Damage.{blocks_line}
 use Rattle.nr_files.specs.Lines.{genesis_line}

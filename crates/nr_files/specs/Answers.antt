@@ -1,5 +1,6 @@
 -- Which answers of the top call are right for a plan, and what the sink then took. This project's own.
-use Rattle.std.specs.Prelude.{◌≡◌, ◌⊎◌, ℕ, Bool, true, false, List, [], ◌∷◌, ◌++◌, Option, Result, Ok, Err, string_bytes}
+use Rattle.std.specs.Prelude.{◌≡◌, ◌⊎◌, ℕ, Bool, true, false, List, [], ◌∷◌, ◌++◌, Option, Result, Ok, Err}
+use Rattle.std.specs.Prelude.{string_bytes}
 use Rattle.std.specs.Global.{Global}
 use Rattle.std.specs.declared.string.String.{String}
 use Rattle.serde_json.specs.View.{view}
@@ -78,11 +79,19 @@ IsStatusOf Unread file status = (status ≡ ReadFault file) ⊎ (status ≡ NoMe
 IsStatusOf Memory file status = status ≡ NoMemory
 IsStatusOf (Refused refusal) file status = status ≡ refusal
 
--- The answer is right for the plan and the files, only files of the plan were asked for, in their order, and the sink took what belongs to it: what stands for the output, a front of it, or nothing. A file that is unread is the one that was asked for last.
-abbrev pub Serves : Status → Plan Output Status → (List ℕ → Option (List ℕ)) → List (List ℕ) → List (List ℕ) → Option (List ℕ) → Option (List ℕ) → Type 0
-Serves Done plan held asked asks took takes = (o : Output) × (bytes : List ℕ) × Comes held asked asks plan (Answer o) × IsWritten o bytes × Grew took takes bytes
-Serves WriteFault plan held asked asks took takes = (o : Output) × (bytes : List ℕ) × Comes held asked asks plan (Answer o) × IsWritten o bytes × GrewInPart took takes bytes
-Serves (ReadFault name) plan held asked asks took takes = Breaks held asked asks plan × EndsIn asks name × (takes ≡ took)
+-- The answer is right for the plan and the files, only files of the plan were asked for, in their order, and the sink
+-- took what belongs to it: what stands for the output, a front of it, or nothing. A file that is unread is the one that
+-- was asked for last.
+abbrev pub Serves : Status → Plan Output Status → (List ℕ → Option (List ℕ)) → List (List ℕ) → List (List ℕ)
+    → Option (List ℕ) → Option (List ℕ) → Type 0
+Serves Done plan held asked asks took takes =
+    (o : Output) × (bytes : List ℕ) × Comes held asked asks plan (Answer o) × IsWritten o bytes
+    × Grew took takes bytes
+Serves WriteFault plan held asked asks took takes =
+    (o : Output) × (bytes : List ℕ) × Comes held asked asks plan (Answer o) × IsWritten o bytes
+    × GrewInPart took takes bytes
+Serves (ReadFault name) plan held asked asks took takes =
+    Breaks held asked asks plan × EndsIn asks name × (takes ≡ took)
 Serves NoMemory plan held asked asks took takes = Stops held asked asks plan × (takes ≡ took)
 Serves Usage plan held asked asks took takes = Comes held asked asks plan (Refuse Usage) × (takes ≡ took)
 Serves NoSentence plan held asked asks took takes = Comes held asked asks plan (Refuse NoSentence) × (takes ≡ took)

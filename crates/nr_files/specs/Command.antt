@@ -1,5 +1,8 @@
--- The words of the command line: `genesis CONFIG JSON`, `blocks JSON`, `hex FILE`, `show`, or `show --compact`, with `genesis CONFIG FILE`, `blocks FILE`, `report FILE`, `part FILE`, `proof FILE` or `gathered FILE`, `explain WORDS..`, `help`, `help COMMAND` or `version`. The commands are this project's own.
-use Rattle.std.specs.Prelude.{ℕ, List, [], ◌∷◌, ◌++◌, Bool, true, false, cond, Option, Some, None, codes, option_and_then}
+-- The words of the command line: `genesis CONFIG JSON`, `blocks JSON`, `hex FILE`, `show`, or `show --compact`, with
+-- `genesis CONFIG FILE`, `blocks FILE`, `report FILE`, `part FILE`, `proof FILE` or `gathered FILE`, `explain WORDS..`,
+-- `help`, `help COMMAND` or `version`. The commands are this project's own.
+use Rattle.std.specs.Prelude.{ℕ, List, [], ◌∷◌, ◌++◌, Bool, true, false, cond, Option, Some, None, codes}
+use Rattle.std.specs.Prelude.{option_and_then}
 use Rattle.std.specs.Str.{bytes_eq}
 use Rattle.nr_words.specs.Forms.{Value, Text, read}
 use Rattle.nr_explain.specs.Programs.{explained}

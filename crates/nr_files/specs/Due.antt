@@ -1,5 +1,7 @@
--- What a file asks for: the bytes or the JSON value that are written for it, or the line that says why not. Borsh 1.0 and RFC 8259; the lines are this project's own.
-use Rattle.std.specs.Prelude.{◌≡◌, ℕ, ◌-◌, ◌≤◌, ◌==◌, List, [], ◌∷◌, ◌++◌, length, take, get_or, Bool, true, false, cond, Option, Some, None, Result, Ok, Err, IsUtf8}
+-- What a file asks for: the bytes or the JSON value that are written for it, or the line that says why not. Borsh 1.0
+-- and RFC 8259; the lines are this project's own.
+use Rattle.std.specs.Prelude.{◌≡◌, ℕ, ◌-◌, ◌≤◌, ◌==◌, List, [], ◌∷◌, ◌++◌, length, take, get_or, Bool, true, false}
+use Rattle.std.specs.Prelude.{cond, Option, Some, None, Result, Ok, Err, IsUtf8}
 use Rattle.std.specs.Str.{is_utf8}
 use Rattle.json.specs.Layout.{pretty}
 use Rattle.json.specs.Lex.{tokens}
@@ -37,7 +39,8 @@ pub data Output : Type 0 where
   Json : Data → Output
   Compact : Data → Output
 
--- a text of the value in a layout, with its members in order, that is read as the value
+-- a text of the value in a layout, with its members in order; it is read as the value, where this nests no deeper than
+-- the reader goes
 pub record IsTextOf (lay : List Token → List ℕ) (d : Data) (text : List ℕ) : Type 0 where
   pub utf8 : IsUtf8 text
   pub layout : text ≡ lay (tokens text)

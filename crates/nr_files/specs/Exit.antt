@@ -17,7 +17,8 @@ exit_status (ReadFault name) = 5
 exit_status WriteFault = 6
 exit_status NoMemory = 7
 
--- of words that are no command the words of all commands, and why a file or a line is refused or couldn't be read, in words; otherwise the exit status and the numbers, parted by single spaces
+-- of words that are no command the words of all commands, and why a file or a line is refused or couldn't be read, in
+-- words; otherwise the exit status and the numbers, parted by single spaces
 abbrev pub status_line : Status → List ℕ
 status_line Done = decimal 0
 status_line Usage = codes "The words are no command. These are:" ++ 10 ∷ help_text

@@ -1,4 +1,5 @@
--- The tables of the program's forms, of those behind the word `show` too, and what `help` and `version` write. This project's own.
+-- The tables of the program's forms, of those behind the word `show` too, and what `help` and `version` write. This
+-- project's own.
 use Rattle.std.specs.Prelude.{ℕ, List, [], ◌∷◌, ◌++◌, cond, Option, Some, None, codes}
 use Rattle.std.specs.List.{flat_map}
 use Rattle.std.specs.Str.{bytes_eq}
@@ -39,8 +40,9 @@ shown_lines = flat_map (form_line (codes "near_files show")) shown_forms
 -- a line for each command, and then what two of the words may be; the last line feed is left out
 abbrev pub help_text : List ℕ
 help_text =
-    flat_map made_line made_forms ++ shown_lines ++ codes "near_files show --compact .." ++ 10 ∷ codes "near_files explain WORDS.."
-    ++ 10 ∷ codes "near_files help" ++ 10 ∷ codes "near_files help COMMAND" ++ 10 ∷ codes "near_files version" ++ 10
+    flat_map made_line made_forms ++ shown_lines ++ codes "near_files show --compact .." ++ 10
+    ∷ codes "near_files explain WORDS.." ++ 10 ∷ codes "near_files help" ++ 10 ∷ codes "near_files help COMMAND" ++ 10
+    ∷ codes "near_files version" ++ 10
     ∷ codes "CONFIG is free or the name of a file. COMMAND is genesis, blocks, hex, show, explain, help or version, or the program near_serial, near_replay, near_audit or near_module."
 
 abbrev pub version_text : List ℕ
@@ -56,7 +58,8 @@ abbrev pub blocks_help : List ℕ
 blocks_help = made_line blocks_form ++ codes "Writes the blocks file that the JSON text describes."
 
 abbrev pub hex_help : List ℕ
-hex_help = made_line hex_form ++ codes "Writes the bytes of FILE as a JSON text of hexadecimal digits, as code and args have them."
+hex_help =
+    made_line hex_form ++ codes "Writes the bytes of FILE as a JSON text of hexadecimal digits, as code and args have them."
 
 abbrev pub show_help : List ℕ
 show_help =

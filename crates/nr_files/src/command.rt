@@ -2,7 +2,9 @@
 
 ghost use Rattle.std.specs.Prelude.{◌≡◌, IfOk, map, option_map};
 ghost use Rattle.nr_words.specs.Words.{found_in, table_in, texts, value_in};
-ghost use Rattle.nr_files.specs.Command.{alone, asked_in, behind, by_form, helped, made_of, meant, of_help, of_sentence, of_words, show_meant, shown, shown_of, told, verb_of, with_config, without_config};
+ghost use Rattle.nr_files.specs.Command.{alone, asked_in, behind, by_form, helped, made_of, meant, of_help};
+ghost use Rattle.nr_files.specs.Command.{of_sentence, of_words, show_meant, shown, shown_of, told, verb_of};
+ghost use Rattle.nr_files.specs.Command.{with_config, without_config};
 ghost use Rattle.nr_files.specs.Help.{help_of, made_forms, shown_forms};
 ghost use Rattle.nr_words.specs.Forms.{read};
 

@@ -15,10 +15,12 @@ ghost use Rattle.nr_files.specs.declared.command.Work.TheVariants.{MakeBlocks, M
 pub fn round_trips()
     // What `show blocks` writes of a file, with spaces or without, `blocks` makes into the same bytes.
     ensures blocks { (c : Config) (compact : Bool) (bytes text : List ℕ) (o : Output) → IsBytes bytes
-        → of_bytes ShowBlocks c bytes ≡ Ok o → IsWritten (laid compact o) text → of_bytes MakeBlocks c text ≡ Ok (Bytes bytes) }
+        → of_bytes ShowBlocks c bytes ≡ Ok o → IsWritten (laid compact o) text
+        → of_bytes MakeBlocks c text ≡ Ok (Bytes bytes) }
     // What `show genesis` writes of a file, `genesis` makes into the same bytes, under the same configuration.
     ensures genesis { (c : Config) (compact : Bool) (bytes text : List ℕ) (o : Output) → IsBytes bytes
-        → of_bytes ShowGenesis c bytes ≡ Ok o → IsWritten (laid compact o) text → of_bytes MakeGenesis c text ≡ Ok (Bytes bytes) }
+        → of_bytes ShowGenesis c bytes ≡ Ok o → IsWritten (laid compact o) text
+        → of_bytes MakeGenesis c text ≡ Ok (Bytes bytes) }
 {}
 
 /// Whatever its plan comes to, a command asks for its own files alone, in their order, and once for each; where it

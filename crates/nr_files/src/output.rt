@@ -1,7 +1,6 @@
 //! What is written.
 
-ghost use Rattle.std.specs.Prelude.{IfOk};
-ghost use Rattle.std.specs.Prelude.{◌≡◌};
+ghost use Rattle.std.specs.Prelude.{◌≡◌, IfOk};
 ghost use Rattle.nr_files.specs.Answers.{output_in};
 ghost use Rattle.nr_files.specs.Due.{IsWritten, laid};
 

@@ -509,7 +509,8 @@ fn bytes_that_people_can_read_are_shown_as_a_text(rt: HostRuntime) -> Result<(),
         )?;
         let json = format!(in rt.alloc();
             "{{\"line\":\"log\",\"bytes\":{shown}}}\n\
-            {{\"line\":\"run\",\"receipt_id\":\"{id}\",\"status\":\"value\",\"value\":{shown},\"gas\":1,\"burnt\":\"2\"}}\n\
+            {{\"line\":\"run\",\"receipt_id\":\"{id}\",\"status\":\"value\",\"value\":{shown},\"gas\":1,\
+            \"burnt\":\"2\"}}\n\
             {{\"line\":\"item\",\"bytes\":{shown}}}\n"
         )?;
         assert!(rt;

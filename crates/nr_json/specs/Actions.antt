@@ -1,4 +1,5 @@
--- Actions as JSON values, with the names of NEAR's JSON (Nomicon, RuntimeSpec, Actions). Bytes in hexadecimal, and arguments as a text or a value, are this project's own.
+-- Actions as JSON values, with the names of NEAR's JSON (Nomicon, RuntimeSpec, Actions). Bytes in hexadecimal, and
+-- arguments as a text or a value, are this project's own.
 use Rattle.std.specs.Prelude.{ℕ, List, Option, Some, None, is_some, Ok, Err, cond, codes, if◌then◌else◌}
 use Rattle.std.specs.Str.{bytes_eq}
 use Rattle.nr_bytes.specs.Reading.{◌>>=◌}

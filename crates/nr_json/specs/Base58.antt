@@ -1,5 +1,7 @@
--- 32 bytes in base 58, with the alphabet of Bitcoin's addresses, as NEAR writes keys: the digits of the number that the bytes are, the highest first, and before them a `1` for each zero byte at the front.
-use Rattle.std.specs.Prelude.{ℕ, ◌+◌, ◌*◌, ◌^◌, ◌/◌, ◌%◌, ◌==◌, List, [], ◌∷◌, ◌++◌, length, Option, Some, None, option_and_then, unwrap_or, position, not, nat_lt, if◌then◌else◌, codes}
+-- 32 bytes in base 58, with the alphabet of Bitcoin's addresses, as NEAR writes keys: the digits of the number that the
+-- bytes are, the highest first, and before them a `1` for each zero byte at the front.
+use Rattle.std.specs.Prelude.{ℕ, ◌+◌, ◌*◌, ◌^◌, ◌/◌, ◌%◌, ◌==◌, List, [], ◌∷◌, ◌++◌, length, Option, Some, None}
+use Rattle.std.specs.Prelude.{option_and_then, unwrap_or, position, not, nat_lt, if◌then◌else◌, codes}
 use Rattle.std.specs.Int.{w128, to_be_bytes}
 use Rattle.nr_json.specs.declared.base58.Wide.{Wide}
 

@@ -1,5 +1,7 @@
--- Account ids, hashes and public keys as JSON texts (RFC 8259). Ids, the schemes of keys and base 58 as in NEAR's JSON; that bytes are hexadecimal is this project's own.
-use Rattle.std.specs.Prelude.{ℕ, ◌==◌, List, ◌++◌, length, take, drop, Bool, Option, Some, None, option_map, option_and_then, if◌then◌else◌, codes}
+-- Account ids, hashes and public keys as JSON texts (RFC 8259). Ids, the schemes of keys and base 58 as in NEAR's JSON;
+-- that bytes are hexadecimal is this project's own.
+use Rattle.std.specs.Prelude.{ℕ, ◌==◌, List, ◌++◌, length, take, drop, Bool, Option, Some, None, option_map}
+use Rattle.std.specs.Prelude.{option_and_then, if◌then◌else◌, codes}
 use Rattle.std.specs.Str.{bytes_eq}
 use Rattle.hex.specs.Hex.{decode_sized, encode_lower}
 use Rattle.nr_ids.specs.Grammar.{id_fault}

@@ -1,7 +1,10 @@
 -- What is wrong with a value, in words that follow its path. This project's own.
 use Rattle.std.specs.Prelude.{ℕ, List, codes}
 use Rattle.nr_json.specs.declared.fault.Wrong.{Wrong}
-use Rattle.nr_json.specs.declared.fault.Wrong.TheVariants.{Missing, NoObject, NoList, NoText, NoNumber, NoAmount, NoBytes, NoHash, NoKey, NoAccountId, NoWhole, NoAction, NoPermission, NoKind, NoVersion, NoPrice, NoReshard, NoBoundaries}
+use Rattle.nr_json.specs.declared.fault.Wrong.TheVariants.{Missing, NoObject, NoList, NoText, NoNumber, NoAmount}
+use Rattle.nr_json.specs.declared.fault.Wrong.TheVariants.{NoBytes, NoHash, NoKey, NoAccountId, NoWhole, NoAction}
+use Rattle.nr_json.specs.declared.fault.Wrong.TheVariants.{NoPermission, NoKind, NoVersion, NoPrice, NoReshard}
+use Rattle.nr_json.specs.declared.fault.Wrong.TheVariants.{NoBoundaries}
 
 abbrev pub words : Wrong → List ℕ
 words Missing = codes "is missing"

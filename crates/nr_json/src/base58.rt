@@ -2,7 +2,8 @@
 
 ghost use Rattle.std.specs.Prelude.{◌≡◌, ◌<◌, ◌+◌, ◌*◌, ◌^◌, ◌++◌, Some, option_map};
 ghost use Rattle.std.specs.Int.{w128, to_be_bytes};
-ghost use Rattle.nr_json.specs.Base58.{alphabet, digit_of, with_digit, with_digits, number_bytes, count_ahead, if_whole, base58_of, wide_in};
+ghost use Rattle.nr_json.specs.Base58.{alphabet, digit_of, with_digit, with_digits, number_bytes, count_ahead};
+ghost use Rattle.nr_json.specs.Base58.{if_whole, base58_of, wide_in};
 
 /// Half of the bits of a half.
 const QUARTER: u128 = 0x1_0000_0000_0000_0000;

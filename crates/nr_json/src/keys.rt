@@ -3,7 +3,8 @@
 ghost use Rattle.std.specs.Prelude.{◌≡◌, List, ℕ, IfOk, string_bytes, option_map};
 ghost use Rattle.nr_bytes.specs.Answers.{Gives};
 ghost use Rattle.serde_json.specs.Data.{string};
-ghost use Rattle.nr_json.specs.Keys.{id_in, id_of, sized, hash_json, hash_of, ed25519_in, key_text, key_in, key_json, key_of};
+ghost use Rattle.nr_json.specs.Keys.{id_in, id_of, sized, hash_json, hash_of, ed25519_in, key_text, key_in, key_json};
+ghost use Rattle.nr_json.specs.Keys.{key_of};
 ghost use Rattle.nr_json.specs.Plain.{or_fault};
 ghost use Rattle.nr_json.specs.declared.fault.JsonFault.TheVariants.{Memory};
 ghost use Rattle.nr_json.specs.declared.fault.Wrong.TheVariants.{NoAccountId};

@@ -1,3 +1,4 @@
+-- The goals of `shown::text_member` that no tactic closes.
 use Rattle.std.proofs.Common.{◌≡◌, refl, ap, ◌∙◌}
 use Rattle.json.specs.Print.{quoted}
 use Rattle.serde_json.specs.Written.{compact_text, has_float}

@@ -1,3 +1,4 @@
+-- The goals of `shown::text_of` that no tactic closes.
 use Rattle.std.proofs.Common.{refl, sym, ◌∙◌}
 use Rattle.nr_bytes.proofs.Texts.{text_bad, text_ok}
 use Rattle.nr_explain.proofs.shown.text_of.Goals as goal

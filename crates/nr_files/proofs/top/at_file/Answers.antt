@@ -1,3 +1,4 @@
+-- The goals of `top::at_file` that no tactic closes.
 use Rattle.std.proofs.Common.{Err, ap}
 use Rattle.nr_shell.specs.declared.stop.Stop.{Stop}
 use Rattle.nr_files.specs.declared.status.Status.{Status}

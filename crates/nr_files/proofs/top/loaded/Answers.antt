@@ -1,3 +1,4 @@
+-- The goals of `top::loaded` that no tactic closes.
 use Rattle.std.proofs.Common.{refl}
 use Rattle.nr_shell.proofs.Leading.{read_follows, stop_follows}
 use Rattle.nr_files.specs.Answers.{refuses}

@@ -1,3 +1,4 @@
+-- The goals of `top::of_request` that no tactic closes.
 use Rattle.std.proofs.Common.{Err, ap}
 use Rattle.nr_config.specs.Config.{Config as Configuration}
 use Rattle.nr_configfile.specs.Plans.{config_plan}

@@ -1,3 +1,4 @@
+-- The goals of `top::serve_files` that no tactic closes.
 use Rattle.std.proofs.Common.{Err, ap}
 use Rattle.nr_shell.specs.declared.stop.Stop.{Stop}
 use Rattle.nr_words.specs.Words.{texts}

@@ -1,3 +1,4 @@
+-- The goals of `top::with_config` that no tactic closes.
 use Rattle.std.proofs.Common.{sym, subst, Result}
 use Rattle.nr_shell.specs.Answers.{Follows}
 use Rattle.nr_shell.specs.declared.stop.Stop.{Stop}

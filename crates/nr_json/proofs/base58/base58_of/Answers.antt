@@ -1,3 +1,4 @@
+-- The goals of `base58::base58_of` that no tactic closes.
 use Rattle.std.proofs.Common.{ap, ◌∙◌}
 use Rattle.std.specs.Prelude.{option_and_then}
 use Rattle.nr_json.specs.Base58.{if_whole, number_bytes}

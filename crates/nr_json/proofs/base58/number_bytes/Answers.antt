@@ -1,3 +1,4 @@
+-- The goals of `base58::number_bytes` that no tactic closes.
 use Rattle.std.proofs.Common.{◌++◌, sym, ap₂, ◌∙◌, arith}
 use Rattle.std.specs.Int.{w128, to_be_bytes}
 use Rattle.nr_json.proofs.Halves.{halves}

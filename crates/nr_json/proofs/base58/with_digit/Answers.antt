@@ -1,3 +1,4 @@
+-- The goals of `base58::with_digit` that no tactic closes.
 use Rattle.std.proofs.Common.{sym, ap, ◌∙◌}
 use Rattle.nr_json.specs.Base58.{with_digit, wide_in}
 use Rattle.nr_json.proofs.Halves.{digit_below}

@@ -1,3 +1,4 @@
+-- The goals of `base58::with_digits` that no tactic closes.
 use Rattle.std.proofs.Common.{arith}
 use Rattle.nr_json.specs.Base58.{wide_in, with_digits}
 use Rattle.nr_json.proofs.Halves.{digits_go_on, digits_end, digits_done}

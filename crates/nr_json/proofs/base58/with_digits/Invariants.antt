@@ -1,3 +1,4 @@
+-- What holds at the loops of `base58::with_digits`.
 use Rattle.std.proofs.Common.{◌≡◌, drop}
 use Rattle.nr_json.specs.Base58.{wide_in, with_digits}
 use Rattle.nr_json.proofs.base58.with_digits.Given as goal

@@ -1,3 +1,4 @@
+-- The goals of `base58::with_value` that no tactic closes.
 use Rattle.std.proofs.Common.{arith}
 use Rattle.nr_json.proofs.Halves.{digit_fits, digit_over}
 use Rattle.nr_json.proofs.base58.with_value.Goals as goal

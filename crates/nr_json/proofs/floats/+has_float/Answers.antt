@@ -1,3 +1,4 @@
+-- The goals of `floats::has_float` that no tactic closes.
 use Rattle.std.proofs.Common.{◌≡◌, true, false, ◌||◌, get_or, sym, ap, ◌∙◌, arith}
 use Rattle.serde_json.specs.View.{view, items_view, members_view}
 use Rattle.serde_json.specs.Written.{has_float, items_have_float, members_have_float}
