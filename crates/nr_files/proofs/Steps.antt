@@ -1,9 +1,11 @@
 -- From bytes that are there to an output or a refusal.
-use Rattle.std.proofs.Common.{◌≡◌, ℕ, ◌-◌, ◌≤◌, Bool, true, false, cond, List, [], ◌∷◌, ◌++◌, length, Result, Ok, Err}
+use Rattle.std.proofs.Common.{◌≡◌, ℕ, ◌-◌, ◌≤◌, ◌==◌, Bool, true, false, cond, List, [], ◌∷◌, ◌++◌, length, Result, Ok}
+use Rattle.std.proofs.Common.{Err}
 use Rattle.std.proofs.Common.{IfOk, IsUtf8, String, Global, string_bytes, None, Some, Option, refl, sym, ap, subst, ◌∙◌}
 use Rattle.std.proofs.Common.{arith}
 use Rattle.std.specs.Prelude.{◌≢◌}
 use Rattle.std.specs.Str.{is_utf8}
+use Rattle.std.proofs.lemmas.Bool.{eqb-true}
 use Rattle.std.proofs.lemmas.Str.{is_utf8-from_IsUtf8, IsUtf8-from_is_utf8}
 use Rattle.std.proofs.lemmas.List.{length-append}
 use Rattle.std.proofs.Math.Seq.{get_or-append_seam, take-append_seam}
@@ -80,6 +82,12 @@ no_value text front same h =
       | false ↦ λ e. refl
     ] refl in
     subst (λ (f : List ℕ). cond (is_utf8 f) (value_of text (read f)) (Err (no_json text)) ≡ Err (no_json text)) same is
+
+pub nothing_off : (text : List ℕ) → true ≡ (length text == 0) → text ≡ without_feed text
+nothing_off [] none = refl
+nothing_off (b ∷ bytes) none =
+    let e : length (b ∷ bytes) ≡ 0 = eqb-true (length (b ∷ bytes)) 0 (sym none) in
+    absurd (omega (arith, e))
 
 feed_off : (text : List ℕ) → without_feed (text ++ 10 ∷ []) ≡ text
 feed_off text =

@@ -46,9 +46,12 @@ use std::alloc::Global;
 fn without_feed(text: &[u8]) -> &[u8]
     ensures { result.now ≡ without_feed text.now }
 {
-    let count = text.len();
-    if 0 < count && text[count - 1] == b'\n' {
-        &text[..count - 1]
+    if text.is_empty() {
+        return text;
+    }
+    let last = text.len() - 1;
+    if text[last] == b'\n' {
+        &text[..last]
     } else {
         text
     }

@@ -46,8 +46,8 @@ fn with_value(number: Wide, digit: u128) -> Option<Wide>
     ensures { option_map wide_in result ≡ with_digit (wide_in number) (Some digit) }
 {
     let (carry, low) = times58(number.low, digit);
-    let high = number.high.checked_mul(58)?;
-    let high = high.checked_add(carry)?;
+    let product = number.high.checked_mul(58)?;
+    let high = product.checked_add(carry)?;
     Some(Wide { high, low })
 }
 

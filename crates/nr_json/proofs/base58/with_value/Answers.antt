@@ -4,4 +4,16 @@ use Rattle.nr_json.proofs.Halves.{digit_fits, digit_over}
 use Rattle.nr_json.proofs.base58.with_value.Goals as goal
 
 pub returns : goal.returns
-returns c = digit_fits c.args.number.high c.args.number.low c.args.digit c.times58.result.0 c.times58.result.1 c.times58.ensures (omega arith) (omega arith)
+returns c =
+    digit_fits c.args.number.high c.args.number.low c.args.digit c.times58.result.0 c.times58.result.1
+    c.times58.ensures (omega arith) (omega arith)
+
+pub returns-in_err-product : goal.returns-in_err-product
+returns-in_err-product c =
+    digit_over c.args.number.high c.args.number.low c.args.digit c.times58.result.0 c.times58.result.1
+    c.times58.ensures (omega arith)
+
+pub returns-in_err-high : goal.returns-in_err-high
+returns-in_err-high c =
+    digit_over c.args.number.high c.args.number.low c.args.digit c.times58.result.0 c.times58.result.1
+    c.times58.ensures (omega arith)
