@@ -30,13 +30,15 @@ digit_below character i e =
     omega (arith, below, alphabet_length)
 
 -- ---- halves
-pub digit_fits : (h l d carry low : ℕ) → carry * 2 ^ 128 + low ≡ l * 58 + d → h * 58 + carry < 2 ^ 128 → low < 2 ^ 128 → Some ((h * 58 + carry) * 2 ^ 128 + low) ≡ with_digit (h * 2 ^ 128 + l) (Some d)
-digit_fits h l d carry low e high small =
-    let total : (h * 2 ^ 128 + l) * 58 + d ≡ (h * 58 + carry) * 2 ^ 128 + low = omega (arith, e) in
-    let below : (h * 2 ^ 128 + l) * 58 + d < 2 ^ 256 = omega (arith, total, high, small) in
+pub digit_fits : (h l d carry low high : ℕ) → carry * 2 ^ 128 + low ≡ l * 58 + d → high ≡ h * 58 + carry
+    → high < 2 ^ 128 → low < 2 ^ 128 → Some (high * 2 ^ 128 + low) ≡ with_digit (h * 2 ^ 128 + l) (Some d)
+digit_fits h l d carry low high e is big small =
+    let total : (h * 2 ^ 128 + l) * 58 + d ≡ high * 2 ^ 128 + low = omega (arith, e, is) in
+    let below : (h * 2 ^ 128 + l) * 58 + d < 2 ^ 256 = omega (arith, total, big, small) in
     rw (lt-ltb ((h * 2 ^ 128 + l) * 58 + d) (2 ^ 256) below) (ap (λ (n : ℕ). Some n) (sym total))
 
-pub digit_over : (h l d carry low : ℕ) → carry * 2 ^ 128 + low ≡ l * 58 + d → 2 ^ 128 ≤ h * 58 + carry → None ≡ with_digit (h * 2 ^ 128 + l) (Some d)
+pub digit_over : (h l d carry low : ℕ) → carry * 2 ^ 128 + low ≡ l * 58 + d → 2 ^ 128 ≤ h * 58 + carry
+    → None ≡ with_digit (h * 2 ^ 128 + l) (Some d)
 digit_over h l d carry low e high =
     let over : 2 ^ 256 ≤ (h * 2 ^ 128 + l) * 58 + d = omega (arith, e, high) in
     rw (le-ltb ((h * 2 ^ 128 + l) * 58 + d) (2 ^ 256) over) refl

@@ -1,6 +1,6 @@
 //! 32 bytes in base 58.
 
-ghost use Rattle.std.specs.Prelude.{◌≡◌, ◌<◌, ◌+◌, ◌*◌, ◌^◌, ◌++◌, Some, option_map};
+ghost use Rattle.std.specs.Prelude.{◌≡◌, ◌<◌, ◌+◌, ◌*◌, ◌^◌, ◌==◌, ◌++◌, Some, not, option_map, position};
 ghost use Rattle.std.specs.Int.{w128, to_be_bytes};
 ghost use Rattle.nr_json.specs.Base58.{alphabet, digit_of, with_digit, with_digits, number_bytes, count_ahead};
 ghost use Rattle.nr_json.specs.Base58.{if_whole, base58_of, wide_in};
@@ -90,11 +90,18 @@ fn number_bytes(number: Wide) -> [u8; 32]
     halves_bytes(number.high, number.low)
 }
 
+/// Where another byte comes first.
+fn first_other(byte: u8, bytes: &[u8]) -> Option<usize>
+    ensures { result ≡ position (λ b. not (b == byte)) bytes.now }
+{
+    bytes.iter().position(|other| *other != byte)
+}
+
 /// How often this byte stands at the front.
 fn count_ahead(byte: u8, bytes: &[u8]) -> usize
     ensures { result ≡ count_ahead byte bytes.now }
 {
-    match bytes.iter().position(|other| *other != byte) {
+    match first_other(byte, bytes) {
         Some(count) => count,
         None => bytes.len(),
     }

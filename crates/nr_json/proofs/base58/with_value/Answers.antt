@@ -5,15 +5,15 @@ use Rattle.nr_json.proofs.base58.with_value.Goals as goal
 
 pub returns : goal.returns
 returns c =
-    digit_fits c.args.number.high c.args.number.low c.args.digit c.times58.result.0 c.times58.result.1
-    c.times58.ensures (omega arith) (omega arith)
+    digit_fits c.args.number.high c.args.number.low c.args.digit c.times58-carry.result.0 c.times58-carry.result.1
+    c.in_ok-high.high c.times58-carry.ensures (omega arith) (omega arith) (omega arith)
 
 pub returns-in_err-product : goal.returns-in_err-product
 returns-in_err-product c =
-    digit_over c.args.number.high c.args.number.low c.args.digit c.times58.result.0 c.times58.result.1
-    c.times58.ensures (omega arith)
+    digit_over c.args.number.high c.args.number.low c.args.digit c.times58-carry.result.0 c.times58-carry.result.1
+    c.times58-carry.ensures (omega arith)
 
 pub returns-in_err-high : goal.returns-in_err-high
 returns-in_err-high c =
-    digit_over c.args.number.high c.args.number.low c.args.digit c.times58.result.0 c.times58.result.1
-    c.times58.ensures (omega arith)
+    digit_over c.args.number.high c.args.number.low c.args.digit c.times58-carry.result.0 c.times58-carry.result.1
+    c.times58-carry.ensures (omega arith)
