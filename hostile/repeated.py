@@ -5,9 +5,10 @@ usage: hostile/repeated.py [--programs FOLDER] [--only WORD] [--levels N] [--roo
 
 Build the programs first. Sixteen children of a branch may have one text, so a file with a text for each level tells of
 16 times as many nodes with each level more. Such a gathered chunk states its own root; a part is checked against a root
-that somebody vouches for, so its row is here to compare. Each command runs on files of 1 to --levels levels (5, some
-1,100,000 nodes) in --room GiB of address space (4). A row has what a run took above that of one level. What is right is
-a refusal, or want of memory with nothing written. The exit status is 0 where every run was right.
+that somebody vouches for, so its row is here to compare. Each command runs on files of 1 to --levels levels (8, some
+4,600,000,000 nodes) in --room GiB of address space (4). A row has what a run took above that of one level. What is
+right is a refusal, and from 6 levels on, where a walk has no room for the nodes, want of memory with nothing written;
+each within --limit seconds (60). The exit status is 0 where every run was right.
 """
 import hashlib
 import resource
@@ -19,6 +20,8 @@ import programs as shared
 from chains import counted, listed, u32, u64
 
 GIB = 1 << 30
+# The least levels of which a walk's room holds no more than a part.
+NO_ROOM = 6
 
 
 def top_of(texts, text):
@@ -67,9 +70,9 @@ def in_room(runner, words, room):
     return ran
 
 
-def is_right(ran):
-    if ran.status == shared.NO_MEMORY:
-        return not ran.out and ran.err == b"7\n"
+def is_right(ran, levels):
+    if levels >= NO_ROOM:
+        return ran.status == shared.NO_MEMORY and not ran.out and ran.err == b"7\n"
     return ran.status in (12, 13) and not ran.out and ran.err.startswith(b"%d " % ran.status)
 
 
@@ -82,7 +85,7 @@ def row(verb, levels, size, ran, low):
 
 
 def main():
-    more = [("--levels", {"type": int, "default": 5}), ("--room", {"type": int, "default": 4})]
+    more = [("--levels", {"type": int, "default": 8}), ("--room", {"type": int, "default": 4})]
     arguments = shared.arguments_of(__doc__, *more)
     serial, wrong, least = shared.programs_in(arguments.programs)["near_serial"], 0, {}
     runner = shared.Runner(arguments.limit)
@@ -97,7 +100,7 @@ def main():
                 shared.write(path, data)
                 ran = in_room(runner, [serial, verb, *words], arguments.room * GIB)
                 row(verb, levels, len(data), ran, least.setdefault(verb, ran))
-                if not is_right(ran):
+                if not is_right(ran, levels):
                     wrong += 1
                     shared.tell(verb, ran, f"{levels} levels")
     print(f"{wrong} runs were wrong")

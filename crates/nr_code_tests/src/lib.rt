@@ -1,4 +1,5 @@
-//! Tests of what runs a contract: numbers, memory, instructions, arguments, promises, calls, and near_module.
+//! Tests of what runs a contract: numbers, memory, instructions, arguments, promises, calls, modules as text, and
+//! near_module.
 #![tactic(auto)]
 
 #[cfg(test)]
@@ -15,3 +16,5 @@ mod wasmmem;
 mod wasmnum;
 #[cfg(test)]
 mod wasmtypes;
+#[cfg(test)]
+mod wat;

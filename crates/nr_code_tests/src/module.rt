@@ -127,6 +127,7 @@ fn help_and_version_load_nothing(rt: HostRuntime) -> Result<(), Fail> {
     let help = "near_module check CONFIG FILE\n\
     near_module run CONFIG FILE METHOD GAS\n\
     near_module list FILE\n\
+    near_module text FILE\n\
     near_module help\n\
     near_module version\n\
     CONFIG is free or the name of a file, and GAS a number from 0 to 18446744073709551615.\n";
@@ -174,5 +175,26 @@ fn a_faulty_file_isnt_listed(rt: HostRuntime) -> Result<(), Fail> {
     assert!(rt; answers(alloc, &list, b"\0asm", Status::Faulty, "decode 1 4\n")?);
     assert!(rt; answers(alloc, &["list", "N"], b"", Status::ReadFault, "")?);
     assert!(rt; answers(alloc, &["list"], b"", Status::Usage, "")?);
+    Ok(())
+}
+
+#[test]
+fn a_module_is_written_as_text(rt: HostRuntime) -> Result<(), Fail> {
+    let alloc = rt.alloc();
+    let text = ["text", "M"];
+    // What wasm2wat writes of it.
+    let calls = "(module\n\
+    \x20 (type (;0;) (func))\n\
+    \x20 (type (;1;) (func (param i64)))\n\
+    \x20 (import \"env\" \"input\" (func (;0;) (type 1)))\n\
+    \x20 (func (;1;) (type 0)\n\
+    \x20   i64.const 0\n\
+    \x20   call 0)\n\
+    \x20 (export \"go\" (func 1))\n\
+    \x20 (export \"host\" (func 0)))\n";
+    assert!(rt; answers(alloc, &text, &CALLS_HOST, Status::Sound, calls)?);
+    assert!(rt; answers(alloc, &text, b"\0asm", Status::Faulty, "decode 1 4\n")?);
+    assert!(rt; answers(alloc, &["text", "N"], b"", Status::ReadFault, "")?);
+    assert!(rt; answers(alloc, &["text"], b"", Status::Usage, "")?);
     Ok(())
 }

@@ -15,7 +15,8 @@ const FRONT: [u8; 26] = [
 /// Adds a size below 2^14, in two bytes.
 fn push_size(bytes: &mut Vec<u8>, size: usize) -> Result<(), AllocError> {
     bytes.push((size % 128) as u8 | 128)?;
-    bytes.push((size / 128 % 128) as u8)
+    bytes.push((size / 128 % 128) as u8)?;
+    Ok(())
 }
 
 /// A module whose `f` is so many blocks in one another, each opened by these bytes. They begin at 32.

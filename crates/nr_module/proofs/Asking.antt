@@ -5,8 +5,8 @@ use Rattle.nr_configfile.specs.Plans.{config_files, config_plan}
 use Rattle.nr_configfile.proofs.Asking.{config_asks}
 use Rattle.nr_shell.specs.Plans.{Answer, Asks, file_plan}
 use Rattle.nr_shell.proofs.Ends.{file_asks, then_asks}
-use Rattle.nr_module.specs.Command.{Command, OfModule, OfListing, OfText, Names}
-use Rattle.nr_module.specs.Plans.{Judge, Tell, by_config, files_of, plan}
+use Rattle.nr_module.specs.Command.{Command, OfModule, OfShown, OfText, Names}
+use Rattle.nr_module.specs.Plans.{Judge, Show, by_config, files_of, plan}
 use Rattle.nr_module.specs.declared.status.Status.TheVariants.{Faulty, Config as faulty_config}
 
 by_config_asks : (names : Names) (c : Config) → Asks (names.file ∷ []) (by_config names c)
@@ -15,8 +15,8 @@ by_config_asks names c =
 
 pub plan_asks : (asked : Option Command) → Asks (files_of asked) (plan asked)
 plan_asks None = tt
-plan_asks (Some (OfListing name)) =
-    then_asks (name ∷ []) [] (file_plan name 67108864 Faulty) (λ bytes. Answer (Tell bytes)) (file_asks name 67108864 Faulty) (λ bytes. tt)
+plan_asks (Some (OfShown view name)) =
+    then_asks (name ∷ []) [] (file_plan name 67108864 Faulty) (λ bytes. Answer (Show view bytes)) (file_asks name 67108864 Faulty) (λ bytes. tt)
 plan_asks (Some (OfText text)) = tt
 plan_asks (Some (OfModule names)) =
     then_asks (config_files names.config) (names.file ∷ []) (config_plan faulty_config names.config) (by_config names) (config_asks faulty_config names.config) (by_config_asks names)

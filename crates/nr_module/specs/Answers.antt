@@ -13,10 +13,13 @@ use Rattle.nr_wasmbin.specs.Modules.{decoded}
 use Rattle.nr_wasmbin.specs.declared.fault.DecodeFault.{DecodeFault}
 use Rattle.nr_wasmbin.specs.declared.fault.DecodeFault.TheVariants as decode
 use Rattle.nr_wasmtypes.specs.declared.module.Module.{Module}
+use Rattle.nr_wat.specs.Fields.{module_text as whole_text}
 use Rattle.nr_module.specs.Lines.{decode_text, rated, verdict_text}
 use Rattle.nr_module.specs.Listing.{module_text}
-use Rattle.nr_module.specs.Plans.{Question, Due, Judge, Tell, Write}
+use Rattle.nr_module.specs.Plans.{Question, Due, Judge, Show, Write}
 use Rattle.nr_module.specs.Verdicts.{IsVerdict}
+use Rattle.nr_module.specs.declared.command.View.{View}
+use Rattle.nr_module.specs.declared.command.View.TheVariants.{Brief, Whole}
 use Rattle.nr_module.specs.declared.status.Status.{Status}
 use Rattle.nr_module.specs.declared.status.Status.TheVariants.{Sound, Unfit, Faulty, Usage, Config, ReadFault}
 use Rattle.nr_module.specs.declared.status.Status.TheVariants.{WriteFault}
@@ -51,21 +54,25 @@ TellsVerdict q line r = (v : Verdict) × IsVerdict q v × (line ≡ verdict_text
 abbrev pub TellsText : List ℕ → List ℕ → Rating → Type 0
 TellsText text line r = (line ≡ text) × (r ≡ rating.Sound)
 
+-- what shows a module, whose file has so many bytes
+abbrev pub view_text : View → ℕ → Module → List ℕ
+view_text Brief size m = module_text size m
+view_text Whole size m = whole_text m
+
 -- the lines of what is decoded, which is well, or the line of the first fault
-abbrev pub TellsDecoded : ℕ → Result Module DecodeFault → List ℕ → Rating → Type 0
-TellsDecoded size (Ok m) line r = (line ≡ module_text size m) × (r ≡ rating.Sound)
-TellsDecoded size (Err fault) line r = (fault ≢ decode.Memory) × (line ≡ decode_text fault) × (r ≡ rating.Faulty)
+abbrev pub TellsDecoded : View → ℕ → Result Module DecodeFault → List ℕ → Rating → Type 0
+TellsDecoded view size (Ok m) line r = (line ≡ view_text view size m) × (r ≡ rating.Sound)
+TellsDecoded view size (Err fault) line r = (fault ≢ decode.Memory) × (line ≡ decode_text fault) × (r ≡ rating.Faulty)
 
 -- those of a file's bytes
-abbrev pub TellsListing : List ℕ → List ℕ → Rating → Type 0
-TellsListing bytes line r = TellsDecoded (length bytes) (decoded (max_code free) bytes) line r
+abbrev pub TellsShown : View → List ℕ → List ℕ → Rating → Type 0
+TellsShown view bytes line r = TellsDecoded view (length bytes) (decoded (max_code free) bytes) line r
 
 -- what tells an end of a plan: the line of a verdict on what the files give, the lines of a module, a text, or `long`
--- for
--- a file that is too long
+-- for a file that is too long
 abbrev pub Tells : Plan Due Status → List ℕ → Rating → Type 0
 Tells (Answer (Judge q)) line r = TellsVerdict q line r
-Tells (Answer (Tell bytes)) line r = TellsListing bytes line r
+Tells (Answer (Show view bytes)) line r = TellsShown view bytes line r
 Tells (Answer (Write text)) line r = TellsText text line r
 Tells (Refuse status) line r = (status ≡ Faulty) × (line ≡ codes "long" ++ 10 ∷ []) × (r ≡ rating.Faulty)
 Tells (Ask name limit long by_bytes) line r = ⊥

@@ -1,11 +1,12 @@
--- The words of the command line: `check CONFIG FILE`, `run CONFIG FILE METHOD GAS`, `list FILE`, `help` or `version`.
--- The
--- commands are this project's own.
+-- The words of the command line: `check CONFIG FILE`, `run CONFIG FILE METHOD GAS`, `list FILE`, `text FILE`, `help` or
+-- `version`. The commands are this project's own.
 use Rattle.std.specs.Prelude.{ℕ, List, [], ◌∷◌, cond, Option, Some, None, codes, option_and_then}
 use Rattle.std.specs.Str.{bytes_eq}
 use Rattle.nr_words.specs.Forms.{Value, Text, Number, read}
 use Rattle.nr_module.specs.Help.{forms, help_text, version_text}
 use Rattle.nr_module.specs.declared.command.FileNames.{FileNames}
+use Rattle.nr_module.specs.declared.command.View.{View}
+use Rattle.nr_module.specs.declared.command.View.TheVariants.{Brief, Whole}
 use Rattle.nr_module.specs.declared.command.Work.{Work}
 use Rattle.nr_module.specs.declared.command.Work.TheVariants as work
 use Rattle.nr_module.specs.declared.command.Words.{Words}
@@ -22,10 +23,10 @@ pub record Names : Type 0 where
   pub file : List ℕ
   pub task : Task
 
--- something is done with a module, what the module of a file brings is listed, or a text is written
+-- something is done with a module, the module of a file is shown, or a text is written
 pub data Command : Type 0 where
   OfModule : Names → Command
-  OfListing : List ℕ → Command
+  OfShown : View → List ℕ → Command
   OfText : List ℕ → Command
 
 -- ---- what the words of a form are
@@ -38,16 +39,17 @@ run_of (Text config ∷ Text name ∷ Text method ∷ Number gas ∷ []) =
     Some (OfModule (record { config = config; file = name; task = Run method gas }))
 run_of values = None
 
-abbrev pub list_of : List Value → Option Command
-list_of (Text name ∷ []) = Some (OfListing name)
-list_of values = None
+abbrev pub view_of : View → List Value → Option Command
+view_of view (Text name ∷ []) = Some (OfShown view name)
+view_of view values = None
 
 abbrev pub found_command : List ℕ × List Value → Option Command
 found_command found = cond (bytes_eq found.0 (codes "check")) (check_of found.1)
     (cond (bytes_eq found.0 (codes "run")) (run_of found.1)
-    (cond (bytes_eq found.0 (codes "list")) (list_of found.1)
+    (cond (bytes_eq found.0 (codes "list")) (view_of Brief found.1)
+    (cond (bytes_eq found.0 (codes "text")) (view_of Whole found.1)
     (cond (bytes_eq found.0 (codes "help")) (Some (OfText help_text))
-    (cond (bytes_eq found.0 (codes "version")) (Some (OfText version_text)) None))))
+    (cond (bytes_eq found.0 (codes "version")) (Some (OfText version_text)) None)))))
 
 unfoldable pub command : List (List ℕ) → Option Command
 command words = option_and_then found_command (read forms words)
@@ -62,5 +64,5 @@ names_in n = record { config = n.config.now; file = n.file.now; task = task_in n
 
 abbrev pub command_in : Words → Command
 command_in (lent.Module names) = OfModule (names_in names)
-command_in (lent.Listing name) = OfListing name.now
+command_in (lent.Shown view name) = OfShown view name.now
 command_in (lent.Text text) = OfText text.now

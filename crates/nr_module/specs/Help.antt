@@ -10,7 +10,8 @@ forms =
     form (codes "check") (file (codes "CONFIG") ∷ file (codes "FILE") ∷ [])
     ∷ form (codes "run") (file (codes "CONFIG") ∷ file (codes "FILE") ∷ file (codes "METHOD")
     ∷ number (codes "GAS") 0 18446744073709551615 ∷ [])
-    ∷ form (codes "list") (file (codes "FILE") ∷ []) ∷ form (codes "help") [] ∷ form (codes "version") [] ∷ []
+    ∷ form (codes "list") (file (codes "FILE") ∷ []) ∷ form (codes "text") (file (codes "FILE") ∷ [])
+    ∷ form (codes "help") [] ∷ form (codes "version") [] ∷ []
 
 -- the words of a form behind the program's name, parted by single spaces
 abbrev pub form_line : List ℕ → Form → List ℕ

@@ -1,13 +1,13 @@
 -- What each command does, as a plan: it asks for the configuration, where it has one, and then for the module's file.
 -- This project's own.
 use Rattle.std.specs.Prelude.{ℕ, List, [], ◌∷◌, ◌++◌, Option, Some, None}
-use Rattle.std.specs.Global.{Global}
-use Rattle.std.specs.declared.vec.Vec.{Vec}
 use Rattle.nr_config.specs.Config.{Config}
 use Rattle.nr_configfile.specs.Plans.{config_files, config_plan}
 use Rattle.nr_shell.specs.Plans.{Plan, Answer, Refuse, and_then, file_plan}
-use Rattle.nr_module.specs.Command.{Command, OfModule, OfListing, OfText, Names, Task, task_in}
+use Rattle.nr_module.specs.Command.{Command, OfModule, OfShown, OfText, Names, Task, task_in}
+use Rattle.nr_module.specs.declared.command.View.{View}
 use Rattle.nr_module.specs.declared.question.Question.{Question as LentQuestion}
+use Rattle.nr_module.specs.declared.question.Shown.{Shown}
 use Rattle.nr_module.specs.declared.status.Status.{Status}
 use Rattle.nr_module.specs.declared.status.Status.TheVariants.{Faulty, Usage, Config as faulty_config}
 
@@ -17,10 +17,10 @@ pub record Question : Type 0 where
   pub task : Task
   pub bytes : List ℕ
 
--- what a plan comes to: bytes that are to be judged or listed, or a text that is to be written
+-- what a plan comes to: bytes that are to be judged, or shown as a module, or a text that is to be written
 pub data Due : Type 0 where
   Judge : Question → Due
-  Tell : List ℕ → Due
+  Show : View → List ℕ → Due
   Write : List ℕ → Due
 
 abbrev pub question_in : LentQuestion → Question
@@ -29,8 +29,8 @@ question_in q = record { config = q.config; task = task_in q.work; bytes = q.byt
 abbrev pub due_in : LentQuestion → Due
 due_in q = Judge (question_in q)
 
-abbrev pub listed_in : Vec ℕ Global → Due
-listed_in bytes = Tell bytes.items
+abbrev pub shown_in : Shown → Due
+shown_in s = Show s.view s.bytes.items
 
 -- the module's file, of at most 64 MiB
 abbrev pub by_config : Names → Config → Plan Due Status
@@ -41,20 +41,20 @@ by_config names c =
 abbrev pub module_plan : Names → Plan Due Status
 module_plan names = and_then (config_plan faulty_config names.config) (by_config names)
 
--- a listing is made under the built-in configuration, which loads no file
-abbrev pub listing_plan : List ℕ → Plan Due Status
-listing_plan name = and_then (file_plan name 67108864 Faulty) (λ bytes. Answer (Tell bytes))
+-- a module is shown under the built-in configuration, which loads no file
+abbrev pub shown_plan : View → List ℕ → Plan Due Status
+shown_plan view name = and_then (file_plan name 67108864 Faulty) (λ bytes. Answer (Show view bytes))
 
 -- words that are no command are refused
 abbrev pub plan : Option Command → Plan Due Status
 plan None = Refuse Usage
 plan (Some (OfModule names)) = module_plan names
-plan (Some (OfListing name)) = listing_plan name
+plan (Some (OfShown view name)) = shown_plan view name
 plan (Some (OfText text)) = Answer (Write text)
 
 -- the files of a command in their order, each of which it asks for once
 abbrev pub files_of : Option Command → List (List ℕ)
 files_of None = []
 files_of (Some (OfModule names)) = config_files names.config ++ names.file ∷ []
-files_of (Some (OfListing name)) = name ∷ []
+files_of (Some (OfShown view name)) = name ∷ []
 files_of (Some (OfText text)) = []

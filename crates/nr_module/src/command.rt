@@ -2,7 +2,7 @@
 
 ghost use Rattle.std.specs.Prelude.{◌≡◌, IfOk, map, option_map};
 ghost use Rattle.nr_words.specs.Words.{found_in, table_in, texts, value_in};
-ghost use Rattle.nr_module.specs.Command.{check_of, command, command_in, found_command, list_of, run_of};
+ghost use Rattle.nr_module.specs.Command.{check_of, command, command_in, found_command, run_of, view_of};
 ghost use Rattle.nr_module.specs.Help.{forms};
 
 use crate::help::{help_text, version_text};
@@ -26,18 +26,28 @@ pub(crate) struct FileNames<'a> {
     pub(crate) work: Work<'a>,
 }
 
+/// What a module is shown as.
+#[derive(Clone, Copy, Debug, PartialEq, Eq)]
+pub(crate) enum View {
+    /// Lines that tell what it imports and exports, and its sizes.
+    Brief,
+    /// All of it in WebAssembly's text format.
+    Whole,
+}
+
 /// The words of a command.
 #[derive(Clone, Copy, Debug)]
 pub(crate) enum Words<'a> {
     /// `check CONFIG FILE` or `run CONFIG FILE METHOD GAS`
     Module(FileNames<'a>),
-    /// `list FILE`, by the name of the file
-    Listing(&'a str),
+    /// `list FILE` or `text FILE`, by the name of the file
+    Shown(View, &'a str),
     /// `help` or `version`, by the text that it writes
     Text(&'a str),
 }
 
-/// `check CONFIG FILE`, `run CONFIG FILE METHOD GAS` with a number below 2^64, `list FILE`, `help` and `version`.
+/// `check CONFIG FILE`, `run CONFIG FILE METHOD GAS` with a number below 2^64, `list FILE`, `text FILE`, `help` and
+/// `version`.
 const FORMS: &[Form] = &[
     Form {
         verb: "check",
@@ -58,6 +68,10 @@ const FORMS: &[Form] = &[
     },
     Form {
         verb: "list",
+        places: &[Place::File("FILE")],
+    },
+    Form {
+        verb: "text",
         places: &[Place::File("FILE")],
     },
     Form {
@@ -109,12 +123,12 @@ fn run_of<'a>(values: &[Value<'a>]) -> Option<Words<'a>>
     }
 }
 
-/// The listing of a module.
-fn list_of<'a>(values: &[Value<'a>]) -> Option<Words<'a>>
-    ensures { option_map command_in result ≡ list_of (map value_in values.now) }
+/// A view of a module.
+fn view_of<'a>(view: View, values: &[Value<'a>]) -> Option<Words<'a>>
+    ensures { option_map command_in result ≡ view_of view (map value_in values.now) }
 {
     match values {
-        [Value::Text(file)] => Some(Words::Listing(file)),
+        [Value::Text(file)] => Some(Words::Shown(view, file)),
         _ => None,
     }
 }
@@ -127,14 +141,16 @@ fn found_command<'a>(found: &Found<'a>) -> Option<Words<'a>>
     match found.verb {
         "check" => check_of(values),
         "run" => run_of(values),
-        "list" => list_of(values),
+        "list" => view_of(View::Brief, values),
+        "text" => view_of(View::Whole, values),
         "help" => Some(Words::Text(help_text())),
         "version" => Some(Words::Text(version_text())),
         _ => None,
     }
 }
 
-/// The command that the words are: `check CONFIG FILE`, `run CONFIG FILE METHOD GAS`, `list FILE`, `help` or `version`.
+/// The command that the words are: `check CONFIG FILE`, `run CONFIG FILE METHOD GAS`, `list FILE`, `text FILE`, `help`
+/// or `version`.
 ///
 /// # Errors
 ///

@@ -10,6 +10,7 @@ pub(crate) fn help_text() -> &'static str
     "near_module check CONFIG FILE\n\
     near_module run CONFIG FILE METHOD GAS\n\
     near_module list FILE\n\
+    near_module text FILE\n\
     near_module help\n\
     near_module version\n\
     CONFIG is free or the name of a file, and GAS a number from 0 to 18446744073709551615.\n"

@@ -3,9 +3,9 @@
 ghost use Rattle.nr_shell.specs.Answers.{Follows};
 ghost use Rattle.nr_module.specs.Answers.{refuses};
 ghost use Rattle.nr_module.specs.Command.{names_in};
-ghost use Rattle.nr_module.specs.Plans.{by_config, due_in, listed_in, listing_plan, module_plan};
+ghost use Rattle.nr_module.specs.Plans.{by_config, due_in, module_plan, shown_in, shown_plan};
 
-use crate::command::{FileNames, Work};
+use crate::command::{FileNames, View, Work};
 use crate::status::Status;
 use nr_bytes::Shelf;
 use nr_config::Config;
@@ -21,6 +21,13 @@ const FILE_LIMIT: usize = 67_108_864;
 pub(crate) struct Question<'a> {
     pub(crate) config: Config,
     pub(crate) work: Work<'a>,
+    pub(crate) bytes: Vec<u8>,
+}
+
+/// The bytes of a module's file, and what the module is shown as.
+#[derive(Drop)]
+pub(crate) struct Shown {
+    pub(crate) view: View,
     pub(crate) bytes: Vec<u8>,
 }
 
@@ -45,23 +52,24 @@ fn with_file<'a, S: Shelf>(
     }
 }
 
-/// The bytes of a file that is to be listed.
+/// The bytes of a file whose module is to be shown.
 ///
 /// # Errors
 ///
 /// `Refused` with `Faulty` where the file is longer than 64 MiB; `Unread` where it could not be read, and `Memory`
 /// where memory ran out.
-pub(crate) fn listed_of<S: Shelf>(
+pub(crate) fn shown_of<S: Shelf>(
     alloc: Global,
+    view: View,
     file: &str,
     shelf: &mut S,
-) -> Result<Vec<u8>, Stop<Status>>
-    ensures { Follows refuses listed_in (S.held shelf.old) (S.held shelf.new)
+) -> Result<Shown, Stop<Status>>
+    ensures { Follows refuses shown_in (S.held shelf.old) (S.held shelf.new)
         (S.asked shelf.old) (S.asked shelf.new) (S.faults shelf.old) (S.faults shelf.new)
-        result (listing_plan file.now) }
+        result (shown_plan view file.now) }
 {
     match load(alloc, file, FILE_LIMIT, Status::Faulty, shelf) {
-        Ok(bytes) => Ok(bytes),
+        Ok(bytes) => Ok(Shown { view, bytes }),
         Err(stop) => Err(stop),
     }
 }

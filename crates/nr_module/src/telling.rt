@@ -3,21 +3,24 @@
 ghost use Rattle.std.specs.Prelude.{◌≡◌, ◌≢◌, IfOk, string_bytes};
 ghost use Rattle.nr_bytes.specs.Outside.{Rose};
 ghost use Rattle.nr_shell.specs.Plans.{Refuse};
-ghost use Rattle.nr_module.specs.Answers.{Tells, TellsListing, TellsText, TellsVerdict, Told};
+ghost use Rattle.nr_module.specs.Answers.{Tells, TellsShown, TellsText, TellsVerdict, Told, view_text};
 ghost use Rattle.nr_module.specs.Lines.{rated, rated_answer};
 ghost use Rattle.nr_module.specs.Plans.{question_in};
 ghost use Rattle.nr_module.specs.declared.status.Status.TheVariants.{Faulty, ReadFault, Sound, Unfit, WriteFault};
 
+use crate::command::View;
 use crate::judging::judge;
 use crate::listing::module_text;
 use crate::printed::{decode_text, verdict_text};
-use crate::question::Question;
+use crate::question::{Question, Shown};
 use crate::status::Status;
 use crate::verdict::{Answer, Rating, Verdict};
 use nr_bytes::Sink;
 use nr_config::Config;
 use nr_shell::write_all;
 use nr_wasmbin::{DecodeFault, decode};
+use nr_wasmtypes::Module;
+use nr_wat::write_text;
 use std::alloc::{AllocError, Global};
 
 /// The line of an end, with its line feed, and how well it is what it tells.
@@ -62,17 +65,23 @@ pub(crate) fn verdict_line(alloc: Global, question: &Question<'_>) -> Result<Lin
     })
 }
 
-/// The lines of the module of a file, or the line of the first fault that it has.
-///
-/// # Errors
-///
-/// Where memory runs out.
-pub(crate) fn listing_line(alloc: Global, bytes: &[u8]) -> Result<Line, AllocError>
-    ensures { IfOk result (λ line. TellsListing bytes.now (string_bytes line.text) line.rating) }
+/// What shows a module, whose file has so many bytes.
+fn view_text(alloc: Global, view: View, size: usize, module: &Module) -> Result<String, AllocError>
+    ensures { IfOk result (λ text. string_bytes text ≡ view_text view size module.now) }
+{
+    match view {
+        View::Brief => module_text(alloc, size, module),
+        View::Whole => write_text(alloc, module),
+    }
+}
+
+/// The lines that show the module of these bytes, or the line of the first fault that they have.
+fn bytes_line(alloc: Global, view: View, bytes: &[u8]) -> Result<Line, AllocError>
+    ensures { IfOk result (λ line. TellsShown view bytes.now (string_bytes line.text) line.rating) }
 {
     match decode(alloc, bytes, &Config::free()) {
         Ok(module) => {
-            let text = module_text(alloc, bytes.len(), &module)?;
+            let text = view_text(alloc, view, bytes.len(), &module)?;
             Ok(Line {
                 text,
                 rating: Rating::Sound,
@@ -87,6 +96,18 @@ pub(crate) fn listing_line(alloc: Global, bytes: &[u8]) -> Result<Line, AllocErr
             })
         }
     }
+}
+
+/// The lines that show the module of a file, or the line of the first fault that it has.
+///
+/// # Errors
+///
+/// Where memory runs out.
+pub(crate) fn shown_line(alloc: Global, shown: &Shown) -> Result<Line, AllocError>
+    ensures { IfOk result (λ line.
+        TellsShown shown.now.view shown.now.bytes.items (string_bytes line.text) line.rating) }
+{
+    bytes_line(alloc, shown.view, shown.bytes.as_slice())
 }
 
 /// The line of a module's file that is too long.

@@ -5,13 +5,13 @@ ghost use Rattle.nr_bytes.specs.Outside.{Rose};
 ghost use Rattle.nr_words.specs.Words.{texts};
 ghost use Rattle.nr_module.specs.Answers.{Serves, stop_status};
 ghost use Rattle.nr_module.specs.Command.{command, command_in, names_in};
-ghost use Rattle.nr_module.specs.Plans.{listing_plan, module_plan, plan};
+ghost use Rattle.nr_module.specs.Plans.{module_plan, plan, shown_plan};
 ghost use Rattle.nr_module.specs.declared.status.Status.TheVariants.{Faulty, ReadFault, Sound, Unfit, WriteFault};
 
-use crate::command::{FileNames, Words, command_of};
-use crate::question::{listed_of, question_of};
+use crate::command::{FileNames, View, Words, command_of};
+use crate::question::{question_of, shown_of};
 use crate::status::Status;
-use crate::telling::{listing_line, long_line, tell, text_line, verdict_line};
+use crate::telling::{long_line, shown_line, tell, text_line, verdict_line};
 use nr_bytes::{Shelf, Sink};
 use nr_shell::Stop;
 use std::alloc::Global;
@@ -47,21 +47,22 @@ fn serve_names<S: Shelf, K: Sink>(
     }
 }
 
-/// Lists what the module of a file brings.
-fn serve_listing<S: Shelf, K: Sink>(
+/// Shows the module of a file.
+fn serve_shown<S: Shelf, K: Sink>(
     alloc: Global,
+    view: View,
     file: &str,
     shelf: &mut S,
     sink: &mut K,
 ) -> Status
-    ensures serves { Serves result (listing_plan file.now) (S.held shelf.old)
+    ensures serves { Serves result (shown_plan view file.now) (S.held shelf.old)
         (S.asked shelf.old) (S.asked shelf.new) (K.taken sink.old) (K.taken sink.new) }
     ensures untouched { result ≢ Sound → result ≢ Unfit → result ≢ Faulty → result ≢ WriteFault → sink.new ≡ sink.old }
     ensures read_fault { result ≡ ReadFault → Rose (S.faults shelf.old) (S.faults shelf.new) }
     ensures write_fault { result ≡ WriteFault → Rose (K.faults sink.old) (K.faults sink.new) }
 {
-    match listed_of(alloc, file, shelf) {
-        Ok(bytes) => tell(listing_line(alloc, &bytes), sink),
+    match shown_of(alloc, view, file, shelf) {
+        Ok(shown) => tell(shown_line(alloc, &shown), sink),
         Err(Stop::Refused(Status::Faulty)) => tell(long_line(alloc), sink),
         Err(stop) => stop_status(stop),
     }
@@ -82,7 +83,7 @@ fn serve_command<S: Shelf, K: Sink>(
 {
     match command {
         Words::Module(names) => serve_names(alloc, names, shelf, sink),
-        Words::Listing(file) => serve_listing(alloc, file, shelf, sink),
+        Words::Shown(view, file) => serve_shown(alloc, *view, file, shelf, sink),
         Words::Text(text) => tell(text_line(alloc, text), sink),
     }
 }
@@ -90,9 +91,9 @@ fn serve_command<S: Shelf, K: Sink>(
 /// Does what the words ask for: `check CONFIG FILE` decodes and validates the module of a file, and
 /// writes a line that says what it is; `run CONFIG FILE METHOD GAS` runs a method of it besides, and
 /// writes how the run ended; `list FILE` decodes the module of a file and tells what it imports and
-/// exports. CONFIG is `free`, the built-in configuration, or the name of a file. GAS
-/// is a decimal number below 2^64 without leading zeros. `help` writes the words of the commands, and
-/// `version` the program's name and version.
+/// exports; `text FILE` decodes it and writes it in WebAssembly's text format. CONFIG is `free`, the built-in
+/// configuration, or the name of a file. GAS is a decimal number below 2^64 without leading zeros. `help`
+/// writes the words of the commands, and `version` the program's name and version.
 ///
 /// The line is `ok`; `decode KIND AT` with the kind of the first fault (1 `Short`, 2 `Leb`,
 /// 3 `Section`, 4 `Opcode`, 5 `Float`, 6 `Utf8`, 7 `TooMany`) and its place; `valid KIND FUNC PLACE`
@@ -105,8 +106,8 @@ fn serve_command<S: Shelf, K: Sink>(
 /// method, but an element or a segment doesn't fit.
 ///
 /// `list` writes a line for each import, with why the host doesn't have it or `ok`, for each export, table and
-/// memory, and for the size of the file; or the line `decode KIND AT` or `long`. It judges by the built-in
-/// configuration, which only says how long a file may be.
+/// memory, and for the size of the file; `text` writes the module (`nr_wat::write_text`); or they write the line
+/// `decode KIND AT` or `long`. They judge by the built-in configuration, which only says how long a file may be.
 ///
 /// # Answers
 ///

@@ -14,7 +14,7 @@ use nr_bytes::List;
 use nr_columns::Entry;
 use nr_ids::Hash32;
 use nr_triedef::value_hash;
-use nr_walk::{Texts, WalkFault};
+use nr_walk::{Texts, WalkFault, bytes_in, room_over};
 use std::alloc::Global;
 
 pub(crate) fn same_hash(one: &Hash32, other: &Hash32) -> bool
@@ -56,6 +56,20 @@ fn first_other(entries: &[Entry], claims: &[Claim]) -> Option<usize>
     }
 }
 
+// How many bytes the texts and the entries have, with their two counts for each entry.
+fn bytes_of(part: &Part) -> u64 {
+    let mut bytes = bytes_in(&part.texts);
+    for entry in part.entries.inner() {
+        let key = entry.key.inner().len() as u64;
+        let value = entry.value.inner().len() as u64;
+        bytes = bytes
+            .saturating_add(key)
+            .saturating_add(value)
+            .saturating_add(8);
+    }
+    bytes
+}
+
 #[tactic(auto, unfolding(crate::specs::Checking::claims_of))]
 fn claims_of(alloc: Global, part: &Part) -> Result<List<Claim>, WalkFault>
     requires { 0 < part.now.count }
@@ -64,7 +78,7 @@ fn claims_of(alloc: Global, part: &Part) -> Result<List<Claim>, WalkFault>
     if is_zeros(&part.root) {
         return Ok(List::of(Vec::new(alloc)));
     }
-    let texts = Texts::new(alloc, &part.texts)?;
+    let texts = Texts::new(alloc, &part.texts)?.with_room(room_over(bytes_of(part)));
     walked(alloc, &texts, &part.root, part.count, part.number)
 }
 

@@ -15,8 +15,8 @@ use nr_bytes::{Blob, List};
 use nr_ids::Hash32;
 use nr_triedef::Node;
 use nr_walk::{
-    Ending, Spot, Texts, WalkFault, ending_of, further, look_at, own_usage, packed, spots_of,
-    usage_of,
+    Ending, Spot, Texts, WalkFault, ending_of, further, look_at, own_usage, packed, room_behind,
+    room_behind_children, spots_of, usage_of,
 };
 use std::alloc::{AllocError, Global};
 
@@ -103,6 +103,16 @@ fn seen(
     Ok(Visit { claim, below, next })
 }
 
+fn room_behind_claim(room: u64, claim: &Option<Claim>) -> Result<u64, AllocError>
+    ensures { IfOk result (λ left. left ≤ room) }
+{
+    match claim {
+        None => Ok(room),
+        Some(claim) => room_behind(room, claim.key.inner().len()),
+    }
+}
+
+// Looking at one node, which takes from the room.
 #[tactic(auto, unfolding(crate::specs::Walking::visited))]
 fn visited(
     alloc: Global,
@@ -110,6 +120,7 @@ fn visited(
     share: Share,
     at: u128,
     spot: &Spot,
+    room: &mut u64,
 ) -> Result<Visit, WalkFault>
     requires count { 0 < share.count }
     requires low { at < 2 ^ 95 }
@@ -117,7 +128,10 @@ fn visited(
     ensures further { IfOk result (λ visit. visit.next < at + 2 ^ 66) }
 {
     let node = look_at(alloc, texts, spot)?;
-    let visit = seen(alloc, share, at, spot.place.inner(), &node)?;
+    let place = spot.place.inner();
+    *room = room_behind_children(alloc, texts, *room, place, &node)?;
+    let visit = seen(alloc, share, at, place, &node)?;
+    *room = room_behind_claim(*room, &visit.claim)?;
     Ok(visit)
 }
 
@@ -147,12 +161,13 @@ fn walk_from(
     waiting.put(spots)?;
     let mut at = start;
     let mut left = MOST_NODES - 1;
+    let mut room = texts.room();
     while let Some(spot) = waiting.pop() {
         if left == 0 {
             return Err(WalkFault::TooMany);
         }
         left -= 1;
-        let visit = visited(alloc, texts, share, at, &spot)?;
+        let visit = visited(alloc, texts, share, at, &spot, &mut room)?;
         at = visit.next;
         push_claim(&mut claims, visit.claim)?;
         waiting.put(visit.below)?;

@@ -8,6 +8,8 @@ mod maps;
 #[cfg(test)]
 mod outside;
 #[cfg(test)]
+mod rooms;
+#[cfg(test)]
 mod script;
 #[cfg(test)]
 mod walking;

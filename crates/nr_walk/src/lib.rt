@@ -5,6 +5,7 @@
 mod fault;
 mod laws;
 mod looking;
+mod room;
 mod searched;
 mod sought;
 mod texts;
@@ -16,6 +17,7 @@ pub use fault::WalkFault;
 pub use laws::{completing_law, passing_law};
 pub use looking::{look_at, value_text};
 pub use nr_columns::Entry;
+pub use room::{bytes_in, room_behind, room_behind_children, room_over};
 pub use searched::{Searched, finds, looks};
 pub use sought::Sought;
 pub use texts::Texts;

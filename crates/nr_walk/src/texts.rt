@@ -5,6 +5,7 @@ ghost use Rattle.std.specs.Option.{option_copied};
 ghost use Rattle.std.specs.FinMap as map;
 ghost use Rattle.nr_walk.specs.Texts.{texts_of, with_text};
 
+use crate::room::{bytes_in, room_over};
 use nr_bytes::{Blob, List};
 use nr_ids::Hash32;
 use nr_store::PlainStore;
@@ -12,12 +13,14 @@ use nr_triedef::{Store, value_hash};
 use std::alloc::{AllocError, Global};
 use std::marker::Model;
 
-/// Texts, each held under its SHA-256. Of two texts with one hash the first is held.
+/// Texts, each held under its SHA-256. Of two texts with one hash the first is held. They come with
+/// the room of a walk over them.
 ///
 /// Contracts see the finite map from hashes to texts.
 #[derive(Drop)]
 pub struct Texts {
     store: PlainStore,
+    room: u64,
 }
 
 impl Model for Texts {
@@ -56,7 +59,22 @@ impl Texts {
         for text in list.inner() {
             hold(&mut store, text.inner())?;
         }
-        Ok(Texts { store })
+        let room = room_over(bytes_in(list));
+        Ok(Texts { store, room })
+    }
+
+    /// These texts with another room.
+    pub fn with_room(mut self, room: u64) -> Texts
+        ensures { result ≡ self }
+    {
+        self.room = room;
+        self
+    }
+
+    /// How many bytes a walk over these texts may take, as `room_behind` and `room_behind_children`
+    /// count them.
+    pub fn room(&self) -> u64 {
+        self.room
     }
 
     /// The text that is held under a hash; `None` exactly where there is none.

@@ -8,6 +8,7 @@ ghost use Rattle.nr_walk.specs.Walking.{stub_of, ended, entered, visited, walk_f
 
 use crate::fault::WalkFault;
 use crate::looking::{look_at, value_text};
+use crate::room::{room_behind_children, room_behind_gain};
 use crate::searched::Searched;
 use crate::sought::Sought;
 use crate::texts::Texts;
@@ -150,19 +151,21 @@ fn ended(
     }
 }
 
-// Looking at one node.
+// Looking at one node, which takes from the room.
 #[tactic(auto, unfolding(crate::specs::Walking::visited))]
 fn visited(
     alloc: Global,
     texts: &Texts,
     sought: &mut Sought<'_>,
     spot: &Spot,
+    room: &mut u64,
 ) -> Result<Visit, WalkFault>
     ensures same { sought.new ≡ sought.old }
     ensures gives { Gives memory_fault result (visited texts.now sought.old spot.now) }
 {
     let node = look_at(alloc, texts, spot)?;
     let place = spot.place.inner();
+    *room = room_behind_children(alloc, texts, *room, place, &node)?;
     if !sought.looks(place)? {
         let kept = stub_of(alloc, spot, &node)?;
         return Ok(Visit {
@@ -217,12 +220,14 @@ pub(crate) fn walk_from(
     let mut waiting = list_of(alloc, top)?;
     let mut sought = Sought::of(alloc, searched)?;
     let mut left = MOST_NODES;
+    let mut room = texts.room();
     while let Some(spot) = waiting.pop() {
         if left == 0 {
             return Err(WalkFault::TooMany);
         }
         left -= 1;
-        let step = visited(alloc, texts, &mut sought, &spot)?;
+        let step = visited(alloc, texts, &mut sought, &spot, &mut room)?;
+        room = room_behind_gain(room, &step.gain)?;
         push_gain(&mut gains, step.gain)?;
         push_spots(&mut waiting, step.below)?;
     }

@@ -1,0 +1,6 @@
+-- Lemmas behind the answers.
+pub mod Joined
+pub mod Numbered
+pub mod Counts
+pub mod Back
+pub mod Turns
