@@ -113,9 +113,11 @@ module _ (bytes new places : List ℕ) where
           → IsFront (front ++ chunk_bytes x) bytes → MakesIt (λ (c : Chunk). c) x front (Ok (Some v.items)) new
       go None front fits is whole = absurd (not_there places is)
       go (Some l) front fits is whole =
-          let made = inside (Ok v) makes l front fits is whole in
-          (ap (λ (l : List Transaction). some (Some l)) (its_value l v.items made.0), front_of front (head l) new
-          made.1)
+          let made = inside (Ok v) makes l front fits is whole in (
+            ap (λ (l : List Transaction). some (Some l)) (its_value l v.items made.0),
+            front_of front (head l) new
+                made.1,
+          )
 
   pub fault_chunk : (fault : RecordFault) → MakesTransactions (Err fault) places bytes new
       → MakesChunk (Err fault) (Some places) bytes new
@@ -160,7 +162,7 @@ block_size front b =
 abbrev MakesChunks : Result (Vec Chunk) RecordFault → List Places → List ℕ → List ℕ → Type 0
 MakesChunks =
     Makes (λ (v : Vec Chunk). v.items) (flat_map chunk_bytes) (AllByRecursion IsChunk)
-        (outlines chunk_bytes chunk_outline)
+    (outlines chunk_bytes chunk_outline)
 
 abbrev pub with_chunks : Outline → List Chunk → Block
 with_chunks o l = record { height = o.height; timestamp = o.timestamp; price = o.price; chunks = l }
@@ -184,9 +186,11 @@ module _ (version : Version) (bytes new : List ℕ) (is : Outline) where
   pub block_made : (v : Vec Chunk) → MakesChunks (Ok v) is.chunks bytes new
       → MakesBlock version (Ok (with_chunks is v.items)) is bytes new
   block_made v makes = λ b front fits same whole.
-      let made = within (Ok v) makes b front fits same whole in
-      (λ i. some (with_chunks (sym same i) (its_value b.chunks v.items made.0 i)), front_of front (block_head b) new
-      made.1)
+      let made = within (Ok v) makes b front fits same whole in (
+        λ i. some (with_chunks (sym same i) (its_value b.chunks v.items made.0 i)),
+        front_of front (block_head b) new
+            made.1,
+      )
 
   pub block_fault : (fault : RecordFault) → MakesChunks (Err fault) is.chunks bytes new
       → MakesBlock version (Err fault) is bytes new

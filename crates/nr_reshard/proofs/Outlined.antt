@@ -86,8 +86,12 @@ module _ (bytes : List ℕ) (fits : IsBytes bytes) where
       let count = little 4 (length f.blocks) in
       let text = flat_map block_bytes f.blocks in
       let size : 0 + 4 + length change + 4 ≡ length (third_magic ++ (change ++ count)) =
-      omega (arith, length-append third_magic (change ++ count), length-append change count,
-      length_four (length f.blocks)) in (
+      omega (
+        arith,
+        length-append third_magic (change ++ count),
+        length-append change count,
+        length_four (length f.blocks),
+      ) in (
         f,
         x.1,
         ap (λ (o : ThirdOutline). o.reshard) x.2,
