@@ -2,7 +2,6 @@
 #![tactic(auto)]
 
 mod fork;
-mod lending;
 mod nodes;
 mod plain;
 mod root;
@@ -13,6 +12,5 @@ mod tests;
 mod threads;
 mod trie;
 
-pub use lending::Lent;
 pub use plain::PlainStore;
 pub use span::{Entry, Span};

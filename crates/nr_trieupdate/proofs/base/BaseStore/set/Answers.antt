@@ -1,0 +1,96 @@
+-- The goals of `base::BaseStore::set` that no tactic closes.
+use Rattle.std.proofs.Common.{◌≡◌, ◌+◌, ◌*◌, ap, sym, ◌∙◌, arith, set, length, Some}
+use Rattle.std.specs.Option.{is_some}
+use Rattle.std.specs.FinMap as map
+use Rattle.nr_triedef.specs.Node.{nibbles}
+use Rattle.nr_trieupdate.specs.Levels.{AreLevels, held_at}
+use Rattle.nr_trieupdate.proofs.Standing.{unchanged, moved_kept, changed}
+use Rattle.nr_trieupdate.proofs.Counting.{copied_some, levels_put}
+use Rattle.nr_trieupdate.proofs.base.BaseStore.set.Goals as goal
+use Rattle.nr_trieupdate.proofs.base.BaseStore.set.Goals.{After-way_told-2-1}
+
+pub returns-in_err-self-inside-clause-marks : goal.returns-in_err-self-inside-clause-marks
+returns-in_err-self-inside-clause-marks c = (unchanged c.self.inside.nodes c.make_room.new.nodes c.self.inside.roots c.make_room.new.roots c.self.inside.standing (omega (arith, c.self.told, c.self.invariant.few)) c.in_err-self-inside.ensures.moved).marks ∙ ap (λ v. v.marks) c.self.view_is
+
+pub returns-in_err-self-inside-clause-unhashed : goal.returns-in_err-self-inside-clause-unhashed
+returns-in_err-self-inside-clause-unhashed c = omega (arith, (unchanged c.self.inside.nodes c.make_room.new.nodes c.self.inside.roots c.make_room.new.roots c.self.inside.standing (omega (arith, c.self.told, c.self.invariant.few)) c.in_err-self-inside.ensures.moved).debt, ap (λ v. v.unhashed) c.self.view_is)
+
+pub returns-in_err-self-inside-clause-saved : goal.returns-in_err-self-inside-clause-saved
+returns-in_err-self-inside-clause-saved c = omega (arith, (unchanged c.self.inside.nodes c.make_room.new.nodes c.self.inside.roots c.make_room.new.roots c.self.inside.standing (omega (arith, c.self.told, c.self.invariant.few)) c.in_err-self-inside.ensures.moved).saved, ap (λ v. v.saved) c.self.view_is)
+
+pub returns-in_err-root-clause-marks : goal.returns-in_err-root-clause-marks
+returns-in_err-root-clause-marks c =
+    (unchanged c.self.inside.nodes c.put.new.nodes c.self.inside.roots c.make_room.new.roots c.self.inside.standing
+    (omega (arith, c.self.told, c.self.invariant.few))
+    (moved_kept c.self.inside.nodes c.make_room.new.nodes c.put.new.nodes c.self.inside.roots c.make_room.new.roots
+    c.in_ok-self-inside.ensures.moved c.in_err-root.ensures.kept)).marks ∙ ap (λ v. v.marks) c.self.view_is
+
+pub returns-in_err-root-clause-unhashed : goal.returns-in_err-root-clause-unhashed
+returns-in_err-root-clause-unhashed c =
+    omega (
+      arith,
+      (unchanged c.self.inside.nodes c.put.new.nodes c.self.inside.roots c.make_room.new.roots
+          c.self.inside.standing (omega (arith, c.self.told, c.self.invariant.few))
+          (moved_kept c.self.inside.nodes c.make_room.new.nodes c.put.new.nodes c.self.inside.roots c.make_room.new.roots
+          c.in_ok-self-inside.ensures.moved c.in_err-root.ensures.kept)).debt,
+      ap (λ v. v.unhashed) c.self.view_is,
+    )
+
+pub returns-in_err-root-clause-saved : goal.returns-in_err-root-clause-saved
+returns-in_err-root-clause-saved c =
+    omega (
+      arith,
+      (unchanged c.self.inside.nodes c.put.new.nodes c.self.inside.roots c.make_room.new.roots
+          c.self.inside.standing (omega (arith, c.self.told, c.self.invariant.few))
+          (moved_kept c.self.inside.nodes c.make_room.new.nodes c.put.new.nodes c.self.inside.roots c.make_room.new.roots
+          c.in_ok-self-inside.ensures.moved c.in_err-root.ensures.kept)).saved,
+      ap (λ v. v.saved) c.self.view_is,
+    )
+
+pub returns-clause-marks : goal.returns-clause-marks
+returns-clause-marks c =
+    (changed (λ m. map.insert m c.args.key.now c.args.value.now) c.self.inside.nodes c.make_room.new.nodes
+    c.put.new.nodes c.self.inside.roots c.make_room.new.roots c.self.inside.standing (Some c.in_ok-root.root)
+    (2 * length (nibbles c.args.key.now) + 3) (omega (arith, c.self.told, c.self.invariant.few))
+    (omega (arith, c.self.told, c.make_room.auto.roots, c.self.invariant.few)) c.in_ok-self-inside.ensures.moved
+    c.in_ok-root.ensures.kept c.in_ok-root.ensures.put).marks ∙ ap (λ v. v.marks) c.self.view_is
+
+pub returns-clause-unhashed : goal.returns-clause-unhashed
+returns-clause-unhashed c =
+    omega (
+      arith,
+      (changed (λ m. map.insert m c.args.key.now c.args.value.now) c.self.inside.nodes
+          c.make_room.new.nodes c.put.new.nodes c.self.inside.roots c.make_room.new.roots c.self.inside.standing
+          (Some c.in_ok-root.root) (2 * length (nibbles c.args.key.now) + 3)
+          (omega (arith, c.self.told, c.self.invariant.few))
+          (omega (arith, c.self.told, c.make_room.auto.roots, c.self.invariant.few)) c.in_ok-self-inside.ensures.moved
+          c.in_ok-root.ensures.kept c.in_ok-root.ensures.put).debt,
+      ap (λ v. v.unhashed) c.self.view_is,
+    )
+
+pub returns-clause-saved : goal.returns-clause-saved
+returns-clause-saved c =
+    omega (
+      arith,
+      (changed (λ m. map.insert m c.args.key.now c.args.value.now) c.self.inside.nodes
+          c.make_room.new.nodes c.put.new.nodes c.self.inside.roots c.make_room.new.roots c.self.inside.standing
+          (Some c.in_ok-root.root) (2 * length (nibbles c.args.key.now) + 3)
+          (omega (arith, c.self.told, c.self.invariant.few))
+          (omega (arith, c.self.told, c.make_room.auto.roots, c.self.invariant.few)) c.in_ok-self-inside.ensures.moved
+          c.in_ok-root.ensures.kept c.in_ok-root.ensures.put).saved,
+      ap (λ v. v.saved) c.self.view_is,
+    )
+
+levels : (c : After-way_told-2-1) → AreLevels c.put.new.nodes (set c.make_room.new.roots c.self.inside.standing (Some c.in_ok-root.root)) (set c.self.inside.counts c.self.inside.standing c.in-Some.count)
+levels c =
+    let there : c.is_some-found.result ≡ is_some (map.get (held_at c.self.inside.nodes c.self.inside.roots c.self.inside.standing) c.args.key.now) =
+    c.is_some-found.ensures ∙ sym (copied_some c.get.result) ∙ ap is_some c.get.ensures ∙ ap (λ v. is_some (map.get v.contents c.args.key.now)) (sym c.self.view_is) in
+    levels_put c.self.inside.nodes c.make_room.new.nodes c.put.new.nodes c.self.inside.roots c.make_room.new.roots c.self.inside.counts c.self.inside.standing (Some c.in_ok-root.root) c.args.key.now c.args.value.now c.is_some-found.result c.in-Some.count (2 * length (nibbles c.args.key.now) + 3)
+    (omega (arith, c.self.told)) (omega (arith, c.self.told, c.make_room.auto.roots)) (omega (arith, c.self.told)) (omega (arith, c.self.invariant.few))
+    c.self.invariant.levels c.in_ok-self-inside.ensures.moved c.in_ok-root.ensures.kept c.in_ok-root.ensures.put there c.in-Some.ensures.entry c.in-Some.ensures.few c.in-Some.ensures.count
+
+pub invariant_of-self-2 : goal.invariant_of-self-2
+invariant_of-self-2 c = record { few = c.self.invariant.few; levels = levels c; bounded = c.in_ok-self-inside.ensures.bounded }
+
+pub returns-clause-sizes : goal.returns-clause-sizes
+returns-clause-sizes c = (c.in-Some.ensures.entry, (levels c c.self.inside.standing (omega (arith, c.self.invariant.few))).sized.few)
