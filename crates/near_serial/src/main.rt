@@ -7,8 +7,8 @@
 //! `gen NUMBER SHARDS BLOCKS`, `roots CONFIG GENESIS BLOCKS`,
 //! `prove CONFIG GENESIS BLOCKS HEIGHT SHARD KIND PLACE`, `verify ROOT PROOF`,
 //! `part CONFIG GENESIS BLOCKS HEIGHT SHARD COUNT NUMBER`, `checkpart ROOT FILE`, `joinparts ROOT COUNT PREFIX`,
-//! `gather CONFIG GENESIS BLOCKS HEIGHT SHARD` and `recheck CONFIG FILE`, where CONFIG is `free` or the name of a file. The exit status is that of the answer; for one above 0 a line on
-//! standard error has it, with its numbers.
+//! `gather CONFIG GENESIS BLOCKS HEIGHT SHARD` and `recheck CONFIG FILE`, where CONFIG is `free` or the name of a
+//! file. The exit status is that of the answer; for one above 0 a line on standard error has it, with its numbers.
 #![tactic(auto)]
 
 use nr_bytes::{FileShelf, StdoutSink};

@@ -14,7 +14,8 @@ use Rattle.nr_files.specs.declared.command.Work.{Work}
 use Rattle.nr_files.specs.declared.command.Work.TheVariants.{MakeBlocks, MakeGenesis, MakeHex, ShowBlocks, ShowGenesis}
 use Rattle.nr_files.specs.declared.command.Work.TheVariants.{ShowReport, ShowPart, ShowProof, ShowGathered}
 
--- what is done, whether a JSON text of it has no spaces, under which configuration, and with which file
+-- what is done, whether a JSON text of it has no spaces between its parts, under which configuration, and with which
+-- file
 pub record Request : Type 0 where
   pub work : Work
   pub compact : Bool

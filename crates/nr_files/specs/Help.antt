@@ -64,7 +64,7 @@ hex_help =
 abbrev pub show_help : List ℕ
 show_help =
     shown_lines ++ codes "near_files show --compact .." ++ 10
-    ∷ codes "Writes FILE as JSON: a genesis and blocks so that the same bytes can be made of the text, and of a report an object for each line. With --compact a text has no spaces and stands on one line."
+    ∷ codes "Writes FILE as JSON: a genesis and blocks so that the same bytes can be made of the text, and of a report an object for each line. With --compact a text has no spaces between its parts and stands on one line."
 
 abbrev pub explain_help : List ℕ
 explain_help =

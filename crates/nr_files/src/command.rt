@@ -37,8 +37,8 @@ pub(crate) enum Work {
     ShowGathered,
 }
 
-/// What is done, whether a JSON text of it has no spaces, under which configuration (`free`, or the name of a file),
-/// and with which file.
+/// What is done, whether a JSON text of it has no spaces between its parts, under which configuration (`free`, or the
+/// name of a file), and with which file.
 #[derive(Clone, Copy, Debug)]
 pub(crate) struct Request<'a> {
     pub(crate) work: Work,

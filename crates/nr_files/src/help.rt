@@ -102,7 +102,7 @@ fn show_help() -> &'static str
     near_files show gathered FILE\n\
     near_files show --compact ..\n\
     Writes FILE as JSON: a genesis and blocks so that the same bytes can be made of the text, and of a \
-    report an object for each line. With --compact a text has no spaces and stands on one line."
+    report an object for each line. With --compact a text has no spaces between its parts and stands on one line."
 }
 
 fn serial_help() -> &'static str

@@ -178,7 +178,8 @@ fn tell<K: Sink>(alloc: Global, output: Output, sink: &mut K) -> Status
 /// text may leave out `storage_usage` and `code_hash`: they are then what is counted. `hex FILE` writes a
 /// JSON text of the bytes of a file. `explain WORDS..` writes what the line of these words says, which a
 /// program wrote. `help` writes the words of the commands, `help COMMAND` those of one and what it does, and `version`
-/// the program's name and version. Behind `show --compact` a JSON text has no spaces. Each text ends with a line feed.
+/// the program's name and version. Behind `show --compact` a JSON text has no spaces between its parts. Each text that
+/// isn't empty ends with a line feed.
 ///
 /// # Answers
 ///

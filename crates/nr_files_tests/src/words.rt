@@ -30,7 +30,7 @@ near_files show proof FILE
 near_files show gathered FILE
 near_files show --compact ..
 Writes FILE as JSON: a genesis and blocks so that the same bytes can be made of the text, and of a report an object \
-for each line. With --compact a text has no spaces and stands on one line.
+for each line. With --compact a text has no spaces between its parts and stands on one line.
 ";
 
 /// The words of `near_serial`.
