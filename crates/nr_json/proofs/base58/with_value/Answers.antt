@@ -1,5 +1,7 @@
 -- The goals of `base58::with_value` that no tactic closes.
-use Rattle.std.proofs.Common.{arith}
+use Rattle.std.proofs.Common.{ap, ◌∙◌, arith}
+use Rattle.std.specs.Option.{option_map}
+use Rattle.nr_json.specs.Base58.{wide_in}
 use Rattle.nr_json.proofs.Halves.{digit_fits, digit_over}
 use Rattle.nr_json.proofs.base58.with_value.Goals as goal
 
@@ -10,10 +12,12 @@ returns c =
 
 pub returns-in_err-product : goal.returns-in_err-product
 returns-in_err-product c =
-    digit_over c.args.number.high c.args.number.low c.args.digit c.times58-carry.result.0 c.times58-carry.result.1
+    ap (option_map wide_in) c.from_residual.ensures
+    ∙ digit_over c.args.number.high c.args.number.low c.args.digit c.times58-carry.result.0 c.times58-carry.result.1
     c.times58-carry.ensures (omega arith)
 
 pub returns-in_err-high : goal.returns-in_err-high
 returns-in_err-high c =
-    digit_over c.args.number.high c.args.number.low c.args.digit c.times58-carry.result.0 c.times58-carry.result.1
+    ap (option_map wide_in) c.from_residual-in_err-high.ensures
+    ∙ digit_over c.args.number.high c.args.number.low c.args.digit c.times58-carry.result.0 c.times58-carry.result.1
     c.times58-carry.ensures (omega arith)
