@@ -42,8 +42,9 @@ def ready(limit, library, folder):
     runner, faults = shared.Runner(limit), shared.Faults(library, folder)
 
 
-def is_unread(ran):
-    told = ran.err == b"5\n" or ran.err.startswith(b"the file ") and ran.err.endswith(b" can't be read\n")
+def is_unread(program, ran):
+    words = ran.err.startswith(b"the file ") and ran.err.endswith(b" can't be read\n")
+    told = words if program == "near_files" else ran.err == b"5\n"
     return ran.status == shared.UNREADABLE and told and not ran.out
 
 
@@ -52,8 +53,8 @@ def is_unwritten(ran, right):
     return ran.status == shared.UNWRITTEN and ran.err == b"6\n" and front
 
 
-def judged(ran, right, kind, how):
-    if (kind != "write" and is_unread(ran)) or (kind == "write" and is_unwritten(ran, right)):
+def judged(program, ran, right, kind, how):
+    if (kind != "write" and is_unread(program, ran)) or (kind == "write" and is_unwritten(ran, right)):
         return "wrong" if how == "short" else f"status {ran.status}"
     return "whole" if ran[:3] == right[:3] and how in ("short", errno.EINTR) else "wrong"
 
@@ -67,7 +68,7 @@ def counted(case, kind):
 def tried(task):
     case, right, kind, how, number, many = task
     ran = runner.run(case.words, faults.of(kind, number, many, how, piece=PIECE))
-    return judged(ran, right, kind, how), how, number, many, ran
+    return judged(case.program, ran, right, kind, how), how, number, many, ran
 
 
 def word_of(how):
@@ -207,7 +208,7 @@ def inputs(case, right, limit, folder):
             os.symlink(loop, loop)
         for name in (folder, os.path.join(folder, "none"), os.path.join(word, "below"), loop, "x" * 300, "x/" * 3000):
             ran = run(name)
-            yield f"word {place} is {name[:40]}", ran, is_unread(ran)
+            yield f"word {place} is {name[:40]}", ran, is_unread(case.program, ran)
         with open(word, "rb") as file:
             data = file.read()
         ran = through_pipe(case.words, place, data, limit, folder)
