@@ -38,11 +38,14 @@ fn module_of(alloc: Global, kind: Option<ValType>, code: Vec<Instr>) -> Result<M
 fn module_with(
     alloc: Global,
     params: List<ValType>,
-    result: Option<ValType>,
+    kind: Option<ValType>,
     body: FuncBody,
 ) -> Result<Module, AllocError> {
     let mut types = Vec::new(alloc);
-    types.push(FuncType { params, result })?;
+    types.push(FuncType {
+        params,
+        result: kind,
+    })?;
     let mut funcs = Vec::new(alloc);
     funcs.push(0)?;
     let mut bodies = Vec::new(alloc);
@@ -152,7 +155,7 @@ fn functions_of_the_host_have_their_types(rt: HostRuntime) -> Result<(), AllocEr
 /// How a function with one parameter, an i64, and 49,999 locals breaks.
 fn among_many(
     alloc: Global,
-    result: Option<ValType>,
+    kind: Option<ValType>,
     code: Vec<Plain>,
 ) -> Result<Option<ValidFault>, AllocError> {
     let runs = [
@@ -163,12 +166,12 @@ fn among_many(
         (19_999, ValType::I32),
     ];
     let mut locals = Locals::new(alloc);
-    for (count, kind) in runs {
-        locals.add(count, kind)?;
+    for (count, local) in runs {
+        locals.add(count, local)?;
     }
     let body = FuncBody::of(locals, plain(alloc, code)?);
     let params = spread(alloc, &[(1, ValType::I64)])?;
-    Ok(breach(alloc, module_with(alloc, params, result, body)?))
+    Ok(breach(alloc, module_with(alloc, params, kind, body)?))
 }
 
 /// The parameter, and the first and the last local of each run.
