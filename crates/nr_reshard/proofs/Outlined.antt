@@ -4,7 +4,8 @@ use Rattle.std.proofs.Common.{append_assoc, arith}
 use Rattle.std.proofs.lemmas.List.{length-append}
 use Rattle.std.specs.List.{flat_map}
 use Rattle.nr_blocks.proofs.Outlined.{BlocksMade, IsFileOf, IsOutlined, all_fault, all_outline, answered}
-use Rattle.nr_blocks.proofs.Outlined.{are_outlines, blocks_are, length_four, mapped_is, never_refused, outline_read, pair_is, same_blocks}
+use Rattle.nr_blocks.proofs.Outlined.{are_outlines, blocks_are, length_four, mapped_is, never_refused, outline_read}
+use Rattle.nr_blocks.proofs.Outlined.{pair_is, same_blocks}
 use Rattle.nr_blocks.specs.BlocksFiles.{block_bytes}
 use Rattle.nr_blocks.specs.Files.{headed, magic_at}
 use Rattle.nr_blocks.specs.Outlines.{AreOutlines, block_outline, list_outline, outlines}
