@@ -333,6 +333,9 @@ fn a_report_and_a_line_are_told(rt: HostRuntime) -> Result<(), Fail> {
     let (shown, text) = ended(alloc, &["show", "report", "F"], b"ok\n")?;
     assert_eq!(rt; shown.exit_status(), 0);
     assert_eq!(rt; text.as_slice(), b"{\"line\":\"ok\"}\n".as_slice());
+    let (empty, none) = ended(alloc, &["show", "report", "F"], b"")?;
+    assert_eq!(rt; empty.exit_status(), 0);
+    assert!(rt; none.is_empty());
     assert!(rt;
         refuses(
             alloc,
@@ -475,7 +478,7 @@ fn arguments_may_be_a_text_and_a_hash_left_out(rt: HostRuntime) -> Result<(), Fa
 #[test]
 fn wrong_arguments_and_hashes_are_told(rt: HostRuntime) -> Result<(), Fail> {
     let alloc = rt.alloc();
-    let rows: [(&str, &str, &str); 7] = [
+    let rows: [(&str, &str, &str); 10] = [
         (
             "",
             "{}",
@@ -490,6 +493,24 @@ fn wrong_arguments_and_hashes_are_told(rt: HostRuntime) -> Result<(), Fail> {
         (
             "",
             "{\"json\": 18446744073709551616}",
+            ".blocks[0].chunks[0][0].actions[0].FunctionCall.args.json has a number that is no whole one of 64 \
+            bits: it may stand in a `text`",
+        ),
+        (
+            "",
+            "{\"json\": -0}",
+            ".blocks[0].chunks[0][0].actions[0].FunctionCall.args.json has a number that is no whole one of 64 \
+            bits: it may stand in a `text`",
+        ),
+        (
+            "",
+            "{\"json\": 1.0}",
+            ".blocks[0].chunks[0][0].actions[0].FunctionCall.args.json has a number that is no whole one of 64 \
+            bits: it may stand in a `text`",
+        ),
+        (
+            "",
+            "{\"json\": -9223372036854775809}",
             ".blocks[0].chunks[0][0].actions[0].FunctionCall.args.json has a number that is no whole one of 64 \
             bits: it may stand in a `text`",
         ),
