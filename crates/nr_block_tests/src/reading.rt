@@ -135,29 +135,29 @@ fn several(alloc: Global) -> Result<Vec<u8>, Fail> {
     Ok(bytes)
 }
 
-/// Of a chunk 0 where it is missing, and else 100 with the count of its transactions, and their nonces.
-fn told_chunk(told: &mut Vec<u64>, chunk: &Option<List<Transaction>>) -> Result<(), Fail> {
+/// Of a chunk 0 where it is missing, and else the count of its transactions, from 0x100 on, and their nonces.
+fn put_chunk(row: &mut Vec<u64>, chunk: &Option<List<Transaction>>) -> Result<(), Fail> {
     let Some(transactions) = chunk else {
-        told.push(0)?;
+        row.push(0)?;
         return Ok(());
     };
-    told.push(100 + transactions.inner().len() as u64)?;
+    row.push(transactions.inner().len() as u64 | 0x100)?;
     for transaction in transactions.inner() {
-        told.push(transaction.nonce)?;
+        row.push(transaction.nonce)?;
     }
     Ok(())
 }
 
 /// Of each block its height, and what its chunks are.
 fn told(alloc: Global, blocks: &[Block]) -> Result<Vec<u64>, Fail> {
-    let mut told = Vec::new(alloc);
+    let mut row = Vec::new(alloc);
     for block in blocks {
-        told.push(block.height.0)?;
+        row.push(block.height.0)?;
         for chunk in block.chunks.inner() {
-            told_chunk(&mut told, chunk)?;
+            put_chunk(&mut row, chunk)?;
         }
     }
-    Ok(told)
+    Ok(row)
 }
 
 #[test]
@@ -165,7 +165,7 @@ fn transactions_stand_in_their_order(rt: HostRuntime) -> Result<(), Fail> {
     let alloc = rt.alloc();
     let bytes = several(alloc)?;
     let file: BlocksFile = decode(alloc, &bytes)?;
-    let want = [1, 102, 1, 2, 101, 3, 2, 0, 102, 4, 5];
+    let want = [1, 0x102, 1, 2, 0x101, 3, 2, 0, 0x102, 4, 5];
     assert!(rt; told(alloc, file.blocks.inner())?.as_slice() == want.as_slice());
     assert!(rt; matches!(read(alloc, &bytes, 2), Ok(blocks) if blocks == file.blocks));
     Ok(())

@@ -478,7 +478,7 @@ fn arguments_may_be_a_text_and_a_hash_left_out(rt: HostRuntime) -> Result<(), Fa
 #[test]
 fn wrong_arguments_and_hashes_are_told(rt: HostRuntime) -> Result<(), Fail> {
     let alloc = rt.alloc();
-    let rows: [(&str, &str, &str); 10] = [
+    let rows: [(&str, &str, &str); 7] = [
         (
             "",
             "{}",
@@ -493,24 +493,6 @@ fn wrong_arguments_and_hashes_are_told(rt: HostRuntime) -> Result<(), Fail> {
         (
             "",
             "{\"json\": 18446744073709551616}",
-            ".blocks[0].chunks[0][0].actions[0].FunctionCall.args.json has a number that is no whole one of 64 \
-            bits: it may stand in a `text`",
-        ),
-        (
-            "",
-            "{\"json\": -0}",
-            ".blocks[0].chunks[0][0].actions[0].FunctionCall.args.json has a number that is no whole one of 64 \
-            bits: it may stand in a `text`",
-        ),
-        (
-            "",
-            "{\"json\": 1.0}",
-            ".blocks[0].chunks[0][0].actions[0].FunctionCall.args.json has a number that is no whole one of 64 \
-            bits: it may stand in a `text`",
-        ),
-        (
-            "",
-            "{\"json\": -9223372036854775809}",
             ".blocks[0].chunks[0][0].actions[0].FunctionCall.args.json has a number that is no whole one of 64 \
             bits: it may stand in a `text`",
         ),
