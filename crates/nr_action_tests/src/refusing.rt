@@ -72,7 +72,10 @@ fn a_key_allows_the_methods_that_it_names(rt: HostRuntime) {
     assert_eq!(rt; refusal_of(alloc, &[""], go), [6, 4, 0]);
     // One that names none allows all.
     assert_eq!(rt; refusal_of(alloc, &[], go), [0, 4, 4]);
-    assert_eq!(rt; refusal_of(alloc, &[], &[Ask::Call("stop", 90, 0)]), [0, 4, 4]);
+    assert_eq!(rt;
+        refusal_of(alloc, &[], &[Ask::Call("stop", 90, 0)]),
+        [0, 4, 4]
+    );
 }
 
 #[test]

@@ -1,7 +1,8 @@
 //! Genesis and blocks files, whole, cut and damaged.
 
 use nr_blocks::{
-    Block, BlocksFault, BlocksFile, GenesisEntry, GenesisFault, GenesisFile, read_blocks, read_genesis,
+    Block, BlocksFault, BlocksFile, GenesisEntry, GenesisFault, GenesisFile, read_blocks,
+    read_genesis,
 };
 use nr_bytes::{Blob, List};
 use nr_config::Config;

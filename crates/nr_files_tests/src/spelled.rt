@@ -118,13 +118,7 @@ fn arguments_may_be_a_value(rt: HostRuntime) -> Result<(), Fail> {
 #[test]
 fn other_numbers_are_no_arguments(rt: HostRuntime) -> Result<(), Fail> {
     let alloc = rt.alloc();
-    for value in [
-        "-0",
-        "1.0",
-        "1e2",
-        "-9223372036854775809",
-        "[{\"a\": -0}]",
-    ] {
+    for value in ["-0", "1.0", "1e2", "-9223372036854775809", "[{\"a\": -0}]"] {
         let stated = format!(in alloc; "{{\"json\": {value}}}")?;
         let text = call_text(alloc, "", stated.as_str())?;
         assert!(rt;
