@@ -166,9 +166,10 @@ fn transactions_stand_in_their_order(rt: HostRuntime) -> Result<(), Fail> {
     let alloc = rt.alloc();
     let bytes = several(alloc)?;
     let file: BlocksFile = decode(alloc, &bytes)?;
-    let want = [1, 0x102, 1, 2, 0x101, 3, 2, 0, 0x102, 4, 5];
+    let want: [u64; 11] = [1, 0x102, 1, 2, 0x101, 3, 2, 0, 0x102, 4, 5];
     assert!(rt; told(alloc, file.blocks.inner())?.as_slice() == want.as_slice());
-    assert!(rt; matches!(read(alloc, &bytes, 2), Ok(blocks) if blocks == file.blocks));
+    let found = read(alloc, &bytes, 2);
+    assert!(rt; matches!(&found, Ok(blocks) if *blocks == file.blocks));
     Ok(())
 }
 
