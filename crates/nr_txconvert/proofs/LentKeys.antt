@@ -54,7 +54,7 @@ only_memory (Ok x) rest read p gives there fault other = λ is. cc
 only_memory {X} (Err e) rest read p gives there fault other = λ is.
     no_error read p e there (gives (λ m. other (sym (same_fault {X} e fault is) ∙ m)))
 
-pub was_read : {X : Type 0} (result : Result X RecordFault) (x : X) (rest : Input) (read : Read X) → GivesRead Memory result rest read → result ≡ Ok x → read ≡ Ok (x, rest)
+was_read : {X : Type 0} (result : Result X RecordFault) (x : X) (rest : Input) (read : Read X) → GivesRead Memory result rest read → result ≡ Ok x → read ≡ Ok (x, rest)
 was_read (Ok y) x rest read gives is = gives ∙ ap (λ (v : X). found (v, rest)) (same_value y x is)
 was_read (Err e) x rest read gives is = absurd cc
 
@@ -136,7 +136,7 @@ are_read bytes calls allowance receiver s t fits e first second =
     }
 
 -- the same of what was read of a reader
-pub are_here : (bytes : List ℕ) (allowance : Option ℕ) (receiver : List ℕ) (r s t : Input) (at : ℕ) → IsBytes bytes → IsSome (calls_read bytes) → r ≡ record { left = bytes; at = 0 }
+are_here : (bytes : List ℕ) (allowance : Option ℕ) (receiver : List ℕ) (r s t : Input) (at : ℕ) → IsBytes bytes → IsSome (calls_read bytes) → r ≡ record { left = bytes; at = 0 }
     → option_at (nat_at 16) r ≡ Ok (allowance, s) → string_at s ≡ Ok (receiver, t) → at ≡ t.at → AreRead bytes (calls_in bytes) allowance receiver at
 are_here bytes allowance receiver r s t at fits there new first second is =
     subst (AreRead bytes (calls_in bytes) allowance receiver) (sym is)
@@ -149,12 +149,20 @@ no_allowance_fault bytes result r s fits there new gives =
     let is = ap (λ (r : Input). option_at (nat_at 16) r) new ∙ allowance_is bytes (calls_in bytes) fits (calls_there bytes there) in
     only_memory result s (option_at (nat_at 16) r) _ gives is
 
-pub no_receiver_fault : (bytes : List ℕ) (allowance : Option ℕ) (result : Result (List ℕ) RecordFault) (r s t : Input) → IsBytes bytes → IsSome (calls_read bytes)
-    → r ≡ record { left = bytes; at = 0 } → option_at (nat_at 16) r ≡ Ok (allowance, s) → GivesRead Memory result t (string_at s)
-    → (fault : RecordFault) → fault ≢ Memory → result ≢ Err fault
-no_receiver_fault bytes allowance result r s t fits there new first gives =
-    let is = receiver_is bytes (calls_in bytes) allowance s fits (calls_there bytes there) (ap (λ (r : Input). option_at (nat_at 16) r) (sym new) ∙ first) in
-    only_memory result t (string_at s) _ gives is
+pub no_receiver_fault : (bytes : List ℕ) (allowance : Option ℕ) (first : Result (Option ℕ) RecordFault) (second : Result (List ℕ) RecordFault) (r s t : Input) → IsBytes bytes → IsSome (calls_read bytes)
+    → r ≡ record { left = bytes; at = 0 } → GivesRead Memory first s (option_at (nat_at 16) r) → first ≡ Ok allowance → GivesRead Memory second t (string_at s)
+    → (fault : RecordFault) → fault ≢ Memory → second ≢ Err fault
+no_receiver_fault bytes allowance first second r s t fits there new gives one more =
+    let read = was_read first allowance s (option_at (nat_at 16) r) gives one in
+    let is = receiver_is bytes (calls_in bytes) allowance s fits (calls_there bytes there) (ap (λ (r : Input). option_at (nat_at 16) r) (sym new) ∙ read) in
+    only_memory second t (string_at s) _ more is
+
+-- what was read of both
+pub are_both : (bytes : List ℕ) (allowance : Option ℕ) (receiver : List ℕ) (first : Result (Option ℕ) RecordFault) (second : Result (List ℕ) RecordFault) (r s t : Input) (at : ℕ) → IsBytes bytes → IsSome (calls_read bytes)
+    → r ≡ record { left = bytes; at = 0 } → GivesRead Memory first s (option_at (nat_at 16) r) → first ≡ Ok allowance → GivesRead Memory second t (string_at s) → second ≡ Ok receiver → at ≡ t.at
+    → AreRead bytes (calls_in bytes) allowance receiver at
+are_both bytes allowance receiver first second r s t at fits there new gives one more two end =
+    are_here bytes allowance receiver r s t at fits there new (was_read first allowance s (option_at (nat_at 16) r) gives one) (was_read second receiver t (string_at s) more two) end
 
 abbrev permitted : Option ℕ → List ℕ → List (List ℕ) → CallPermission
 permitted allowance receiver methods = record { allowance = allowance; receiver = receiver; methods = methods }
