@@ -55,7 +55,7 @@ only_memory {X} (Err e) rest read p gives there fault other = λ is.
     no_error read p e there (gives (λ m. other (sym (same_fault {X} e fault is) ∙ m)))
 
 was_read : {X : Type 0} (result : Result X RecordFault) (x : X) (rest : Input) (read : Read X) → GivesRead Memory result rest read → result ≡ Ok x → read ≡ Ok (x, rest)
-was_read (Ok y) x rest read gives is = gives ∙ ap (λ (v : X). found (v, rest)) (same_value y x is)
+was_read {X} (Ok y) x rest read gives is = gives ∙ ap (λ (v : X). found (v, rest)) (same_value y x is)
 was_read (Err e) x rest read gives is = absurd cc
 
 -- ---- the calls of a key
