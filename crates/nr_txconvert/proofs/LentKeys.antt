@@ -1,13 +1,11 @@
 -- What is read of a key's bytes.
-use Rattle.std.proofs.Common.{◌≡◌, ◌≢◌, ℕ, ◌+◌, ◌<◌, ◌≤◌, List, [], ◌∷◌, ◌++◌, ◌%◌, length, drop, Option, Some, None, Result, Ok, Err, refl, sym, ap, subst, ◌∙◌, append_assoc, arith}
+use Rattle.std.proofs.Common.{◌≡◌, ℕ, ◌+◌, ◌<◌, ◌≤◌, List, [], ◌∷◌, ◌++◌, ◌%◌, length, drop, Option, Some, None, Ok, refl, sym, ap, subst, ◌∙◌, append_assoc, arith}
 use Rattle.std.specs.Prelude.{IsSome, unwrap_or}
 use Rattle.std.proofs.lemmas.List.{length-append, drop_at}
-use Rattle.nr_bytes.specs.Answers.{GivesRead}
 use Rattle.nr_bytes.specs.Numbers.{little, IsBytes}
 use Rattle.nr_bytes.specs.Reading.{Input, number_at}
 use Rattle.nr_bytes.specs.Spelling.{before, behind, list}
 use Rattle.nr_bytes.specs.Writing.{counted_bytes}
-use Rattle.nr_bytes.specs.declared.fault.BytesFault.{BytesFault}
 use Rattle.nr_bytes.proofs.Fields.{nat_law, string_law}
 use Rattle.nr_bytes.proofs.Numbers.{length-little}
 use Rattle.nr_bytes.proofs.Steps.{ok_is, lifted_ok}
@@ -17,9 +15,7 @@ use Rattle.nr_records.specs.AccessKeys.{call_permission_at, call_permission_byte
 use Rattle.nr_records.specs.Fault.{record_fault}
 use Rattle.nr_records.specs.OptionLaw.{option_law}
 use Rattle.nr_records.specs.Options.{option_at, option_bytes}
-use Rattle.nr_records.specs.Reading.{Read, all_of, nat_at, string_at}
-use Rattle.nr_records.specs.declared.fault.RecordFault.{RecordFault}
-use Rattle.nr_records.specs.declared.fault.RecordFault.TheVariants.{Memory}
+use Rattle.nr_records.specs.Reading.{all_of, nat_at, string_at}
 use Rattle.nr_records.specs.declared.access_key.AccessKey.{AccessKey}
 use Rattle.nr_records.specs.declared.access_key.CallPermission.{CallPermission}
 use Rattle.nr_records.specs.declared.access_key.Permission.{Permission}
@@ -28,35 +24,6 @@ use Rattle.nr_columns.specs.Tables.{read_of}
 use Rattle.nr_txconvert.specs.Lent.{calls_read}
 use Rattle.nr_txconvert.specs.Names.{names_read}
 use Rattle.nr_txconvert.proofs.SpelledNames.{read_ok, is_read, names_again}
-
--- ---- a field that is there
-
-abbrev found : {X : Type 0} → X → Result X RecordFault
-found x = Ok x
-
-abbrev refused : {X : Type 0} → RecordFault → Result X RecordFault
-refused fault = Err fault
-
-same_value : {X : Type 0} (x y : X) → found x ≡ found y → x ≡ y
-same_value x y e = cc
-
-same_fault : {X : Type 0} (e fault : RecordFault) → refused {X} e ≡ refused fault → e ≡ fault
-same_fault e fault is = cc
-
-no_error : {X F : Type 0} (read : Result X F) (x : X) (fault : F) → read ≡ Ok x → read ≡ Err fault → ⊥
-no_error (Ok y) x fault there is = cc
-no_error (Err e) x fault there is = cc
-
--- nothing but want of memory is told of it
-only_memory : {X : Type 0} (result : Result X RecordFault) (rest : Input) (read : Read X) (p : X × Input) → GivesRead Memory result rest read → read ≡ Ok p
-    → (fault : RecordFault) → fault ≢ Memory → result ≢ Err fault
-only_memory (Ok x) rest read p gives there fault other = λ is. cc
-only_memory {X} (Err e) rest read p gives there fault other = λ is.
-    no_error read p e there (gives (λ m. other (sym (same_fault {X} e fault is) ∙ m)))
-
-was_read : {X : Type 0} (result : Result X RecordFault) (x : X) (rest : Input) (read : Read X) → GivesRead Memory result rest read → result ≡ Ok x → read ≡ Ok (x, rest)
-was_read {X} (Ok y) x rest read gives is = gives ∙ ap (λ (v : X). found (v, rest)) (same_value y x is)
-was_read (Err e) x rest read gives is = absurd cc
 
 -- ---- the calls of a key
 
@@ -93,38 +60,22 @@ pub record AreRead (bytes : List ℕ) (calls : CallPermission) (limit : Option �
   pub within : at ≤ length bytes
   pub methods : names_read (drop at bytes) ≡ Some calls.methods
 
-abbrev head_of : CallPermission → List ℕ
-head_of calls = option_bytes (little 16) calls.allowance
-
 abbrev front_of : CallPermission → List ℕ
-front_of calls = head_of calls ++ counted_bytes calls.receiver
-
-abbrev tail_of : CallPermission → List ℕ
-tail_of calls = list counted_bytes calls.methods
-
-allowance_is : (bytes : List ℕ) (calls : CallPermission) → IsBytes bytes → calls_read bytes ≡ Some calls
-    → option_at (nat_at 16) (record { left = bytes; at = 0 }) ≡ Ok (calls.allowance, behind (head_of calls) 0 (counted_bytes calls.receiver ++ tail_of calls))
-allowance_is bytes calls fits e =
-    let so = calls_so bytes calls fits e in
-    ap (λ (b : List ℕ). option_at (nat_at 16) (record { left = b; at = 0 })) so.1
-    ∙ (option_law _ _ _ (nat_law record_fault 16)).again calls.allowance 0 (counted_bytes calls.receiver ++ tail_of calls) so.0.0
-
-receiver_is : (bytes : List ℕ) (calls : CallPermission) (allowance : Option ℕ) (s : Input) → IsBytes bytes → calls_read bytes ≡ Some calls
-    → option_at (nat_at 16) (record { left = bytes; at = 0 }) ≡ Ok (allowance, s)
-    → string_at s ≡ Ok (calls.receiver, behind (counted_bytes calls.receiver) (0 + length (head_of calls)) (tail_of calls))
-receiver_is bytes calls allowance s fits e first =
-    let so = calls_so bytes calls fits e in
-    let p = ok_is (allowance, s) (calls.allowance, behind (head_of calls) 0 (counted_bytes calls.receiver ++ tail_of calls)) (sym first ∙ allowance_is bytes calls fits e) in
-    ap (λ (p : Option ℕ × Input). string_at p.1) p ∙ (string_law record_fault).again calls.receiver (0 + length (head_of calls)) (tail_of calls) so.0.1.0
+front_of calls = option_bytes (little 16) calls.allowance ++ counted_bytes calls.receiver
 
 pub are_read : (bytes : List ℕ) (calls : CallPermission) (allowance : Option ℕ) (receiver : List ℕ) (s t : Input) → IsBytes bytes → calls_read bytes ≡ Some calls
     → option_at (nat_at 16) (record { left = bytes; at = 0 }) ≡ Ok (allowance, s) → string_at s ≡ Ok (receiver, t) → AreRead bytes calls allowance receiver t.at
 are_read bytes calls allowance receiver s t fits e first second =
     let so = calls_so bytes calls fits e in
-    let tail : List ℕ = tail_of calls in
-    let head : List ℕ = head_of calls in
-    let p = ok_is (allowance, s) (calls.allowance, behind head 0 (counted_bytes calls.receiver ++ tail)) (sym first ∙ allowance_is bytes calls fits e) in
-    let q = ok_is (receiver, t) (calls.receiver, behind (counted_bytes calls.receiver) (0 + length head) tail) (sym second ∙ receiver_is bytes calls allowance s fits e first) in
+    let tail : List ℕ = list counted_bytes calls.methods in
+    let head : List ℕ = option_bytes (little 16) calls.allowance in
+    let one : option_at (nat_at 16) (record { left = bytes; at = 0 }) ≡ Ok (calls.allowance, behind head 0 (counted_bytes calls.receiver ++ tail)) =
+    ap (λ (b : List ℕ). option_at (nat_at 16) (record { left = b; at = 0 })) so.1
+    ∙ (option_law _ _ _ (nat_law record_fault 16)).again calls.allowance 0 (counted_bytes calls.receiver ++ tail) so.0.0 in
+    let p = ok_is (allowance, s) (calls.allowance, behind head 0 (counted_bytes calls.receiver ++ tail)) (sym first ∙ one) in
+    let two : string_at s ≡ Ok (calls.receiver, behind (counted_bytes calls.receiver) (0 + length head) tail) =
+    ap (λ (p : Option ℕ × Input). string_at p.1) p ∙ (string_law record_fault).again calls.receiver (0 + length head) tail so.0.1.0 in
+    let q = ok_is (receiver, t) (calls.receiver, behind (counted_bytes calls.receiver) (0 + length head) tail) (sym second ∙ two) in
     let at : t.at ≡ 0 + length head + length (counted_bytes calls.receiver) = ap (λ (p : List ℕ × Input). p.1.at) q in
     let whole : bytes ≡ front_of calls ++ tail = so.1 ∙ sym (append_assoc head (counted_bytes calls.receiver) tail) in
     let long : length (front_of calls) ≡ t.at = omega (arith, length-append head (counted_bytes calls.receiver), at) in
@@ -136,33 +87,11 @@ are_read bytes calls allowance receiver s t fits e first second =
     }
 
 -- the same of what was read of a reader
-are_here : (bytes : List ℕ) (allowance : Option ℕ) (receiver : List ℕ) (r s t : Input) (at : ℕ) → IsBytes bytes → IsSome (calls_read bytes) → r ≡ record { left = bytes; at = 0 }
+pub are_here : (bytes : List ℕ) (allowance : Option ℕ) (receiver : List ℕ) (r s t : Input) (at : ℕ) → IsBytes bytes → IsSome (calls_read bytes) → r ≡ record { left = bytes; at = 0 }
     → option_at (nat_at 16) r ≡ Ok (allowance, s) → string_at s ≡ Ok (receiver, t) → at ≡ t.at → AreRead bytes (calls_in bytes) allowance receiver at
 are_here bytes allowance receiver r s t at fits there new first second is =
     subst (AreRead bytes (calls_in bytes) allowance receiver) (sym is)
     (are_read bytes (calls_in bytes) allowance receiver s t fits (calls_there bytes there) (ap (λ (r : Input). option_at (nat_at 16) r) (sym new) ∙ first) second)
-
--- neither of them is refused
-pub no_allowance_fault : (bytes : List ℕ) (result : Result (Option ℕ) RecordFault) (r s : Input) → IsBytes bytes → IsSome (calls_read bytes) → r ≡ record { left = bytes; at = 0 }
-    → GivesRead Memory result s (option_at (nat_at 16) r) → (fault : RecordFault) → fault ≢ Memory → result ≢ Err fault
-no_allowance_fault bytes result r s fits there new gives =
-    let is = ap (λ (r : Input). option_at (nat_at 16) r) new ∙ allowance_is bytes (calls_in bytes) fits (calls_there bytes there) in
-    only_memory result s (option_at (nat_at 16) r) _ gives is
-
-pub no_receiver_fault : (bytes : List ℕ) (allowance : Option ℕ) (first : Result (Option ℕ) RecordFault) (second : Result (List ℕ) RecordFault) (r s t : Input) → IsBytes bytes → IsSome (calls_read bytes)
-    → r ≡ record { left = bytes; at = 0 } → GivesRead Memory first s (option_at (nat_at 16) r) → first ≡ Ok allowance → GivesRead Memory second t (string_at s)
-    → (fault : RecordFault) → fault ≢ Memory → second ≢ Err fault
-no_receiver_fault bytes allowance first second r s t fits there new gives one more =
-    let read = was_read first allowance s (option_at (nat_at 16) r) gives one in
-    let is = receiver_is bytes (calls_in bytes) allowance s fits (calls_there bytes there) (ap (λ (r : Input). option_at (nat_at 16) r) (sym new) ∙ read) in
-    only_memory second t (string_at s) _ more is
-
--- what was read of both
-pub are_both : (bytes : List ℕ) (allowance : Option ℕ) (receiver : List ℕ) (first : Result (Option ℕ) RecordFault) (second : Result (List ℕ) RecordFault) (r s t : Input) (at : ℕ) → IsBytes bytes → IsSome (calls_read bytes)
-    → r ≡ record { left = bytes; at = 0 } → GivesRead Memory first s (option_at (nat_at 16) r) → first ≡ Ok allowance → GivesRead Memory second t (string_at s) → second ≡ Ok receiver → at ≡ t.at
-    → AreRead bytes (calls_in bytes) allowance receiver at
-are_both bytes allowance receiver first second r s t at fits there new gives one more two end =
-    are_here bytes allowance receiver r s t at fits there new (was_read first allowance s (option_at (nat_at 16) r) gives one) (was_read second receiver t (string_at s) more two) end
 
 abbrev permitted : Option ℕ → List ℕ → List (List ℕ) → CallPermission
 permitted allowance receiver methods = record { allowance = allowance; receiver = receiver; methods = methods }
@@ -176,12 +105,12 @@ calls_are bytes calls allowance receiver at methods are e named =
 
 -- ---- what stands before them
 
-nonce_is : (access : AccessKey) → IsAccessKey access → number_at 8 (record { left = access_key_bytes access; at = 0 }) ≡ Ok (access.nonce, behind (little 8 access.nonce) 0 (permission_bytes access.permission))
-nonce_is access fits = lifted_ok record_fault _ _ ((nat_law record_fault 8).again access.nonce 0 (permission_bytes access.permission) fits.0)
-
 nonce_read : (access : AccessKey) (nonce : ℕ) (s : Input) → IsAccessKey access → number_at 8 (record { left = access_key_bytes access; at = 0 }) ≡ Ok (nonce, s) → (nonce ≡ access.nonce) × (s.left ≡ permission_bytes access.permission)
 nonce_read access nonce s fits e =
-    let p = ok_is (nonce, s) (access.nonce, behind (little 8 access.nonce) 0 (permission_bytes access.permission)) (sym e ∙ nonce_is access fits) in
+    let rest : List ℕ = permission_bytes access.permission in
+    let one : number_at 8 (record { left = access_key_bytes access; at = 0 }) ≡ Ok (access.nonce, behind (little 8 access.nonce) 0 rest) =
+    lifted_ok record_fault _ _ ((nat_law record_fault 8).again access.nonce 0 rest fits.0) in
+    let p = ok_is (nonce, s) (access.nonce, behind (little 8 access.nonce) 0 rest) (sym e ∙ one) in
     (ap (λ (p : ℕ × Input). p.0) p, ap (λ (p : ℕ × Input). p.1.left) p)
 
 abbrev ordinal : Permission → ℕ
@@ -197,27 +126,6 @@ ordinal_at n rest at low =
 ordinal_read : (permission : Permission) (n at : ℕ) (s : Input) → number_at 1 (record { left = permission_bytes permission; at = at }) ≡ Ok (n, s) → n ≡ ordinal permission
 ordinal_read (Call calls) n at s e = ap (λ (p : ℕ × Input). p.0) (ok_is (n, s) (0, behind (0 ∷ []) at (call_permission_bytes calls)) (sym e ∙ ordinal_at 0 (call_permission_bytes calls) at (omega arith)))
 ordinal_read Full n at s e = ap (λ (p : ℕ × Input). p.0) (ok_is (n, s) (1, behind (1 ∷ []) at []) (sym e ∙ ordinal_at 1 [] at (omega arith)))
-
-ordinal_there : (permission : Permission) (at : ℕ) → (p : ℕ × Input) × (number_at 1 (record { left = permission_bytes permission; at = at }) ≡ Ok p)
-ordinal_there (Call calls) at = ((0, behind (0 ∷ []) at (call_permission_bytes calls)), ordinal_at 0 (call_permission_bytes calls) at (omega arith))
-ordinal_there Full at = ((1, behind (1 ∷ []) at []), ordinal_at 1 [] at (omega arith))
-
--- the nonce and the ordinal are there
-nonce_first : (bytes : List ℕ) (access : AccessKey) (r : Input) → bytes ≡ access_key_bytes access → r ≡ record { left = bytes; at = 0 } → number_at 8 r ≡ number_at 8 (record { left = access_key_bytes access; at = 0 })
-nonce_first bytes access r at new = ap (λ (r : Input). number_at 8 r) new ∙ ap (λ (b : List ℕ). number_at 8 (record { left = b; at = 0 })) at
-
-pub no_nonce_fault : (bytes : List ℕ) (access : AccessKey) (r : Input) (fault : BytesFault) → bytes ≡ access_key_bytes access → IsAccessKey access → r ≡ record { left = bytes; at = 0 }
-    → number_at 8 r ≡ Err fault → ⊥
-no_nonce_fault bytes access r fault at fits new is =
-    no_error (number_at 8 r) (access.nonce, behind (little 8 access.nonce) 0 (permission_bytes access.permission)) fault (nonce_first bytes access r at new ∙ nonce_is access fits) is
-
-pub no_ordinal_fault : (bytes : List ℕ) (access : AccessKey) (nonce : ℕ) (r s : Input) (fault : BytesFault) → bytes ≡ access_key_bytes access → IsAccessKey access
-    → r ≡ record { left = bytes; at = 0 } → number_at 8 r ≡ Ok (nonce, s) → number_at 1 s ≡ Err fault → ⊥
-no_ordinal_fault bytes access nonce r s fault at fits new first is =
-    let head = nonce_read access nonce s fits (sym (nonce_first bytes access r at new) ∙ first) in
-    let there = ordinal_there access.permission s.at in
-    no_error (number_at 1 (record { left = permission_bytes access.permission; at = s.at })) there.0 fault there.1
-    (ap (λ (b : List ℕ). number_at 1 (record { left = b; at = s.at })) (sym head.1) ∙ is)
 
 -- the ordinal 0 is that of a key for calls, and they stand behind it
 pub record AreCalls (access : AccessKey) (nonce : ℕ) : Type 0 where
@@ -249,7 +157,7 @@ are_calls access nonce s t fits first second =
 pub calls_stand : (bytes : List ℕ) (access : AccessKey) (nonce n : ℕ) (r s t : Input) → bytes ≡ access_key_bytes access → IsAccessKey access → r ≡ record { left = bytes; at = 0 }
     → number_at 8 r ≡ Ok (nonce, s) → number_at 1 s ≡ Ok (n, t) → n ≡ 0 → AreCalls access nonce
 calls_stand bytes access nonce n r s t at fits new first second none =
-    are_calls access nonce s t fits (sym (nonce_first bytes access r at new) ∙ first)
+    are_calls access nonce s t fits (ap (λ (b : List ℕ). number_at 8 (record { left = b; at = 0 })) (sym at) ∙ ap (λ (r : Input). number_at 8 r) (sym new) ∙ first)
     (subst (λ (k : ℕ). number_at 1 s ≡ Ok (k, t)) none second)
 
 pub calls_within : (bytes : List ℕ) (access : AccessKey) (nonce : ℕ) → bytes ≡ access_key_bytes access → AreCalls access nonce → 9 ≤ length bytes
@@ -282,4 +190,4 @@ is_full access nonce n s t fits first second other =
 pub full_key : (bytes : List ℕ) (access : AccessKey) (nonce n : ℕ) (r s t : Input) → bytes ≡ access_key_bytes access → IsAccessKey access → r ≡ record { left = bytes; at = 0 }
     → number_at 8 r ≡ Ok (nonce, s) → number_at 1 s ≡ Ok (n, t) → (n ≡ 0 → ⊥) → key_of nonce Full ≡ access
 full_key bytes access nonce n r s t at fits new first second other =
-    is_full access nonce n s t fits (sym (nonce_first bytes access r at new) ∙ first) second other
+    is_full access nonce n s t fits (ap (λ (b : List ℕ). number_at 8 (record { left = b; at = 0 })) (sym at) ∙ ap (λ (r : Input). number_at 8 r) (sym new) ∙ first) second other

@@ -1,17 +1,15 @@
 //! Access keys, read out of the bytes that spell them: the methods of a key for calls, which may
 //! be many, are lent.
 
-ghost use Rattle.std.specs.Prelude.{◌≡◌, ◌≢◌, ◌≤◌, ◌++◌, length, drop, Some, Ok, Err, IfOk, OnOk, IsSome};
+ghost use Rattle.std.specs.Prelude.{◌≡◌, ◌≤◌, ◌++◌, length, drop, Some, IfOk, OnOk, IsSome};
 ghost use Rattle.nr_records.specs.AccessKeys.{call_permission_bytes, IsCallPermission, permission_bytes, IsPermission};
-ghost use Rattle.nr_records.specs.declared.fault.RecordFault.{RecordFault as Faults};
-ghost use Rattle.nr_records.specs.declared.fault.RecordFault.TheVariants.{Memory};
 ghost use Rattle.nr_columns.specs.SpelledKeys.{key_read};
 ghost use Rattle.nr_txconvert.specs.Conversion.{lowered};
 ghost use Rattle.nr_txconvert.specs.Lent.{calls_read, shown_calls, shown_permission, shown};
 
 use crate::names::Names;
 use nr_bytes::{Blob, Reader, Text, Writer};
-use nr_records::{RecordFault, Spelled};
+use nr_records::Spelled;
 use nr_state::SpelledKey;
 use std::alloc::{AllocError, Global};
 
@@ -45,26 +43,18 @@ fn behind(bytes: &[u8], at: usize) -> &[u8]
     &bytes[at..]
 }
 
-/// A field that is spelled where it was read.
-fn there<T: Drop>(read: Result<T, RecordFault>) -> Result<T, AllocError>
-    requires { (fault : Faults) → fault ≢ Memory → read ≢ Err fault }
-    ensures { IfOk result (λ field. read ≡ Ok field) }
-{
-    match read {
-        Ok(field) => Ok(field),
-        Err(RecordFault::Memory) => Err(AllocError),
-        Err(_) => unreachable!(),
-    }
-}
-
 /// The calls that the bytes permit.
 fn calls_of(alloc: Global, bytes: &[u8]) -> Result<LentCalls<'_>, AllocError>
     requires { IsSome (calls_read bytes.now) }
     ensures { IfOk result (λ calls. calls_read bytes.now ≡ Some (shown_calls calls)) }
 {
     let mut reader = Reader::new(bytes);
-    let allowance = there(Option::<u128>::read(alloc, &mut reader))?;
-    let receiver = there(Text::read(alloc, &mut reader))?;
+    let Ok(allowance) = Option::<u128>::read(alloc, &mut reader) else {
+        return Err(AllocError);
+    };
+    let Ok(receiver) = Text::read(alloc, &mut reader) else {
+        return Err(AllocError);
+    };
     Ok(LentCalls {
         allowance,
         receiver,
@@ -79,10 +69,10 @@ pub(crate) fn lent<'a>(alloc: Global, spelled: &SpelledKey<'a>) -> Result<LentKe
     let bytes = spelled.bytes();
     let mut reader = Reader::new(bytes);
     let Ok(nonce) = reader.u64() else {
-        unreachable!()
+        return Err(AllocError);
     };
     let Ok(ordinal) = reader.u8() else {
-        unreachable!()
+        return Err(AllocError);
     };
     if ordinal != 0 {
         return Ok(LentKey {

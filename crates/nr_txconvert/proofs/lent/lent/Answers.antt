@@ -2,12 +2,8 @@
 use Rattle.std.proofs.Common.{sym, ap, subst, arith, ◌∙◌}
 use Rattle.std.specs.Prelude.{IsSome}
 use Rattle.nr_txconvert.specs.Lent.{calls_read, shown_calls}
-use Rattle.nr_txconvert.proofs.LentKeys.{calls_stand, calls_within, calls_told, calls_key, full_key, no_nonce_fault}
+use Rattle.nr_txconvert.proofs.LentKeys.{calls_stand, calls_within, calls_told, calls_key, full_key}
 use Rattle.nr_txconvert.proofs.lent.lent.Goals as goal
-
-pub unreachable-requires : goal.unreachable-requires
-unreachable-requires c =
-    no_nonce_fault c.bytes-bytes.result.now c.args.spelled.now c.new-reader.result c.in_default.field-0 c.bytes-bytes.ensures.spelled c.bytes-bytes.ensures.fits c.new-reader.ensures c.in_default.ensures.0
 
 pub returns-then-ordinal-ne0 : goal.returns-then-ordinal-ne0
 returns-then-ordinal-ne0 c =
