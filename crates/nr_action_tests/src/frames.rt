@@ -23,8 +23,10 @@ pub(crate) enum Has {
     Nothing,
     Code,
     FullKey,
-    /// A key for calls with this allowance.
+    /// A key for calls of `go` with this allowance.
     CallKey(u128),
+    /// A key for calls of these methods, with the allowance 100.
+    MethodsKey(&'static [&'static str]),
 }
 
 /// Who sends what to whom.
@@ -41,11 +43,12 @@ fn put_call_key(
     state: &mut State,
     id: &AccountId,
     allowance: u128,
+    methods: &[&str],
 ) -> Result<(), AllocError>
     requires { IsReady config.now state.old }
     ensures { OnOk result (IsReady config.now state.new) }
 {
-    let access = call_key(alloc, 0, Some(allowance))?;
+    let access = call_key(alloc, 0, Some(allowance), methods)?;
     put_key(config, state, id, &access)?;
     Ok(())
 }
@@ -64,7 +67,8 @@ fn put(
         Has::Nothing => Ok(()),
         Has::Code => put_code(config, state, id),
         Has::FullKey => put_key(config, state, id, &full_key(7)),
-        Has::CallKey(allowance) => put_call_key(alloc, config, state, id, allowance),
+        Has::CallKey(allowance) => put_call_key(alloc, config, state, id, allowance, &["go"]),
+        Has::MethodsKey(methods) => put_call_key(alloc, config, state, id, 100, methods),
     }
 }
 

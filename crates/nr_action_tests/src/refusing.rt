@@ -55,6 +55,29 @@ fn a_key_for_calls_forbids_all_else(rt: HostRuntime) {
     );
 }
 
+/// The refusal of a call of a method by a key for calls of these methods.
+fn refusal_of(alloc: Global, methods: &'static [&'static str], asks: &'static [Ask]) -> [u128; 3] {
+    refusal(alloc, Has::MethodsKey(methods), b"con", 1, asks)
+}
+
+#[test]
+fn a_key_allows_the_methods_that_it_names(rt: HostRuntime) {
+    let alloc = rt.alloc();
+    let go = &[Ask::Call("go", 90, 0)];
+    assert_eq!(rt; refusal_of(alloc, &["go"], go), [0, 4, 4]);
+    assert_eq!(rt; refusal_of(alloc, &["g", "go"], go), [0, 4, 4]);
+    assert_eq!(rt; refusal_of(alloc, &["go", "stop"], go), [0, 4, 4]);
+    assert_eq!(rt; refusal_of(alloc, &["gone"], go), [6, 4, 0]);
+    assert_eq!(rt; refusal_of(alloc, &["g", "o"], go), [6, 4, 0]);
+    assert_eq!(rt; refusal_of(alloc, &[""], go), [6, 4, 0]);
+    // One that names none allows all.
+    assert_eq!(rt; refusal_of(alloc, &[], go), [0, 4, 4]);
+    assert_eq!(rt;
+        refusal_of(alloc, &[], &[Ask::Call("stop", 90, 0)]),
+        [0, 4, 4]
+    );
+}
+
 #[test]
 fn an_allowance_bounds_the_cost_of_gas(rt: HostRuntime) {
     let alloc = rt.alloc();

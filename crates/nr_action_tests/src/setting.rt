@@ -141,13 +141,20 @@ pub(crate) fn account_of(amount: u128) -> Account {
     }
 }
 
-/// A key for calls of `go` of the account `con`, with this allowance.
-fn call_permission(alloc: Global, allowance: Option<u128>) -> Result<CallPermission, AllocError> {
-    let method = text_of(alloc, "go")?;
+/// Calls of these methods of the account `con`, with this allowance.
+fn call_permission(
+    alloc: Global,
+    allowance: Option<u128>,
+    methods: &[&str],
+) -> Result<CallPermission, AllocError> {
+    let mut names = Vec::new(alloc);
+    for method in methods {
+        names.push(text_of(alloc, method)?)?;
+    }
     Ok(CallPermission {
         allowance,
         receiver: text_of(alloc, "con")?,
-        methods: List::of(vec![in alloc; method]?),
+        methods: List::of(names),
     })
 }
 
@@ -155,10 +162,11 @@ pub(crate) fn call_key(
     alloc: Global,
     nonce: u64,
     allowance: Option<u128>,
+    methods: &[&str],
 ) -> Result<AccessKey, AllocError> {
     Ok(AccessKey {
         nonce,
-        permission: Permission::Call(call_permission(alloc, allowance)?),
+        permission: Permission::Call(call_permission(alloc, allowance, methods)?),
     })
 }
 

@@ -1,13 +1,14 @@
 //! Genesis and blocks files, whole, cut and damaged.
 
 use nr_blocks::{
-    Block, BlocksFault, GenesisEntry, GenesisFault, GenesisFile, read_blocks, read_genesis,
+    Block, BlocksFault, BlocksFile, GenesisEntry, GenesisFault, GenesisFile, read_blocks,
+    read_genesis,
 };
 use nr_bytes::{Blob, List};
 use nr_config::Config;
 use nr_ids::{AccountId, Hash32, PublicKey};
 use nr_layout::Layout;
-use nr_records::{AccessKey, Account, Permission, decode, encode};
+use nr_records::{AccessKey, Account, Permission, Transaction, decode, encode};
 use nr_triedef::value_hash;
 use std::alloc::Global;
 use std::test::Fail;
@@ -99,6 +100,76 @@ fn blocks_are_judged(rt: HostRuntime) -> Result<(), Fail> {
     let height = changed(alloc, 143, 3)?;
     assert!(rt; blocks_fault(alloc, &height, 1) == Some(BlocksFault::HeightOrder { height: 3 }));
     assert!(rt; blocks_fault(alloc, &height, 2) == Some(BlocksFault::ShardCount { height: 1 }));
+    Ok(())
+}
+
+/// The bytes of alice's transfer with another nonce.
+fn transfer(alloc: Global, nonce: u8) -> Result<Vec<u8>, Fail> {
+    let mut bytes = Vec::from_slice(alloc, &TRANSFER[33..143])?;
+    if let Some(first) = bytes.get_mut(42) {
+        *first = nonce;
+    }
+    Ok(bytes)
+}
+
+/// Two blocks of two shards with transfers whose nonces are 1 to 5: in block 1 two and one, and in block 2, whose
+/// first chunk is missing, two.
+fn several(alloc: Global) -> Result<Vec<u8>, Fail> {
+    let rows: [(&[u8], u8); 5] = [
+        (
+            b"NRB1\x02\0\0\0\x01\0\0\0\0\0\0\0\0\0\0\0\0\0\0\0\x02\0\0\0\x01\x02\0\0\0",
+            1,
+        ),
+        (b"", 2),
+        (b"\x01\x01\0\0\0", 3),
+        (
+            b"\x02\0\0\0\0\0\0\0\0\0\0\0\0\0\0\0\x02\0\0\0\0\x01\x02\0\0\0",
+            4,
+        ),
+        (b"", 5),
+    ];
+    let mut bytes = Vec::new(alloc);
+    for (front, nonce) in rows {
+        bytes.extend_from_slice(front)?;
+        bytes.extend_from_slice(&transfer(alloc, nonce)?)?;
+    }
+    Ok(bytes)
+}
+
+/// Of a chunk 0 where it is missing, and else the count of its transactions, from 0x100 on, and their nonces.
+fn put_chunk(row: &mut Vec<u64>, chunk: &Option<List<Transaction>>) -> Result<(), Fail> {
+    let Some(transactions) = chunk else {
+        row.push(0)?;
+        return Ok(());
+    };
+    row.push(transactions.inner().len() as u64 | 0x100)?;
+    for transaction in transactions.inner() {
+        row.push(transaction.nonce)?;
+    }
+    Ok(())
+}
+
+/// Of each block its height, and what its chunks are.
+fn told(alloc: Global, blocks: &[Block]) -> Result<Vec<u64>, Fail> {
+    let mut row = Vec::new(alloc);
+    for block in blocks {
+        row.push(block.height.0)?;
+        for chunk in block.chunks.inner() {
+            put_chunk(&mut row, chunk)?;
+        }
+    }
+    Ok(row)
+}
+
+#[test]
+fn transactions_stand_in_their_order(rt: HostRuntime) -> Result<(), Fail> {
+    let alloc = rt.alloc();
+    let bytes = several(alloc)?;
+    let file: BlocksFile = decode(alloc, &bytes)?;
+    let want: [u64; 11] = [1, 0x102, 1, 2, 0x101, 3, 2, 0, 0x102, 4, 5];
+    assert!(rt; told(alloc, file.blocks.inner())?.as_slice() == want.as_slice());
+    let found = read(alloc, &bytes, 2);
+    assert!(rt; matches!(&found, Ok(blocks) if *blocks == file.blocks));
     Ok(())
 }
 

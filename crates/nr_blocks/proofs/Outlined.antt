@@ -21,7 +21,8 @@ use Rattle.nr_blocks.specs.BlockLaws.{block_law, chunk_law, price_law}
 use Rattle.nr_blocks.specs.BlocksFiles.{IsBlock, block_at, block_bytes, block_of, chunk_at, chunk_bytes}
 use Rattle.nr_blocks.specs.FileLaws.{blocks_law, magic_size, version_law}
 use Rattle.nr_blocks.specs.Files.{IsBlocksFile, blocks_at, blocks_bytes, blocks_magic, version_at}
-use Rattle.nr_blocks.specs.Outlines.{IsFront, block_outline, chunk_outline, chunk_outline_at, file_outline_at}
+use Rattle.nr_blocks.specs.Outlines.{AreOutlines, IsFront, block_outline, chunk_outline, chunk_outline_at}
+use Rattle.nr_blocks.specs.Outlines.{file_outline_at}
 use Rattle.nr_blocks.specs.Outlines.{list_outline, option_outline, outline_at, outline_of, outlines, place}
 use Rattle.nr_blocks.specs.Outlines.{placed, places_at}
 use Rattle.nr_blocks.specs.declared.block.Block.{Block}
@@ -263,10 +264,14 @@ pub record IsFileOf (bytes : List ℕ) (is : List Outline) (bs : List Block) : T
   pub spelled : bytes ≡ front ++ flat_map block_bytes bs
 
 module _ {bytes : List ℕ} {is : List Outline} {bs : List Block} (file : IsFileOf bytes is bs) where
+  front_is : IsFront (file.front ++ flat_map block_bytes bs) bytes
+  front_is = ([], file.spelled ∙ sym (append-nil (file.front ++ flat_map block_bytes bs)))
+
+  pub are_outlines : AreOutlines is bytes
+  are_outlines = (file.version, file.front, bs, file.fit, file.outlined, front_is)
+
   gives : (r : Result (List Block) RecordFault) → BlocksMade is bytes r → Gives Memory r (Ok bs)
-  gives r made =
-      made file.version file.front bs file.fit file.outlined
-      ([], file.spelled ∙ sym (append-nil (file.front ++ flat_map block_bytes bs)))
+  gives r made = made file.version file.front bs file.fit file.outlined front_is
 
   pub never_refused : (e : RecordFault) → BlocksMade is bytes (Err e) → e ≢ Memory → ⊥
   never_refused e made other = none (gives (Err e) made other)
@@ -309,6 +314,10 @@ module _ (bytes : List ℕ) (fits : IsBytes bytes) where
           spelled = taken.1 ∙ sym (append_assoc word count (flat_map block_bytes f.blocks));
         },
       )
+
+  pub file_outlines : (is : FileOutline) → all_of record_fault file_outline_at bytes ≡ Ok is
+      → AreOutlines is.blocks bytes
+  file_outlines is read = are_outlines (file_of is read).3
 
   pub made_fault : (is : FileOutline) (e : RecordFault) → all_of record_fault file_outline_at bytes ≡ Ok is
       → BlocksMade is.blocks bytes (Err e) → e ≢ Memory → all_of record_fault blocks_at bytes ≡ Err e

@@ -1,6 +1,7 @@
 -- Where the transactions of blocks begin in the bytes that spell them: what the bodies of this crate and of the third
 -- version need, and no part of the rules.
 use Rattle.std.specs.Prelude.{◌≡◌, ℕ, ◌+◌, List, [], ◌∷◌, ◌++◌, length, Option, Some, None, Result, Ok, OnOk}
+use Rattle.std.specs.List.{AllByRecursion, flat_map}
 use Rattle.nr_bytes.specs.Answers.{GivesAs}
 use Rattle.nr_bytes.specs.Numbers.{little}
 use Rattle.nr_bytes.specs.Reading.{Input, ◌>>=◌}
@@ -10,7 +11,7 @@ use Rattle.nr_records.specs.Reading.{Read, list_at, nat_at}
 use Rattle.nr_records.specs.Transactions.{transaction_at, transaction_bytes}
 use Rattle.nr_records.specs.declared.fault.RecordFault.{RecordFault}
 use Rattle.nr_records.specs.declared.fault.RecordFault.TheVariants.{Memory}
-use Rattle.nr_blocks.specs.BlocksFiles.{Chunk, chunk_bytes, price_at, price_bytes}
+use Rattle.nr_blocks.specs.BlocksFiles.{Chunk, IsBlock, block_bytes, chunk_bytes, price_at, price_bytes}
 use Rattle.nr_blocks.specs.Files.{version_at}
 use Rattle.nr_blocks.specs.declared.block.Block.{Block}
 use Rattle.nr_blocks.specs.declared.blocks_file.FileOutline.{FileOutline}
@@ -91,6 +92,12 @@ first_of reading bytes = do
 -- the bytes begin so
 abbrev pub IsFront : List ℕ → List ℕ → Type 0
 IsFront front bytes = (rest : List ℕ) × (bytes ≡ front ++ rest)
+
+-- the bytes spell blocks behind some others, and these are their outlines
+abbrev pub AreOutlines : List Outline → List ℕ → Type 0
+AreOutlines is bytes =
+    (version : Version) × (front : List ℕ) × (bs : List Block) × AllByRecursion (IsBlock version) bs
+    × (is ≡ outlines block_bytes block_outline (length front) bs) × IsFront (front ++ flat_map block_bytes bs) bytes
 
 -- This value was made, as the view shows it, and the bytes before it are left; or memory ran out.
 abbrev pub MakesIt : {V X : Type 0} → (V → X) → X → List ℕ → Result V RecordFault → List ℕ → Type 0

@@ -4,7 +4,7 @@
 ghost use Rattle.std.specs.List.{AllByRecursion, flat_map};
 ghost use Rattle.std.specs.Prelude.{◌≡◌, ℕ, ◌++◌, length, drop, List as Items, Ok, Some};
 ghost use Rattle.nr_blocks.specs.BlocksFiles.{IsBlock, IsChunk, block_bytes, chunk_bytes};
-ghost use Rattle.nr_blocks.specs.Outlines.{IsFront, Makes, first_of, block_outline, chunk_outline};
+ghost use Rattle.nr_blocks.specs.Outlines.{AreOutlines, IsFront, Makes, first_of, block_outline, chunk_outline};
 ghost use Rattle.nr_blocks.specs.Outlines.{outlines as outlines_of, place as its_place};
 ghost use Rattle.nr_blocks.specs.declared.block.Block.{Block as Blocks};
 ghost use Rattle.nr_blocks.specs.declared.version.Version.{Version};
@@ -175,12 +175,13 @@ fn made_of(
 ///
 /// # Errors
 ///
-/// `Memory`, where the bytes spell such blocks.
+/// `Memory`.
 pub fn make_blocks(
     alloc: Global,
     outlines: List<Outline>,
     bytes: Vec<u8>,
 ) -> Result<List<Block>, RecordFault>
+    requires { AreOutlines outlines bytes.items }
     ensures { (version : Version) (front : Items ℕ) (blocks : Items Blocks) → AllByRecursion (IsBlock version) blocks
         → outlines ≡ outlines_of block_bytes block_outline (length front) blocks
         → IsFront (front ++ flat_map block_bytes blocks) bytes.items → Gives Memory result (Ok blocks) }

@@ -1,5 +1,6 @@
 //! Blocks without their transactions, of which the places stand in their stead.
 
+ghost use Rattle.std.specs.Prelude.{◌≡◌, OnErr};
 ghost use Rattle.nr_blocks.specs.Outlines.{chunk_outline_at, outline_at, placed, places_at};
 ghost use Rattle.nr_bytes.specs.Answers.{GivesAs, GivesRead};
 ghost use Rattle.nr_bytes.specs.Fields.{items_at};
@@ -18,10 +19,14 @@ use std::alloc::Global;
 /// A block, where instead of each transaction stands the place in the file where it begins, in bytes from 0.
 #[derive(Debug, Drop)]
 pub struct Outline {
-    pub(crate) height: Height,
-    pub(crate) timestamp: u64,
-    pub(crate) price: Option<u64>,
-    pub(crate) chunks: List<Option<List<usize>>>,
+    /// The block's number in the chain.
+    pub height: Height,
+    /// In nanoseconds.
+    pub timestamp: u64,
+    /// What a unit of gas costs in it, where its file has prices.
+    pub price: Option<u64>,
+    /// For each shard the places of its transactions, or nothing where its chunk is missing.
+    pub chunks: List<Option<List<usize>>>,
 }
 
 /// Where the transaction begins that stands next. It is read, and let go.
@@ -134,16 +139,19 @@ fn outlines_of(
 ///
 /// # Errors
 ///
-/// The fault of the first field that can't be read; `Memory`.
+/// The fault of the first field that can't be read; `Memory`. The reader then stands where it stood.
 #[tactic(auto, unfolding(nr_bytes::specs::Fields::list_at))]
 pub fn read_outlines(
     alloc: Global,
     version: Version,
     reader: &mut Reader<'_>,
 ) -> Result<List<Outline>, RecordFault>
-    ensures { GivesRead Memory result reader.new (list_at (outline_at version) reader.old) }
+    ensures gives { GivesRead Memory result reader.new (list_at (outline_at version) reader.old) }
+    ensures refused { OnErr result (reader.new ≡ reader.old) }
 {
-    let count = count_of(reader)?;
-    let outlines = outlines_of(alloc, version, count, reader)?;
+    let mut ahead = reader.fork();
+    let count = count_of(&mut ahead)?;
+    let outlines = outlines_of(alloc, version, count, &mut ahead)?;
+    *reader = ahead;
     Ok(List::of(outlines))
 }

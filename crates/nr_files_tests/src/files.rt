@@ -333,6 +333,9 @@ fn a_report_and_a_line_are_told(rt: HostRuntime) -> Result<(), Fail> {
     let (shown, text) = ended(alloc, &["show", "report", "F"], b"ok\n")?;
     assert_eq!(rt; shown.exit_status(), 0);
     assert_eq!(rt; text.as_slice(), b"{\"line\":\"ok\"}\n".as_slice());
+    let (empty, none) = ended(alloc, &["show", "report", "F"], b"")?;
+    assert_eq!(rt; empty.exit_status(), 0);
+    assert!(rt; none.is_empty());
     assert!(rt;
         refuses(
             alloc,

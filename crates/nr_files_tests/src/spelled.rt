@@ -114,3 +114,23 @@ fn arguments_may_be_a_value(rt: HostRuntime) -> Result<(), Fail> {
     }
     Ok(())
 }
+
+#[test]
+fn other_numbers_are_no_arguments(rt: HostRuntime) -> Result<(), Fail> {
+    let alloc = rt.alloc();
+    for value in ["-0", "1.0", "1e2", "-9223372036854775809", "[{\"a\": -0}]"] {
+        let stated = format!(in alloc; "{{\"json\": {value}}}")?;
+        let text = call_text(alloc, "", stated.as_str())?;
+        assert!(rt;
+            refuses(
+                alloc,
+                &["blocks", "F"],
+                text.as_str(),
+                ".blocks[0].chunks[0][0].actions[0].FunctionCall.args.json has a number that is no whole one of 64 \
+                bits: it may stand in a `text`"
+            )?,
+            "{value}"
+        );
+    }
+    Ok(())
+}

@@ -3,11 +3,12 @@ use Rattle.std.proofs.Common.{◌≡◌, ◌≢◌, ℕ, ◌+◌, List, ◌++◌
 use Rattle.std.proofs.Common.{append_assoc, arith}
 use Rattle.std.proofs.lemmas.List.{length-append}
 use Rattle.std.specs.List.{flat_map}
-use Rattle.nr_blocks.proofs.Outlined.{BlocksMade, IsFileOf, IsOutlined, all_fault, all_outline, answered, blocks_are}
-use Rattle.nr_blocks.proofs.Outlined.{length_four, mapped_is, never_refused, outline_read, pair_is, same_blocks}
+use Rattle.nr_blocks.proofs.Outlined.{BlocksMade, IsFileOf, IsOutlined, all_fault, all_outline, answered}
+use Rattle.nr_blocks.proofs.Outlined.{are_outlines, blocks_are, length_four, mapped_is, never_refused, outline_read}
+use Rattle.nr_blocks.proofs.Outlined.{pair_is, same_blocks}
 use Rattle.nr_blocks.specs.BlocksFiles.{block_bytes}
 use Rattle.nr_blocks.specs.Files.{headed, magic_at}
-use Rattle.nr_blocks.specs.Outlines.{block_outline, list_outline, outlines}
+use Rattle.nr_blocks.specs.Outlines.{AreOutlines, block_outline, list_outline, outlines}
 use Rattle.nr_blocks.specs.declared.block.Block.{Block}
 use Rattle.nr_blocks.specs.declared.version.Version.TheVariants.{Two}
 use Rattle.nr_bytes.proofs.Whole.{whole_taken}
@@ -106,6 +107,9 @@ module _ (bytes : List ℕ) (fits : IsBytes bytes) where
               ∙ ap (λ (l : List ℕ). third_magic ++ l) (append_assoc change count text));
         },
       )
+
+  pub third_outlines : (is : ThirdOutline) → all_of third_outline_at bytes ≡ Ok is → AreOutlines is.blocks bytes
+  third_outlines is read = are_outlines (file is read).3
 
   pub made_fault : (is : ThirdOutline) (e : RecordFault) → all_of third_outline_at bytes ≡ Ok is
       → BlocksMade is.blocks bytes (Err e) → e ≢ Memory → all_of third_at bytes ≡ Err e

@@ -1,6 +1,9 @@
 -- The goals of `blocks_file::made_file` that no tactic closes.
-use Rattle.nr_blocks.proofs.Outlined.{made_fault, made_file}
+use Rattle.nr_blocks.proofs.Outlined.{file_outlines, made_fault, made_file}
 use Rattle.nr_blocks.proofs.blocks_file.made_file.Goals as goal
+
+pub make_blocks-requires : goal.make_blocks-requires
+make_blocks-requires c = file_outlines c.args.bytes.items c.requires.bytes c.args.outline c.requires.outlined
 
 pub returns-in-Ok : goal.returns-in-Ok
 returns-in-Ok c =

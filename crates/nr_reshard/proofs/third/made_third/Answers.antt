@@ -1,6 +1,9 @@
 -- The goals of `third::made_third` that no tactic closes.
-use Rattle.nr_reshard.proofs.Outlined.{made_fault, made_file}
+use Rattle.nr_reshard.proofs.Outlined.{made_fault, made_file, third_outlines}
 use Rattle.nr_reshard.proofs.third.made_third.Goals as goal
+
+pub make_blocks-requires : goal.make_blocks-requires
+make_blocks-requires c = third_outlines c.args.bytes.items c.requires.bytes c.args.outline c.requires.outlined
 
 pub returns-in-Ok : goal.returns-in-Ok
 returns-in-Ok c =
