@@ -2,8 +2,8 @@
 #![tactic(auto)]
 
 mod base;
-mod levels;
 mod listing;
+mod room;
 mod threads;
 mod trie_store;
 mod working;
