@@ -11,6 +11,7 @@ use nr_trienodes::{Change, CountedRoot, Nodes, NodesFault};
 use std::alloc::AllocError;
 
 // How many of the changes were worked into a draft, and its root.
+#[derive(Clone, Copy)]
 struct Part {
     count: usize,
     draft: CountedRoot,

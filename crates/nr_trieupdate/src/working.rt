@@ -65,6 +65,7 @@ fn changes_of<'a>(alloc: Global, waiting: &[Lent<'a>]) -> Result<Vec<Change<'a>>
 }
 
 // All waiting changes as changes of the trie, in the order of their keys.
+#[tactic(auto, using(crate::proofs::Overlays::short_changes))]
 fn changes_in(alloc: Global, waiting: &PlainStore) -> Result<Vec<Change<'_>>, AllocError>
     ensures changes { IfOk result (λ changes. changes.items ≡ changes_in waiting.now.contents) }
     ensures short { AreShort (changes_in waiting.now.contents) }
