@@ -5,7 +5,7 @@ use Rattle.std.specs.FinMap.{get, entries, get-insert, get-remove, same_map, sli
 use Rattle.std.specs.Ordering.{eq_by_cmp}
 use Rattle.std.specs.Cmp.Lexicographic.{nat_list_cmp_total}
 use Rattle.std.proofs.lemmas.List.{take_all}
-use Rattle.std.proofs.lemmas.List.Sums.{sum_by-cons}
+use Rattle.std.proofs.lemmas.List.Sums.{sum_by-cons, sum_by-take-drop}
 use Rattle.nr_triedef.specs.Node.{nibbles}
 use Rattle.nr_triedef.specs.Root.{Contents}
 use Rattle.nr_trienodes.specs.Shape.{Shape}
@@ -187,11 +187,7 @@ weight_next cs n c lt e =
     ap merge_weight (ap (λ k. take k cs) (add-one n) ∙ next_take n cs c lt ∙ ap (λ (d : Changing). take n cs ++ d ∷ []) (sym e)) ∙ weight_more (take n cs) c
 
 weight_part : (n : ℕ) (cs : List Changing) → merge_weight (take n cs) ≤ merge_weight cs
-weight_part n [] = omega (arith, ap merge_weight (take_all n ([] {A = Changing}) (omega arith)))
-weight_part zero (c ∷ cs) = omega arith
-weight_part (suc n) (c ∷ cs) =
-    let part : merge_weight (take n cs) ≤ merge_weight cs = weight_part n cs in
-    omega (arith, sum_by-cons (λ (d : Changing). 2 * length (nibbles d.0) + 3) c (take n cs), sum_by-cons (λ (d : Changing). 2 * length (nibbles d.0) + 3) c cs)
+weight_part n cs = omega (arith, sum_by-take-drop (λ (d : Changing). 2 * length (nibbles d.0) + 3) cs n)
 
 -- one change, and all of them
 pub room_one : (held : ℕ) (changes : List Changing) (c : Changing) → length changes ≡ 1 → c ≡ get_or changes 0 c → held + 1 + merge_weight changes ≤ 2 ^ 32 → held + 4 + 2 * length (nibbles c.0) ≤ 2 ^ 32

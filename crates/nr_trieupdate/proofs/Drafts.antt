@@ -1,6 +1,5 @@
 -- A draft beside the trie, as changes are worked into it.
-use Rattle.std.proofs.Common.{◌≡◌, ℕ, zero, suc, ◌+◌, ◌-◌, ◌*◌, ◌^◌, ◌<◌, ◌≤◌, ◌++◌, Bool, true, false, cond, List, [], ◌∷◌, length, take, drop, Option, Some, None, refl, sym, ap, ◌∙◌, subst, arith, inl, inr}
-use Rattle.std.proofs.Math.Nat.{eq-zero-or-pos}
+use Rattle.std.proofs.Common.{◌≡◌, ℕ, zero, suc, ◌+◌, ◌-◌, ◌*◌, ◌^◌, ◌<◌, ◌≤◌, ◌++◌, Bool, true, false, cond, List, [], ◌∷◌, length, take, drop, Option, Some, None, refl, sym, ap, ◌∙◌, subst, arith}
 use Rattle.std.proofs.lemmas.List.{take_all, take-take, drop-take, take-append-drop, length-take-le, length-drop}
 use Rattle.std.proofs.lemmas.List.Sums.{sum_by-cons, sum_by-append}
 use Rattle.std.specs.Prelude.{is_some}
@@ -8,7 +7,7 @@ use Rattle.std.specs.List.{AllByRecursion}
 use Rattle.std.specs.FinMap.{entries, get}
 use Rattle.nr_triedef.specs.Node.{nibbles}
 use Rattle.nr_triedef.specs.Root.{Contents}
-use Rattle.nr_trienodes.specs.Roots.{IsRoot, contents, cost, Keeps, IsChanged}
+use Rattle.nr_trienodes.specs.Roots.{contents, Keeps, IsChanged}
 use Rattle.nr_trienodes.specs.Merging.{Changing, with_value, merged, merge_weight, IsOverfull}
 use Rattle.nr_trienodes.specs.declared.nodes.NodeId.{NodeId}
 use Rattle.nr_trienodes.specs.declared.merging.CountedRoot.{CountedRoot}
@@ -72,7 +71,7 @@ pub record IsDraft (u w : Arena) (first top draft : CountedRoot) (done : List Ch
   pub moved : IsMoved u w first.root top.root
   pub same : top.count ≡ first.count
   pub bounded : IsBounded limits
-  pub merged : IsChanged u w first.root draft.root (merged done (contents u first.root)) (merge_weight done)
+  pub made : IsChanged u w first.root draft.root (merged done (contents u first.root)) (merge_weight done)
   pub counted : draft.count ≡ length (entries (contents w draft.root))
 
 pub draft_first : (u : Arena) (first : CountedRoot) (cs : List Changing) (limits : Limits) → IsLevel u first → IsBounded limits → IsDraft u u first first first (take 0 cs) limits
@@ -80,7 +79,7 @@ draft_first u first cs limits level bounded = record {
   moved = record { root = level.root; held = refl; debt = omega arith };
   same = refl;
   bounded = bounded;
-  merged = record { root = level.root; map = refl; cost = omega arith };
+  made = record { root = level.root; map = refl; cost = omega arith };
   counted = level.count;
 }
 
@@ -89,9 +88,12 @@ few_top u w first top draft cs limits level d = few_moved u w first.root top.roo
 
 pub few_draft : (u w : Arena) (first top draft : CountedRoot) (n : ℕ) (cs : List Changing) (limits : Limits) → n ≤ length cs → AreShort cs → IsLevel u first → IsDraft u w first top draft (take n cs) limits → IsFew w draft.root
 few_draft u w first top draft n cs limits within short level d =
-    let same : length (entries (contents w draft.root)) ≡ length (entries (merged (take n cs) (contents u first.root))) = ap (λ (m : Contents). length (entries m)) d.merged.map in
+    let same : length (entries (contents w draft.root)) ≡ length (entries (merged (take n cs) (contents u first.root))) = ap (λ (m : Contents). length (entries m)) d.made.map in
     let more : length (entries (merged (take n cs) (contents u first.root))) ≤ length (entries (contents u first.root)) + length (take n cs) = few_merged (take n cs) (contents u first.root) in
-    record { root = d.merged.root; few = omega (arith, level.sized.few, short.few, length-take-le n cs within) }
+    record { root = d.made.root; few = omega (arith, level.sized.few, short.few, length-take-le n cs within) }
+
+pub count_beside : (w x : Arena) (draft : CountedRoot) (mid : Option NodeId) → draft.count ≡ length (entries (contents w draft.root)) → IsMoved w x draft.root mid → draft.count ≡ length (entries (contents x mid))
+count_beside w x draft mid e is = e ∙ ap (λ (m : Contents). length (entries m)) (sym is.held)
 
 -- more changes, behind a trim
 pub draft_more : (u w x y : Arena) (first top draft next : CountedRoot) (root mid : Option NodeId) (n k : ℕ) (cs : List Changing) (old limits : Limits)
@@ -106,10 +108,10 @@ draft_more u w x y first top draft next root mid n k cs old limits d here beside
       moved = moved_kept u x y first.root root (both_moved u w x first.root top.root root d.moved here) keeps;
       same = d.same;
       bounded = bounded;
-      merged = record {
+      made = record {
         root = changed.root;
-        map = changed.map ∙ ap (merged (take k (drop n cs))) (beside.held ∙ d.merged.map) ∙ sym (merged_append (take n cs) (take k (drop n cs)) (contents u first.root));
-        cost = omega (arith, changed.cost, beside.debt, d.merged.cost, weight_append (take n cs) (take k (drop n cs)));
+        map = changed.map ∙ ap (merged (take k (drop n cs))) (beside.held ∙ d.made.map) ∙ sym (merged_append (take n cs) (take k (drop n cs)) (contents u first.root));
+        cost = omega (arith, changed.cost, beside.debt, d.made.cost, weight_append (take n cs) (take k (drop n cs)));
       };
       counted = counted;
     })

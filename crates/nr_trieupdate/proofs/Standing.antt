@@ -65,8 +65,5 @@ level_moved v w top moved h e is = record {
   sized = subst IsSized (sym is.held) h.sized;
 }
 
-pub count_moved : (v w : Arena) (top : CountedRoot) (moved : Option NodeId) → IsLevel v top → IsMoved v w top.root moved → top.count ≡ length (entries (contents w moved))
-count_moved v w top moved h is = h.count ∙ ap (λ (m : Contents). length (entries m)) (sym is.held)
-
 pub level_merged : (w : Arena) (to : CountedRoot) (m : Contents) → IsRoot w to.root → contents w to.root ≡ m → to.count ≡ length (entries (contents w to.root)) → IsSized m → IsLevel w to
 level_merged w to m root e many sized = record { root = root; count = many; sized = subst IsSized (sym e) sized }
