@@ -5,7 +5,7 @@ use Rattle.std.specs.FinMap.{get, entries, get-insert, get-remove, same_map, sli
 use Rattle.std.specs.Ordering.{eq_by_cmp}
 use Rattle.std.specs.Cmp.Lexicographic.{nat_list_cmp_total}
 use Rattle.std.proofs.lemmas.List.{take_all}
-use Rattle.std.proofs.lemmas.List.Sums.{sum_by-cons, sum_by-take-drop}
+use Rattle.std.proofs.lemmas.List.Sums.{sum_by-cons, sum_by_more, sum_by-take-le}
 use Rattle.nr_triedef.specs.Node.{nibbles}
 use Rattle.nr_triedef.specs.Root.{Contents}
 use Rattle.nr_trienodes.specs.Shape.{Shape}
@@ -178,16 +178,9 @@ merged_one old new before after (d ∷ []) c e is changed =
 merged_one old new before after (d ∷ b ∷ cs) c e is changed = absurd (omega arith)
 
 -- ---- room
-weight_more : (cs : List Changing) (c : Changing) → merge_weight (cs ++ c ∷ []) ≡ merge_weight cs + (2 * length (nibbles c.0) + 3)
-weight_more [] c = omega (arith, sum_by-cons (λ (d : Changing). 2 * length (nibbles d.0) + 3) c [])
-weight_more (d ∷ cs) c = omega (arith, sum_by-cons (λ (e : Changing). 2 * length (nibbles e.0) + 3) d (cs ++ c ∷ []), sum_by-cons (λ (e : Changing). 2 * length (nibbles e.0) + 3) d cs, weight_more cs c)
-
 pub weight_next : (cs : List Changing) (n : ℕ) (c : Changing) → n < length cs → c ≡ get_or cs n c → merge_weight (take (n + 1) cs) ≡ merge_weight (take n cs) + (2 * length (nibbles c.0) + 3)
 weight_next cs n c lt e =
-    ap merge_weight (ap (λ k. take k cs) (add-one n) ∙ next_take n cs c lt ∙ ap (λ (d : Changing). take n cs ++ d ∷ []) (sym e)) ∙ weight_more (take n cs) c
-
-weight_part : (n : ℕ) (cs : List Changing) → merge_weight (take n cs) ≤ merge_weight cs
-weight_part n cs = omega (arith, sum_by-take-drop (λ (d : Changing). 2 * length (nibbles d.0) + 3) cs n)
+    sum_by_more (λ (d : Changing). 2 * length (nibbles d.0) + 3) cs n c lt ∙ ap (λ (d : Changing). merge_weight (take n cs) + (2 * length (nibbles d.0) + 3)) (sym e)
 
 -- one change, and all of them
 pub room_one : (held : ℕ) (changes : List Changing) (c : Changing) → length changes ≡ 1 → c ≡ get_or changes 0 c → held + 1 + merge_weight changes ≤ 2 ^ 32 → held + 4 + 2 * length (nibbles c.0) ≤ 2 ^ 32
@@ -206,7 +199,7 @@ overfull_there {A} held n fitting changes e lt most =
     let over : 2 ^ 32 < held + 1 + merge_weight (take (fitting + 1) changes) = most lt in
     record {
       there = λ h. ap (λ k. let r : Result A NodesFault = Err (Full k) in r) e;
-      only = λ k is. omega (arith, weight_part (fitting + 1) changes);
+      only = λ k is. omega (arith, sum_by-take-le (λ (d : Changing). 2 * length (nibbles d.0) + 3) changes (fitting + 1));
     }
 
 pub overfull_ok : {A : Type 0} (held : ℕ) (changes : List Changing) (a : A) → held + 1 + merge_weight changes ≤ 2 ^ 32 → OverfullsSo held changes (Ok a)
