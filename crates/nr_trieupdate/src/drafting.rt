@@ -71,7 +71,8 @@ pub(crate) fn draft_of(
     let mut draft = *top;
     let mut done = 0;
     'on: while done < changes.len() {
-        *limits = make_room(nodes, &mut top.root, &mut draft.root, *limits)?;
+        let next = make_room(nodes, &mut top.root, &mut draft.root, *limits)?;
+        *limits = next;
         let part = merge_some(nodes, draft, &changes[done..])?;
         draft = part.draft;
         done += part.count;
