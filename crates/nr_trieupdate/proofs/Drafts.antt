@@ -18,6 +18,10 @@ use Rattle.nr_trieupdate.specs.declared.room.Limits.{Limits}
 use Rattle.nr_trieupdate.proofs.Standing.{few_level, few_moved, both_moved, moved_kept}
 
 -- ---- some of the changes
+none_yet : (cs : List Changing) → take 0 cs ≡ []
+none_yet [] = refl
+none_yet (c ∷ cs) = refl
+
 take_add : (n k : ℕ) (cs : List Changing) → take (n + k) cs ≡ take n cs ++ take k (drop n cs)
 take_add n k cs =
     sym (take-append-drop n (take (n + k) cs)) ∙ (λ t. take-take n (n + k) cs (omega arith) t ++ drop-take n k cs t)
@@ -43,7 +47,8 @@ short_drop n cs h = record { few = omega (arith, h.few, length-drop n cs); each 
 pub some_fit : (held fitting : ℕ) (cs : List Changing) → held ≤ most_nodes → 0 < length cs → AreShort cs → (fitting < length cs → IsOverfull held (take (fitting + 1) cs)) → 0 < fitting
 some_fit held zero [] few some short most = absurd (omega arith)
 some_fit held zero (c ∷ cs) few some short most =
-    let over : 2 ^ 32 < held + 1 + merge_weight (c ∷ []) = most some in
+    let first : merge_weight (c ∷ take 0 cs) ≡ merge_weight (c ∷ []) = ap (λ (ds : List Changing). merge_weight (c ∷ ds)) (none_yet cs) in
+    let over : 2 ^ 32 < held + 1 + merge_weight (c ∷ take 0 cs) = most some in
     let key : length c.0 ≤ 70000000 = short.each.0 in
     absurd (omega (arith, length-nibbles c.0, sum_by-cons (λ (d : Changing). 2 * length (nibbles d.0) + 3) c []))
 some_fit held (suc n) cs few some short most = omega arith
@@ -75,13 +80,13 @@ pub record IsDraft (u w : Arena) (first top draft : CountedRoot) (done : List Ch
   pub counted : draft.count ≡ length (entries (contents w draft.root))
 
 pub draft_first : (u : Arena) (first : CountedRoot) (cs : List Changing) (limits : Limits) → IsLevel u first → IsBounded limits → IsDraft u u first first first (take 0 cs) limits
-draft_first u first cs limits level bounded = record {
+draft_first u first cs limits level bounded = subst (λ (done : List Changing). IsDraft u u first first first done limits) (sym (none_yet cs)) (record {
   moved = record { root = level.root; held = refl; debt = omega arith };
   same = refl;
   bounded = bounded;
   made = record { root = level.root; map = refl; cost = omega arith };
   counted = level.count;
-}
+})
 
 pub few_top : (u w : Arena) (first top draft : CountedRoot) (cs : List Changing) (limits : Limits) → IsLevel u first → IsDraft u w first top draft cs limits → IsFew w top.root
 few_top u w first top draft cs limits level d = few_moved u w first.root top.root (few_level u first level) d.moved
