@@ -640,7 +640,11 @@ fn room_after(room: u64, change: &Change<'_>) -> Option<u64>
     if change.key.len() >= 1 << 30 {
         return None;
     }
-    room.checked_sub(4 * change.key.len() as u64 + 3)
+    let weight = 4 * change.key.len() as u64 + 3;
+    if weight > room {
+        return None;
+    }
+    Some(room - weight)
 }
 
 impl Nodes {
