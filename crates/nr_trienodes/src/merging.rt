@@ -520,6 +520,49 @@ fn has_key(nodes: &Nodes, root: Option<NodeId>, change: &Change<'_>) -> bool
     nodes.find(root, change.key).is_some()
 }
 
+// The root after a key is taken out, for which there is room.
+fn cut_within(
+    nodes: &mut Nodes,
+    root: Option<NodeId>,
+    key: &[u8],
+) -> Result<Option<NodeId>, AllocError>
+    requires root { IsRoot nodes.old root }
+    requires room { length nodes.old + 4 + 2 * length (nibbles key.now) ≤ 2 ^ 32 }
+    ensures cut { IfOk result (λ id. IsChanged nodes.old nodes.new root id
+        (map.remove (contents nodes.old root) key.now) (2 * length (nibbles key.now) + 3)) }
+    ensures kept { Keeps nodes.old nodes.new }
+    ensures few { length nodes.new ≤ length nodes.old + 2 * length (nibbles key.now) + 3 }
+    ensures err { OnErr result (nodes.new ≡ nodes.old) }
+{
+    match nodes.cut(root, key) {
+        Ok(id) => Ok(id),
+        Err(NodesFault::Memory) => Err(AllocError),
+        Err(NodesFault::Full { .. }) => unreachable!(),
+    }
+}
+
+// The root after a value is put at a key, for which there is room.
+fn put_within(
+    nodes: &mut Nodes,
+    root: Option<NodeId>,
+    key: &[u8],
+    value: &[u8],
+) -> Result<NodeId, AllocError>
+    requires root { IsRoot nodes.old root }
+    requires room { length nodes.old + 4 + 2 * length (nibbles key.now) ≤ 2 ^ 32 }
+    ensures put { IfOk result (λ id. IsChanged nodes.old nodes.new root (Some id)
+        (map.insert (contents nodes.old root) key.now value.now) (2 * length (nibbles key.now) + 3)) }
+    ensures kept { Keeps nodes.old nodes.new }
+    ensures few { length nodes.new ≤ length nodes.old + 2 * length (nibbles key.now) + 3 }
+    ensures err { OnErr result (nodes.new ≡ nodes.old) }
+{
+    match nodes.put(root, key, value) {
+        Ok(id) => Ok(id),
+        Err(NodesFault::Memory) => Err(AllocError),
+        Err(NodesFault::Full { .. }) => unreachable!(),
+    }
+}
+
 // The root after a single change, for which there is room.
 fn change_root(
     nodes: &mut Nodes,
@@ -535,15 +578,10 @@ fn change_root(
     ensures err { OnErr result (nodes.new ≡ nodes.old) }
 {
     match change.value {
-        None => match nodes.cut(root, change.key) {
-            Ok(id) => Ok(id),
-            Err(NodesFault::Memory) => Err(AllocError),
-            Err(NodesFault::Full { .. }) => unreachable!(),
-        },
-        Some(value) => match nodes.put(root, change.key, value) {
+        None => cut_within(nodes, root, change.key),
+        Some(value) => match put_within(nodes, root, change.key, value) {
             Ok(id) => Ok(Some(id)),
-            Err(NodesFault::Memory) => Err(AllocError),
-            Err(NodesFault::Full { .. }) => unreachable!(),
+            Err(e) => Err(e),
         },
     }
 }
@@ -677,7 +715,7 @@ impl Nodes {
     /// 2n + 3 over the changes, with the nibbles n of each key: so for one change it comes where it
     /// does for `put` and `cut`. Want of memory, as which count a value of 2^32 bytes or more, a usage
     /// that passes u64 and a count that passes usize. Each leaves the nodes as they were.
-    #[tactic(auto, using(crate::proofs::Changed::keeps_refl, crate::proofs::Merged::room_all, crate::proofs::Merged::overfull_ok, crate::proofs::Merged::overfull_memory))]
+    #[tactic(auto, using(crate::proofs::Changed::keeps_refl, crate::proofs::Merged::room_all, crate::proofs::Merged::overfull_ok, crate::proofs::Merged::overfull_memory, crate::proofs::Merged::overfull_there))]
     pub fn merge(
         &mut self,
         from: CountedRoot,
