@@ -1,7 +1,8 @@
 //! Many changes worked in at once: each node along their keys is opened once, and made once.
 
-ghost use Rattle.std.specs.Prelude.{◌≡◌, ◌≢◌, ◌<◌, ◌≤◌, ◌+◌, ◌*◌, ◌-◌, ◌∷◌, [], ℕ, List as Items, true, cond};
-ghost use Rattle.std.specs.Prelude.{◌^◌, is_some, None, Some, length, take, drop, slice_index, IfOk, IfSome, OnOk, OnErr};
+ghost use Rattle.std.specs.Prelude.{◌≡◌, ◌≢◌, ◌<◌, ◌≤◌, ◌+◌, ◌*◌, ◌-◌, ◌^◌, ◌∷◌, [], ℕ, List as Items, true};
+ghost use Rattle.std.specs.Prelude.{cond, is_some, None, Some, length, take, drop, slice_index, IfOk, IfSome, OnOk};
+ghost use Rattle.std.specs.Prelude.{OnErr};
 ghost use Rattle.std.specs.Option.{option_copied};
 ghost use Rattle.std.specs.FinMap as map;
 ghost use Rattle.nr_triedef.specs.Node.{nibbles};
