@@ -4,8 +4,7 @@ ghost use Rattle.std.specs.Prelude.{◌≡◌};
 ghost use Rattle.nr_trienodes.specs.Roots.{IsRoot};
 
 use crate::nodes::{FOUR, THREE, hashed};
-use nr_trienodes::{Change, CountedRoot, Nodes};
-use std::alloc::AllocError;
+use nr_trienodes::{Change, CountedRoot, Nodes, NodesFault};
 use std::test::Fail;
 
 /// The value `abc` at a key.
@@ -19,7 +18,7 @@ fn cut(key: &[u8]) -> Change<'_> {
 }
 
 /// The hash of a root, and how many entries are counted.
-fn seen(nodes: &mut Nodes, top: CountedRoot) -> Result<([u8; 32], usize), AllocError>
+fn seen(nodes: &mut Nodes, top: CountedRoot) -> Result<([u8; 32], usize), NodesFault>
     requires { IsRoot nodes.old top.root }
 {
     let hash = hashed(nodes, top.root)?;
@@ -27,13 +26,13 @@ fn seen(nodes: &mut Nodes, top: CountedRoot) -> Result<([u8; 32], usize), AllocE
 }
 
 /// Three keys in their order.
-fn three(nodes: &mut Nodes) -> Result<([u8; 32], usize), AllocError> {
+fn three(nodes: &mut Nodes) -> Result<([u8; 32], usize), NodesFault> {
     let top = nodes.merge(CountedRoot::none(), &[put(b"a"), put(b"ab"), put(b"b1")])?;
     seen(nodes, top)
 }
 
 /// Four keys out of order, one of them twice, with another value first.
-fn four(nodes: &mut Nodes) -> Result<([u8; 32], usize), AllocError> {
+fn four(nodes: &mut Nodes) -> Result<([u8; 32], usize), NodesFault> {
     let other = Change::of(b"c", Some(b"x"));
     let changes = [other, put(b"b1"), put(b"ab"), put(b"a"), put(b"c")];
     let top = nodes.merge(CountedRoot::none(), &changes)?;
@@ -41,7 +40,7 @@ fn four(nodes: &mut Nodes) -> Result<([u8; 32], usize), AllocError> {
 }
 
 /// Three keys that are left of four, once one that isn't there is cut too.
-fn three_left(nodes: &mut Nodes) -> Result<([u8; 32], usize), AllocError> {
+fn three_left(nodes: &mut Nodes) -> Result<([u8; 32], usize), NodesFault> {
     let changes = [put(b"a"), put(b"ab"), put(b"b1"), put(b"c")];
     let four = nodes.merge(CountedRoot::none(), &changes)?;
     let three = nodes.merge(four, &[cut(b"abc"), cut(b"c")])?;
@@ -50,7 +49,7 @@ fn three_left(nodes: &mut Nodes) -> Result<([u8; 32], usize), AllocError> {
 
 /// Whether a key is still found in the root before a merge that cuts it, and how many entries there
 /// were before and after.
-fn emptied(nodes: &mut Nodes) -> Result<(bool, usize, usize), AllocError> {
+fn emptied(nodes: &mut Nodes) -> Result<(bool, usize, usize), NodesFault> {
     let one = nodes.merge(CountedRoot::none(), &[put(b"a")])?;
     let none = nodes.merge(one, &[cut(b"a"), cut(b"b")])?;
     let there = nodes.find(one.root, b"a") == Some(b"abc");

@@ -1,11 +1,11 @@
 -- Many changes: the map of the root that they lead to.
-use Rattle.std.proofs.Common.{◌≡◌, ◌<◌, ◌≤◌, ◌+◌, ◌*◌, ◌++◌, ℕ, zero, suc, Bool, true, false, cond, List, [], ◌∷◌, length, take, get_or, Option, Some, None, refl, ap, sym, ◌∙◌, subst, add-one, arith}
+use Rattle.std.proofs.Common.{◌≡◌, ◌<◌, ◌≤◌, ◌+◌, ◌*◌, ◌^◌, ◌++◌, ℕ, zero, suc, Bool, true, false, cond, List, [], ◌∷◌, length, take, get_or, Option, Some, None, Result, Ok, Err, refl, ap, sym, ◌∙◌, subst, add-one, arith}
 use Rattle.std.specs.Prelude.{IsSome, is_some}
 use Rattle.std.specs.FinMap.{get, entries, get-insert, get-remove, same_map, slice_cmp-IsAntisymmetric, nat_cmp-IsAntisymmetric}
 use Rattle.std.specs.Ordering.{eq_by_cmp}
 use Rattle.std.specs.Cmp.Lexicographic.{nat_list_cmp_total}
 use Rattle.std.proofs.lemmas.List.{take_all}
-use Rattle.std.proofs.lemmas.List.Sums.{sum_by-cons}
+use Rattle.std.proofs.lemmas.List.Sums.{sum_by-cons, sum_by_more, sum_by-take-le}
 use Rattle.nr_triedef.specs.Node.{nibbles}
 use Rattle.nr_triedef.specs.Root.{Contents}
 use Rattle.nr_trienodes.specs.Shape.{Shape}
@@ -13,11 +13,13 @@ use Rattle.nr_trienodes.specs.Tries.{Answer, found_in, cost_in}
 use Rattle.nr_trienodes.specs.Views.{Sound, IsIn}
 use Rattle.nr_trienodes.specs.Turns.{left, Sets, Extends}
 use Rattle.nr_trienodes.specs.Roots.{IsWhole, IsRoot, IsChanged, contents, cost, name_in}
-use Rattle.nr_trienodes.specs.Merging.{Changing, with_value, merged, merge_weight}
+use Rattle.nr_trienodes.specs.Merging.{Changing, with_value, merged, merge_weight, IsOverfull, OverfullsSo}
 use Rattle.nr_trienodes.specs.Opened.{AllSet, CountsAll, merge_count, Merges, IsWay, IsAlong, path, holds, way_cost, Alters, StartsSo}
 use Rattle.nr_trienodes.specs.declared.open_way.Level.{Level}
 use Rattle.nr_trienodes.specs.declared.open_way.OpenWay.{OpenWay}
 use Rattle.nr_trienodes.specs.declared.nodes.NodeId.{NodeId}
+use Rattle.nr_trienodes.specs.declared.fault.NodesFault.{NodesFault}
+use Rattle.nr_trienodes.specs.declared.fault.NodesFault.TheVariants.{Full, Memory}
 use Rattle.nr_trienodes.proofs.Orders.{R}
 use Rattle.nr_trienodes.proofs.Maps.{get_is}
 use Rattle.nr_trienodes.proofs.Sets.{extends_refl, extends_trans}
@@ -174,3 +176,34 @@ merged_one old new before after (d ∷ []) c e is changed =
     subst (λ (b : Changing). IsChanged old new before after (with_value (contents old before) b.0 b.1) (merge_weight (b ∷ []))) is
     (record { root = changed.root; map = changed.map; cost = omega (arith, changed.cost, sum_by-cons (λ (b : Changing). 2 * length (nibbles b.0) + 3) c []) })
 merged_one old new before after (d ∷ b ∷ cs) c e is changed = absurd (omega arith)
+
+-- ---- room
+pub weight_next : (cs : List Changing) (n : ℕ) (c : Changing) → n < length cs → c ≡ get_or cs n c → merge_weight (take (n + 1) cs) ≡ merge_weight (take n cs) + (2 * length (nibbles c.0) + 3)
+weight_next cs n c lt e =
+    sum_by_more (λ (d : Changing). 2 * length (nibbles d.0) + 3) cs n c lt ∙ ap (λ (d : Changing). merge_weight (take n cs) + (2 * length (nibbles d.0) + 3)) (sym e)
+
+-- one change, and all of them
+pub room_one : (held : ℕ) (changes : List Changing) (c : Changing) → length changes ≡ 1 → c ≡ get_or changes 0 c → held + 1 + merge_weight changes ≤ 2 ^ 32 → held + 4 + 2 * length (nibbles c.0) ≤ 2 ^ 32
+room_one held [] c e is room = absurd (omega arith)
+room_one held (d ∷ []) c e is room =
+    let same : length (nibbles c.0) ≡ length (nibbles d.0) = ap (λ (b : Changing). length (nibbles b.0)) is in
+    omega (arith, sum_by-cons (λ (b : Changing). 2 * length (nibbles b.0) + 3) d [])
+room_one held (d ∷ b ∷ cs) c e is room = absurd (omega arith)
+
+pub room_all : (held fitting : ℕ) (changes : List Changing) → length changes ≤ fitting → held + 1 + merge_weight (take fitting changes) ≤ 2 ^ 32 → held + 1 + merge_weight changes ≤ 2 ^ 32
+room_all held fitting changes le room = omega (arith, ap merge_weight (take_all fitting changes le))
+
+-- ---- full
+pub overfull_there : {A : Type 0} (held n fitting : ℕ) (changes : List Changing) → n ≡ held → fitting < length changes → (fitting < length changes → IsOverfull held (take (fitting + 1) changes)) → OverfullsSo {A = A} held changes (Err (Full n))
+overfull_there {A} held n fitting changes e lt most =
+    let over : 2 ^ 32 < held + 1 + merge_weight (take (fitting + 1) changes) = most lt in
+    record {
+      there = λ h. ap (λ k. let r : Result A NodesFault = Err (Full k) in r) e;
+      only = λ k is. omega (arith, sum_by-take-le (λ (d : Changing). 2 * length (nibbles d.0) + 3) changes (fitting + 1));
+    }
+
+pub overfull_ok : {A : Type 0} (held : ℕ) (changes : List Changing) (a : A) → held + 1 + merge_weight changes ≤ 2 ^ 32 → OverfullsSo held changes (Ok a)
+overfull_ok held changes a room = record { there = λ full. absurd (omega arith); only = λ k is. absurd cc }
+
+pub overfull_memory : {A : Type 0} (held : ℕ) (changes : List Changing) → held + 1 + merge_weight changes ≤ 2 ^ 32 → OverfullsSo {A = A} held changes (Err Memory)
+overfull_memory held changes room = record { there = λ full. absurd (omega arith); only = λ k is. absurd cc }

@@ -1,7 +1,8 @@
 //! Many changes worked in at once: each node along their keys is opened once, and made once.
 
-ghost use Rattle.std.specs.Prelude.{◌≡◌, ◌≢◌, ◌<◌, ◌≤◌, ◌+◌, ◌*◌, ◌-◌, ◌∷◌, [], ℕ, List as Items, true, cond};
-ghost use Rattle.std.specs.Prelude.{is_some, None, Some, length, take, drop, slice_index, IfOk, OnOk, OnErr};
+ghost use Rattle.std.specs.Prelude.{◌≡◌, ◌≢◌, ◌<◌, ◌≤◌, ◌+◌, ◌*◌, ◌-◌, ◌^◌, ◌∷◌, [], ℕ, List as Items, true};
+ghost use Rattle.std.specs.Prelude.{cond, is_some, None, Some, length, take, drop, slice_index, IfOk, IfSome, OnOk};
+ghost use Rattle.std.specs.Prelude.{OnErr};
 ghost use Rattle.std.specs.Option.{option_copied};
 ghost use Rattle.std.specs.FinMap as map;
 ghost use Rattle.nr_triedef.specs.Node.{nibbles};
@@ -12,9 +13,10 @@ ghost use Rattle.nr_trienodes.specs.Turns.{Extends, GoesBy, Parts, left};
 ghost use Rattle.nr_trienodes.specs.Roots.{IsRoot, IsChanged, contents, name_in, Keeps};
 ghost use Rattle.nr_trienodes.specs.Opened.{IsWay, IsAlong, Steady, Alters, HeadsSo, is_bare, shape_of, holds};
 ghost use Rattle.nr_trienodes.specs.Opened.{way_cost, Merges, TopsSo, StartsSo, CountsOn, CountsAll};
-ghost use Rattle.nr_trienodes.specs.Merging.{with_value, merged, merge_weight};
+ghost use Rattle.nr_trienodes.specs.Merging.{with_value, merged, merge_weight, IsOverfull, OverfullsSo};
 ghost use Rattle.nr_trienodes.specs.declared.turn.Turn.TheVariants.{Stops};
 
+use crate::fault::NodesFault;
 use crate::node_bytes::NodeBytes;
 use crate::nodes::{NodeId, Nodes};
 use crate::open_way::{
@@ -519,13 +521,57 @@ fn has_key(nodes: &Nodes, root: Option<NodeId>, change: &Change<'_>) -> bool
     nodes.find(root, change.key).is_some()
 }
 
-// The root after a single change.
+// The root after a key is taken out, for which there is room.
+fn cut_within(
+    nodes: &mut Nodes,
+    root: Option<NodeId>,
+    key: &[u8],
+) -> Result<Option<NodeId>, AllocError>
+    requires root { IsRoot nodes.old root }
+    requires room { length nodes.old + 4 + 2 * length (nibbles key.now) ≤ 2 ^ 32 }
+    ensures cut { IfOk result (λ id. IsChanged nodes.old nodes.new root id
+        (map.remove (contents nodes.old root) key.now) (2 * length (nibbles key.now) + 3)) }
+    ensures kept { Keeps nodes.old nodes.new }
+    ensures few { length nodes.new ≤ length nodes.old + 2 * length (nibbles key.now) + 3 }
+    ensures err { OnErr result (nodes.new ≡ nodes.old) }
+{
+    match nodes.cut(root, key) {
+        Ok(id) => Ok(id),
+        Err(NodesFault::Memory) => Err(AllocError),
+        Err(NodesFault::Full { .. }) => unreachable!(),
+    }
+}
+
+// The root after a value is put at a key, for which there is room.
+fn put_within(
+    nodes: &mut Nodes,
+    root: Option<NodeId>,
+    key: &[u8],
+    value: &[u8],
+) -> Result<NodeId, AllocError>
+    requires root { IsRoot nodes.old root }
+    requires room { length nodes.old + 4 + 2 * length (nibbles key.now) ≤ 2 ^ 32 }
+    ensures put { IfOk result (λ id. IsChanged nodes.old nodes.new root (Some id)
+        (map.insert (contents nodes.old root) key.now value.now) (2 * length (nibbles key.now) + 3)) }
+    ensures kept { Keeps nodes.old nodes.new }
+    ensures few { length nodes.new ≤ length nodes.old + 2 * length (nibbles key.now) + 3 }
+    ensures err { OnErr result (nodes.new ≡ nodes.old) }
+{
+    match nodes.put(root, key, value) {
+        Ok(id) => Ok(id),
+        Err(NodesFault::Memory) => Err(AllocError),
+        Err(NodesFault::Full { .. }) => unreachable!(),
+    }
+}
+
+// The root after a single change, for which there is room.
 fn change_root(
     nodes: &mut Nodes,
     root: Option<NodeId>,
     change: &Change<'_>,
 ) -> Result<Option<NodeId>, AllocError>
-    requires { IsRoot nodes.old root }
+    requires root { IsRoot nodes.old root }
+    requires room { length nodes.old + 4 + 2 * length (nibbles change.now.0) ≤ 2 ^ 32 }
     ensures changed { IfOk result (λ id. IsChanged nodes.old nodes.new root id
         (with_value (contents nodes.old root) change.now.0 change.now.1) (2 * length (nibbles change.now.0) + 3)) }
     ensures kept { Keeps nodes.old nodes.new }
@@ -533,18 +579,15 @@ fn change_root(
     ensures err { OnErr result (nodes.new ≡ nodes.old) }
 {
     match change.value {
-        None => match nodes.cut(root, change.key) {
-            Ok(id) => Ok(id),
-            Err(_) => Err(AllocError),
-        },
-        Some(value) => match nodes.put(root, change.key, value) {
+        None => cut_within(nodes, root, change.key),
+        Some(value) => match put_within(nodes, root, change.key, value) {
             Ok(id) => Ok(Some(id)),
-            Err(_) => Err(AllocError),
+            Err(e) => Err(e),
         },
     }
 }
 
-// A single change.
+// A single change, for which there is room.
 #[tactic(auto, using(crate::proofs::Changed::keeps_refl))]
 fn change_one(
     nodes: &mut Nodes,
@@ -552,6 +595,7 @@ fn change_one(
     change: &Change<'_>,
 ) -> Result<CountedRoot, AllocError>
     requires root { IsRoot nodes.old from.root }
+    requires room { length nodes.old + 4 + 2 * length (nibbles change.now.0) ≤ 2 ^ 32 }
     requires count { from.count ≡ length (map.entries (contents nodes.old from.root)) }
     ensures changed { IfOk result (λ to. IsChanged nodes.old nodes.new from.root to.root
         (with_value (contents nodes.old from.root) change.now.0 change.now.1) (2 * length (nibbles change.now.0) + 3)) }
@@ -600,7 +644,67 @@ fn change_several(
     }
 }
 
+// Changes for which there is room.
+#[tactic(auto, using(crate::proofs::Merged::merged_none, crate::proofs::Merged::merged_one, crate::proofs::Merged::room_one, crate::proofs::Changed::keeps_refl))]
+fn change_all(
+    nodes: &mut Nodes,
+    from: CountedRoot,
+    changes: &[Change<'_>],
+) -> Result<CountedRoot, AllocError>
+    requires root { IsRoot nodes.old from.root }
+    requires count { from.count ≡ length (map.entries (contents nodes.old from.root)) }
+    requires room { length nodes.old + 1 + merge_weight changes.now ≤ 2 ^ 32 }
+    ensures merged { IfOk result (λ to. IsChanged nodes.old nodes.new from.root to.root
+        (merged changes.now (contents nodes.old from.root)) (merge_weight changes.now)) }
+    ensures counted { IfOk result (λ to. to.count ≡ length (map.entries (contents nodes.new to.root))) }
+    ensures kept { Keeps nodes.old nodes.new }
+    ensures few { length nodes.new ≤ length nodes.old + merge_weight changes.now }
+    ensures err { OnErr result (nodes.new ≡ nodes.old) }
+{
+    if changes.len() == 0 {
+        return Ok(from);
+    }
+    if changes.len() == 1 {
+        return change_one(nodes, from, &changes[0]);
+    }
+    change_several(nodes, from, changes)
+}
+
+// What is left of this room for nodes after a change; `None` where it is too little for it.
+fn room_after(room: u64, change: &Change<'_>) -> Option<u64>
+    requires { room < 2 ^ 32 }
+    ensures left { IfSome result (λ left. left + (2 * length (nibbles change.now.0) + 3) ≡ room) }
+    ensures none { result ≡ None → room < 2 * length (nibbles change.now.0) + 3 }
+{
+    if change.key.len() >= 1 << 30 {
+        return None;
+    }
+    let weight = 4 * change.key.len() as u64 + 3;
+    if weight > room {
+        return None;
+    }
+    Some(room - weight)
+}
+
 impl Nodes {
+    /// How many of the changes, the first ones, there is room for in one call of `merge`.
+    pub fn fitting(&self, changes: &[Change<'_>]) -> usize
+        ensures within { result ≤ length changes.now }
+        ensures room { length self.now + 1 + merge_weight (take result changes.now) ≤ 2 ^ 32 }
+        ensures most { result < length changes.now → IsOverfull (length self.now) (take (result + 1) changes.now) }
+    {
+        let mut room = u64::from(u32::MAX - self.count());
+        let mut fitting = 0;
+        while fitting < changes.len() {
+            let Some(left) = room_after(room, &changes[fitting]) else {
+                return fitting;
+            };
+            room = left;
+            fitting += 1;
+        }
+        fitting
+    }
+
     /// The root of a map with all of these changes, the first one first, and how many entries it has.
     /// Old roots stay. Where keys rise, each node along them is opened once and made once: besides the
     /// nodes of the new trie only the lower halves of nodes that are split above another key, and
@@ -608,14 +712,16 @@ impl Nodes {
     ///
     /// # Errors
     ///
-    /// Where memory ran out. A value of 2^32 bytes or more, a usage that passes u64, a count that passes
-    /// usize, and 2^32 nodes count as that. The nodes are then as they were.
-    #[tactic(auto, using(crate::proofs::Merged::merged_none, crate::proofs::Merged::merged_one, crate::proofs::Changed::keeps_refl))]
+    /// `Full` exactly where the arena holds more than 2^32 - 1 - w nodes, where w is the sum of
+    /// 2n + 3 over the changes, with the nibbles n of each key: so for one change it comes where it
+    /// does for `put` and `cut`. Want of memory, as which count a value of 2^32 bytes or more, a usage
+    /// that passes u64 and a count that passes usize. Each leaves the nodes as they were.
+    #[tactic(auto, using(crate::proofs::Changed::keeps_refl, crate::proofs::Merged::room_all, crate::proofs::Merged::overfull_ok, crate::proofs::Merged::overfull_memory, crate::proofs::Merged::overfull_there))]
     pub fn merge(
         &mut self,
         from: CountedRoot,
         changes: &[Change<'_>],
-    ) -> Result<CountedRoot, AllocError>
+    ) -> Result<CountedRoot, NodesFault>
         requires root { IsRoot self.old from.root }
         requires count { from.count ≡ length (map.entries (contents self.old from.root)) }
         ensures merged { IfOk result (λ to. IsChanged self.old self.new from.root to.root
@@ -624,13 +730,16 @@ impl Nodes {
         ensures kept { Keeps self.old self.new }
         ensures few { length self.new ≤ length self.old + merge_weight changes.now }
         ensures err { OnErr result (self.new ≡ self.old) }
+        ensures full { OverfullsSo (length self.old) changes.now result }
     {
-        if changes.len() == 0 {
-            return Ok(from);
+        if self.fitting(changes) < changes.len() {
+            return Err(NodesFault::Full {
+                nodes: self.count(),
+            });
         }
-        if changes.len() == 1 {
-            return change_one(self, from, &changes[0]);
+        match change_all(self, from, changes) {
+            Ok(to) => Ok(to),
+            Err(_) => Err(NodesFault::Memory),
         }
-        change_several(self, from, changes)
     }
 }

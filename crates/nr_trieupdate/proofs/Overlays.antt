@@ -3,7 +3,7 @@ use Rattle.std.proofs.Common.{◌≡◌, ℕ, zero, suc, ◌+◌, ◌-◌, ◌*�
 use mathlib.Core.Bool.{false≢true}
 use Rattle.std.specs.Prelude.{sum_by, ◌||◌, ◌&&◌, ◌==◌, map, T}
 use Rattle.std.specs.Option.{is_some}
-use Rattle.std.specs.List.{list_any, filter, starts_with}
+use Rattle.std.specs.List.{list_any, filter, starts_with, AllByRecursion}
 use Rattle.std.specs.Ordering.{is_eq, is_lt, nat_cmp, eq_by_cmp}
 use Rattle.std.specs.declared.cmp.Ordering.TheVariants.{Less, Equal, Greater}
 use Rattle.std.specs.Cmp.{tied_itself}
@@ -12,7 +12,7 @@ use Rattle.std.specs.FinMap.{empty, insert, remove, from_sorted, get, entries, k
 use Rattle.std.specs.FinMap.Entries.{find, put, by_order, where_key, below_all, is_sorted, is_sorted-where_key, find-where_key}
 use Rattle.std.proofs.lemmas.Map.Lookups.{exact_bytes}
 use Rattle.std.proofs.lemmas.Map.Views.{any-filter_same}
-use Rattle.std.proofs.lemmas.List.{nil_from_length, drop_more}
+use Rattle.std.proofs.lemmas.List.{nil_from_length, drop_more, length-map}
 use Rattle.std.proofs.lemmas.List.Folds.{list_any-append}
 use Rattle.std.proofs.lemmas.List.Sums.{sum_by-cons}
 use Rattle.nr_triedef.specs.Node.{nibbles}
@@ -21,6 +21,7 @@ use Rattle.nr_triedef.specs.Stores.{most_entries, keys_below, IsSizedEntry, IsSi
 use Rattle.nr_trienodes.specs.Merging.{Changing, with_value, merged, merge_weight}
 use Rattle.nr_trienodes.proofs.Counts.{count_remove, length_none}
 use Rattle.nr_trieupdate.proofs.Counting.{some_entry}
+use Rattle.nr_trieupdate.specs.Room.{IsShort, AreShort}
 use Rattle.nr_trieupdate.specs.Overlays.{kept, change_of, changes_in, over, placed, joined, weight, debt, most_debt, IsGathered}
 
 abbrev R : List ℕ → List ℕ → Ordering
@@ -339,3 +340,21 @@ drop_at ks i x y some within is alike =
     let next : i - 1 + 1 ≡ i = omega arith in
     let top : get_or ks (i - 1) x ≡ y = sym is ∙ sym alike in
     drop_more ks (i - 1) x (omega arith) ∙ ap (λ k. k ∷ drop (i - 1 + 1) ks) top ∙ ap (λ n. y ∷ drop n ks) next
+
+-- ---- the sizes of the changes
+short_each : (es : List (List ℕ × List ℕ)) → T (is_sorted R es) → ((q w : List ℕ) → find R q es ≡ Some w → length q ≤ 70000000) → AllByRecursion IsShort (map change_of es)
+short_each [] s h = tt
+short_each (e ∷ es) s h =
+    (h e.0 e.1 (ap (λ b. cond b (Some e.1) (find R e.0 es)) (itself e.0)), short_each es (right_of (below_all R e.0 es) (is_sorted R es) s) (λ q w i. h q w (later q w i)))
+  where
+    later : (q w : List ℕ) → find R q es ≡ Some w → find R q (e ∷ es) ≡ Some w
+    later q w i = elim (eq_by_cmp R q e.0) as (λ b. eq_by_cmp R q e.0 ≡ b → cond b (Some e.1) (find R q es) ≡ Some w) [
+      | true ↦ λ alike. absurd (false≢true (sym (no_later e.0 es (left_of (below_all R e.0 es) (is_sorted R es) s)) ∙ ap (λ k. is_some (find R k es)) (sym (equal q e.0 alike)) ∙ ap is_some i))
+      | false ↦ λ other. i
+    ] refl
+
+pub short_changes : (p : Contents) → IsSized p → AreShort (changes_in p)
+short_changes p h = record {
+  few = omega (arith, h.few, length-map (entries p) change_of);
+  each = short_each (entries p) (entries_sorted p) (λ q w i. (h.each q w (get-entries p q ∙ i)).0);
+}

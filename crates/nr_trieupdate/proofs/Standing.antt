@@ -5,16 +5,20 @@ use Rattle.std.specs.Prelude.{sum_by, Result, Ok, Err, OnErr}
 use Rattle.std.specs.FinMap.{entries}
 use Rattle.nr_triedef.specs.Root.{Contents}
 use Rattle.nr_triedef.specs.Stores.{IsSized}
-use Rattle.nr_trienodes.specs.Roots.{IsRoot, contents, Keeps, Renames, IsChanged}
-use Rattle.nr_trienodes.specs.Merging.{Changing, merged}
+use Rattle.nr_trienodes.specs.Roots.{IsRoot, contents, Keeps, Renames}
 use Rattle.nr_trienodes.specs.declared.nodes.NodeId.{NodeId}
 use Rattle.nr_trienodes.specs.declared.merging.CountedRoot.{CountedRoot}
-use Rattle.nr_trieupdate.specs.Room.{Arena, held_at, cost_at, IsLevel, IsFew, IsMoved}
+use Rattle.nr_trieupdate.specs.Room.{Arena, IsLevel, IsFew, IsMoved}
 
 -- ---- a trim
-pub moved_one : (v w : Arena) (top moved : Option NodeId) (roots : List (Option NodeId)) → Renames v w (top ∷ []) roots → moved ≡ get_or roots 0 None → IsMoved v w top moved
-moved_one v w top moved [] h e = absurd h
-moved_one v w top moved (q ∷ rest) h e = subst (IsMoved v w top) (sym e) (record { root = h.0; held = h.1; debt = h.2 })
+pub moved_first : (v w : Arena) (top draft moved : Option NodeId) (roots : List (Option NodeId)) → Renames v w (top ∷ draft ∷ []) roots → moved ≡ get_or roots 0 None → IsMoved v w top moved
+moved_first v w top draft moved [] h e = absurd h
+moved_first v w top draft moved (q ∷ rest) h e = subst (IsMoved v w top) (sym e) (record { root = h.0; held = h.1; debt = h.2 })
+
+pub moved_second : (v w : Arena) (top draft moved : Option NodeId) (roots : List (Option NodeId)) → Renames v w (top ∷ draft ∷ []) roots → moved ≡ get_or roots 1 None → IsMoved v w draft moved
+moved_second v w top draft moved [] h e = absurd h
+moved_second v w top draft moved (q ∷ []) h e = absurd h.3
+moved_second v w top draft moved (q ∷ r ∷ rest) h e = subst (IsMoved v w draft) (sym e) (record { root = h.3.0; held = h.3.1; debt = h.3.2 })
 
 pub unmoved : (v w : Arena) (top : Option NodeId) → IsRoot v top → w ≡ v → IsMoved v w top top
 unmoved v w top root e = subst (λ (u : Arena). IsMoved v u top top) (sym e) (record { root = root; held = refl; debt = omega arith })
@@ -27,13 +31,16 @@ pub few_moved : (v w : Arena) (top moved : Option NodeId) → IsFew v top → Is
 few_moved v w top moved f h = record { root = h.root; few = omega (arith, f.few, ap (λ (m : Contents). length (entries m)) h.held) }
 
 -- at most two nodes for each entry
-pub few_nodes : (v w : Arena) (top : Option NodeId) (moved : List (Option NodeId)) → IsFew v top → Renames v w (top ∷ []) moved → sum_by (λ r. 2 * length (entries (contents w r))) moved ≤ 134217728
-few_nodes v w top [] f h = absurd h
-few_nodes v w top (q ∷ []) f h =
-    let same : length (entries (contents w q)) ≡ length (entries (contents v top)) = ap (λ (m : Contents). length (entries m)) h.1 in
-    let here : length (entries (contents v top)) ≤ 67108864 = f.few in
-    omega (arith, sum_by-cons (λ r. 2 * length (entries (contents w r))) q [])
-few_nodes v w top (q ∷ r ∷ rest) f h = absurd h.3
+pub few_nodes : (v w : Arena) (top draft : Option NodeId) (moved : List (Option NodeId)) → IsFew v top → IsFew v draft → Renames v w (top ∷ draft ∷ []) moved → sum_by (λ r. 2 * length (entries (contents w r))) moved ≤ 536870912
+few_nodes v w top draft [] f g h = absurd h
+few_nodes v w top draft (q ∷ []) f g h = absurd h.3
+few_nodes v w top draft (q ∷ r ∷ []) f g h =
+    let one : length (entries (contents w q)) ≡ length (entries (contents v top)) = ap (λ (m : Contents). length (entries m)) h.1 in
+    let two : length (entries (contents w r)) ≡ length (entries (contents v draft)) = ap (λ (m : Contents). length (entries m)) h.3.1 in
+    let here : length (entries (contents v top)) ≤ 134217728 = f.few in
+    let there : length (entries (contents v draft)) ≤ 134217728 = g.few in
+    omega (arith, sum_by-cons (λ r. 2 * length (entries (contents w r))) q (r ∷ []), sum_by-cons (λ r. 2 * length (entries (contents w r))) r [])
+few_nodes v w top draft (q ∷ r ∷ s ∷ rest) f g h = absurd h.3.3
 
 -- ---- nodes that were added, or hashed
 pub moved_kept : (u v w : Arena) (top mid : Option NodeId) → IsMoved u v top mid → Keeps v w → IsMoved u w top mid
@@ -49,7 +56,7 @@ on_err (Err e) h = h
 
 -- ---- the root with its count
 pub few_level : (v : Arena) (top : CountedRoot) → IsLevel v top → IsFew v top.root
-few_level v top h = record { root = h.root; few = h.sized.few }
+few_level v top h = record { root = h.root; few = omega (arith, h.sized.few) }
 
 pub level_moved : (v w : Arena) (top moved : CountedRoot) → IsLevel v top → moved.count ≡ top.count → IsMoved v w top.root moved.root → IsLevel w moved
 level_moved v w top moved h e is = record {
@@ -57,17 +64,6 @@ level_moved v w top moved h e is = record {
   count = e ∙ h.count ∙ ap (λ (m : Contents). length (entries m)) (sym is.held);
   sized = subst IsSized (sym is.held) h.sized;
 }
-
-pub count_moved : (v w : Arena) (top : CountedRoot) (moved : Option NodeId) → IsLevel v top → IsMoved v w top.root moved → top.count ≡ length (entries (contents w moved))
-count_moved v w top moved h is = h.count ∙ ap (λ (m : Contents). length (entries m)) (sym is.held)
-
--- changes that were merged behind a trim
-pub record IsMerged (u w : Arena) (top to : CountedRoot) (cs : List Changing) (weight : ℕ) : Type 0 where
-  pub held : held_at w to ≡ merged cs (held_at u top)
-  pub debt : cost_at w to ≤ cost_at u top + weight
-
-pub merged_behind : (u v w : Arena) (top to : CountedRoot) (mid : Option NodeId) (cs : List Changing) (weight : ℕ) → IsMoved u v top.root mid → IsChanged v w mid to.root (merged cs (contents v mid)) weight → IsMerged u w top to cs weight
-merged_behind u v w top to mid cs weight is changed = record { held = changed.map ∙ ap (merged cs) is.held; debt = omega (arith, changed.cost, is.debt) }
 
 pub level_merged : (w : Arena) (to : CountedRoot) (m : Contents) → IsRoot w to.root → contents w to.root ≡ m → to.count ≡ length (entries (contents w to.root)) → IsSized m → IsLevel w to
 level_merged w to m root e many sized = record { root = root; count = many; sized = subst IsSized (sym e) sized }

@@ -6,8 +6,10 @@ ghost use Rattle.std.specs.FinMap as map;
 ghost use Rattle.nr_triedef.specs.Root.{root_of};
 ghost use Rattle.nr_triedef.specs.Stores.{keys_below, IsSized};
 ghost use Rattle.nr_trienodes.specs.Merging.{merged, merge_weight};
+ghost use Rattle.nr_trieupdate.specs.Room.{AreShort};
 
-use crate::room::{Limits, first_limits, make_room};
+use crate::drafting::draft_of;
+use crate::room::{Limits, first_limits};
 use nr_bytes::{Blob, List};
 use nr_triedef::{NodeHash, Steps};
 use nr_trienodes::{Change, CountedRoot, Nodes};
@@ -91,17 +93,17 @@ impl Base {
     /// # Errors
     ///
     /// Where memory ran out. What is held is then the same.
-    #[tactic(auto, using(crate::proofs::Standing::level_moved, crate::proofs::Standing::moved_kept))]
+    #[tactic(auto, using(crate::proofs::Standing::level_moved))]
     pub(crate) fn merge(&mut self, changes: &[Change<'_>]) -> Result<(), AllocError>
-        requires { IsSized (merged changes.now self.old.contents) }
+        requires sized { IsSized (merged changes.now self.old.contents) }
+        requires short { AreShort changes.now }
         ensures ok { OnOk result (self.new.contents ≡ merged changes.now self.old.contents) }
         ensures err { OnErr result (self.new.contents ≡ self.old.contents) }
         ensures unhashed { OnOk result (self.new.unhashed ≤ self.old.unhashed + merge_weight changes.now) }
         ensures less { OnErr result (self.new.unhashed ≤ self.old.unhashed) }
     {
-        self.limits = make_room(&mut self.nodes, &mut self.top.root, self.limits)?;
-        let top = self.nodes.merge(self.top, changes)?;
-        self.top = top;
+        let draft = draft_of(&mut self.nodes, &mut self.top, &mut self.limits, changes)?;
+        self.top = draft;
         Ok(())
     }
 
@@ -134,13 +136,13 @@ impl Base {
         changes: &[Change<'_>],
         steps: &mut Steps<L>,
     ) -> Result<NodeHash, AllocError>
+        requires { AreShort changes.now }
         ensures root { IfOk result (λ root. root ≡ (root_of (merged changes.now self.old.contents)).hash) }
         ensures contents { self.new.contents ≡ self.old.contents }
         ensures steps { steps.new ≤ steps.old + (self.old.unhashed + merge_weight changes.now) }
         ensures unhashed { self.new.unhashed ≤ self.old.unhashed }
     {
-        self.limits = make_room(&mut self.nodes, &mut self.top.root, self.limits)?;
-        let draft = self.nodes.merge(self.top, changes)?;
+        let draft = draft_of(&mut self.nodes, &mut self.top, &mut self.limits, changes)?;
         let hash = self.nodes.hash(draft.root, steps)?;
         Ok(hash)
     }

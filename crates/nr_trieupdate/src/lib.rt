@@ -2,6 +2,7 @@
 #![tactic(auto)]
 
 mod base;
+mod drafting;
 mod listing;
 mod room;
 mod threads;

@@ -11,10 +11,9 @@ use std::alloc::AllocError;
 // Beyond a quarter of what stays at a trim of all nodes, an arena may grow by this many until the next.
 const SLACK: usize = 1 << 14;
 
-// At most about so many nodes are made between two trims of young nodes,
+// Young nodes are trimmed before a change where more than so many were made since the last trim. All
+// are, where behind that fewer than the second number could be made until the next trim of all.
 const YOUNG: usize = 1 << 13;
-
-// and about so many at least, or all are trimmed.
 const LEAST_YOUNG: usize = 1 << 12;
 
 /// When the arena is next trimmed.
@@ -52,57 +51,76 @@ pub(crate) fn first_limits() -> Limits
     limits_of(0, SLACK)
 }
 
-// Trims the young nodes to the trie of the root. The root stays where memory ran out.
-fn trim_young(nodes: &mut Nodes, root: &mut Option<NodeId>, oldest: usize) -> Result<(), AllocError>
-    requires { IsRoot nodes.old root.old }
-    ensures { IsMoved nodes.old nodes.new root.old root.new }
+// Trims the young nodes to the tries of the two roots. These stay where memory ran out.
+fn trim_young(
+    nodes: &mut Nodes,
+    root: &mut Option<NodeId>,
+    draft: &mut Option<NodeId>,
+    oldest: usize,
+) -> Result<(), AllocError>
+    requires root { IsRoot nodes.old root.old }
+    requires draft { IsRoot nodes.old draft.old }
+    ensures root { IsMoved nodes.old nodes.new root.old root.new }
+    ensures draft { IsMoved nodes.old nodes.new draft.old draft.new }
 {
-    let mut roots = [*root];
+    let mut roots = [*root, *draft];
     nodes.trim_young(oldest, &mut roots)?;
     *root = roots[0];
+    *draft = roots[1];
     Ok(())
 }
 
-// Trims the whole arena to the trie of the root. The root stays where memory ran out.
-fn trim_all(nodes: &mut Nodes, root: &mut Option<NodeId>) -> Result<Limits, AllocError>
-    requires { IsFew nodes.old root.old }
-    ensures moved { IsMoved nodes.old nodes.new root.old root.new }
+// Trims the whole arena to the tries of the two roots. These stay where memory ran out.
+fn trim_all(
+    nodes: &mut Nodes,
+    root: &mut Option<NodeId>,
+    draft: &mut Option<NodeId>,
+) -> Result<Limits, AllocError>
+    requires root { IsFew nodes.old root.old }
+    requires draft { IsFew nodes.old draft.old }
+    ensures root { IsMoved nodes.old nodes.new root.old root.new }
+    ensures draft { IsMoved nodes.old nodes.new draft.old draft.new }
     ensures room { OnOk result (length nodes.new ≤ most_nodes) }
     ensures bounded { IfOk result (λ limits. IsBounded limits) }
 {
-    let mut roots = [*root];
+    let mut roots = [*root, *draft];
     nodes.trim(&mut roots)?;
     *root = roots[0];
+    *draft = roots[1];
     let held = nodes.len();
     Ok(limits_of(held, held + held / 4 + SLACK))
 }
 
-/// Trims the arena to the trie of the root where it holds more nodes than the limits allow: its young
-/// nodes, and behind that all, where few more could be made until then. Gives the next limits.
+/// Trims the arena to the tries of a root and of a draft beside it, where it holds more nodes than the
+/// limits allow: its young nodes, and behind that all, where few more could be made until then. Gives
+/// the next limits.
 ///
 /// # Errors
 ///
-/// Where memory ran out. The root then stands for what it did.
+/// Where memory ran out. The roots then stand for what they did.
 pub(crate) fn make_room(
     nodes: &mut Nodes,
     root: &mut Option<NodeId>,
+    draft: &mut Option<NodeId>,
     limits: Limits,
 ) -> Result<Limits, AllocError>
-    requires few { IsFew nodes.old root.old }
+    requires root { IsFew nodes.old root.old }
+    requires draft { IsFew nodes.old draft.old }
     requires bounded { IsBounded limits }
-    ensures moved { IsMoved nodes.old nodes.new root.old root.new }
+    ensures root { IsMoved nodes.old nodes.new root.old root.new }
+    ensures draft { IsMoved nodes.old nodes.new draft.old draft.new }
     ensures room { OnOk result (length nodes.new ≤ most_nodes) }
     ensures bounded { IfOk result (λ limits. IsBounded limits) }
 {
     if nodes.len() <= limits.young {
         return Ok(limits);
     }
-    trim_young(nodes, root, limits.oldest)?;
+    trim_young(nodes, root, draft, limits.oldest)?;
     let held = nodes.len();
     if limits.all.saturating_sub(held) >= LEAST_YOUNG {
         return Ok(limits_of(held, limits.all));
     }
-    trim_all(nodes, root)
+    trim_all(nodes, root, draft)
 }
 
 // The most entries that a store holds.

@@ -6,6 +6,7 @@ ghost use Rattle.nr_triedef.specs.Root.{root_of};
 ghost use Rattle.nr_triedef.specs.Stores.{IsSized};
 ghost use Rattle.nr_trieupdate.specs.Overlays.{change_of, changes_in, over, joined, debt};
 ghost use Rattle.nr_trieupdate.specs.Moving.{Moves};
+ghost use Rattle.nr_trieupdate.specs.Room.{AreShort};
 
 use crate::base::Base;
 use crate::listing::value_in;
@@ -64,9 +65,13 @@ fn changes_of<'a>(alloc: Global, waiting: &[Lent<'a>]) -> Result<Vec<Change<'a>>
 }
 
 // All waiting changes as changes of the trie, in the order of their keys.
+#[tactic(auto, using(crate::proofs::Overlays::short_changes))]
 fn changes_in(alloc: Global, waiting: &PlainStore) -> Result<Vec<Change<'_>>, AllocError>
-    ensures { IfOk result (λ changes. changes.items ≡ changes_in waiting.now.contents) }
+    ensures changes { IfOk result (λ changes. changes.items ≡ changes_in waiting.now.contents) }
+    ensures short { AreShort (changes_in waiting.now.contents) }
 {
+    // It tells that what waits keeps within the sizes.
+    waiting.sizes();
     let entries = waiting.entries()?;
     let changes = changes_of(alloc, &entries)?;
     Ok(changes)
