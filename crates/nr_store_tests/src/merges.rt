@@ -5,6 +5,7 @@ ghost use Rattle.nr_trienodes.specs.Roots.{IsRoot};
 
 use crate::nodes::{FOUR, THREE, hashed};
 use nr_trienodes::{Change, CountedRoot, Nodes, NodesFault};
+use std::alloc::{AllocError, Global};
 use std::test::Fail;
 
 /// The value `abc` at a key.
@@ -67,5 +68,30 @@ fn merged_keys_have_the_same_roots(rt: HostRuntime) -> Result<(), Fail> {
 #[test]
 fn a_merge_leaves_old_roots(rt: HostRuntime) -> Result<(), Fail> {
     assert_eq!(rt; emptied(&mut Nodes::new(rt.alloc()))?, (true, 1, 0));
+    Ok(())
+}
+
+/// For how many of so many changes at one key there is room.
+fn fitting(
+    alloc: Global,
+    nodes: &Nodes,
+    key: &[u8],
+    count: usize,
+) -> Result<usize, AllocError> {
+    let mut changes = Vec::new(alloc);
+    for _ in 0..count {
+        changes.push(cut(key))?;
+    }
+    Ok(nodes.fitting(&changes))
+}
+
+#[test]
+fn few_changes_have_room(rt: HostRuntime) -> Result<(), Fail> {
+    let nodes = Nodes::new(rt.alloc());
+    // Each takes 2^22 + 3 of the 2^32 - 1 nodes.
+    let key = vec![in rt.alloc(); 0_u8; 1 << 20]?;
+    assert_eq!(rt; fitting(rt.alloc(), &nodes, b"ab", 1024)?, 1024);
+    assert_eq!(rt; fitting(rt.alloc(), &nodes, &key, 1023)?, 1023);
+    assert_eq!(rt; fitting(rt.alloc(), &nodes, &key, 1024)?, 1023);
     Ok(())
 }
