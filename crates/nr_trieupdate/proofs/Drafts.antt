@@ -39,8 +39,15 @@ all_drop zero (c ∷ cs) h = h
 all_drop (suc n) [] h = tt
 all_drop (suc n) (c ∷ cs) h = all_drop n cs h.1
 
-pub short_drop : (n : ℕ) (cs : List Changing) → AreShort cs → AreShort (drop n cs)
-short_drop n cs h = record { few = omega (arith, h.few, length-drop n cs); each = all_drop n cs h.each }
+-- what a slice from a place on has
+pub rest_is : (n : ℕ) (cs : List Changing) → take (length cs - n) (drop n cs) ≡ drop n cs
+rest_is n cs = take_all (length cs - n) (drop n cs) (omega (arith, length-drop n cs))
+
+pub length-rest : (n : ℕ) (cs : List Changing) → length (take (length cs - n) (drop n cs)) ≡ length cs - n
+length-rest n cs = ap length (rest_is n cs) ∙ length-drop n cs
+
+pub short_drop : (n : ℕ) (cs : List Changing) → AreShort cs → AreShort (take (length cs - n) (drop n cs))
+short_drop n cs h = subst (λ (ds : List Changing). AreShort ds) (sym (rest_is n cs)) (record { few = omega (arith, h.few, length-drop n cs); each = all_drop n cs h.each })
 
 -- ---- room
 -- there is room for at least one
@@ -101,14 +108,14 @@ pub count_beside : (w x : Arena) (draft : CountedRoot) (mid : Option NodeId) →
 count_beside w x draft mid e is = e ∙ ap (λ (m : Contents). length (entries m)) (sym is.held)
 
 -- more changes, behind a trim
-pub draft_more : (u w x y : Arena) (first top draft next : CountedRoot) (root mid : Option NodeId) (n k : ℕ) (cs : List Changing) (old limits : Limits)
+draft_on : (u w x y : Arena) (first top draft next : CountedRoot) (root mid : Option NodeId) (n k : ℕ) (cs : List Changing) (old limits : Limits)
     → IsDraft u w first top draft (take n cs) old
     → IsMoved w x top.root root → IsMoved w x draft.root mid → IsBounded limits
     → Keeps x y
     → IsChanged x y mid next.root (merged (take k (drop n cs)) (contents x mid)) (merge_weight (take k (drop n cs)))
     → next.count ≡ length (entries (contents y next.root))
     → IsDraft u y first (record { root = root; count = top.count }) next (take (n + k) cs) limits
-draft_more u w x y first top draft next root mid n k cs old limits d here beside bounded keeps changed counted =
+draft_on u w x y first top draft next root mid n k cs old limits d here beside bounded keeps changed counted =
     subst (λ (done : List Changing). IsDraft u y first (record { root = root; count = top.count }) next done limits) (sym (take_add n k cs)) (record {
       moved = moved_kept u x y first.root root (both_moved u w x first.root top.root root d.moved here) keeps;
       same = d.same;
@@ -120,6 +127,17 @@ draft_more u w x y first top draft next root mid n k cs old limits d here beside
       };
       counted = counted;
     })
+
+pub draft_more : (u w x y : Arena) (first top draft next : CountedRoot) (root mid : Option NodeId) (n k : ℕ) (cs : List Changing) (old limits : Limits)
+    → IsDraft u w first top draft (take n cs) old
+    → IsMoved w x top.root root → IsMoved w x draft.root mid → IsBounded limits
+    → Keeps x y
+    → IsChanged x y mid next.root (merged (take k (take (length cs - n) (drop n cs))) (contents x mid)) (merge_weight (take k (take (length cs - n) (drop n cs))))
+    → next.count ≡ length (entries (contents y next.root))
+    → IsDraft u y first (record { root = root; count = top.count }) next (take (n + k) cs) limits
+draft_more u w x y first top draft next root mid n k cs old limits d here beside bounded keeps changed counted =
+    draft_on u w x y first top draft next root mid n k cs old limits d here beside bounded keeps
+    (subst (λ (ds : List Changing). IsChanged x y mid next.root (merged (take k ds) (contents x mid)) (merge_weight (take k ds))) (rest_is n cs) changed) counted
 
 pub draft_done : (u w : Arena) (first top draft : CountedRoot) (n : ℕ) (cs : List Changing) (limits : Limits) → length cs ≤ n → IsDraft u w first top draft (take n cs) limits → IsDraft u w first top draft cs limits
 draft_done u w first top draft n cs limits le d = subst (λ (done : List Changing). IsDraft u w first top draft done limits) (take_all n cs le) d

@@ -1,8 +1,7 @@
 -- The goals of `drafting::draft_of` that no tactic closes.
 use Rattle.std.proofs.Common.{◌+◌, length, take, arith}
-use Rattle.std.proofs.lemmas.List.{length-drop}
 use Rattle.nr_trieupdate.proofs.Standing.{both_moved, moved_kept}
-use Rattle.nr_trieupdate.proofs.Drafts.{draft_first, few_top, few_draft, short_drop, count_beside, draft_more, draft_done}
+use Rattle.nr_trieupdate.proofs.Drafts.{draft_first, few_top, few_draft, length-rest, short_drop, count_beside, draft_more, draft_done}
 use Rattle.nr_trieupdate.proofs.drafting.draft_of.Goals as goal
 
 pub on-init : goal.on-init
@@ -36,7 +35,7 @@ pub merge_some-requires-clause-count : goal.merge_some-requires-clause-count
 merge_some-requires-clause-count c = count_beside c.on.nodes c.make_room.new.nodes c.on.draft c.make_room.new.draft c.on.invariant.draft.counted c.in_ok-next.ensures.draft
 
 pub merge_some-requires-clause-some : goal.merge_some-requires-clause-some
-merge_some-requires-clause-some c = omega (arith, length-drop c.on.done c.args.changes.now)
+merge_some-requires-clause-some c = omega (arith, length-rest c.on.done c.args.changes.now)
 
 pub merge_some-requires-clause-short : goal.merge_some-requires-clause-short
 merge_some-requires-clause-short c = short_drop c.on.done c.args.changes.now c.requires.short
@@ -50,11 +49,11 @@ pub returns-in_err-part-clause-same : goal.returns-in_err-part-clause-same
 returns-in_err-part-clause-same c = c.on.invariant.draft.same
 
 pub on-smaller : goal.on-smaller
-on-smaller c = omega (arith, c.in_ok-part.ensures.some, c.in_ok-part.ensures.within, length-drop c.on.done c.args.changes.now)
+on-smaller c = omega (arith, c.in_ok-part.ensures.some, c.in_ok-part.ensures.within, length-rest c.on.done c.args.changes.now)
 
 pub on-preserved : goal.on-preserved
 on-preserved c = record {
-  within = omega (arith, c.in_ok-part.ensures.within, length-drop c.on.done c.args.changes.now);
+  within = omega (arith, c.in_ok-part.ensures.within, length-rest c.on.done c.args.changes.now);
   draft =
       draft_more c.args.nodes.now c.on.nodes c.make_room.new.nodes c.merge_some.new.nodes c.args.top.now c.on.top c.on.draft c.in_ok-part.part.draft c.make_room.new.root c.make_room.new.draft c.on.done c.in_ok-part.part.count c.args.changes.now c.on.limits c.in_ok-next.next
       c.on.invariant.draft c.in_ok-next.ensures.root c.in_ok-next.ensures.draft c.in_ok-next.ensures.bounded c.in_ok-part.ensures.kept c.in_ok-part.ensures.merged c.in_ok-part.ensures.counted;
