@@ -72,12 +72,7 @@ fn a_merge_leaves_old_roots(rt: HostRuntime) -> Result<(), Fail> {
 }
 
 /// For how many of so many changes at one key there is room.
-fn fitting(
-    alloc: Global,
-    nodes: &Nodes,
-    key: &[u8],
-    count: usize,
-) -> Result<usize, AllocError> {
+fn fitting(alloc: Global, nodes: &Nodes, key: &[u8], count: usize) -> Result<usize, AllocError> {
     let mut changes = Vec::new(alloc);
     for _ in 0..count {
         changes.push(cut(key))?;

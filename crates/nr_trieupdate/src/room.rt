@@ -14,6 +14,7 @@ const SLACK: usize = 1 << 14;
 // Young nodes are trimmed before a change where more than so many were made since the last trim. All
 // are, where behind that fewer than the second number could be made until the next trim of all.
 const YOUNG: usize = 1 << 13;
+
 const LEAST_YOUNG: usize = 1 << 12;
 
 /// When the arena is next trimmed.
