@@ -1,7 +1,8 @@
-//! The check of one module, and the run of one of its methods, for authors of contracts: from the
-//! words of the command line to the line that tells the answer.
+//! The check of one module, and the run or the call of one of its methods, for authors of contracts: from the words
+//! of the command line to the lines that tell the answer.
 #![tactic(auto)]
 
+mod arguments;
 mod command;
 mod counter;
 mod exit;

@@ -1,6 +1,6 @@
 -- The JSON value of an action has no float.
-use Rattle.std.proofs.Common.{◌≡◌, ◌∙◌, ℕ, ◌||◌, Bool, true, false, List, [], ◌∷◌, map, codes, Option, Some, None, refl, ap}
-use Rattle.std.specs.Ordering.{Ordering, Less, Equal, Greater, match_ordering, nat_cmp}
+use Rattle.std.proofs.Common.{◌≡◌, ◌∙◌, ℕ, ◌||◌, Bool, true, false, List, [], ◌∷◌, map, codes, Option, Some, None, Ordering, Less, Equal, Greater, nat_cmp, refl, ap}
+use Rattle.std.specs.Ordering.{match_ordering}
 use Rattle.std.specs.Cmp.Lexicographic.{slice_cmp}
 use Rattle.serde_json.specs.Data.{Data, string, Items, no_items, item, Members, no_members, member, object, put}
 use Rattle.serde_json.specs.View.{items_of}
@@ -62,8 +62,10 @@ allowance_plain (Some n) = refl
 
 call_plain : (c : CallPermission) → has_float (call_permission_json c) ≡ false
 call_plain c =
-    put_plain (codes "method_names") (list_json string c.methods) _ (texts_plain c.methods)
-    (put_plain (codes "receiver_id") (string c.receiver) _ refl
+    let one : Members = put (codes "allowance") (option_json amount_json c.allowance) no_members in
+    let two : Members = put (codes "receiver_id") (string c.receiver) one in
+    put_plain (codes "method_names") (list_json string c.methods) two (texts_plain c.methods)
+    (put_plain (codes "receiver_id") (string c.receiver) one refl
     (put_plain (codes "allowance") (option_json amount_json c.allowance) no_members (allowance_plain c.allowance) refl))
 
 permission_plain : (p : Permission) → has_float (permission_json p) ≡ false
@@ -72,20 +74,25 @@ permission_plain Full = refl
 
 key_plain : (k : AccessKey) → has_float (access_key_json k) ≡ false
 key_plain k =
-    put_plain (codes "permission") (permission_json k.permission) _ (permission_plain k.permission)
+    let one : Members = put (codes "nonce") (number_json k.nonce) no_members in
+    put_plain (codes "permission") (permission_json k.permission) one (permission_plain k.permission)
     (put_plain (codes "nonce") (number_json k.nonce) no_members refl refl)
 
 -- ---- actions
 added_plain : (public_key : PublicKey) (access_key : AccessKey) → has_float (object (add_key_members public_key access_key)) ≡ false
 added_plain public_key access_key =
-    put_plain (codes "access_key") (access_key_json access_key) _ (key_plain access_key)
+    let one : Members = put (codes "public_key") (key_json public_key) no_members in
+    put_plain (codes "access_key") (access_key_json access_key) one (key_plain access_key)
     (put_plain (codes "public_key") (key_json public_key) no_members refl refl)
 
 called_plain : (method args : List ℕ) (gas deposit : ℕ) → has_float (object (call_members method args gas deposit)) ≡ false
 called_plain method args gas deposit =
-    put_plain (codes "deposit") (amount_json deposit) _ refl
-    (put_plain (codes "gas") (number_json gas) _ refl
-    (put_plain (codes "args") (bytes_json args) _ refl
+    let one : Members = put (codes "method_name") (string method) no_members in
+    let two : Members = put (codes "args") (bytes_json args) one in
+    let three : Members = put (codes "gas") (number_json gas) two in
+    put_plain (codes "deposit") (amount_json deposit) three refl
+    (put_plain (codes "gas") (number_json gas) two refl
+    (put_plain (codes "args") (bytes_json args) one refl
     (put_plain (codes "method_name") (string method) no_members refl refl)))
 
 action_plain : (a : Action) → has_float (action_json a) ≡ false

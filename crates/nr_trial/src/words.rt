@@ -40,10 +40,10 @@ pub(crate) fn id_word(alloc: Global, id: &AccountId) -> Result<String, AllocErro
 }
 
 /// An action as a JSON text without spaces.
-#[tactic(auto, using(crate::proofs::Floats::no_float))]
 pub(crate) fn action_word(alloc: Global, action: &Action) -> Result<String, AllocError>
     ensures { IfOk result (λ word. string_bytes word ≡ compact_text (action_json action.now)) }
 {
     let value = action.to_json(alloc)?;
-    value.to_string(alloc)
+    let text = value.to_string(alloc)?;
+    Ok(text)
 }
