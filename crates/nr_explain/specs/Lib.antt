@@ -4,6 +4,7 @@ pub mod Entries
 pub mod Forms
 pub mod Lines
 pub mod LineSentences
+pub mod CallSentences
 pub mod Written
 pub mod Programs
 pub mod Sentences
