@@ -54,7 +54,7 @@ fn first_account(config: &Config, deposit: u128) -> Account
 /// # Errors
 ///
 /// Where memory runs out.
-#[tactic(auto, using(crate::proofs::Standing::stands))]
+#[tactic(auto, using(crate::proofs::Standing::stands), unfolding(crate::specs::Setting::first_world))]
 pub(crate) fn first_state(
     alloc: Global,
     config: &Config,
