@@ -207,7 +207,15 @@ const NONE: [Row; 9] = [
         lines: "",
     },
     Row {
-        words: &["call", "free", "M", "save", "x", "1", "340282366920938463463374607431768211456"],
+        words: &[
+            "call",
+            "free",
+            "M",
+            "save",
+            "x",
+            "1",
+            "340282366920938463463374607431768211456",
+        ],
         status: Status::Usage,
         lines: "",
     },

@@ -319,18 +319,12 @@ fn lines_of_a_call_have_sentences(rt: HostRuntime) -> Result<(), Fail> {
         ),
         ("near_module log -", "The call logged no bytes."),
         ("near_module log 6869", "The call logged the bytes 6869."),
-        (
-            "store - -",
-            "The storage has the empty key, with no bytes.",
-        ),
+        ("store - -", "The storage has the empty key, with no bytes."),
         (
             "store - 00",
             "The storage has the empty key, with the bytes 00.",
         ),
-        (
-            "store 6b -",
-            "The storage has the key 6b, with no bytes.",
-        ),
+        ("store 6b -", "The storage has the key 6b, with no bytes."),
         (
             "store 6b 7676",
             "The storage has the key 6b, with the bytes 7676.",

@@ -84,11 +84,7 @@ fn request_of<'a>(names: &'a CallNames<'_>) -> Request<'a>
 fn rated_end(ended: bool) -> Rating
     ensures { result ≡ rated_end ended }
 {
-    if ended {
-        Rating::Sound
-    } else {
-        Rating::Faulty
-    }
+    if ended { Rating::Sound } else { Rating::Faulty }
 }
 
 /// The lines of the call of a contract that is loaded.

@@ -16,12 +16,7 @@ use nr_state::{CallEnd, Returned};
 use std::alloc::{AllocError, Global};
 use std::fmt::Write;
 
-fn print_value(
-    alloc: Global,
-    bytes: &[u8],
-    burnt: u64,
-    text: &mut String,
-) -> Result<(), AllocError>
+fn print_value(alloc: Global, bytes: &[u8], burnt: u64, text: &mut String) -> Result<(), AllocError>
     ensures { OnOk result (string_bytes text.new ≡ string_bytes text.old ++ end_line (Value bytes.now) burnt) }
 {
     let bytes = byte_digits(alloc, bytes)?;
