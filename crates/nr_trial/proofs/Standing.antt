@@ -1,5 +1,5 @@
 -- The account of a trial stands, and has its code.
-use Rattle.std.proofs.Common.{◌≡◌, ℕ, cond, List, Some, refl, sym, ap, subst, ◌∙◌}
+use Rattle.std.proofs.Common.{◌≡◌, ℕ, cond, List, Some, sym, ap, subst, ◌∙◌}
 use Rattle.std.specs.Prelude.{IsSome, is_some, option_map}
 use Rattle.std.specs.FinMap.{FinMap, get, insert, get-insert}
 use Rattle.std.specs.Cmp.{eq_by_cmp_equiv}
@@ -8,8 +8,7 @@ use Rattle.nr_config.specs.Config.{Config}
 use Rattle.nr_records.specs.declared.account.Account.{Account}
 use Rattle.nr_columns.specs.Orders.{bytes_cmp}
 use Rattle.nr_state.specs.Calls.{CanCall}
-use Rattle.nr_state.specs.Changes.{set_code}
-use Rattle.nr_state.specs.Owners.{HasCode, with_code_of}
+use Rattle.nr_state.specs.Owners.{with_code_of}
 use Rattle.nr_state.specs.World.{World, no_world, with_account}
 use Rattle.nr_state.specs.declared.calls.CallContext.{CallContext}
 use Rattle.nr_state.proofs.CodeWrites.{code_set}
