@@ -7,12 +7,13 @@ use Rattle.std.specs.Cmp.Lexicographic.{nat_list_cmp_total}
 use Rattle.nr_config.specs.Config.{Config}
 use Rattle.nr_records.specs.declared.account.Account.{Account}
 use Rattle.nr_columns.specs.Orders.{bytes_cmp}
-use Rattle.nr_state.specs.Calls.{CanCall}
+use Rattle.nr_state.specs.Calls.{CanCall, Called}
 use Rattle.nr_state.specs.Owners.{with_code_of}
 use Rattle.nr_state.specs.World.{World, no_world, with_account}
 use Rattle.nr_state.specs.declared.calls.CallContext.{CallContext}
 use Rattle.nr_state.proofs.CodeWrites.{code_set}
-use Rattle.nr_trial.specs.Setting.{Request, contract, first_account, first_context, first_world}
+use Rattle.nr_contract.specs.Contract.{call}
+use Rattle.nr_trial.specs.Setting.{Request, called_of, contract, first_account, first_context, first_world}
 
 inserted : {X : Type 0} (m : FinMap bytes_cmp X) (k : List ℕ) (v : X) → get (insert m k v) k ≡ Some v
 inserted m k v = get-insert nat_list_cmp_total m k v k ∙ ap (λ b. cond b (Some v) (get m k)) ((eq_by_cmp_equiv nat_list_cmp_total).refl k)
@@ -48,3 +49,11 @@ can_call c code q w x world context =
     subst (λ (v : World). CanCall v x) (sym world)
     (subst (λ (y : CallContext). CanCall (first_world c code q.deposit) y) (sym context)
     (record { stands = has_account c code q.deposit; code = has_code c code q.deposit }))
+
+-- what a caller's meaning gave is what the call comes to
+pub came : (c : Config) (code : List ℕ) (q : Request) (caller : Config) (w : World) (x : CallContext) (called : Called) → caller ≡ c → w ≡ first_world c code q.deposit
+    → x ≡ first_context c q → call caller w x ≡ called → called ≡ called_of c code q
+came c code q caller w x called same world context is =
+    sym is
+    ∙ (ap (λ (k : Config). call k w x) same
+    ∙ (ap (λ (v : World). call c v x) world ∙ ap (λ (y : CallContext). call c (first_world c code q.deposit) y) context))
