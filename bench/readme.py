@@ -282,7 +282,7 @@ def one_transfer(copy, judge):
     shown = [["show", "genesis", "free", f"{TRANSFER}/genesis"], ["show", "blocks", f"{TRANSFER}/blocks"]]
     *texts, report = yield [Call("near_files", words) for words in shown] + [line_of(copy, TRANSFER, "near_serial")]
     for name, data in zip(("genesis", "blocks"), texts):
-        judge.says(f"{TRANSFER}: {name} is shown as {name}.json", data + b"\n" == copy.data(f"{TRANSFER}/{name}.json"))
+        judge.says(f"{TRANSFER}: {name} is shown as {name}.json", data == copy.data(f"{TRANSFER}/{name}.json"))
     table = rows(between(copy.page("README.md"), "It prints this", "To give Alice"))
     judge.says(f"{TRANSFER}: the line prints README's lines", are_lines(table, report))
 

@@ -4,6 +4,7 @@
 usage: bench/runs.py [--program PATH] [--only accounts|blocks|transactions|shards|delayed]
        bench/runs.py --beside [PATH] [--program PATH] [--blocks N]
        bench/runs.py --long [PATH] [--program PATH]
+       bench/runs.py --large [--program PATH]
 
 Build the program first: cd crates/near_serial && rt run. Each input has accounts with a key each, spread evenly over the
 shards, and blocks of transfers from each account to the next one in turn. Under `delayed` a receipt costs gas, and a chunk's
@@ -15,6 +16,9 @@ The ratio is the time by threads over the serial one. Both must write the same.
 
 With `--long` both run on chains of up to 100,000 blocks over an empty genesis. All chunks are empty: of all shards in each
 block, of the first shard alone but for the first block and the last, or none.
+
+With `--large` the program runs 21 calls with 4,000,000 bytes of arguments each, in so many blocks of one shard: of the next
+account, or of the signer itself. The receivers have no code. The memory is told beside the size of the file of blocks.
 """
 import argparse
 import hashlib
@@ -35,6 +39,10 @@ ROWS = {
 
 
 LONG = [(2, 100_000, "first"), (2, 10_000, "first"), (16, 10_000, "all"), (16, 20_000, "all"), (16, 100_000, "all"), (16, 100_000, "none")]
+
+
+LARGE = [(1, "next"), (3, "next"), (21, "next"), (1, "itself"), (21, "itself")]
+LARGE_CALLS, ARGUMENTS = 21, 4_000_000
 
 
 def name(number):
@@ -71,6 +79,21 @@ def genesis(accounts, shards):
 def transfer(signer, receiver, nonce):
     head = counted(name(signer)) + public_key(signer) + struct.pack("<Q", nonce)
     return head + counted(name(receiver)) + bytes(32) + struct.pack("<I", 1) + b"\3" + (1).to_bytes(16, "little")
+
+
+def large_call(signer, receiver):
+    head = counted(name(signer)) + public_key(signer) + struct.pack("<Q", 1) + counted(name(receiver)) + bytes(32)
+    return head + struct.pack("<I", 1) + b"\2" + counted(b"f") + counted(bytes(ARGUMENTS)) + bytes(24)
+
+
+def large_blocks(heights, receiver):
+    each = LARGE_CALLS // heights
+    parts = [b"NRB1", struct.pack("<I", heights)]
+    for height in range(1, heights + 1):
+        parts.append(struct.pack("<QQI", height, 0, 1) + b"\1" + struct.pack("<I", each))
+        for signer in range((height - 1) * each, height * each):
+            parts.append(large_call(signer, signer if receiver == "itself" else (signer + 1) % LARGE_CALLS))
+    return b"".join(parts)
 
 
 def blocks(accounts, heights, each, shards):
@@ -123,6 +146,24 @@ def long_chains(programs):
                 sys.exit(f"the programs write different reports: {shards} shards, {heights} blocks, {there}")
             row = f"| {shards} | {heights:,} | {there} | {serial:.2f} | {held:.0f} | {threads:.2f} | {beside:.0f} | {threads / serial:.2f} |"
             print(row, flush=True)
+
+
+def large_chains(program):
+    print("| Blocks | Receiver | Seconds | MiB | Bytes | Ratio |")
+    print("|---|---|---|---|---|---|")
+    with tempfile.TemporaryDirectory() as folder:
+        files = [os.path.join(folder, part) for part in ("genesis", "blocks")]
+        for heights, receiver in LARGE:
+            child = os.fork()
+            if child == 0:
+                for path, data in zip(files, (genesis(LARGE_CALLS, 1), large_blocks(heights, receiver))):
+                    with open(path, "wb") as out:
+                        out.write(data)
+                os._exit(0)
+            os.waitpid(child, 0)
+            taken, held, _ = timed(program, ["run", "free"] + files, folder)
+            size = os.path.getsize(files[1])
+            print(f"| {heights} | {receiver} | {taken:.2f} | {held:.0f} | {size:,} | {held * 2**20 / size:.2f} |", flush=True)
 
 
 def configuration(what):
@@ -212,6 +253,7 @@ def main():
     parser.add_argument("--only", choices=ROWS)
     parser.add_argument("--beside", nargs="?", const="")
     parser.add_argument("--long", nargs="?", const="")
+    parser.add_argument("--large", action="store_true")
     parser.add_argument("--blocks", type=int, default=256)
     arguments = parser.parse_args()
     program = built(arguments.program, "near_serial")
@@ -220,6 +262,9 @@ def main():
         return
     if arguments.long is not None:
         long_chains([program, built(arguments.long, "near_replay")])
+        return
+    if arguments.large:
+        large_chains(program)
         return
     print("| Accounts | Blocks | Transactions a block | Shards | Seconds | MiB |")
     print("|---|---|---|---|---|---|")

@@ -8,7 +8,7 @@ Build the programs first. faults.c is compiled and loaded before them; each read
 that there are many. Where a command makes more than --most calls of a kind (1,000), the first half of that many are
 tried each, and the others evenly; with --most 0 none, but only what really is so. What is right:
 
-  a read or an opening fails        status 5, the line `5`, nothing on standard output
+  a read or an opening fails        status 5, the line `5` (of near_files one in words), nothing on standard output
   a write fails                     status 6, the line `6`, and on standard output a front of the text, not all of it
   a call is interrupted (EINTR)     one of these, or the text whole with status 0
   a read or a write moves one byte  the text whole
@@ -43,7 +43,8 @@ def ready(limit, library, folder):
 
 
 def is_unread(ran):
-    return ran.status == shared.UNREADABLE and ran.err == b"5\n" and not ran.out
+    told = ran.err == b"5\n" or ran.err.startswith(b"the file ") and ran.err.endswith(b" can't be read\n")
+    return ran.status == shared.UNREADABLE and told and not ran.out
 
 
 def is_unwritten(ran, right):

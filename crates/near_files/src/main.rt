@@ -3,12 +3,12 @@
 //! what a line says that a program wrote.
 //!
 //! The words are `genesis CONFIG JSON`, `blocks JSON`, `hex FILE`, `show genesis CONFIG FILE`, `show blocks FILE`,
-//! `show report FILE`, `show part FILE`, `show proof FILE`, `show gathered FILE`, `explain WORDS..`, `help`
-//! or `version`, where CONFIG is `free` or the name of a file. The exit status is 0 where it was written; 1
-//! where the words are no command, 2 where CONFIG is no configuration, 5 where a file could not be read, 6
-//! where the output could not be written, 7 where memory ran out, 20 where a file is refused and 21 where
-//! there is no sentence for the words to be explained. A line on standard error then has the status with its numbers, or for
-//! 20 and 21 the words that say what is wrong.
+//! `show report FILE`, `show part FILE`, `show proof FILE`, `show gathered FILE`, these with `show --compact` in place
+//! of `show`, `explain WORDS..`, `help`, `help COMMAND` or `version`, where CONFIG is `free` or the name of a file. The
+//! exit status is 0 where it was written; 1 where the words are no command, 2 where CONFIG is no configuration, 5 where
+//! a file could not be read, 6 where the output could not be written, 7 where memory ran out, 20 where a file is
+//! refused and 21 where there is no sentence for the words to be explained. On standard error then stand the status
+//! with its numbers, for 1 the words of all commands, or for 5, 20 and 21 the words that say what is wrong.
 #![tactic(auto)]
 
 use nr_bytes::{FileShelf, StdoutSink};

@@ -1,14 +1,14 @@
 //! Replays the blocks of a file, one after another or by the steps of a schedule, and writes the report; or
 //! runs a chain that is generated from numbers, and writes its totals and the digest of its report; or writes the
 //! roots of a chain's chunks, proves that one of them has an item, or checks such a proof; or cuts a part out of a
-//! shard's state, or checks or joins such parts.
+//! shard's state, or checks or joins such parts; or gathers a chunk of a chain, or runs such a chunk again.
 //!
 //! The commands are `run CONFIG GENESIS BLOCKS`, `check CONFIG GENESIS BLOCKS SCHEDULE`,
 //! `gen NUMBER SHARDS BLOCKS`, `roots CONFIG GENESIS BLOCKS`,
 //! `prove CONFIG GENESIS BLOCKS HEIGHT SHARD KIND PLACE`, `verify ROOT PROOF`,
-//! `part CONFIG GENESIS BLOCKS HEIGHT SHARD COUNT NUMBER`, `checkpart ROOT FILE` and `joinparts ROOT COUNT PREFIX`,
-//! where CONFIG is `free` or the name of a file. The exit status is that of the answer; for one above 0 a line on
-//! standard error has it, with its numbers.
+//! `part CONFIG GENESIS BLOCKS HEIGHT SHARD COUNT NUMBER`, `checkpart ROOT FILE`, `joinparts ROOT COUNT PREFIX`,
+//! `gather CONFIG GENESIS BLOCKS HEIGHT SHARD` and `recheck CONFIG FILE`, where CONFIG is `free` or the name of a
+//! file. The exit status is that of the answer; for one above 0 a line on standard error has it, with its numbers.
 #![tactic(auto)]
 
 use nr_bytes::{FileShelf, StdoutSink};

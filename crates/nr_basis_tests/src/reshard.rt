@@ -20,8 +20,15 @@ const SAME: [u8; 38] = *b"\
     NRB3\0\x01\0\0\0\x01\0\0\0\0\0\0\0\0\0\0\0\0\0\0\0\0\0\0\0\0\0\0\0\x01\0\0\0\0\
 ";
 
+fn read(alloc: Global, bytes: &[u8], shards: u32) -> Result<ChainFile, ChainFault> {
+    match Vec::from_slice(alloc, bytes) {
+        Ok(bytes) => read_chain(alloc, bytes, shards),
+        Err(_) => Err(ChainFault::Blocks(BlocksFault::Memory)),
+    }
+}
+
 fn fault_of(alloc: Global, bytes: &[u8], shards: u32) -> Option<ChainFault> {
-    match read_chain(alloc, bytes, shards) {
+    match read(alloc, bytes, shards) {
         Ok(_) => None,
         Err(fault) => Some(fault),
     }
@@ -53,11 +60,11 @@ fn shape_of(file: &ChainFile) -> (u64, usize, usize) {
 fn other_boundaries_are_read(rt: HostRuntime) {
     let alloc = rt.alloc();
     let mut shape = (9, 9, 9);
-    if let Ok(file) = read_chain(alloc, CHANGED.as_slice(), 1) {
+    if let Ok(file) = read(alloc, CHANGED.as_slice(), 1) {
         shape = shape_of(&file);
     }
     assert!(rt; shape == (2, 1, 2));
-    if let Ok(file) = read_chain(alloc, SAME.as_slice(), 1) {
+    if let Ok(file) = read(alloc, SAME.as_slice(), 1) {
         shape = shape_of(&file);
     }
     assert!(rt; shape == (0, 0, 1));

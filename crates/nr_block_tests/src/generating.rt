@@ -99,7 +99,7 @@ fn is_read(alloc: Global, shards: u32) -> Result<bool, AllocError> {
     let version = Version::One;
     let blocks = encode(alloc, &BlocksFile { version, blocks })?;
     let founded = read_genesis(alloc, genesis.inner(), &Config::generated());
-    let ordered = read_blocks(alloc, blocks.inner(), shards);
+    let ordered = read_blocks(alloc, blocks.into_inner(), shards);
     Ok(founded.is_ok() && ordered.is_ok())
 }
 

@@ -1,6 +1,7 @@
 //! Blocks files with prices, whole, cut and damaged.
 
-use nr_blocks::{BlocksFault, BlocksFile, Version, read_blocks};
+use nr_blocks::{Block, BlocksFault, BlocksFile, Version, read_blocks};
+use nr_bytes::List;
 use nr_records::{Spelled, decode, encode};
 use std::alloc::Global;
 use std::test::Fail;
@@ -15,9 +16,16 @@ const PRICED: [u8; 184] = *b"\
     \0\0\0\0\0\0\0\xff\xff\xff\xff\xff\xff\xff\xff\x01\0\0\0\x01\0\0\0\0\
 ";
 
+fn read(alloc: Global, bytes: &[u8], shards: u32) -> Result<List<Block>, BlocksFault> {
+    match Vec::from_slice(alloc, bytes) {
+        Ok(bytes) => read_blocks(alloc, bytes, shards),
+        Err(_) => Err(BlocksFault::Memory),
+    }
+}
+
 /// The fault of these bytes as the blocks of so many shards.
 fn fault_of(alloc: Global, bytes: &[u8], shards: u32) -> Option<BlocksFault> {
-    match read_blocks(alloc, bytes, shards) {
+    match read(alloc, bytes, shards) {
         Ok(_) => None,
         Err(fault) => Some(fault),
     }
@@ -26,7 +34,7 @@ fn fault_of(alloc: Global, bytes: &[u8], shards: u32) -> Option<BlocksFault> {
 #[test]
 fn prices_are_read(rt: HostRuntime) {
     let mut prices = [None; 2];
-    if let Ok(blocks) = read_blocks(rt.alloc(), PRICED.as_slice(), 1) {
+    if let Ok(blocks) = read(rt.alloc(), PRICED.as_slice(), 1) {
         for (place, block) in blocks.inner().iter().enumerate() {
             if place < 2 {
                 prices[place] = block.price;

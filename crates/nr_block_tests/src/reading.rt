@@ -1,6 +1,8 @@
 //! Genesis and blocks files, whole, cut and damaged.
 
-use nr_blocks::{BlocksFault, GenesisEntry, GenesisFault, GenesisFile, read_blocks, read_genesis};
+use nr_blocks::{
+    Block, BlocksFault, GenesisEntry, GenesisFault, GenesisFile, read_blocks, read_genesis,
+};
 use nr_bytes::{Blob, List};
 use nr_config::Config;
 use nr_ids::{AccountId, Hash32, PublicKey};
@@ -33,8 +35,15 @@ const TRANSFER: [u8; 168] = *b"\
 
 const NO_CODE: Hash32 = Hash32([0; 32]);
 
+fn read(alloc: Global, bytes: &[u8], shards: u32) -> Result<List<Block>, BlocksFault> {
+    match Vec::from_slice(alloc, bytes) {
+        Ok(bytes) => read_blocks(alloc, bytes, shards),
+        Err(_) => Err(BlocksFault::Memory),
+    }
+}
+
 fn blocks_fault(alloc: Global, bytes: &[u8], shards: u32) -> Option<BlocksFault> {
-    match read_blocks(alloc, bytes, shards) {
+    match read(alloc, bytes, shards) {
         Ok(_) => None,
         Err(fault) => Some(fault),
     }

@@ -1,5 +1,8 @@
 -- Lemmas behind the answers.
 pub mod Turns
+mod LastFirst
+mod Pieces
+pub mod Outlined
 mod Entries
 mod Spellings
 pub mod Filling

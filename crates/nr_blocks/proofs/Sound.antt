@@ -11,7 +11,7 @@ use Rattle.nr_bytes.specs.Reading.{◌>>=◌}
 use Rattle.nr_config.specs.Config.{Config}
 use Rattle.nr_state.proofs.ValidOwned.{turned}
 use Rattle.nr_state.specs.Repeats.{has_repeat}
-use Rattle.nr_blocks.specs.Genesis.{AreSoundEntries, IsSoundGenesis, accounts_in, code_hash_in, has_code_hash, has_usage, is_owned, supply, trie_key, usage_in}
+use Rattle.nr_blocks.specs.Genesis.{IsSoundGenesis, accounts_in, code_hash_in, has_code_hash, has_usage, is_owned, supply, trie_key, usage_in}
 use Rattle.nr_blocks.specs.Judging.{bounded_supply, each, each_from, founded, has_owner, is_first, states_hash, states_usage}
 use Rattle.nr_blocks.specs.Spellings.{IsGenesis}
 use Rattle.nr_blocks.specs.declared.fault.GenesisFault.{GenesisFault}

@@ -17,10 +17,10 @@ use Rattle.nr_blocks.specs.declared.block.Block.{Block}
 use Rattle.nr_blocks.specs.declared.version.Version.{Version}
 use Rattle.nr_blocks.specs.declared.version.Version.TheVariants.{One, Two}
 
-chunk_law : IsRead chunk_at chunk_bytes IsChunk
+pub chunk_law : IsRead chunk_at chunk_bytes IsChunk
 chunk_law = option_law _ _ _ (list_law record_fault _ _ _ transaction_law)
 
-price_law : (version : Version) → IsRead (price_at version) price_bytes (IsPrice version)
+pub price_law : (version : Version) → IsRead (price_at version) price_bytes (IsPrice version)
 price_law One = record {
   taken = λ s p fits e.
       subst (λ (q : Option ℕ × Input). IsPrice One q.0 × Takes s (price_bytes q.0) q.1) (ok_is (None, s) p e) (tt, record { left = refl; at = omega arith; bytes = fits });

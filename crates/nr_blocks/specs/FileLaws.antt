@@ -90,7 +90,7 @@ version_word word version e = go (bytes_eq (blocks_magic One) word) (bytes_eq (b
         is_word (blocks_magic Two) word is_two ∙ ap blocks_magic same
     go false false is_one is_two h = absurd cc
 
-magic_size : (version : Version) → length (blocks_magic version) ≡ 4
+pub magic_size : (version : Version) → length (blocks_magic version) ≡ 4
 magic_size One = refl
 magic_size Two = refl
 
@@ -103,7 +103,7 @@ known at (Some version) rest p e =
 abbrev AnyVersion : Version → Type 0
 AnyVersion version = Unit {0}
 
-version_law : IsRead version_at blocks_magic AnyVersion
+pub version_law : IsRead version_at blocks_magic AnyVersion
 unfolding version_at
 version_law = record {
   taken = λ s p fits e.

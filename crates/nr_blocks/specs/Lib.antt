@@ -2,6 +2,7 @@
 pub mod GenesisFiles
 pub mod BlocksFiles
 pub mod Files
+pub mod Outlines
 pub mod EntryLaws
 pub mod BlockLaws
 pub mod FileLaws

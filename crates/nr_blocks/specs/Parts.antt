@@ -22,7 +22,7 @@ entry_tokens (kind.Code id code) = 0
 entry_tokens (kind.Key id key access) = 0
 entry_tokens (kind.Datum id key value) = 0
 
--- the code hash with it, before those behind it
+-- a code hash, and that of this entry where it is code of the account
 abbrev pub hash_with : GenesisEntry → List ℕ → Hash32 → Hash32
 hash_with (kind.Account id account) q hash = hash
 hash_with (kind.Code id code) q hash = cond (bytes_eq id q) (digest code) hash

@@ -24,7 +24,10 @@ pub struct Block {
     pub chunks: List<Option<List<Transaction>>>,
 }
 
-fn read_price(version: Version, reader: &mut Reader<'_>) -> Result<Option<u64>, RecordFault>
+pub(crate) fn read_price(
+    version: Version,
+    reader: &mut Reader<'_>,
+) -> Result<Option<u64>, RecordFault>
     ensures { GivesRead Memory result reader.new (price_at version reader.old) }
 {
     match version {

@@ -5,21 +5,16 @@ ghost use Rattle.std.specs.List.{flat_map, AllByRecursion};
 ghost use Rattle.nr_bytes.specs.Answers.{GivesAs, GivesRead};
 ghost use Rattle.nr_bytes.specs.Fields.{items_at};
 ghost use Rattle.nr_bytes.specs.Spelling.{list, FitsList};
-ghost use Rattle.nr_records.specs.Reading.{nat_at, list_at};
+ghost use Rattle.nr_records.specs.Reading.{list_at};
 ghost use Rattle.nr_records.specs.declared.fault.RecordFault.TheVariants.{Memory};
 ghost use Rattle.nr_blocks.specs.BlocksFiles.{block_at, block_bytes, IsBlock};
 
 use crate::block::{Block, duplicate_block, read_block, write_block};
+use crate::fields::count_of;
 use crate::version::Version;
 use nr_bytes::{List, Reader, Writer};
 use nr_records::RecordFault;
 use std::alloc::{AllocError, Global};
-
-fn count_of(reader: &mut Reader<'_>) -> Result<u32, RecordFault>
-    ensures { GivesRead Memory result reader.new (nat_at 4 reader.old) }
-{
-    Ok(reader.u32()?)
-}
 
 fn blocks_of(
     alloc: Global,

@@ -1,12 +1,19 @@
 //! What a blocks file of the first two versions holds, its reading and its writing.
 
-ghost use Rattle.std.specs.Prelude.{◌≡◌};
+ghost use Rattle.std.specs.Prelude.{◌≡◌, Ok};
+ghost use Rattle.nr_bytes.specs.Answers.{Gives, GivesRead};
+ghost use Rattle.nr_bytes.specs.Numbers.{IsBytes};
+ghost use Rattle.nr_records.specs.Reading.{all_of};
+ghost use Rattle.nr_records.specs.declared.fault.RecordFault.TheVariants.{Memory};
+ghost use Rattle.nr_blocks.specs.Outlines.{file_outline_at};
 ghost use Rattle.nr_blocks.specs.Files.{blocks_at, blocks_bytes, IsBlocksFile};
 ghost use Rattle.nr_blocks.specs.FileLaws.{blocks_law};
 
 use crate::block::Block;
 use crate::block_list::{duplicate_list, read_list, write_list};
 use crate::fields::version_of;
+use crate::making::make_blocks;
+use crate::outline::{Outline, read_outlines};
 use crate::version::Version;
 use nr_bytes::{List, Reader, Writer};
 use nr_records::{RecordFault, Spelled};
@@ -20,6 +27,13 @@ use std::alloc::{AllocError, Global};
 pub struct BlocksFile {
     pub version: Version,
     pub blocks: List<Block>,
+}
+
+/// What a blocks file holds, with the places of its transactions.
+#[derive(Drop)]
+pub(crate) struct FileOutline {
+    version: Version,
+    blocks: List<Outline>,
 }
 
 impl Spelled for BlocksFile {
@@ -53,5 +67,59 @@ impl Spelled for BlocksFile {
             version: self.version,
             blocks: duplicate_list(alloc, self.blocks.inner())?,
         })
+    }
+}
+
+#[tactic(auto, unfolding(crate::specs::Outlines::file_outline_at))]
+fn read_outline(alloc: Global, reader: &mut Reader<'_>) -> Result<FileOutline, RecordFault>
+    ensures { GivesRead Memory result reader.new (file_outline_at reader.old) }
+{
+    let version = version_of(reader)?;
+    let blocks = read_outlines(alloc, version, reader)?;
+    Ok(FileOutline { version, blocks })
+}
+
+#[tactic(auto, unfolding(nr_bytes::specs::Fields::all_of))]
+fn outline_of(alloc: Global, bytes: &[u8]) -> Result<FileOutline, RecordFault>
+    ensures { Gives Memory result (all_of file_outline_at bytes.now) }
+{
+    let mut reader = Reader::new(bytes);
+    let outline = read_outline(alloc, &mut reader)?;
+    reader.end()?;
+    Ok(outline)
+}
+
+/// Each of some bytes is below 256.
+pub fn bytes_law(_bytes: &[u8])
+    ensures { IsBytes _bytes.now }
+{}
+
+/// The file that all of the bytes spell, of its outline.
+fn made_file(alloc: Global, outline: FileOutline, bytes: Vec<u8>) -> Result<BlocksFile, RecordFault>
+    requires outlined { all_of file_outline_at bytes.items ≡ Ok outline }
+    requires bytes { IsBytes bytes.items }
+    ensures { Gives Memory result (all_of blocks_at bytes.items) }
+{
+    let FileOutline { version, blocks } = outline;
+    match make_blocks(alloc, blocks, bytes) {
+        Ok(blocks) => Ok(BlocksFile { version, blocks }),
+        Err(fault) => Err(fault),
+    }
+}
+
+/// The blocks file that all of the bytes spell. They are read twice: the first time for its faults and for where its
+/// transactions begin, and then from the end, and given back while values are made.
+///
+/// # Errors
+///
+/// The fault of the first field that can't be read; `Memory`.
+pub(crate) fn decode_blocks(alloc: Global, bytes: Vec<u8>) -> Result<BlocksFile, RecordFault>
+    ensures { Gives Memory result (all_of blocks_at bytes.items) }
+{
+    let all = bytes.as_slice();
+    bytes_law(all);
+    match outline_of(alloc, all) {
+        Ok(outline) => made_file(alloc, outline, bytes),
+        Err(fault) => Err(fault),
     }
 }

@@ -16,6 +16,13 @@ pub(crate) fn ordinal_of(reader: &mut Reader<'_>) -> Result<u8, RecordFault>
     Ok(reader.u8()?)
 }
 
+/// How many items a list has.
+pub(crate) fn count_of(reader: &mut Reader<'_>) -> Result<u32, RecordFault>
+    ensures { GivesRead Memory result reader.new (nat_at 4 reader.old) }
+{
+    Ok(reader.u32()?)
+}
+
 /// The word that a file begins with.
 pub(crate) fn magic_of(reader: &mut Reader<'_>, magic: [u8; 4]) -> Result<[u8; 4], RecordFault>
     ensures { GivesRead Memory result reader.new (magic_at magic reader.old) }

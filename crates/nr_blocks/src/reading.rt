@@ -15,7 +15,7 @@ ghost use Rattle.nr_blocks.specs.declared.version.Version.{Version};
 
 use crate::block::Block;
 use crate::block_checks::check_blocks;
-use crate::blocks_file::BlocksFile;
+use crate::blocks_file::{bytes_law, decode_blocks};
 use crate::entry_checks::{check_code_hashes, check_owners, check_trie_keys, check_usages};
 use crate::fault::{BlocksFault, GenesisFault};
 use crate::genesis::Genesis;
@@ -74,17 +74,18 @@ pub fn read_genesis(alloc: Global, bytes: &[u8], config: &Config) -> Result<Gene
 }
 
 #[tactic(auto, unfolding(crate::specs::Judging::blocks_read))]
-fn blocks_of(alloc: Global, bytes: &[u8], shards: u32) -> Result<List<Block>, BlocksFault>
-    ensures { Gives blocks.Memory result (blocks_read shards bytes.now) }
+fn blocks_of(alloc: Global, bytes: Vec<u8>, shards: u32) -> Result<List<Block>, BlocksFault>
+    ensures { Gives blocks.Memory result (blocks_read shards bytes.items) }
 {
-    let file = decode::<BlocksFile>(alloc, bytes)?;
+    let file = decode_blocks(alloc, bytes)?;
     let blocks = file.blocks;
     check_blocks(blocks.inner(), shards)?;
     Ok(blocks)
 }
 
 /// Reads a blocks file for this many shards: the bytes `NRB1` or `NRB2`, the blocks, and the end.
-/// Behind `NRB2` each block has a gas price, and behind `NRB1` none has one.
+/// Behind `NRB2` each block has a gas price, and behind `NRB1` none has one. The bytes are given back while blocks are
+/// made of them.
 ///
 /// # Errors
 ///
@@ -92,16 +93,17 @@ fn blocks_of(alloc: Global, bytes: &[u8], shards: u32) -> Result<List<Block>, Bl
 /// ordinal of an action of staking, and otherwise `Spelling`, each with its place, where a byte
 /// behind the blocks is such a field; `ShardCount`, `HeightOrder` and `TooMany`, as they say.
 /// `Memory`.
-pub fn read_blocks(alloc: Global, bytes: &[u8], shards: u32) -> Result<List<Block>, BlocksFault>
-    ensures gives { Gives blocks.Memory result (blocks_read shards bytes.now) }
+pub fn read_blocks(alloc: Global, bytes: Vec<u8>, shards: u32) -> Result<List<Block>, BlocksFault>
+    ensures gives { Gives blocks.Memory result (blocks_read shards bytes.items) }
     // What is read is spelled so, in one of the versions.
     ensures found { IfOk result (λ list. (version : Version) × AreBlocks version shards list
-        × (bytes.now ≡ blocks_spelling version list)) }
+        × (bytes.items ≡ blocks_spelling version list)) }
     // The price of each block, where it has one, is below 2^64.
     ensures priced { IfOk result (λ list. AllByRecursion FitsPrice list) }
     // What is spelled so is read, unless memory runs out.
     ensures only { (version : Version) (list : Items Blocks) → AreBlocks version shards list
-        → bytes.now ≡ blocks_spelling version list → Gives blocks.Memory result (Ok list) }
+        → bytes.items ≡ blocks_spelling version list → Gives blocks.Memory result (Ok list) }
 {
+    bytes_law(bytes.as_slice());
     blocks_of(alloc, bytes, shards)
 }

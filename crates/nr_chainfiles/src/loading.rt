@@ -1,4 +1,4 @@
-//! The files of a chain. Each file is loaded, read and let go before the next one.
+//! The files of a chain. Each file is loaded, read and let go before the next one, the blocks' while they are made.
 
 ghost use Rattle.std.specs.Prelude.{◌≡◌, ◌+◌, Some, IfOk, length};
 ghost use Rattle.nr_blocks.specs.Genesis.{IsSoundGenesis};
@@ -114,9 +114,9 @@ fn genesis_of<E: ChainRefusal, S: Shelf>(
 fn blocks_in<E: ChainRefusal>(
     alloc: Global,
     shards: u32,
-    bytes: &[u8],
+    bytes: Vec<u8>,
 ) -> Result<ChainFile, Stop<E>>
-    ensures judges { Judges E.refuses (λ file. file) result (by_blocks_bytes E.blocks_refusal shards bytes.now) }
+    ensures judges { Judges E.refuses (λ file. file) result (by_blocks_bytes E.blocks_refusal shards bytes.items) }
     ensures whole { IfOk result (λ file. (r : Reshard) → file.reshard ≡ Some r → CanReshard shards file.blocks r) }
 {
     match read_chain(alloc, bytes, shards) {
@@ -139,7 +139,7 @@ fn blocks_of<E: ChainRefusal, S: Shelf>(
         → CanReshard (length genesis.now.layout + 1) file.blocks r) }
 {
     match load(alloc, name, BLOCKS_LIMIT, E::of_blocks(0, 0), shelf) {
-        Ok(bytes) => blocks_in(alloc, genesis.layout.shards(), &bytes),
+        Ok(bytes) => blocks_in(alloc, genesis.layout.shards(), bytes),
         Err(stop) => Err(stop),
     }
 }

@@ -27,6 +27,6 @@ pub record Working : Type 0 where
   pub burnt : ℕ
   -- how many receipts it converted for their own signer
   pub local : ℕ
-  -- the receipts that it makes for others, in order, which go out when it is sealed
+  -- the receipts that go out when it is sealed, in the order in which they were made, those for this shard too
   pub outgoing : List Receipt
   pub lines : List ChunkLine

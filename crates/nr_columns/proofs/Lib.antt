@@ -7,3 +7,4 @@ pub mod Steps
 pub mod KeyLists
 pub mod Owners
 pub mod InOrder
+pub mod SpelledKeys

@@ -1,5 +1,5 @@
 -- What reading, writing and taking out one entry of a column is.
-use Rattle.std.proofs.Common.{◌≡◌, ℕ, false, cond, List, [], ◌∷◌, Option, Some, None, sym, refl, ap, ◌∙◌, subst}
+use Rattle.std.proofs.Common.{◌≡◌, ℕ, true, false, cond, List, [], ◌∷◌, Option, Some, None, sym, refl, ap, ◌∙◌, subst}
 use Rattle.std.specs.Prelude.{is_some, map}
 use Rattle.std.specs.List.{AllByRecursion}
 use Rattle.std.specs.Option.{option_map, option_and_then}
@@ -61,6 +61,14 @@ module _ {K X : Type 0} {t : Table K X} {pick : Columns → FinMap t.cmp X} {put
       ∙ ap is_some (sym (canon_of c laid (t.key k)) ∙ is.alone k (get c (t.key k)) ∙ ap (λ u. claimed t u (get c (t.key k))) (spells t k there))
       ∙ same_some t.spell (option_and_then t.read (get c (t.key k)))
       ∙ ap is_some (found c (t.key k) k refl there)
+
+  -- what stands at its key is read
+  pub told : (c : Contents) (b : List ℕ) (k : K) (v : List ℕ) → IsLaid c → b ≡ t.key k → t.unkey (t.key k) ≡ Some k → get c b ≡ Some v → is_some (t.read v) ≡ true
+  told c b k v laid at there is =
+      ap (λ o. is_some (option_and_then t.read o)) (sym is)
+      ∙ ap is_some (found c b k at there)
+      ∙ sym (present c b k laid at there)
+      ∙ ap is_some is
 
   pub wrote : (c d : Contents) (b : List ℕ) (k : K) (x : X) → d ≡ insert c b (t.spell x) → b ≡ t.key k → t.unkey (t.key k) ≡ Some k → t.read (t.spell x) ≡ Some x → Turned c d (λ s. put_in s (insert (pick s) k x))
   wrote c d b k x new at there back =

@@ -6,3 +6,4 @@ pub mod Columns
 pub mod View
 pub mod Codes
 pub mod Entries
+pub mod SpelledKeys

@@ -11,6 +11,7 @@ ghost use Rattle.nr_columns.specs.View.{with_columns, without_owner};
 use crate::columns::Columns;
 use crate::keys;
 use crate::lists::remove_each;
+use crate::spelled_key::SpelledKey;
 use crate::stored::{put, stored};
 use nr_ids::{AccountId, PublicKey};
 use nr_records::{AccessKey, Account};
@@ -62,12 +63,27 @@ impl<S: Store> Columns<S> {
         stored(self.alloc, &self.store, slot.inner())
     }
 
-    /// Writes an access key.
-    pub fn set_access_key(
+    /// An access key, lent as it is spelled; `None` where there is none.
+    pub fn spelled_key(
+        &self,
+        id: &AccountId,
+        key: &PublicKey,
+    ) -> Result<Option<SpelledKey<'_>>, AllocError>
+        ensures { IfOk result (λ found. found ≡ map.get self.now.columns.keys (id.now, key.now)) }
+    {
+        let slot = keys::owner_key(self.alloc, id, key)?;
+        match self.store.get(slot.inner()) {
+            Some(bytes) => Ok(Some(SpelledKey::of(bytes))),
+            None => Ok(None),
+        }
+    }
+
+    /// Writes an access key that is spelled already.
+    pub fn set_spelled_key(
         &mut self,
         id: &AccountId,
         key: &PublicKey,
-        access: &AccessKey,
+        access: &SpelledKey<'_>,
     ) -> Result<(), AllocError>
         ensures ok { OnOk result (self.new ≡ with_columns self.old
             (record self.old.columns { keys = map.insert self.old.columns.keys (id.now, key.now) access.now })) }
@@ -75,7 +91,7 @@ impl<S: Store> Columns<S> {
         ensures err { OnErr result (self.new ≡ self.old) }
     {
         let slot = keys::owner_key(self.alloc, id, key)?;
-        put(self.alloc, &mut self.store, slot.inner(), access)?;
+        self.store.set(slot.inner(), access.bytes())?;
         Ok(())
     }
 

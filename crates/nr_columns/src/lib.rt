@@ -12,8 +12,10 @@ mod listing;
 mod lists;
 mod numbers;
 mod receipts;
+mod spelled_key;
 mod stored;
 mod threads;
 
 pub use columns::Columns;
 pub use entry::Entry;
+pub use spelled_key::SpelledKey;

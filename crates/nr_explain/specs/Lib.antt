@@ -2,6 +2,7 @@
 pub mod Words
 pub mod Entries
 pub mod Forms
+pub mod Shown
 pub mod Lines
 pub mod LineSentences
 pub mod CallSentences

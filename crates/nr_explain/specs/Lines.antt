@@ -1,6 +1,7 @@
 -- The lines that programs write, and the JSON object that stands for each (RFC 8259). This project's own.
 use Rattle.std.specs.Prelude.{◌≡◌, ℕ, Bool, true, false, List, [], ◌∷◌, ◌++◌, cond, Option, Some, None, codes}
 use Rattle.nr_explain.specs.Words.{pieces, is_dash}
+use Rattle.nr_explain.specs.Shown.{beside_bytes}
 use Rattle.nr_explain.specs.Forms.{Kind, Word, Figure, Number, Amount, Hash, Bytes, Entry, Name, Field, Form, form_of}
 use Rattle.nr_explain.specs.Forms.{word, figure, number, amount, hash, bytes}
 
@@ -112,8 +113,19 @@ value Bytes w = quoted (cond (is_dash w) [] w)
 value Entry w = w
 value Name w = quoted w
 
+-- behind bytes comes the text that they are, where they are one
+abbrev pub beside : Kind → List ℕ → List ℕ
+beside (Word this) w = []
+beside (Figure this) w = []
+beside Number w = []
+beside Amount w = []
+beside Hash w = []
+beside Bytes w = beside_bytes w
+beside Entry w = []
+beside Name w = []
+
 abbrev pub member : Field → List ℕ → List ℕ
-member f w = quoted f.text ++ 58 ∷ value f.kind w
+member f w = quoted f.text ++ 58 ∷ (value f.kind w ++ beside f.kind w)
 
 -- a member for each word, with a comma between each two
 abbrev pub members : Form → List (List ℕ) → List ℕ

@@ -12,6 +12,7 @@ mod numbers;
 mod program;
 mod report;
 mod sentences;
+mod shown;
 mod written;
 
 pub use explaining::explain;

@@ -2,13 +2,14 @@
 
 ghost use Rattle.std.specs.Prelude.{◌≡◌, ◌∷◌, [], ◌++◌, map, IfOk, OnOk, Some, None};
 ghost use Rattle.nr_explain.specs.Words.{pieces};
-ghost use Rattle.nr_explain.specs.Lines.{lines, quoted, value, member, members, object, object_of, AddsWhere};
+ghost use Rattle.nr_explain.specs.Lines.{lines, quoted, value, beside, member, members, object, object_of, AddsWhere};
 ghost use Rattle.nr_explain.specs.Coded.{kind_of, field_of, form_in};
 
 use crate::cut::cut;
 use crate::form::{Field, Kind, fields, form_of};
 use crate::numbers::is_dash;
-use std::alloc::AllocError;
+use crate::shown::beside_bytes;
+use std::alloc::{AllocError, Global};
 
 /// The forms, with a member's name for each word.
 static LINES: [&[Field]; 38] = [
@@ -116,12 +117,31 @@ fn put_value(kind: &Kind, word: &[u8], out: &mut Vec<u8>) -> Result<(), AllocErr
     }
 }
 
+/// What stands behind the value: the text of bytes, where they are one.
+fn beside(alloc: Global, kind: &Kind, word: &[u8]) -> Result<Vec<u8>, AllocError>
+    ensures { IfOk result (λ text. text.items ≡ beside (kind_of kind.now) word.now) }
+{
+    match kind {
+        Kind::Bytes => beside_bytes(alloc, word),
+        Kind::Word(_) => Ok(Vec::new(alloc)),
+        Kind::Figure(_) => Ok(Vec::new(alloc)),
+        Kind::Number => Ok(Vec::new(alloc)),
+        Kind::Amount => Ok(Vec::new(alloc)),
+        Kind::Hash => Ok(Vec::new(alloc)),
+        Kind::Entry => Ok(Vec::new(alloc)),
+        Kind::Name => Ok(Vec::new(alloc)),
+    }
+}
+
 fn put_member(field: &Field, word: &[u8], out: &mut Vec<u8>) -> Result<(), AllocError>
     ensures { OnOk result (out.new.items ≡ out.old.items ++ member (field_of field.now) word.now) }
 {
     put_quoted(field.text.as_bytes(), out)?;
     out.push(b':')?;
-    put_value(&field.kind, word, out)
+    put_value(&field.kind, word, out)?;
+    let beside = beside(*out.allocator(), &field.kind, word)?;
+    out.extend_from_slice(&beside)?;
+    Ok(())
 }
 
 /// A member for each word, with a comma between each two.

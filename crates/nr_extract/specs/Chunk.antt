@@ -40,7 +40,7 @@ module _ (x : Chain) (shard below : ℕ) where
   abbrev pub taken : List Receipt
   taken = before.carried ++ due_lists
 
-  -- ---- all of it
+  -- the chunk's transactions, none where it is missed
   abbrev pub transactions : List Transaction
   transactions = unwrap_or (chunk_at x shard (below + 1)) []
 

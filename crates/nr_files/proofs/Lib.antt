@@ -7,3 +7,4 @@ pub mod RoundTrip
 pub mod Asking
 pub mod Third
 pub mod Stops
+pub mod Last

@@ -31,7 +31,8 @@ use Rattle.nr_json.proofs.FileLaws as forms
 use Rattle.nr_reshard.specs.FileLaws.{third_law}
 use Rattle.nr_reshard.specs.Files.{IsThird, third_at, third_bytes, third_magic}
 use Rattle.nr_reshard.specs.declared.chain_file.ChainFile.{ChainFile}
-use Rattle.nr_files.specs.Due.{Output, Bytes, Json, IsTextOf, IsWritten, value_in, made_blocks, shown_blocks, made_genesis, shown_genesis, of_bytes}
+use Rattle.nr_files.specs.Due.{Output, Bytes, Json, IsWritten, laid, value_in, made_blocks, shown_blocks, made_genesis}
+use Rattle.nr_files.specs.Due.{shown_genesis, of_bytes}
 use Rattle.nr_files.specs.Filling.{filled, filled_entry, plain, stated, stated_entry}
 use Rattle.nr_files.specs.Damage.{blocks_line}
 use Rattle.nr_files.specs.Lines.{genesis_line}
@@ -39,7 +40,7 @@ use Rattle.nr_files.specs.Versions.{blocks_read, plain_read, stated_bytes, third
 use Rattle.nr_files.specs.declared.command.Work.TheVariants.{MakeBlocks, MakeGenesis, ShowBlocks, ShowGenesis}
 use Rattle.nr_files.proofs.Depths.{genesis_depth, stated_depth}
 use Rattle.nr_files.proofs.Held.{IsStated, genesis_held, stated_held}
-use Rattle.nr_files.proofs.Steps.{value_found}
+use Rattle.nr_files.proofs.Steps.{written_read}
 
 -- ---- blocks
 abbrev third_as : ChainFile → Result StatedBlocks RecordFault
@@ -62,23 +63,23 @@ blocks_taken bytes s fits e = go (starts_with ◌==◌ bytes third_magic) e
         let same : Plain x.0 ≡ s = cc in
         subst (λ (t : StatedBlocks). IsStated t × (bytes ≡ stated_bytes t)) same (whole_taken record_fault blocks_at blocks_bytes IsBlocksFile blocks_law bytes x.0 fits x.1)
 
-blocks_again : (bytes text : List ℕ) (file : StatedBlocks) → IsBytes bytes → blocks_read bytes ≡ Ok file → IsTextOf (stated_json file) text → made_blocks text ≡ Ok (Bytes bytes)
+blocks_again : (compact : Bool) (bytes text : List ℕ) (file : StatedBlocks) → IsBytes bytes → blocks_read bytes ≡ Ok file → IsWritten (laid compact (Json (stated_json file))) text → made_blocks text ≡ Ok (Bytes bytes)
 unfolding made_blocks
-blocks_again bytes text file fits is shown =
+blocks_again compact bytes text file fits is shown =
     let taken : IsStated file × (bytes ≡ stated_bytes file) = blocks_taken bytes file fits is in
-    let value : value_in text ≡ Ok (stated_json file) = value_found text (stated_json file) shown.utf8 (shown.back (stated_depth file)) in
+    let value : value_in text ≡ Ok (stated_json file) = written_read compact (stated_json file) text (stated_depth file) shown in
     let read : stated_of (stated_json file) ≡ Ok file = chains.stated_law file (stated_held file taken.0 (subst IsBytes taken.1 fits)) in
     rw (value, read) (ap (λ (b : List ℕ). Ok (Bytes b)) (sym taken.1))
 
-pub blocks_trip : (c : Config) (bytes text : List ℕ) (o : Output) → IsBytes bytes → of_bytes ShowBlocks c bytes ≡ Ok o → IsWritten o text → of_bytes MakeBlocks c text ≡ Ok (Bytes bytes)
+pub blocks_trip : (c : Config) (compact : Bool) (bytes text : List ℕ) (o : Output) → IsBytes bytes → of_bytes ShowBlocks c bytes ≡ Ok o → IsWritten (laid compact o) text → of_bytes MakeBlocks c text ≡ Ok (Bytes bytes)
 unfolding shown_blocks
-blocks_trip c bytes text o fits e written = go (blocks_read bytes) refl e
+blocks_trip c compact bytes text o fits e written = go (blocks_read bytes) refl e
   where
     go : (r : Result StatedBlocks RecordFault) → blocks_read bytes ≡ r → (with_fault (blocks_line bytes) r >>= λ file. Ok (Json (stated_json file))) ≡ Ok o → made_blocks text ≡ Ok (Bytes bytes)
     go (Err f) is e = absurd cc
     go (Ok file) is e =
         let same : Json (stated_json file) ≡ o = cc in
-        blocks_again bytes text file fits is (subst (λ x. IsWritten x text) (sym same) written)
+        blocks_again compact bytes text file fits is (subst (λ x. IsWritten (laid compact x) text) (sym same) written)
 
 -- ---- the first state
 entry_again : (usage : List ℕ → ℕ) (hash : List ℕ → Hash32) (e : GenesisEntry) → filled_entry usage hash (stated_entry e) ≡ e
@@ -120,22 +121,22 @@ genesis_taken c bytes g fits e = go (all_of genesis_at bytes) refl e
         let same : f ≡ file_of g = same_file f g (founded c f.entries) e in
         (subst IsGenesisFile same taken.0, taken.1 ∙ ap genesis_bytes same)
 
-genesis_again : (c : Config) (bytes text : List ℕ) (g : Genesis) → IsBytes bytes → genesis_read c bytes ≡ Ok g → IsTextOf (genesis_json (stated (file_of g))) text → made_genesis c text ≡ Ok (Bytes bytes)
+genesis_again : (c : Config) (compact : Bool) (bytes text : List ℕ) (g : Genesis) → IsBytes bytes → genesis_read c bytes ≡ Ok g → IsWritten (laid compact (Json (genesis_json (stated (file_of g))))) text → made_genesis c text ≡ Ok (Bytes bytes)
 unfolding made_genesis
-genesis_again c bytes text g fits is shown =
+genesis_again c compact bytes text g fits is shown =
     let taken = genesis_taken c bytes g fits is in
-    let value : value_in text ≡ Ok (genesis_json (stated (file_of g))) = value_found text (genesis_json (stated (file_of g))) shown.utf8 (shown.back (genesis_depth (stated (file_of g)))) in
+    let value : value_in text ≡ Ok (genesis_json (stated (file_of g))) = written_read compact (genesis_json (stated (file_of g))) text (genesis_depth (stated (file_of g))) shown in
     let read : genesis_of (genesis_json (stated (file_of g))) ≡ Ok (stated (file_of g)) =
     forms.genesis_law (stated (file_of g)) (genesis_held (file_of g) taken.0 (subst IsBytes taken.1 fits)) in
     let bytes_again : genesis_bytes (filled c (stated (file_of g))) ≡ bytes = ap genesis_bytes (filled_again c (file_of g)) ∙ sym taken.1 in
     rw (value, read, bytes_again, is) refl
 
-pub genesis_trip : (c : Config) (bytes text : List ℕ) (o : Output) → IsBytes bytes → of_bytes ShowGenesis c bytes ≡ Ok o → IsWritten o text → of_bytes MakeGenesis c text ≡ Ok (Bytes bytes)
+pub genesis_trip : (c : Config) (compact : Bool) (bytes text : List ℕ) (o : Output) → IsBytes bytes → of_bytes ShowGenesis c bytes ≡ Ok o → IsWritten (laid compact o) text → of_bytes MakeGenesis c text ≡ Ok (Bytes bytes)
 unfolding shown_genesis
-genesis_trip c bytes text o fits e written = go (genesis_read c bytes) refl e
+genesis_trip c compact bytes text o fits e written = go (genesis_read c bytes) refl e
   where
     go : (r : Result Genesis GenesisFault) → genesis_read c bytes ≡ r → (with_fault (genesis_line false bytes) r >>= λ g. Ok (Json (genesis_json (stated (file_of g))))) ≡ Ok o → made_genesis c text ≡ Ok (Bytes bytes)
     go (Err f) is e = absurd cc
     go (Ok g) is e =
         let same : Json (genesis_json (stated (file_of g))) ≡ o = cc in
-        genesis_again c bytes text g fits is (subst (λ x. IsWritten x text) (sym same) written)
+        genesis_again c compact bytes text g fits is (subst (λ x. IsWritten (laid compact x) text) (sym same) written)

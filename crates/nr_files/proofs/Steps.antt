@@ -1,10 +1,19 @@
 -- From bytes that are there to an output or a refusal.
-use Rattle.std.proofs.Common.{◌≡◌, ℕ, true, false, List, Result, Ok, Err, IfOk, IsUtf8, String, Global, string_bytes, None, Some, Option, refl, sym, ap, subst, ◌∙◌}
+use Rattle.std.proofs.Common.{◌≡◌, ℕ, ◌-◌, ◌≤◌, ◌==◌, Bool, true, false, cond, List, [], ◌∷◌, ◌++◌, length, Result, Ok}
+use Rattle.std.proofs.Common.{Err}
+use Rattle.std.proofs.Common.{IfOk, IsUtf8, String, Global, string_bytes, None, Some, Option, refl, sym, ap, subst, ◌∙◌}
+use Rattle.std.proofs.Common.{arith}
 use Rattle.std.specs.Prelude.{◌≢◌}
 use Rattle.std.specs.Str.{is_utf8}
+use Rattle.std.proofs.lemmas.Bool.{eqb-true}
 use Rattle.std.proofs.lemmas.Str.{is_utf8-from_IsUtf8, IsUtf8-from_is_utf8}
-use Rattle.serde_json.specs.Data.{Data}
-use Rattle.serde_json.specs.Read.{read}
+use Rattle.std.proofs.lemmas.List.{length-append}
+use Rattle.std.proofs.Math.Seq.{get_or-append_seam, take-append_seam}
+use Rattle.json.specs.Layout.{pretty}
+use Rattle.json.specs.Print.{print}
+use Rattle.json.specs.Token.{Token}
+use Rattle.serde_json.specs.Data.{Data, depth}
+use Rattle.serde_json.specs.Read.{read, max_depth}
 use Rattle.nr_bytes.specs.Reading.{◌>>=◌}
 use Rattle.nr_config.specs.Config.{Config}
 use Rattle.nr_blocks.specs.Files.{genesis_bytes}
@@ -25,7 +34,9 @@ use Rattle.nr_outproof.specs.declared.proof.Proof.{Proof}
 use Rattle.nr_parts.specs.Files.{part_in}
 use Rattle.nr_parts.specs.declared.part.Part.{Part}
 use Rattle.nr_files.specs.Answers.{Tells, TellsText, Refuses, AnswersAs}
-use Rattle.nr_files.specs.Due.{Due, Output, Bytes, Json, value_in, made_blocks, shown_blocks, judged, made_genesis, shown_genesis, shown_part, shown_proof, shown_gathered, shown_report}
+use Rattle.nr_files.specs.Due.{Due, Output, Bytes, Json, IsLineOf, IsWritten, laid, value_in, value_of, without_feed}
+use Rattle.nr_files.specs.Due.{made_blocks, shown_blocks, judged, made_genesis, shown_genesis, shown_part, shown_proof}
+use Rattle.nr_files.specs.Due.{shown_gathered, shown_report}
 use Rattle.nr_files.specs.Filling.{filled, stated}
 use Rattle.nr_files.specs.Damage.{blocks_line}
 use Rattle.nr_files.specs.Lines.{fault_line, gathered_line, genesis_line, no_json, part_line, proof_line, report_line}
@@ -57,15 +68,40 @@ refused (why.Words told) line answer tells is = rw tells is
 refused why.Memory line answer tells is = tt
 
 -- ---- the value of a text
-pub value_found : (text : List ℕ) (d : Data) → IsUtf8 text → read text ≡ Some d → value_in text ≡ Ok d
-value_found text d u e = rw (is_utf8-from_IsUtf8 text u, e) refl
+-- by the text without its line feed
+pub value_found : (text front : List ℕ) (d : Data) → front ≡ without_feed text → IsUtf8 front → read front ≡ Some d → value_in text ≡ Ok d
+value_found text front d same u e =
+    let is : cond (is_utf8 front) (value_of text (read front)) (Err (no_json text)) ≡ Ok d = rw (is_utf8-from_IsUtf8 front u, e) refl in
+    subst (λ (f : List ℕ). cond (is_utf8 f) (value_of text (read f)) (Err (no_json text)) ≡ Ok d) same is
 
-pub no_value : (text : List ℕ) → (IsUtf8 text → read text ≡ None) → value_in text ≡ Err (no_json text)
-no_value text h =
-    elim (is_utf8 text) as (λ b. is_utf8 text ≡ b → value_in text ≡ Err (no_json text)) [
-      | true ↦ λ e. rw (e, h (IsUtf8-from_is_utf8 text e)) refl
-      | false ↦ λ e. rw e refl
-    ] refl
+pub no_value : (text front : List ℕ) → front ≡ without_feed text → (IsUtf8 front → read front ≡ None) → value_in text ≡ Err (no_json text)
+no_value text front same h =
+    let is : cond (is_utf8 front) (value_of text (read front)) (Err (no_json text)) ≡ Err (no_json text) =
+    elim (is_utf8 front) as (λ b. is_utf8 front ≡ b → cond b (value_of text (read front)) (Err (no_json text)) ≡ Err (no_json text)) [
+      | true ↦ λ e. rw (h (IsUtf8-from_is_utf8 front e)) refl
+      | false ↦ λ e. refl
+    ] refl in
+    subst (λ (f : List ℕ). cond (is_utf8 f) (value_of text (read f)) (Err (no_json text)) ≡ Err (no_json text)) same is
+
+pub nothing_off : (text : List ℕ) → true ≡ (length text == 0) → text ≡ without_feed text
+nothing_off [] none = refl
+nothing_off (b ∷ bytes) none =
+    let e : length (b ∷ bytes) ≡ 0 = eqb-true (length (b ∷ bytes)) 0 (sym none) in
+    absurd (omega (arith, e))
+
+feed_off : (text : List ℕ) → without_feed (text ++ 10 ∷ []) ≡ text
+feed_off text =
+    let count : length (text ++ 10 ∷ []) - 1 ≡ length text = omega (arith, length-append text (10 ∷ [])) in
+    rw (count, get_or-append_seam text 10 [] 0) (take-append_seam text (10 ∷ []))
+
+-- what was written of a value is read as it
+line_read : (lay : List Token → List ℕ) (d : Data) (out : List ℕ) → depth d ≤ max_depth → IsLineOf lay d out → value_in out ≡ Ok d
+line_read lay d out fits line =
+    subst (λ (o : List ℕ). value_in o ≡ Ok d) (sym line.2) (value_found (line.0 ++ 10 ∷ []) line.0 d (sym (feed_off line.0)) line.1.utf8 (line.1.back fits))
+
+pub written_read : (compact : Bool) (d : Data) (out : List ℕ) → depth d ≤ max_depth → IsWritten (laid compact (Json d)) out → value_in out ≡ Ok d
+written_read true d out fits line = line_read print d out fits line
+written_read false d out fits line = line_read pretty d out fits line
 
 -- ---- what is made and shown
 abbrev written : List ℕ → Due

@@ -1,9 +1,12 @@
 -- What a file asks for: the bytes or the JSON value that are written for it, or the line that says why not. Borsh 1.0
 -- and RFC 8259; the lines are this project's own.
-use Rattle.std.specs.Prelude.{◌≡◌, ℕ, ◌≤◌, List, true, false, cond, Option, Some, None, Result, Ok, Err, IsUtf8}
+use Rattle.std.specs.Prelude.{◌≡◌, ℕ, ◌-◌, ◌≤◌, ◌==◌, List, [], ◌∷◌, ◌++◌, length, take, get_or, Bool, true, false}
+use Rattle.std.specs.Prelude.{cond, Option, Some, None, Result, Ok, Err, IsUtf8}
 use Rattle.std.specs.Str.{is_utf8}
 use Rattle.json.specs.Layout.{pretty}
 use Rattle.json.specs.Lex.{tokens}
+use Rattle.json.specs.Print.{print}
+use Rattle.json.specs.Token.{Token}
 use Rattle.serde_json.specs.Data.{Data, depth}
 use Rattle.serde_json.specs.Read.{read, max_depth}
 use Rattle.serde_json.specs.Written.{IsInOrder}
@@ -30,22 +33,34 @@ use Rattle.nr_shown.specs.Gathered.{gathered_json}
 use Rattle.nr_shown.specs.Part.{part_json}
 use Rattle.nr_shown.specs.Proof.{proof_json}
 
--- what is written: bytes, or the text of a value
+-- what is written: bytes, or the text of a value, over lines or with no space
 pub data Output : Type 0 where
   Bytes : List ℕ → Output
   Json : Data → Output
+  Compact : Data → Output
 
--- a text of the value, laid out over lines, with its members in order; it is read as the value, where this nests no
--- deeper than the reader goes
-pub record IsTextOf (d : Data) (text : List ℕ) : Type 0 where
+-- a text of the value in a layout, with its members in order; it is read as the value, where this nests no deeper than
+-- the reader goes
+pub record IsTextOf (lay : List Token → List ℕ) (d : Data) (text : List ℕ) : Type 0 where
   pub utf8 : IsUtf8 text
-  pub layout : text ≡ pretty (tokens text)
+  pub layout : text ≡ lay (tokens text)
   pub order : IsInOrder text d
   pub back : depth d ≤ max_depth → read text ≡ Some d
 
+-- such a text and a line feed
+abbrev pub IsLineOf : (List Token → List ℕ) → Data → List ℕ → Type 0
+IsLineOf lay d out = (text : List ℕ) × IsTextOf lay d text × (out ≡ text ++ 10 ∷ [])
+
 abbrev pub IsWritten : Output → List ℕ → Type 0
 IsWritten (Bytes bytes) out = out ≡ bytes
-IsWritten (Json d) out = IsTextOf d out
+IsWritten (Json d) out = IsLineOf pretty d out
+IsWritten (Compact d) out = IsLineOf print d out
+
+-- the same with no space, where this is asked for
+abbrev pub laid : Bool → Output → Output
+laid compact (Bytes bytes) = Bytes bytes
+laid compact (Json d) = cond compact (Compact d) (Json d)
+laid compact (Compact d) = Compact d
 
 -- what is written, or the line that says why not
 abbrev pub Due : Type 0
@@ -56,8 +71,12 @@ abbrev pub value_of : List ℕ → Option Data → Result Data (List ℕ)
 value_of text None = Err (no_json text)
 value_of text (Some d) = Ok d
 
+-- JSON takes no notice of a line feed at the end
+abbrev pub without_feed : List ℕ → List ℕ
+without_feed text = cond (get_or text (length text - 1) 0 == 10) (take (length text - 1) text) text
+
 abbrev pub value_in : List ℕ → Result Data (List ℕ)
-value_in text = cond (is_utf8 text) (value_of text (read text)) (Err (no_json text))
+value_in text = cond (is_utf8 (without_feed text)) (value_of text (read (without_feed text))) (Err (no_json text))
 
 -- ---- blocks
 unfoldable pub made_blocks : List ℕ → Due
@@ -126,3 +145,7 @@ of_bytes ShowReport c bytes = shown_report bytes
 of_bytes ShowPart c bytes = shown_part bytes
 of_bytes ShowProof c bytes = shown_proof bytes
 of_bytes ShowGathered c bytes = shown_gathered bytes
+
+abbrev pub laid_due : Bool → Due → Due
+laid_due compact (Ok output) = Ok (laid compact output)
+laid_due compact (Err line) = Err line

@@ -5,17 +5,16 @@ use Rattle.nr_config.specs.Config.{Config as Configuration}
 use Rattle.nr_configfile.specs.Plans.{config_files, config_plan}
 use Rattle.nr_shell.specs.Plans.{Plan, Answer, Refuse, and_then, by_reading, file_plan}
 use Rattle.nr_files.specs.Command.{Asked, Nothing, Unknown, File, Written, Request}
-use Rattle.nr_files.specs.Due.{Output, Bytes, of_bytes}
-use Rattle.nr_files.specs.declared.command.Work.{Work}
+use Rattle.nr_files.specs.Due.{Output, Bytes, laid_due, of_bytes}
 use Rattle.nr_files.specs.declared.status.Status.{Status}
 use Rattle.nr_files.specs.declared.status.Status.TheVariants.{Usage, Config, TooLong, Faulty, NoSentence}
 
-abbrev pub by_bytes : Work → Configuration → List ℕ → Plan Output Status
-by_bytes work c bytes = by_reading Faulty (of_bytes work c bytes)
+abbrev pub by_bytes : Request → Configuration → List ℕ → Plan Output Status
+by_bytes r c bytes = by_reading Faulty (laid_due r.compact (of_bytes r.work c bytes))
 
 -- the file, of at most 256 MiB
 abbrev pub by_config : Request → Configuration → Plan Output Status
-by_config r c = and_then (file_plan r.file 268435456 TooLong) (by_bytes r.work c)
+by_config r c = and_then (file_plan r.file 268435456 TooLong) (by_bytes r c)
 
 abbrev pub request_plan : Request → Plan Output Status
 request_plan r = and_then (config_plan Config r.config) (by_config r)

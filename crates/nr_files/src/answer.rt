@@ -10,17 +10,19 @@ ghost use Rattle.nr_shell.specs.Answers.{Judges};
 ghost use Rattle.nr_files.specs.Answers.{AnswersAs, output_in, refuses};
 ghost use Rattle.nr_files.specs.Due.{value_in, made_blocks, shown_blocks, judged, made_genesis, made_hex};
 ghost use Rattle.nr_files.specs.Due.{shown_genesis, shown_part, shown_proof, shown_gathered, shown_report, of_bytes};
+ghost use Rattle.nr_files.specs.Due.{without_feed};
+ghost use Rattle.nr_files.specs.Command.{request_in};
 ghost use Rattle.nr_files.specs.Damage.{blocks_line};
 ghost use Rattle.nr_files.specs.Lines.{fault_line, gathered_line, genesis_line, part_line, proof_line};
 ghost use Rattle.nr_files.specs.Plans.{by_bytes};
 ghost use Rattle.nr_files.specs.Versions.{blocks_read, stated_bytes};
 ghost use Rattle.nr_files.specs.declared.fault.Fault.TheVariants.{Memory};
 
-use crate::command::Work;
+use crate::command::{Request, Work};
 use crate::damage::or_begun;
 use crate::fault::Fault;
 use crate::filling::{genesis_bytes, stated};
-use crate::output::Output;
+use crate::output::{Output, laid};
 use crate::status::Status;
 use crate::telling::{
     blocks_words, faulty, gathered_words, genesis_words, json_words, part_words, proof_words,
@@ -40,11 +42,26 @@ use nr_shown::{gathered_json, part_json, proof_json};
 use serde_json::Value;
 use std::alloc::Global;
 
+/// The text without a line feed at its end.
+fn without_feed(text: &[u8]) -> &[u8]
+    ensures { result.now ≡ without_feed text.now }
+{
+    if text.is_empty() {
+        return text;
+    }
+    let last = text.len() - 1;
+    if text[last] == b'\n' {
+        &text[..last]
+    } else {
+        text
+    }
+}
+
 /// The value of a JSON text.
 fn value_in(alloc: Global, text: &[u8]) -> Result<Value, Fault>
     ensures { AnswersAs view result (value_in text.now) }
 {
-    match Value::from_slice(alloc, text) {
+    match Value::from_slice(alloc, without_feed(text)) {
         Ok(value) => Ok(value),
         Err(fault) if fault.is_memory() => Err(Fault::Memory),
         Err(_) => Err(faulty(alloc, or_begun(text, "the text is no JSON"))),
@@ -260,21 +277,21 @@ fn of_bytes(alloc: Global, work: Work, config: &Config, bytes: &[u8]) -> Result<
     }
 }
 
-/// What the bytes of a file are made into.
+/// What the bytes of a request's file are made into.
 ///
 /// # Errors
 ///
 /// `Refused` where the bytes are refused, with the words that say why, and `Memory` where memory ran out.
 pub(crate) fn judged(
     alloc: Global,
-    work: Work,
+    request: &Request<'_>,
     config: &Config,
     bytes: &[u8],
 ) -> Result<Output, Stop<Status>>
-    ensures { Judges refuses output_in result (by_bytes work config.now bytes.now) }
+    ensures { Judges refuses output_in result (by_bytes (request_in request.now) config.now bytes.now) }
 {
-    match of_bytes(alloc, work, config, bytes) {
-        Ok(output) => Ok(output),
+    match of_bytes(alloc, request.work, config, bytes) {
+        Ok(output) => Ok(laid(request.compact, output)),
         Err(Fault::Words(line)) => Err(Stop::Refused(Status::Faulty { line })),
         Err(Fault::Memory) => Err(Stop::Memory),
     }

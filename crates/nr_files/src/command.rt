@@ -2,12 +2,13 @@
 
 ghost use Rattle.std.specs.Prelude.{◌≡◌, IfOk, map, option_map};
 ghost use Rattle.nr_words.specs.Words.{found_in, table_in, texts, value_in};
-ghost use Rattle.nr_files.specs.Command.{alone, asked_in, behind, by_form, made_of, meant, of_sentence, of_words};
-ghost use Rattle.nr_files.specs.Command.{shown_of, verb_of, with_config, without_config};
-ghost use Rattle.nr_files.specs.Help.{made_forms, shown_forms};
+ghost use Rattle.nr_files.specs.Command.{alone, asked_in, behind, by_form, helped, made_of, meant, of_help};
+ghost use Rattle.nr_files.specs.Command.{of_sentence, of_words, show_meant, shown, shown_of, told, verb_of};
+ghost use Rattle.nr_files.specs.Command.{with_config, without_config};
+ghost use Rattle.nr_files.specs.Help.{help_of, made_forms, shown_forms};
 ghost use Rattle.nr_words.specs.Forms.{read};
 
-use crate::help::{help_text, version_text};
+use crate::help::{help_of, help_text, version_text};
 use nr_bytes::Blob;
 use nr_explain::explain;
 use nr_words::{Form, Found, Place, Value, read_words};
@@ -36,10 +37,12 @@ pub(crate) enum Work {
     ShowGathered,
 }
 
-/// What is done, under which configuration (`free`, or the name of a file), and with which file.
+/// What is done, whether a JSON text of it has no spaces between its parts, under which configuration (`free`, or the
+/// name of a file), and with which file.
 #[derive(Clone, Copy, Debug)]
 pub(crate) struct Request<'a> {
     pub(crate) work: Work,
+    pub(crate) compact: bool,
     pub(crate) config: &'a str,
     pub(crate) file: &'a str,
 }
@@ -113,21 +116,27 @@ fn shown_forms() -> &'static [Form]
     SHOWN
 }
 
-fn with_config<'a>(work: Work, values: &[Value<'a>]) -> Asked<'a>
-    ensures { asked_in result ≡ with_config work (map value_in values.now) }
+fn with_config<'a>(compact: bool, work: Work, values: &[Value<'a>]) -> Asked<'a>
+    ensures { asked_in result ≡ with_config compact work (map value_in values.now) }
 {
     match values {
-        [Value::Text(config), Value::Text(file)] => Asked::File(Request { work, config, file }),
+        [Value::Text(config), Value::Text(file)] => Asked::File(Request {
+            work,
+            compact,
+            config,
+            file,
+        }),
         _ => Asked::Nothing,
     }
 }
 
-fn without_config<'a>(work: Work, values: &[Value<'a>]) -> Asked<'a>
-    ensures { asked_in result ≡ without_config work (map value_in values.now) }
+fn without_config<'a>(compact: bool, work: Work, values: &[Value<'a>]) -> Asked<'a>
+    ensures { asked_in result ≡ without_config compact work (map value_in values.now) }
 {
     match values {
         [Value::Text(file)] => Asked::File(Request {
             work,
+            compact,
             config: "free",
             file,
         }),
@@ -140,24 +149,24 @@ fn made_of<'a>(found: &Found<'a>) -> Asked<'a>
 {
     let values = found.values.as_slice();
     match found.verb {
-        "genesis" => with_config(Work::MakeGenesis, values),
-        "blocks" => without_config(Work::MakeBlocks, values),
-        "hex" => without_config(Work::MakeHex, values),
+        "genesis" => with_config(false, Work::MakeGenesis, values),
+        "blocks" => without_config(false, Work::MakeBlocks, values),
+        "hex" => without_config(false, Work::MakeHex, values),
         _ => Asked::Nothing,
     }
 }
 
-fn shown_of<'a>(found: &Found<'a>) -> Asked<'a>
-    ensures { asked_in result ≡ shown_of (found_in found.now) }
+fn shown_of<'a>(compact: bool, found: &Found<'a>) -> Asked<'a>
+    ensures { asked_in result ≡ shown_of compact (found_in found.now) }
 {
     let values = found.values.as_slice();
     match found.verb {
-        "genesis" => with_config(Work::ShowGenesis, values),
-        "blocks" => without_config(Work::ShowBlocks, values),
-        "report" => without_config(Work::ShowReport, values),
-        "part" => without_config(Work::ShowPart, values),
-        "proof" => without_config(Work::ShowProof, values),
-        "gathered" => without_config(Work::ShowGathered, values),
+        "genesis" => with_config(compact, Work::ShowGenesis, values),
+        "blocks" => without_config(compact, Work::ShowBlocks, values),
+        "report" => without_config(compact, Work::ShowReport, values),
+        "part" => without_config(compact, Work::ShowPart, values),
+        "proof" => without_config(compact, Work::ShowProof, values),
+        "gathered" => without_config(compact, Work::ShowGathered, values),
         _ => Asked::Nothing,
     }
 }
@@ -172,14 +181,33 @@ fn made(alloc: Global, words: &[String]) -> Result<Asked<'_>, AllocError>
     }
 }
 
-/// What the words behind `show` ask for.
-fn shown(alloc: Global, words: &[String]) -> Result<Asked<'_>, AllocError>
-    ensures { IfOk result (λ asked. asked_in asked ≡ by_form shown_of (read shown_forms (texts words.now))) }
+/// What the words of a file to be shown ask for.
+fn shown(alloc: Global, compact: bool, words: &[String]) -> Result<Asked<'_>, AllocError>
+    ensures { IfOk result (λ asked. asked_in asked ≡ shown compact (texts words.now)) }
 {
     match read_words(alloc, "near_files", shown_forms(), words)? {
-        Some(found) => Ok(shown_of(&found)),
+        Some(found) => Ok(shown_of(compact, &found)),
         None => Ok(Asked::Nothing),
     }
+}
+
+/// What the words behind `show` ask for.
+fn show_meant(alloc: Global, words: &[String]) -> Result<Asked<'_>, AllocError>
+    ensures { IfOk result (λ asked. asked_in asked ≡ show_meant (texts words.now)) }
+{
+    match verb_of(words) {
+        "--compact" => shown(alloc, true, behind(words)),
+        _ => shown(alloc, false, words),
+    }
+}
+
+/// A text and a line feed.
+fn told<'a>(alloc: Global, text: &str) -> Result<Asked<'a>, AllocError>
+    ensures { IfOk result (λ asked. asked_in asked ≡ told text.now) }
+{
+    let mut bytes = Vec::from_slice(alloc, text.as_bytes())?;
+    bytes.push(b'\n')?;
+    Ok(Asked::Written(Blob::of(bytes)))
 }
 
 /// What a word asks for that stands alone: its text.
@@ -187,11 +215,29 @@ fn alone<'a>(alloc: Global, text: &str, words: &[String]) -> Result<Asked<'a>, A
     ensures { IfOk result (λ asked. asked_in asked ≡ alone text.now (texts words.now)) }
 {
     match words {
-        [] => {
-            let bytes = Vec::from_slice(alloc, text.as_bytes())?;
-            Ok(Asked::Written(Blob::of(bytes)))
-        }
+        [] => told(alloc, text),
         [_, ..] => Ok(Asked::Nothing),
+    }
+}
+
+/// What is said of one command.
+fn of_help<'a>(alloc: Global, command: &str) -> Result<Asked<'a>, AllocError>
+    ensures { IfOk result (λ asked. asked_in asked ≡ of_help (help_of command.now)) }
+{
+    match help_of(command) {
+        Some(text) => told(alloc, text),
+        None => Ok(Asked::Nothing),
+    }
+}
+
+/// What the words behind `help` ask for.
+fn helped<'a>(alloc: Global, words: &[String]) -> Result<Asked<'a>, AllocError>
+    ensures { IfOk result (λ asked. asked_in asked ≡ helped (texts words.now)) }
+{
+    match words {
+        [] => told(alloc, help_text()),
+        [command] => of_help(alloc, command.as_str()),
+        [_, _, ..] => Ok(Asked::Nothing),
     }
 }
 
@@ -248,9 +294,9 @@ pub(crate) fn asked_of(alloc: Global, words: &[String]) -> Result<Asked<'_>, All
 {
     match verb_of(words) {
         "explain" => of_words(alloc, behind(words)),
-        "help" => alone(alloc, help_text(), behind(words)),
+        "help" => helped(alloc, behind(words)),
         "version" => alone(alloc, version_text(), behind(words)),
-        "show" => shown(alloc, behind(words)),
+        "show" => show_meant(alloc, behind(words)),
         _ => made(alloc, words),
     }
 }

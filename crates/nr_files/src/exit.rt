@@ -3,6 +3,7 @@
 ghost use Rattle.std.specs.Prelude.{◌≡◌, Some};
 ghost use Rattle.nr_files.specs.Exit.{exit_status, status_line};
 
+use crate::help::help_text;
 use crate::status::Status;
 use std::fmt;
 
@@ -17,7 +18,7 @@ impl Status {
             Status::Usage => 1,
             Status::NoSentence => 21,
             Status::Config { .. } => 2,
-            Status::ReadFault => 5,
+            Status::ReadFault { .. } => 5,
             Status::WriteFault => 6,
             Status::NoMemory => 7,
             Status::TooLong => 20,
@@ -26,9 +27,9 @@ impl Status {
     }
 }
 
-/// The line that tells the answer: why a file is refused, in words, or that there is no sentence for the words to be
-/// explained; otherwise the exit status, and the kind and the entry of a configuration's fault, in decimal, parted by
-/// single spaces.
+/// What tells the answer: the words of all commands, for words that are none; why a file is refused or that it can't be
+/// read, in words, or that there is no sentence for the words to be explained; otherwise the exit status, and the kind
+/// and the entry of a configuration's fault, in decimal, parted by single spaces. The last line feed is left out.
 impl fmt::Display for Status {
     ghost output = { λ status. Some (status_line status) };
 
@@ -40,8 +41,14 @@ impl fmt::Display for Status {
             Status::Faulty { line } => f.write_str(line.inner()),
             Status::NoSentence => f.write_str("There is no sentence for these words."),
             Status::Done => write!(f, "{number}"),
-            Status::Usage => write!(f, "{number}"),
-            Status::ReadFault => write!(f, "{number}"),
+            Status::Usage => {
+                let help = help_text();
+                write!(f, "The words are no command. These are:\n{help}")
+            }
+            Status::ReadFault { name } => {
+                let name = name.inner();
+                write!(f, "the file {name} can't be read")
+            }
             Status::WriteFault => write!(f, "{number}"),
             Status::NoMemory => write!(f, "{number}"),
         }

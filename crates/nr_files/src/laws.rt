@@ -1,9 +1,9 @@
 //! What holds of the files that are made and shown.
 
-ghost use Rattle.std.specs.Prelude.{◌≡◌, ◌++◌, ℕ, List, Option, Ok};
+ghost use Rattle.std.specs.Prelude.{◌≡◌, ◌++◌, ℕ, Bool, List, Option, Ok};
 ghost use Rattle.nr_bytes.specs.Numbers.{IsBytes};
 ghost use Rattle.nr_config.specs.Config.{Config};
-ghost use Rattle.nr_files.specs.Due.{Output, Bytes, IsWritten, of_bytes};
+ghost use Rattle.nr_files.specs.Due.{Output, Bytes, IsWritten, laid, of_bytes};
 ghost use Rattle.nr_shell.specs.Plans.{Answer, LeadsBy, Plan};
 ghost use Rattle.nr_files.specs.Command.{Asked};
 ghost use Rattle.nr_files.specs.Plans.{files_of, plan};
@@ -13,14 +13,14 @@ ghost use Rattle.nr_files.specs.declared.command.Work.TheVariants.{MakeBlocks, M
 /// What holds of the texts that are written of files. It does nothing when it runs.
 #[tactic(auto, using(crate::proofs::RoundTrip::blocks_trip, crate::proofs::RoundTrip::genesis_trip))]
 pub fn round_trips()
-    // What `show blocks` writes of a file, `blocks` makes into the same bytes.
-    ensures blocks { (c : Config) (bytes text : List ℕ) (o : Output) → IsBytes bytes → of_bytes ShowBlocks c bytes
-        ≡ Ok o
-        → IsWritten o text → of_bytes MakeBlocks c text ≡ Ok (Bytes bytes) }
+    // What `show blocks` writes of a file, with spaces or without, `blocks` makes into the same bytes.
+    ensures blocks { (c : Config) (compact : Bool) (bytes text : List ℕ) (o : Output) → IsBytes bytes
+        → of_bytes ShowBlocks c bytes ≡ Ok o → IsWritten (laid compact o) text
+        → of_bytes MakeBlocks c text ≡ Ok (Bytes bytes) }
     // What `show genesis` writes of a file, `genesis` makes into the same bytes, under the same configuration.
-    ensures genesis { (c : Config) (bytes text : List ℕ) (o : Output) → IsBytes bytes → of_bytes ShowGenesis c bytes
-        ≡ Ok o
-        → IsWritten o text → of_bytes MakeGenesis c text ≡ Ok (Bytes bytes) }
+    ensures genesis { (c : Config) (compact : Bool) (bytes text : List ℕ) (o : Output) → IsBytes bytes
+        → of_bytes ShowGenesis c bytes ≡ Ok o → IsWritten (laid compact o) text
+        → of_bytes MakeGenesis c text ≡ Ok (Bytes bytes) }
 {}
 
 /// Whatever its plan comes to, a command asks for its own files alone, in their order, and once for each; where it

@@ -9,6 +9,7 @@ mod damage;
 mod exit;
 mod fault;
 mod filling;
+mod halt;
 mod help;
 mod laws;
 mod output;

@@ -20,8 +20,8 @@ pub enum Status {
     TooLong,
     /// The file is refused, and this says why: the path of a member or the place of a byte, and what is wrong.
     Faulty { line: Text },
-    /// A file could not be read.
-    ReadFault,
+    /// The file of this name could not be read.
+    ReadFault { name: Text },
     /// The output could not be written whole.
     WriteFault,
     /// Memory ran out.

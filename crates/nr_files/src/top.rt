@@ -1,22 +1,24 @@
 //! The top call.
 
-ghost use Rattle.std.specs.Prelude.{◌≡◌, ◌≢◌, ℕ, List, Option};
+ghost use Rattle.std.specs.Prelude.{◌≡◌, ◌≢◌, ℕ, List, Option, Err as Failed};
 ghost use Rattle.nr_bytes.specs.Outside.{Rose};
 ghost use Rattle.nr_shell.specs.Answers.{Comes, Follows};
 ghost use Rattle.nr_shell.specs.Plans.{Answer, Plan};
 ghost use Rattle.nr_words.specs.Words.{texts};
-ghost use Rattle.nr_files.specs.Answers.{Serves, output_in, refuses, stop_status};
+ghost use Rattle.nr_files.specs.Answers.{EndsIn, IsStatusOf, NamesLast, Serves, output_in, refuses, stopped};
 ghost use Rattle.nr_files.specs.Command.{asked_in, meant, request_in};
 ghost use Rattle.nr_files.specs.Due.{Output as Due};
 ghost use Rattle.nr_files.specs.Plans.{by_config, plan, request_plan};
 ghost use Rattle.nr_files.specs.declared.status.Status.{Status};
+ghost use Rattle.nr_shell.specs.declared.stop.Stop.TheVariants.{Unread};
 ghost use Rattle.nr_files.specs.declared.status.Status.TheVariants.{Done, ReadFault, WriteFault};
 
 use crate::answer::judged;
 use crate::command::{Asked, Request, asked_of};
+use crate::halt::Halt;
 use crate::output::{Output, bytes_of};
 use crate::status::Status;
-use nr_bytes::{Shelf, Sink};
+use nr_bytes::{Shelf, Sink, Text};
 use nr_config::Config;
 use nr_configfile::config_of;
 use nr_shell::{Stop, load, write_all};
@@ -25,8 +27,19 @@ use std::alloc::Global;
 /// The most bytes of a file, 256 MiB.
 const FILE_LIMIT: usize = 268_435_456;
 
+/// What was answered or stopped, with the file that was to be loaded last.
+fn at_file<'a>(file: &'a str, answer: Result<Output, Stop<Status>>) -> Result<Output, Halt<'a>>
+    ensures same { stopped result ≡ answer }
+    ensures names { (asks : List (List ℕ)) → (answer ≡ Failed Unread → EndsIn asks file.now) → NamesLast result asks }
+{
+    match answer {
+        Ok(output) => Ok(output),
+        Err(stop) => Err(Halt { stop, file }),
+    }
+}
+
 /// What the file of a request gives under a configuration.
-fn with_config<S: Shelf>(
+fn loaded<S: Shelf>(
     alloc: Global,
     request: &Request<'_>,
     config: &Config,
@@ -37,67 +50,102 @@ fn with_config<S: Shelf>(
         result (by_config (request_in request.now) config.now) }
 {
     match load(alloc, request.file, FILE_LIMIT, Status::TooLong, shelf) {
-        Ok(bytes) => judged(alloc, request.work, config, &bytes),
+        Ok(bytes) => judged(alloc, request, config, &bytes),
         Err(stop) => Err(stop),
     }
 }
 
-/// What the files of a request give.
-fn of_request<S: Shelf>(
+/// The same, with the file at which it stops.
+fn with_config<'a, S: Shelf>(
     alloc: Global,
-    request: &Request<'_>,
+    request: &Request<'a>,
+    config: &Config,
     shelf: &mut S,
-) -> Result<Output, Stop<Status>>
-    ensures { Follows refuses output_in (S.held shelf.old) (S.held shelf.new)
+) -> Result<Output, Halt<'a>>
+    ensures follows { Follows refuses output_in (S.held shelf.old) (S.held shelf.new)
         (S.asked shelf.old) (S.asked shelf.new) (S.faults shelf.old) (S.faults shelf.new)
-        result (request_plan (request_in request.now)) }
+        (stopped result) (by_config (request_in request.now) config.now) }
+    ensures names { NamesLast result (S.asked shelf.new) }
+{
+    at_file(request.file, loaded(alloc, request, config, shelf))
+}
+
+/// What the files of a request give.
+fn of_request<'a, S: Shelf>(
+    alloc: Global,
+    request: &Request<'a>,
+    shelf: &mut S,
+) -> Result<Output, Halt<'a>>
+    ensures follows { Follows refuses output_in (S.held shelf.old) (S.held shelf.new)
+        (S.asked shelf.old) (S.asked shelf.new) (S.faults shelf.old) (S.faults shelf.new)
+        (stopped result) (request_plan (request_in request.now)) }
+    ensures names { NamesLast result (S.asked shelf.new) }
 {
     match config_of::<Status, S>(alloc, request.config, shelf) {
         Ok(config) => with_config(alloc, request, &config, shelf),
-        Err(stop) => Err(stop),
+        Err(stop) => Err(Halt {
+            stop,
+            file: request.config,
+        }),
     }
 }
 
 /// What is asked for.
-fn of_asked<S: Shelf>(
+fn of_asked<'a, S: Shelf>(
     alloc: Global,
-    asked: Asked<'_>,
+    asked: Asked<'a>,
     shelf: &mut S,
-) -> Result<Output, Stop<Status>>
-    ensures { Follows refuses output_in (S.held shelf.old) (S.held shelf.new)
+) -> Result<Output, Halt<'a>>
+    ensures follows { Follows refuses output_in (S.held shelf.old) (S.held shelf.new)
         (S.asked shelf.old) (S.asked shelf.new) (S.faults shelf.old) (S.faults shelf.new)
-        result (plan (asked_in asked.entry)) }
+        (stopped result) (plan (asked_in asked.entry)) }
+    ensures names { NamesLast result (S.asked shelf.new) }
 {
     match asked {
-        Asked::Nothing => Err(Stop::Refused(Status::Usage)),
-        Asked::Unknown => Err(Stop::Refused(Status::NoSentence)),
+        Asked::Nothing => Err(Halt {
+            stop: Stop::Refused(Status::Usage),
+            file: "",
+        }),
+        Asked::Unknown => Err(Halt {
+            stop: Stop::Refused(Status::NoSentence),
+            file: "",
+        }),
         Asked::File(request) => of_request(alloc, &request, shelf),
         Asked::Written(text) => Ok(Output::Bytes(text)),
     }
 }
 
 /// What the words ask for.
-fn output_of<S: Shelf>(
+fn output_of<'a, S: Shelf>(
     alloc: Global,
-    words: &[String],
+    words: &'a [String],
     shelf: &mut S,
-) -> Result<Output, Stop<Status>>
-    ensures { Follows refuses output_in (S.held shelf.old) (S.held shelf.new)
+) -> Result<Output, Halt<'a>>
+    ensures follows { Follows refuses output_in (S.held shelf.old) (S.held shelf.new)
         (S.asked shelf.old) (S.asked shelf.new) (S.faults shelf.old) (S.faults shelf.new)
-        result (plan (meant (texts words.now))) }
+        (stopped result) (plan (meant (texts words.now))) }
+    ensures names { NamesLast result (S.asked shelf.new) }
 {
     match asked_of(alloc, words) {
         Ok(asked) => of_asked(alloc, asked, shelf),
-        Err(_) => Err(Stop::Memory),
+        Err(_) => Err(Halt {
+            stop: Stop::Memory,
+            file: "",
+        }),
     }
 }
 
-/// The answer of a command that stopped.
-fn stop_status(stop: Stop<Status>) -> Status
-    ensures { result ≡ stop_status stop }
+/// The answer of a command that stopped at a file.
+fn stop_status(alloc: Global, stop: Stop<Status>, file: &str) -> Status
+    ensures { IsStatusOf stop file.now result }
 {
     match stop {
-        Stop::Unread => Status::ReadFault,
+        Stop::Unread => match String::from_str(alloc, file) {
+            Ok(name) => Status::ReadFault {
+                name: Text::of(name),
+            },
+            Err(_) => Status::NoMemory,
+        },
         Stop::Memory => Status::NoMemory,
         Stop::Refused(status) => status,
     }
@@ -109,7 +157,7 @@ fn tell<K: Sink>(alloc: Global, output: Output, sink: &mut K) -> Status
         → Comes held asked asks p (Answer (output_in output))
         → Serves result p held asked asks (K.taken sink.old) (K.taken sink.new) }
     ensures untouched { result ≢ Done → result ≢ WriteFault → sink.new ≡ sink.old }
-    ensures no_read_fault { result ≢ ReadFault }
+    ensures no_read_fault { (name : List ℕ) → result ≢ ReadFault name }
     ensures write_fault { result ≡ WriteFault → Rose (K.faults sink.old) (K.faults sink.new) }
 {
     let Ok(bytes) = bytes_of(alloc, output) else {
@@ -129,7 +177,9 @@ fn tell<K: Sink>(alloc: Global, output: Output, sink: &mut K) -> Status
 /// configuration, or the name of a file; the storage of a genesis is counted by it. An account of a JSON
 /// text may leave out `storage_usage` and `code_hash`: they are then what is counted. `hex FILE` writes a
 /// JSON text of the bytes of a file. `explain WORDS..` writes what the line of these words says, which a
-/// program wrote. `help` writes the words of the commands, and `version` the program's name and version.
+/// program wrote. `help` writes the words of the commands, `help COMMAND` those of one and what it does, and `version`
+/// the program's name and version. Behind `show --compact` a JSON text has no spaces between its parts. Each text that
+/// isn't empty ends with a line feed.
 ///
 /// # Answers
 ///
@@ -144,7 +194,7 @@ fn tell<K: Sink>(alloc: Global, output: Output, sink: &mut K) -> Status
 ///   one, as `jq` writes it; the entries of a genesis don't hold together, as `nr_blocks::GenesisFault`
 ///   says; or a file to be shown can't be read, and the line says which file it is instead, where it ends too
 ///   early or goes on, or which field, or which line, is wrong and how. Nothing was written.
-/// - `ReadFault`: a file could not be read. Nothing was written.
+/// - `ReadFault`: the file of this name could not be read. Nothing was written.
 /// - `WriteFault`: the sink failed. A front was written.
 /// - `NoMemory`: memory ran out. Nothing was written.
 ///
@@ -163,11 +213,11 @@ pub fn serve_files<S: Shelf, K: Sink>(
     // Before the writing the sink stays as it is, whatever it tells.
     ensures untouched { result ≢ Done → result ≢ WriteFault → sink.new ≡ sink.old }
     // A fault comes only where a count rose.
-    ensures read_fault { result ≡ ReadFault → Rose (S.faults shelf.old) (S.faults shelf.new) }
+    ensures read_fault { (name : List ℕ) → result ≡ ReadFault name → Rose (S.faults shelf.old) (S.faults shelf.new) }
     ensures write_fault { result ≡ WriteFault → Rose (K.faults sink.old) (K.faults sink.new) }
 {
     match output_of(alloc, words, shelf) {
         Ok(output) => tell(alloc, output, sink),
-        Err(stop) => stop_status(stop),
+        Err(Halt { stop, file }) => stop_status(alloc, stop, file),
     }
 }

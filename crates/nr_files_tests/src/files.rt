@@ -84,7 +84,8 @@ const PART_JSON: &str = "{
   \"texts\": [
     \"ff\"
   ]
-}";
+}
+";
 
 /// The proof of an item.
 const PROOF: &str = "proof receipt 1 2 3 4
@@ -103,7 +104,8 @@ const PROOF_JSON: &str = "{
   ],
   \"place\": 3,
   \"shard\": 2
-}";
+}
+";
 
 /// How a command over one file ends, and what is written.
 pub(crate) fn ended(alloc: Global, words: &[&str], file: &[u8]) -> Result<(Status, Vec<u8>), Fail> {
@@ -357,7 +359,7 @@ fn a_report_and_a_line_are_told(rt: HostRuntime) -> Result<(), Fail> {
 #[test]
 fn bytes_are_told_in_hexadecimal(rt: HostRuntime) -> Result<(), Fail> {
     let alloc = rt.alloc();
-    let rows: [(&[u8], &[u8]); 2] = [(b"\0asm\xff", b"\"0061736dff\""), (b"", b"\"\"")];
+    let rows: [(&[u8], &[u8]); 2] = [(b"\0asm\xff", b"\"0061736dff\"\n"), (b"", b"\"\"\n")];
     for (bytes, json) in rows {
         let (told, text) = ended(alloc, &["hex", "F"], bytes)?;
         assert_eq!(rt; told.exit_status(), 0);
@@ -437,41 +439,8 @@ fn entries_that_do_not_hold_together_are_told(rt: HostRuntime) -> Result<(), Fai
     Ok(())
 }
 
-#[test]
-fn words_are_told(rt: HostRuntime) -> Result<(), Fail> {
-    let alloc = rt.alloc();
-    let (told, version) = ended(alloc, &["version"], b"")?;
-    assert_eq!(rt; told.exit_status(), 0);
-    assert_eq!(rt; version.as_slice(), b"near_files 0.1.0\n".as_slice());
-    let (helped, help) = ended(alloc, &["help"], b"")?;
-    assert_eq!(rt; helped.exit_status(), 0);
-    assert!(rt; help.starts_with(b"near_files genesis CONFIG JSON\n"));
-    Ok(())
-}
-
-#[test]
-fn words_and_files_are_refused_in_order(rt: HostRuntime) -> Result<(), Fail> {
-    let alloc = rt.alloc();
-    let rows: [(&[&str], &str); 8] = [
-        (&[], "1"),
-        (&["help", "gen"], "1"),
-        (&["version", "1"], "1"),
-        (&["blocks", "-F"], "1"),
-        (&["genesis", "", "G"], "1"),
-        (&["genesis", "C", "F"], "5"),
-        (&["genesis", "F", "G"], "2 1 0"),
-        (&["genesis", "free", "G"], "5"),
-    ];
-    for (words, line) in rows {
-        let (status, written) = ended(alloc, words, b"")?;
-        assert_eq!(rt; format!(in alloc; "{status}")?.as_str(), line);
-        assert!(rt; written.is_empty());
-    }
-    Ok(())
-}
-
 /// A block with a call of go by alice, with these members for its block's hash and its arguments.
-fn call_text(alloc: Global, hash: &str, args: &str) -> Result<String, Fail> {
+pub(crate) fn call_text(alloc: Global, hash: &str, args: &str) -> Result<String, Fail> {
     Ok(format!(in alloc;
         "{{\"blocks\": [{{\"height\": 1, \"timestamp\": 0, \"chunks\": [[{{\"signer_id\": \"alice\",\
         \"public_key\": \"ed25519:0101010101010101010101010101010101010101010101010101010101010101\",\
@@ -493,7 +462,7 @@ fn arguments_may_be_a_text_and_a_hash_left_out(rt: HostRuntime) -> Result<(), Fa
     for (hash, args) in [
         (NO_HASH, "{\"text\": \"{\\\"\u{e9}\\\"}\"}"),
         ("", "\"7b22c3a9227d\""),
-        ("", "{\"text\": \"{\\\"\\u00e9\\\"}\", \"json\": 5}"),
+        ("", "{\"text\": \"{\\\"\\u00e9\\\"}\", \"JSON\": 5}"),
     ] {
         let short = call_text(alloc, hash, args)?;
         let (again, same) = ended(alloc, &["blocks", "F"], short.as_str().as_bytes())?;
@@ -506,11 +475,23 @@ fn arguments_may_be_a_text_and_a_hash_left_out(rt: HostRuntime) -> Result<(), Fa
 #[test]
 fn wrong_arguments_and_hashes_are_told(rt: HostRuntime) -> Result<(), Fail> {
     let alloc = rt.alloc();
-    let rows: [(&str, &str, &str); 5] = [
+    let rows: [(&str, &str, &str); 7] = [
         (
             "",
-            "{\"json\": 5}",
+            "{}",
             ".blocks[0].chunks[0][0].actions[0].FunctionCall.args.text is missing",
+        ),
+        (
+            "",
+            "{\"json\": {\"a\": [1, 2.5]}, \"text\": \"hi\"}",
+            ".blocks[0].chunks[0][0].actions[0].FunctionCall.args.json has a number that is no whole one of 64 \
+            bits: it may stand in a `text`",
+        ),
+        (
+            "",
+            "{\"json\": 18446744073709551616}",
+            ".blocks[0].chunks[0][0].actions[0].FunctionCall.args.json has a number that is no whole one of 64 \
+            bits: it may stand in a `text`",
         ),
         (
             "",

@@ -99,7 +99,8 @@ const GATHERED_JSON: &str = "{
       \"signer_id\": \"alice\"
     }
   ]
-}";
+}
+";
 
 #[test]
 fn a_gathered_chunk_is_shown(rt: HostRuntime) -> Result<(), Fail> {

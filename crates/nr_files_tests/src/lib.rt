@@ -10,4 +10,8 @@ mod gathered;
 #[cfg(test)]
 mod people;
 #[cfg(test)]
+mod spelled;
+#[cfg(test)]
 mod texts;
+#[cfg(test)]
+mod words;

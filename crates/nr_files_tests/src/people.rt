@@ -550,6 +550,40 @@ no 2 5 1
 }
 
 #[test]
+fn bytes_that_people_can_read_are_shown_as_a_text(rt: HostRuntime) -> Result<(), Fail> {
+    let id = "a1a1a1a1a1a1a1a1a1a1a1a1a1a1a1a1a1a1a1a1a1a1a1a1a1a1a1a1a1a1a1a1";
+    for (bytes, shown) in [
+        ("-", "\"\""),
+        ("6869", "\"6869\",\"text\":\"hi\""),
+        ("20", "\"20\",\"text\":\" \""),
+        (
+            "7b22c3a9223a5c0a090d7d",
+            "\"7b22c3a9223a5c0a090d7d\",\"text\":\"{\\\"\u{e9}\\\":\\\\\\n\\t\\r}\"",
+        ),
+        ("68ff", "\"68ff\""),
+        ("6800", "\"6800\""),
+        ("1b5b", "\"1b5b\""),
+        ("7f", "\"7f\""),
+        ("e282", "\"e282\""),
+    ] {
+        let text = format!(in rt.alloc();
+            "log {bytes}\nrun {id} value {bytes} 1 2\nitem {bytes}\n"
+        )?;
+        let json = format!(in rt.alloc();
+            "{{\"line\":\"log\",\"bytes\":{shown}}}\n\
+            {{\"line\":\"run\",\"receipt_id\":\"{id}\",\"status\":\"value\",\"value\":{shown},\"gas\":1,\
+            \"burnt\":\"2\"}}\n\
+            {{\"line\":\"item\",\"bytes\":{shown}}}\n"
+        )?;
+        assert!(rt;
+            show_report(rt.alloc(), text.as_bytes())?.inner() == json.as_bytes(),
+            "{bytes}"
+        );
+    }
+    Ok(())
+}
+
+#[test]
 fn what_other_commands_write_is_shown(rt: HostRuntime) -> Result<(), Fail> {
     let text =
         b"roots 1 2 0b0b0b0b0b0b0b0b0b0b0b0b0b0b0b0b0b0b0b0b0b0b0b0b0b0b0b0b0b0b0b0b 0c0c0c0c0c0c0c0c0c0c0c0c0c0c0c0c0c0c0c0c0c0c0c0c0c0c0c0c0c0c0c0c

@@ -1,5 +1,6 @@
 -- What stands for a value is read as the value: numbers, texts, bytes, keys, lists and members.
-use Rattle.std.proofs.Common.{◌≡◌, ℕ, ◌+◌, ◌*◌, ◌^◌, ◌<◌, true, ltb, List, [], ◌∷◌, length, map, Some, None, Ok, refl, ap, ◌∙◌, arith}
+use Rattle.std.proofs.Common.{◌≡◌, ℕ, ◌+◌, ◌*◌, ◌^◌, ◌<◌, ◌==◌, true, ltb, List, [], ◌∷◌, length, map, Some, None, Ok}
+use Rattle.std.proofs.Common.{refl, ap, ◌∙◌, arith}
 use Rattle.std.specs.List.{list_all, AllByRecursion}
 use Rattle.std.specs.Prelude.{decimal}
 use Rattle.std.specs.Char.{digit_value}
@@ -60,7 +61,9 @@ pub hash_law : Law hash_json hash_of FitsHash
 hash_law hash fits = rw (sized_again 32 hash.0 fits) refl
 
 pub key_law : Law key_json key_of FitsKey
-key_law (Ed25519 key) fits = rw (sized_again 32 key fits) refl
+key_law (Ed25519 key) fits =
+    let long : (length (encode_lower key) == 64) ≡ true = ap (λ n. n == 64) (length-encode_with lower_digits key ∙ ap (λ k. 2 * k) fits.0) in
+    rw (long, sized_again 32 key fits) refl
 key_law (Secp256k1 key) fits = rw (sized_again 64 key fits) refl
 
 pub id_law : Law string id_of IsId

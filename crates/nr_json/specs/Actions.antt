@@ -1,5 +1,5 @@
 -- Actions as JSON values, with the names of NEAR's JSON (Nomicon, RuntimeSpec, Actions). Bytes in hexadecimal, and
--- arguments as a text, are this project's own.
+-- arguments as a text or a value, are this project's own.
 use Rattle.std.specs.Prelude.{ℕ, List, Option, Some, None, is_some, Ok, Err, cond, codes, if◌then◌else◌}
 use Rattle.std.specs.Str.{bytes_eq}
 use Rattle.nr_bytes.specs.Reading.{◌>>=◌}
@@ -9,14 +9,15 @@ use Rattle.nr_records.specs.declared.action.Action.{Action}
 use Rattle.nr_records.specs.declared.action.Action.TheVariants.{CreateAccount, DeployContract, FunctionCall, Transfer}
 use Rattle.nr_records.specs.declared.action.Action.TheVariants.{AddKey, DeleteKey, DeleteAccount}
 use Rattle.serde_json.specs.Data.{Data, string, object, Members, no_members, put}
-use Rattle.serde_json.specs.Find.{as_object}
-use Rattle.nr_json.specs.Faults.{Read, fault}
+use Rattle.serde_json.specs.Find.{as_object, get}
+use Rattle.serde_json.specs.Written.{compact_text, has_float}
+use Rattle.nr_json.specs.Faults.{Read, fault, member_step, within}
 use Rattle.nr_json.specs.Members.{member_of}
 use Rattle.nr_json.specs.Plain.{number_json, number_of, amount_json, amount_of, text_of, bytes_json, bytes_of}
 use Rattle.nr_json.specs.Keys.{id_of, key_json, key_of}
 use Rattle.nr_json.specs.Variants.{Named, named, tagged_json, in_variant}
 use Rattle.nr_json.specs.AccessKeys.{access_key_json, access_key_of}
-use Rattle.nr_json.specs.declared.fault.Wrong.TheVariants.{NoAction}
+use Rattle.nr_json.specs.declared.fault.Wrong.TheVariants.{NoAction, NoWhole}
 
 -- ---- the members of each action
 abbrev pub call_members : List ℕ → List ℕ → ℕ → ℕ → Members
@@ -47,9 +48,18 @@ deploy_of d = do
   code ← member_of (codes "code") bytes_of d
   Ok (DeployContract code)
 
--- arguments: bytes in hexadecimal, or an object whose member `text` is the text of these bytes
+-- a value's text with no space; what digits a float has isn't said
+abbrev pub compact_of : Data → Read (List ℕ)
+compact_of d = if has_float d then Err (fault NoWhole) else Ok (compact_text d)
+
+-- what an object says of arguments: the value of which they are the text, or else the text
+abbrev pub args_under : Option Data → Data → Read (List ℕ)
+args_under None d = member_of (codes "text") text_of d
+args_under (Some value) d = within (member_step (codes "json")) (compact_of value)
+
+-- arguments: bytes in hexadecimal, or an object with a member `json` or `text`
 abbrev pub args_of : Data → Read (List ℕ)
-args_of d = if is_some (as_object d) then member_of (codes "text") text_of d else bytes_of d
+args_of d = if is_some (as_object d) then args_under (get (codes "json") d) d else bytes_of d
 
 unfoldable pub call_of : Data → Read Action
 call_of d = do

@@ -3,6 +3,7 @@ pub mod Faults
 pub mod Words
 pub mod Members
 pub mod Plain
+pub mod Base58
 pub mod Keys
 pub mod Lists
 pub mod Variants

@@ -2,8 +2,9 @@
 use Rattle.std.specs.Prelude.{ℕ, List, codes}
 use Rattle.nr_json.specs.declared.fault.Wrong.{Wrong}
 use Rattle.nr_json.specs.declared.fault.Wrong.TheVariants.{Missing, NoObject, NoList, NoText, NoNumber, NoAmount}
-use Rattle.nr_json.specs.declared.fault.Wrong.TheVariants.{NoBytes, NoHash, NoKey, NoAccountId, NoAction, NoPermission}
-use Rattle.nr_json.specs.declared.fault.Wrong.TheVariants.{NoKind, NoVersion, NoPrice, NoReshard, NoBoundaries}
+use Rattle.nr_json.specs.declared.fault.Wrong.TheVariants.{NoBytes, NoHash, NoKey, NoAccountId, NoWhole, NoAction}
+use Rattle.nr_json.specs.declared.fault.Wrong.TheVariants.{NoPermission, NoKind, NoVersion, NoPrice, NoReshard}
+use Rattle.nr_json.specs.declared.fault.Wrong.TheVariants.{NoBoundaries}
 
 abbrev pub words : Wrong → List ℕ
 words Missing = codes "is missing"
@@ -14,8 +15,9 @@ words NoNumber = codes "is no whole number from 0 to 18446744073709551615"
 words NoAmount = codes "is no amount: a text of decimal digits, at most 340282366920938463463374607431768211455"
 words NoBytes = codes "is no text of pairs of hexadecimal digits"
 words NoHash = codes "is no text of 64 hexadecimal digits"
-words NoKey = codes "is no key: `ed25519:` and 64 hexadecimal digits, or `secp256k1:` and 128"
+words NoKey = codes "is no key: `ed25519:` and 64 hexadecimal digits or 32 bytes in base 58, or `secp256k1:` and 128 hexadecimal digits"
 words NoAccountId = codes "is no account id: 2 to 64 characters, of `a` to `z` and `0` to `9`, and single `-`, `_` or `.` between these"
+words NoWhole = codes "has a number that is no whole one of 64 bits: it may stand in a `text`"
 words NoAction = codes "is no action: `CreateAccount`, `DeployContract`, `FunctionCall`, `Transfer`, `AddKey`, `DeleteKey` or `DeleteAccount`"
 words NoPermission = codes "is no permission: `FullAccess` or `FunctionCall`"
 words NoKind = codes "is no kind of entry: `account`, `code`, `key` or `datum`"

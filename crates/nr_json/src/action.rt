@@ -3,14 +3,16 @@
 ghost use Rattle.std.specs.Prelude.{◌≡◌, IfOk, codes};
 ghost use Rattle.nr_bytes.specs.Answers.{Gives};
 ghost use Rattle.nr_records.specs.declared.action.Action.TheVariants.{FunctionCall, AddKey};
+ghost use Rattle.serde_json.specs.Find.{get};
 ghost use Rattle.serde_json.specs.View.{view};
-ghost use Rattle.nr_json.specs.Actions.{action_json, args_of, deploy_of, call_of, transfer_of, add_key_of};
-ghost use Rattle.nr_json.specs.Actions.{delete_key_of, delete_account_of, action_under, action_of};
+ghost use Rattle.nr_json.specs.Actions.{action_json, compact_of, args_under, args_of, deploy_of, call_of, transfer_of};
+ghost use Rattle.nr_json.specs.Actions.{add_key_of, delete_key_of, delete_account_of, action_under, action_of};
 ghost use Rattle.nr_json.specs.Members.{member_of};
 ghost use Rattle.nr_json.specs.Variants.{tagged_json};
 ghost use Rattle.nr_json.specs.declared.fault.JsonFault.TheVariants.{Memory};
 
 use crate::fault::{JsonFault, Wrong};
+use crate::floats::has_float;
 use crate::form::{Form, member, put};
 use crate::variants::{in_variant, named, tagged};
 use nr_bytes::{Blob, Text};
@@ -34,15 +36,42 @@ fn text_bytes(text: Text) -> Blob
     Blob::of(text.into_inner().into_bytes())
 }
 
-/// The arguments of a call: bytes in hexadecimal, or those of a text.
+/// A value's text with no space.
+fn compact_of(alloc: Global, value: &Value) -> Result<Blob, JsonFault>
+    ensures { Gives Memory result (compact_of (view value.now)) }
+{
+    if has_float(value) {
+        return Err(JsonFault::whole(alloc, Wrong::NoWhole));
+    }
+    let text = value.to_vec(alloc)?;
+    Ok(Blob::of(text))
+}
+
+/// What an object says of the arguments of a call.
+fn args_under(alloc: Global, object: &Value) -> Result<Blob, JsonFault>
+    ensures { Gives Memory result (args_under (get (codes "json") (view object.now)) (view object.now)) }
+{
+    match object.get("json") {
+        Some(value) => match compact_of(alloc, value) {
+            Ok(text) => Ok(text),
+            Err(fault) => Err(fault.in_member(alloc, "json")),
+        },
+        None => {
+            let text = member::<Text>(alloc, object, "text")?;
+            Ok(text_bytes(text))
+        }
+    }
+}
+
+/// The arguments of a call: bytes in hexadecimal, or what an object says.
 fn args_of(alloc: Global, value: &Value) -> Result<Blob, JsonFault>
     ensures { Gives Memory result (args_of (view value.now)) }
 {
     if value.is_object() {
-        let text = member::<Text>(alloc, value, "text")?;
-        return Ok(text_bytes(text));
+        args_under(alloc, value)
+    } else {
+        Blob::from_json(alloc, value)
     }
-    Blob::from_json(alloc, value)
 }
 
 /// The member with the arguments of a call.

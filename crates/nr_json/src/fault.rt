@@ -28,10 +28,13 @@ pub enum Wrong {
     NoBytes,
     /// It is no text of 64 hexadecimal digits.
     NoHash,
-    /// It is no text of `ed25519:` and 64 hexadecimal digits, or `secp256k1:` and 128 of them.
+    /// It is no text of `ed25519:` and 64 hexadecimal digits or 32 bytes in base 58, or of `secp256k1:` and 128
+    /// hexadecimal digits.
     NoKey,
     /// It is no account id.
     NoAccountId,
+    /// It has a number with a fraction or an exponent, or one of more than 64 bits.
+    NoWhole,
     /// It is no action: one of the names of actions, with its members.
     NoAction,
     /// It is no permission: `FullAccess`, or `FunctionCall` with its members.
@@ -65,11 +68,15 @@ impl Wrong {
             Wrong::NoBytes => "is no text of pairs of hexadecimal digits",
             Wrong::NoHash => "is no text of 64 hexadecimal digits",
             Wrong::NoKey => {
-                "is no key: `ed25519:` and 64 hexadecimal digits, or `secp256k1:` and 128"
+                "is no key: `ed25519:` and 64 hexadecimal digits or 32 bytes in base 58, or `secp256k1:` \
+                and 128 hexadecimal digits"
             }
             Wrong::NoAccountId => {
                 "is no account id: 2 to 64 characters, of `a` to `z` and `0` to `9`, and single `-`, \
                 `_` or `.` between these"
+            }
+            Wrong::NoWhole => {
+                "has a number that is no whole one of 64 bits: it may stand in a `text`"
             }
             Wrong::NoAction => {
                 "is no action: `CreateAccount`, `DeployContract`, `FunctionCall`, `Transfer`, `AddKey`, \

@@ -3,11 +3,13 @@
 ghost use Rattle.std.specs.Prelude.{◌≡◌, List, ℕ, IfOk, string_bytes, option_map};
 ghost use Rattle.nr_bytes.specs.Answers.{Gives};
 ghost use Rattle.serde_json.specs.Data.{string};
-ghost use Rattle.nr_json.specs.Keys.{id_in, id_of, sized, hash_json, hash_of, key_text, key_in, key_json, key_of};
+ghost use Rattle.nr_json.specs.Keys.{id_in, id_of, sized, hash_json, hash_of, ed25519_in, key_text, key_in, key_json};
+ghost use Rattle.nr_json.specs.Keys.{key_of};
 ghost use Rattle.nr_json.specs.Plain.{or_fault};
 ghost use Rattle.nr_json.specs.declared.fault.JsonFault.TheVariants.{Memory};
 ghost use Rattle.nr_json.specs.declared.fault.Wrong.TheVariants.{NoAccountId};
 
+use crate::base58::base58_of;
 use crate::fault::{JsonFault, Wrong};
 use crate::form::Form;
 use hex::FromHex;
@@ -81,12 +83,23 @@ impl Form for Hash32 {
     }
 }
 
+/// 32 bytes, as 64 hexadecimal digits or in base 58.
+fn ed25519_in(digits: &[u8]) -> Option<[u8; 32]>
+    ensures { result ≡ ed25519_in digits.now }
+{
+    if digits.len() == 64 {
+        sized::<32>(digits)
+    } else {
+        base58_of(digits)
+    }
+}
+
 fn key_in(text: &str) -> Option<PublicKey>
     ensures { result ≡ key_in text.now }
 {
     let bytes = text.as_bytes();
     if let Some(digits) = bytes.strip_prefix(b"ed25519:".as_slice()) {
-        return match sized::<32>(digits) {
+        return match ed25519_in(digits) {
             Some(key) => Some(PublicKey::Ed25519(key)),
             None => None,
         };

@@ -6,9 +6,11 @@
 
 mod access_key;
 mod action;
+mod base58;
 mod block;
 mod chain_file;
 mod fault;
+mod floats;
 mod form;
 mod genesis;
 mod keys;

@@ -4,7 +4,8 @@ use nr_bytes::{List, Text};
 use nr_config::Config;
 use nr_wasmexec::{Gauge, Machine, RunStop};
 use nr_wasmtypes::{
-    Arith, Compare, Export, ExportKind, FuncBody, FuncType, Instr, Limits, Module, Plain, ValType,
+    Arith, Compare, Export, ExportKind, FuncBody, FuncType, Instr, Limits, Locals, Module, Plain,
+    ValType,
 };
 use nr_wasmvalid::validate;
 use std::alloc::{AllocError, Global};
@@ -41,7 +42,7 @@ fn module_of(alloc: Global, code: Vec<Instr>) -> Result<Module, AllocError> {
             },
         ]?),
         elements: list(alloc),
-        bodies: List::of(vec![in alloc; FuncBody::of(list(alloc), code)]?),
+        bodies: List::of(vec![in alloc; FuncBody::of(Locals::new(alloc), code)]?),
         segments: list(alloc),
     })
 }

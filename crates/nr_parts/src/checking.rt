@@ -125,7 +125,8 @@ fn checked(alloc: Global, root: &Hash32, part: &Part) -> Result<(), PartFault>
 /// # Errors
 ///
 /// The first fault: `Numbers`, `Root`, the first fault of the walk over the texts (`Missing`,
-/// `BadText` or `TooMany`), or `Entries`; and `Memory`.
+/// `BadText` or `TooMany`), or `Entries`; and `Memory`, where memory is wanting or the walk takes more
+/// than its room.
 pub fn check_part(alloc: Global, root: &Hash32, part: &Part) -> Result<(), PartFault>
     ensures value { Gives memory_fault result (checked root.now part.now) }
     // The entries are those of the part's number in every map that a store can hold, has the root

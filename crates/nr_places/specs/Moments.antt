@@ -34,8 +34,8 @@ carried_in None = []
 carried_in (Some w) = w.carried
 
 module _ (x : Chain) where
-  -- by the chunk after a height: the receipts for its own shard's signers when they are converted, and those that go
-  -- out when it is sealed
+  -- by the chunk after a height: the receipts for their own signers when they are converted, and those that go out
+  -- when it is sealed
   abbrev pub routed_at : ℕ → ℕ → List Receipt
   routed_at s h = (converted_at x s h).local
 

@@ -33,8 +33,8 @@ fn settle(alloc: Global, config: &Config, mut frame: Frame) -> Result<Executed, 
     Ok(executed_as(frame, RunStatus::Clash, 0, lost))
 }
 
-/// Settles a receipt of actions that clashes with one that stands: as one that failed and burnt no
-/// gas. The outputs get none, and deposits and all gas go back. The state isn't changed.
+/// Settles a receipt of actions that clashes: as one that failed and burnt no gas. The outputs get
+/// none, and deposits and all gas go back. The state isn't changed.
 ///
 /// # Errors
 ///

@@ -125,7 +125,8 @@ fn genesis(alloc: Global, config: &Config) -> Result<Genesis, AllocError>
 fn chain(alloc: Global, config: &Config) -> Result<ChainRun<ContractCaller>, AllocError> {
     let genesis = genesis(alloc, config)?;
     let caller = ContractCaller::new(config);
-    let blocks = read_blocks(alloc, &BLOCKS, 3).map_err(|_| AllocError)?;
+    let bytes = Vec::from_slice(alloc, &BLOCKS)?;
+    let blocks = read_blocks(alloc, bytes, 3).map_err(|_| AllocError)?;
     Ok(ChainRun::new(*config, genesis, blocks, caller))
 }
 

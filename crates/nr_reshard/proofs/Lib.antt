@@ -1,2 +1,3 @@
 -- Lemmas behind the answers.
 mod Sound
+mod Outlined

@@ -33,10 +33,10 @@ reshard_law =
     (pair_law _ _ _ _ _ _ (nat_law record_fault 8) layout_law)
 
 -- ---- a word and what stands behind it
-abbrev IsMagic : List ℕ → List ℕ → Type 0
+abbrev pub IsMagic : List ℕ → List ℕ → Type 0
 IsMagic magic = Passes (HasLength 4) (bytes_eq magic)
 
-magic_law : (magic : List ℕ) → IsRead (magic_at magic) (λ word. word) (IsMagic magic)
+pub magic_law : (magic : List ℕ) → IsRead (magic_at magic) (λ word. word) (IsMagic magic)
 magic_law magic =
     tested_law (bytes_eq magic) BadOrdinal (raw_at 4) (λ word. word) (HasLength 4) (raw_law record_fault 4)
 

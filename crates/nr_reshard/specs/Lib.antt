@@ -3,3 +3,4 @@ pub mod Files
 pub mod FileLaws
 pub mod Judging
 pub mod Spellings
+pub mod Outlines

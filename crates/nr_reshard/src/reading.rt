@@ -18,33 +18,34 @@ ghost use Rattle.nr_reshard.specs.declared.reshard.Reshard.{Reshard};
 use crate::chain_file::ChainFile;
 use crate::checks::check_file;
 use crate::fault::ChainFault;
-use crate::third::{begins_third, decode_third};
-use nr_blocks::{Block, BlocksFault, read_blocks};
+use crate::third::{begins_third, take_third};
+use nr_blocks::{Block, BlocksFault, bytes_law, read_blocks};
 use nr_bytes::List;
 use std::alloc::Global;
 
 #[tactic(auto, unfolding(crate::specs::Judging::third_read))]
-fn judged(alloc: Global, bytes: &[u8], shards: u32) -> Result<ChainFile, ChainFault>
-    ensures { Gives (chain.Blocks blocks.Memory) result (third_read shards bytes.now) }
+fn judged(alloc: Global, bytes: Vec<u8>, shards: u32) -> Result<ChainFile, ChainFault>
+    ensures { Gives (chain.Blocks blocks.Memory) result (third_read shards bytes.items) }
 {
-    let file = decode_third(alloc, bytes)?;
+    let file = take_third(alloc, bytes)?;
     check_file(&file, shards)?;
     Ok(file)
 }
 
 /// The file of the third version.
-fn third_file(alloc: Global, bytes: &[u8], shards: u32) -> Result<ChainFile, ChainFault>
-    requires { starts_with ◌==◌ bytes.now third_magic ≡ true }
-    ensures gives { Gives (chain.Blocks blocks.Memory) result (chain_read shards bytes.now) }
-    ensures found { IfOk result (IsSpelled shards bytes.now) }
+fn third_file(alloc: Global, bytes: Vec<u8>, shards: u32) -> Result<ChainFile, ChainFault>
+    requires { starts_with ◌==◌ bytes.items third_magic ≡ true }
+    ensures gives { Gives (chain.Blocks blocks.Memory) result (chain_read shards bytes.items) }
+    ensures found { IfOk result (IsSpelled shards bytes.items) }
     ensures priced { IfOk result (λ file. AllByRecursion FitsPrice file.blocks) }
     ensures whole { IfOk result (λ file. (r : Reshard) → file.reshard ≡ Some r → CanReshard shards file.blocks r) }
-    ensures only { (f : Files) → IsChainFile shards f → bytes.now ≡ third_bytes f
+    ensures only { (f : Files) → IsChainFile shards f → bytes.items ≡ third_bytes f
         → Gives (chain.Blocks blocks.Memory) result (Ok f) }
     ensures only_before { (version : Version) (bs : Items Blocks) → AreBlocks version shards bs
-        → bytes.now ≡ blocks_spelling version bs
+        → bytes.items ≡ blocks_spelling version bs
         → Gives (chain.Blocks blocks.Memory) result (Ok (plain_file bs)) }
 {
+    bytes_law(bytes.as_slice());
     judged(alloc, bytes, shards)
 }
 
@@ -61,16 +62,16 @@ fn plain_of(read: Result<List<Block>, BlocksFault>) -> Result<ChainFile, ChainFa
 }
 
 /// The file of another version.
-fn plain_file(alloc: Global, bytes: &[u8], shards: u32) -> Result<ChainFile, ChainFault>
-    requires { starts_with ◌==◌ bytes.now third_magic ≡ false }
-    ensures gives { Gives (chain.Blocks blocks.Memory) result (chain_read shards bytes.now) }
-    ensures found { IfOk result (IsSpelled shards bytes.now) }
+fn plain_file(alloc: Global, bytes: Vec<u8>, shards: u32) -> Result<ChainFile, ChainFault>
+    requires { starts_with ◌==◌ bytes.items third_magic ≡ false }
+    ensures gives { Gives (chain.Blocks blocks.Memory) result (chain_read shards bytes.items) }
+    ensures found { IfOk result (IsSpelled shards bytes.items) }
     ensures priced { IfOk result (λ file. AllByRecursion FitsPrice file.blocks) }
     ensures whole { IfOk result (λ file. (r : Reshard) → file.reshard ≡ Some r → CanReshard shards file.blocks r) }
-    ensures only { (f : Files) → IsChainFile shards f → bytes.now ≡ third_bytes f
+    ensures only { (f : Files) → IsChainFile shards f → bytes.items ≡ third_bytes f
         → Gives (chain.Blocks blocks.Memory) result (Ok f) }
     ensures only_before { (version : Version) (bs : Items Blocks) → AreBlocks version shards bs
-        → bytes.now ≡ blocks_spelling version bs
+        → bytes.items ≡ blocks_spelling version bs
         → Gives (chain.Blocks blocks.Memory) result (Ok (plain_file bs)) }
 {
     plain_of(read_blocks(alloc, bytes, shards))
@@ -79,7 +80,8 @@ fn plain_file(alloc: Global, bytes: &[u8], shards: u32) -> Result<ChainFile, Cha
 /// Reads a blocks file of any version for a chain that begins with this many shards: the bytes
 /// `NRB1`, `NRB2` or `NRB3`; behind `NRB3` the height from which there are other boundaries, and
 /// these, or nothing; the blocks, and the end. Behind `NRB2` and `NRB3` each block has a gas price,
-/// and behind `NRB1` none has one.
+/// and behind `NRB1` none has one. The bytes are given back from the end while transactions
+/// are made.
 ///
 /// # Errors
 ///
@@ -87,22 +89,22 @@ fn plain_file(alloc: Global, bytes: &[u8], shards: u32) -> Result<ChainFile, Cha
 /// is the ordinal of an action of staking, and otherwise `Blocks(Spelling)`, each with its place,
 /// where a byte behind the blocks is such a field; `Blocks(ShardCount)`, `Blocks(HeightOrder)`,
 /// `Blocks(TooMany)` and `Reshard`, as they say. `Blocks(Memory)`.
-pub fn read_chain(alloc: Global, bytes: &[u8], shards: u32) -> Result<ChainFile, ChainFault>
-    ensures gives { Gives (chain.Blocks blocks.Memory) result (chain_read shards bytes.now) }
+pub fn read_chain(alloc: Global, bytes: Vec<u8>, shards: u32) -> Result<ChainFile, ChainFault>
+    ensures gives { Gives (chain.Blocks blocks.Memory) result (chain_read shards bytes.items) }
     // What is read is spelled so, in one of the versions.
-    ensures found { IfOk result (IsSpelled shards bytes.now) }
+    ensures found { IfOk result (IsSpelled shards bytes.items) }
     // The price of each block, where it has one, is below 2^64.
     ensures priced { IfOk result (λ file. AllByRecursion FitsPrice file.blocks) }
     // Where the boundaries change no chunk is missing.
     ensures whole { IfOk result (λ file. (r : Reshard) → file.reshard ≡ Some r → CanReshard shards file.blocks r) }
     // What is spelled so is read, unless memory runs out.
-    ensures only { (f : Files) → IsChainFile shards f → bytes.now ≡ third_bytes f
+    ensures only { (f : Files) → IsChainFile shards f → bytes.items ≡ third_bytes f
         → Gives (chain.Blocks blocks.Memory) result (Ok f) }
     ensures only_before { (version : Version) (bs : Items Blocks) → AreBlocks version shards bs
-        → bytes.now ≡ blocks_spelling version bs
+        → bytes.items ≡ blocks_spelling version bs
         → Gives (chain.Blocks blocks.Memory) result (Ok (plain_file bs)) }
 {
-    if begins_third(bytes) {
+    if begins_third(bytes.as_slice()) {
         third_file(alloc, bytes, shards)
     } else {
         plain_file(alloc, bytes, shards)

@@ -52,6 +52,7 @@ fn id_of(alloc: Global, bytes: &[u8]) -> Result<AccountId, AllocError> {
 }
 
 fn blocks_of(alloc: Global, bytes: &[u8]) -> Result<List<Block>, AllocError> {
+    let bytes = Vec::from_slice(alloc, bytes)?;
     read_blocks(alloc, bytes, 1).map_err(|_| AllocError)
 }
 

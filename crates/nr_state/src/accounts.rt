@@ -14,11 +14,11 @@ ghost use Rattle.nr_state.specs.Owners.{IsMoved, with_owner};
 ghost use Rattle.nr_state.specs.Usage.{key_usage};
 
 use crate::state::ShardState;
-use crate::usage::{key_usage, moved_owner};
-use nr_columns::Columns;
+use crate::usage::{moved_owner, spelled_usage};
+use nr_columns::{Columns, SpelledKey};
 use nr_config::Config;
 use nr_ids::{AccountId, PublicKey};
-use nr_records::{AccessKey, Account};
+use nr_records::{AccessKey, Account, encode};
 use nr_triedef::Store;
 use std::alloc::{AllocError, Global};
 
@@ -32,8 +32,8 @@ fn usage_of_key<S: Store>(
 ) -> Result<u64, AllocError>
     ensures { IfOk result (λ usage. usage ≡ usage_of_key config.now (world_in columns.now.columns) id.now key.now) }
 {
-    match columns.access_key(id, key)? {
-        Some(access) => key_usage(alloc, config, key, &access),
+    match columns.spelled_key(id, key)? {
+        Some(access) => spelled_usage(alloc, config, key, &access),
         None => Ok(0),
     }
 }
@@ -45,14 +45,14 @@ fn owner_with_key<S: Store>(
     config: &Config,
     id: &AccountId,
     key: &PublicKey,
-    access: &AccessKey,
+    access: &SpelledKey<'_>,
 ) -> Result<Account, AllocError>
     ensures { IfOk result (IsMoved (world_in columns.now.columns) id.now
         (usage_of_key config.now (world_in columns.now.columns) id.now key.now)
         (key_usage config.now key.now access.now)) }
 {
     let before = usage_of_key(columns, alloc, config, id, key)?;
-    let after = key_usage(alloc, config, key, access)?;
+    let after = spelled_usage(alloc, config, key, access)?;
     moved_owner(columns, id, before, after)
 }
 
@@ -75,7 +75,7 @@ fn write_key<S: Store>(
     columns: &mut Columns<S>,
     id: &AccountId,
     key: &PublicKey,
-    access: &AccessKey,
+    access: &SpelledKey<'_>,
     owner: &Account,
 ) -> Result<(), AllocError>
     ensures ok { OnOk result (columns.new ≡ with_columns columns.old
@@ -84,7 +84,7 @@ fn write_key<S: Store>(
     ensures fits { OnOk result (IsId id.now × (IsAccount owner.now × (IsKey key.now × IsAccessKey access.now))) }
     ensures marks { columns.new.marks ≡ columns.old.marks }
 {
-    columns.set_access_key(id, key, access)?;
+    columns.set_spelled_key(id, key, access)?;
     columns.set_account(id, owner)?;
     Ok(())
 }
@@ -173,6 +173,17 @@ impl<S: Store> ShardState<S> {
         self.columns.access_key(id, key)
     }
 
+    /// An access key of an account, lent as it is spelled; `None` where there is none.
+    pub fn spelled_key(
+        &self,
+        id: &AccountId,
+        key: &PublicKey,
+    ) -> Result<Option<SpelledKey<'_>>, AllocError>
+        ensures { IfOk result (λ found. found ≡ map.get self.now.world.keys (id.now, key.now)) }
+    {
+        self.columns.spelled_key(id, key)
+    }
+
     /// Writes an access key of an account that stands, and moves the account's `storage_usage` by
     /// what the key costs more or less.
     pub fn set_key(
@@ -180,6 +191,22 @@ impl<S: Store> ShardState<S> {
         id: &AccountId,
         key: &PublicKey,
         access: &AccessKey,
+    ) -> Result<(), AllocError>
+        requires whole { self.old.whole ≡ true }
+        requires owner { IsSome (map.get self.old.world.accounts id.now) }
+        ensures ok { OnOk result (self.new ≡ with_world self.old
+            (set_key self.old.config self.old.world id.now key.now access.now)) }
+    {
+        let bytes = encode(self.alloc, access)?;
+        self.set_spelled_key(id, key, &SpelledKey::of(bytes.inner()))
+    }
+
+    /// As [`ShardState::set_key`], of an access key that is spelled already.
+    pub fn set_spelled_key(
+        &mut self,
+        id: &AccountId,
+        key: &PublicKey,
+        access: &SpelledKey<'_>,
     ) -> Result<(), AllocError>
         requires whole { self.old.whole ≡ true }
         requires owner { IsSome (map.get self.old.world.accounts id.now) }

@@ -13,6 +13,6 @@ mod threads;
 pub mod usage;
 
 pub use calls::{CallContext, CallEnd, CallStop, Caller, Returned};
-pub use nr_columns::{Entry, keys};
+pub use nr_columns::{Entry, SpelledKey, keys};
 pub use place::Place;
 pub use state::ShardState;

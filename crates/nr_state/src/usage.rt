@@ -6,7 +6,7 @@ ghost use Rattle.nr_state.specs.Owners.{IsMoved};
 ghost use Rattle.nr_state.specs.View.{world_in};
 ghost use Rattle.nr_state.specs.Usage.{key_usage, datum_usage};
 
-use nr_columns::Columns;
+use nr_columns::{Columns, SpelledKey};
 use nr_config::Config;
 use nr_config::entries::EXTRA_RECORD_BYTES;
 use nr_ids::{AccountId, PublicKey};
@@ -53,6 +53,19 @@ pub fn key_usage(
     let key = encode(alloc, key)?;
     let access = encode(alloc, access)?;
     datum_usage(config, key.inner(), access.inner())
+}
+
+/// What an access key that is spelled already is counted as.
+pub(crate) fn spelled_usage(
+    alloc: Global,
+    config: &Config,
+    key: &PublicKey,
+    access: &SpelledKey<'_>,
+) -> Result<u64, AllocError>
+    ensures { IfOk result (λ usage. usage ≡ key_usage config.now key.now access.now) }
+{
+    let key = encode(alloc, key)?;
+    datum_usage(config, key.inner(), access.bytes())
 }
 
 fn moved(account: &Account, less: u64, more: u64) -> Result<Account, AllocError>

@@ -30,12 +30,12 @@ pub enum Status {
     /// number, from 1 (`a` is its height), 4 where there are more than 100,000 blocks, 5 where an action
     /// of staking stands (`a` is its place), and 6 where the boundaries change at a height that is below 2
     /// or above the count of blocks, or where that block or the one before it misses a chunk (`a` is this
-    /// height). To `check` a file with such a height can't be read.
+    /// height).
     Blocks { kind: u32, a: u64 },
-    /// The file is no schedule for the shards of the genesis. The kind is 0 where it is longer than
-    /// 1 MiB (the line is then 0), and 1 where a line, counted from 1, has none of the forms `open S`,
-    /// `take S SOURCE HEIGHT`, `seal S`, `publish S` and `rest`, has no line feed behind it, or names a
-    /// shard that isn't there.
+    /// The file is no schedule for the shards of the run. The kind is 0 where it is longer than 1 MiB
+    /// (the line is then 0), and 1 where a line, counted from 1, has none of the forms `open S`,
+    /// `take S SOURCE HEIGHT`, `seal S`, `publish S`, `rest` and `reshard`, has no line feed behind it, or
+    /// names a shard not below the shard count, or where the boundaries change the greater of both.
     Schedule { kind: u32, line: u64 },
     /// The file is no proof. The kind is 0 where it is longer than 256 MiB (the line is then 0), and 1
     /// where a line, counted from 1, isn't of the form or isn't there.

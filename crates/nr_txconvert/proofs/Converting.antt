@@ -1,5 +1,5 @@
 -- The conversion by its cases.
-use Rattle.std.proofs.Common.{◌≡◌, ℕ, ◌*◌, Option, Some, None, Ok, Err, refl, sym, ap, ◌∙◌}
+use Rattle.std.proofs.Common.{◌≡◌, ℕ, ◌-◌, ◌*◌, Option, Some, None, Ok, Err, refl, sym, ap, ◌∙◌}
 use Rattle.std.specs.FinMap.{get}
 use Rattle.nr_config.specs.Config.{Config}
 use Rattle.nr_records.specs.declared.account.Account.{Account}
@@ -7,11 +7,12 @@ use Rattle.nr_records.specs.declared.access_key.AccessKey.{AccessKey}
 use Rattle.nr_records.specs.declared.receipt.Receipt.{Receipt}
 use Rattle.nr_records.specs.declared.transaction.Transaction.{Transaction}
 use Rattle.nr_state.specs.View.{StateView, with_world}
-use Rattle.nr_state.specs.World.{World}
+use Rattle.nr_state.specs.Changes.{set_key}
+use Rattle.nr_state.specs.World.{World, with_account}
 use Rattle.nr_state.specs.declared.place.Place.{Place}
 use Rattle.nr_txconvert.specs.Refusals.{refusals, first_refusal}
-use Rattle.nr_txconvert.specs.Conversion.{receipt_of, converted, charged, unless_refused, convert, Converts}
-use Rattle.nr_txconvert.specs.Parts.{Judges}
+use Rattle.nr_txconvert.specs.Conversion.{receipt_of, converted, charged, lowered, unless_refused, convert, Converts}
+use Rattle.nr_txconvert.specs.Parts.{Judges, cost_is}
 use Rattle.nr_txconvert.specs.declared.cost.Cost.{Cost}
 use Rattle.nr_txconvert.specs.declared.fault.TxFault.{TxFault}
 use Rattle.nr_txconvert.specs.declared.fault.TxFault.TheVariants.{NoSigner, NoKey}
@@ -36,6 +37,23 @@ module _ (c : Config) (w : World) (tx : Transaction) (place : Place) where
 
       pub accepts : first_refusal (refusals c tx place.price account key) ≡ None → convert c w tx place ≡ Ok (charged c w tx place.price account key, converted c tx place)
       accepts e = by_first None e
+
+-- the whole cost taken off, and the key as it is once it was used
+pub charges : (c : Config) (w : World) (tx : Transaction) (price : ℕ) (account : Account) (key used : AccessKey) (cost : Cost)
+    → cost ≡ cost_is c tx price → used ≡ record { nonce = tx.nonce; permission = lowered cost.gas key.permission }
+    → set_key c (with_account w tx.signer (record account { amount = account.amount - cost.whole })) tx.signer tx.public_key used ≡ charged c w tx price account key
+charges c w tx price account key used cost is so =
+    ap (λ (k : AccessKey). set_key c (with_account w tx.signer (record account { amount = account.amount - cost.whole })) tx.signer tx.public_key k) so
+    ∙ ap (λ (x : Cost). set_key c (with_account w tx.signer (record account { amount = account.amount - x.whole })) tx.signer tx.public_key (record { nonce = tx.nonce; permission = lowered x.gas key.permission })) is
+
+abbrev some : AccessKey → Option AccessKey
+some key = Some key
+
+pub same_key : (o : Option AccessKey) (x y : AccessKey) → o ≡ Some x → o ≡ Some y → x ≡ y
+same_key o x y e d = same (sym e ∙ d)
+  where
+    same : some x ≡ some y → x ≡ y
+    same e = cc
 
 -- what was paid and made is what the definition says
 pub converts : (c : Config) (old new : StateView) (tx : Transaction) (place : Place) (account : Account) (key : AccessKey) (cost : Cost) (receipt : Receipt) (burnt : ℕ)

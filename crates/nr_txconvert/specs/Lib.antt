@@ -4,3 +4,5 @@ pub mod Refusals
 pub mod Conversion
 pub mod Parts
 pub mod Keeping
+pub mod Names
+pub mod Lent

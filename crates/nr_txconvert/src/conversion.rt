@@ -4,21 +4,21 @@ ghost use Rattle.std.specs.Prelude.{◌≡◌, ◌-◌, true, IfOk, OnOk, IsSome
 ghost use Rattle.std.specs.FinMap.{get};
 ghost use Rattle.nr_state.specs.View.{with_world};
 ghost use Rattle.nr_state.specs.World.{with_account};
-ghost use Rattle.nr_txconvert.specs.Parts.{cost_is};
-ghost use Rattle.nr_txconvert.specs.Conversion.{transaction_hash, receipt_of, converted, lowered, used_key, charged};
-ghost use Rattle.nr_txconvert.specs.Conversion.{paid_account, Converts};
+ghost use Rattle.nr_state.specs.Changes.{set_key};
+ghost use Rattle.nr_columns.specs.SpelledKeys.{key_read};
+ghost use Rattle.nr_txconvert.specs.Conversion.{transaction_hash, receipt_of, lowered, Converts};
+ghost use Rattle.nr_txconvert.specs.Lent.{shown};
 
 use crate::converted::Converted;
-use crate::cost::{Cost, price_of};
+use crate::cost::price_of;
 use crate::fault::TxFault;
+use crate::lent::{LentKey, lent, lowered, spelled};
 use crate::refusals::judge;
-use nr_bytes::List;
+use nr_bytes::{Blob, List};
 use nr_config::Config;
 use nr_ids::{Hash32, derive};
-use nr_records::{
-    AccessKey, Account, ActionReceipt, Body, Permission, Receipt, Spelled, Transaction, hash_of,
-};
-use nr_state::{Place, ShardState};
+use nr_records::{Account, ActionReceipt, Body, Receipt, Spelled, Transaction, hash_of};
+use nr_state::{Place, ShardState, SpelledKey};
 use nr_triedef::Store;
 use std::alloc::{AllocError, Global};
 
@@ -55,19 +55,24 @@ fn receipt_of(
     })
 }
 
-/// What a permission is once gas was paid for; an allowance is less by the cost.
-fn lowered(permission: Permission, cost: u128) -> Permission
-    ensures { result ≡ lowered cost permission }
+/// The bytes that spell a key once it was used, for gas of this cost.
+fn used(
+    alloc: Global,
+    tx: &Transaction,
+    access: LentKey<'_>,
+    cost: u128,
+) -> Result<Blob, AllocError>
+    ensures { IfOk result (λ bytes. key_read bytes ≡ Some (record {
+      nonce = tx.now.nonce;
+      permission =
+          lowered cost (shown access.entry).permission;
+    })) }
 {
-    match permission {
-        Permission::Call(mut call) => {
-            call.allowance = call
-                .allowance
-                .map(|allowance| allowance.saturating_sub(cost));
-            Permission::Call(call)
-        }
-        Permission::Full => Permission::Full,
-    }
+    let used = LentKey {
+        nonce: tx.nonce,
+        permission: lowered(access.permission, cost),
+    };
+    spelled(alloc, &used)
 }
 
 /// Takes the whole cost from the signer.
@@ -86,27 +91,22 @@ fn pay<S: Store>(
     Ok(())
 }
 
-/// Takes the whole cost from the signer, and notes on its key what was used.
+/// Takes the whole cost from the signer, and writes its key as it is once it was used.
 #[tactic(auto, using(crate::proofs::Charging::stands_with_account))]
 fn charge<S: Store>(
     state: &mut ShardState<S>,
     tx: &Transaction,
     account: &Account,
-    access: AccessKey,
-    cost: &Cost,
-    place: &Place,
+    used: &SpelledKey<'_>,
+    cost: u128,
 ) -> Result<(), AllocError>
     requires whole { state.old.whole ≡ true }
-    requires cost { cost.now ≡ cost_is state.old.config tx.now place.now.price }
-    ensures { OnOk result (state.new ≡ with_world state.old
-        (charged state.old.config state.old.world tx.now place.now.price account.now access)) }
+    ensures { OnOk result (state.new ≡ with_world state.old (set_key state.old.config
+        (with_account state.old.world tx.now.signer (record account.now { amount = account.now.amount - cost }))
+        tx.now.signer tx.now.public_key used.now)) }
 {
-    pay(state, tx, account, cost.whole)?;
-    let used = AccessKey {
-        nonce: tx.nonce,
-        permission: lowered(access.permission, cost.gas),
-    };
-    state.set_key(&tx.signer, &tx.public_key, &used)?;
+    pay(state, tx, account, cost)?;
+    state.set_spelled_key(&tx.signer, &tx.public_key, used)?;
     Ok(())
 }
 
@@ -131,15 +131,23 @@ pub fn convert_hashed<S: Store>(
     let Some(account) = state.account(&tx.signer)? else {
         return Err(TxFault::NoSigner);
     };
-    let Some(access) = state.key(&tx.signer, &tx.public_key)? else {
+    let Some(spelled) = state.spelled_key(&tx.signer, &tx.public_key)? else {
         return Err(TxFault::NoKey);
     };
+    let access = lent(alloc, &spelled)?;
     let cost = match judge(config, tx, place.price, &account, &access) {
         Ok(cost) => cost,
         Err(fault) => return Err(fault),
     };
     let receipt = receipt_of(alloc, tx, hash, place)?;
-    charge(state, tx, &account, access, &cost, place)?;
+    let used = used(alloc, tx, access, cost.gas)?;
+    charge(
+        state,
+        tx,
+        &account,
+        &SpelledKey::of(used.inner()),
+        cost.whole,
+    )?;
     Ok(Converted {
         receipt,
         gas: cost.sending,

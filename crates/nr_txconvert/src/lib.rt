@@ -6,6 +6,8 @@ mod converted;
 mod cost;
 mod fault;
 pub mod laws;
+mod lent;
+mod names;
 mod refusals;
 mod threads;
 

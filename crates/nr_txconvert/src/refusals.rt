@@ -1,24 +1,25 @@
 //! Why a transaction of a signer who has the key becomes no receipt.
 
 ghost use Rattle.std.specs.Prelude.{◌≡◌, ◌+◌};
-ghost use Rattle.std.specs.List.{list_any};
-ghost use Rattle.std.specs.Str.{bytes_eq};
 ghost use Rattle.nr_txconvert.specs.Refusals.{use_refusals, call_refusals, key_refusals, payment_refusals};
 ghost use Rattle.nr_txconvert.specs.Refusals.{allows_method, allowance_of, storage_stake};
 ghost use Rattle.nr_txconvert.specs.Parts.{FindsFirst, Judges, storage_refusals};
+ghost use Rattle.nr_txconvert.specs.Lent.{shown_calls, shown_permission, shown};
 
 use crate::cost::{Cost, cost_of, price_of};
 use crate::fault::TxFault;
+use crate::lent::{LentCalls, LentKey, LentPermission};
+use crate::names::Names;
 use nr_bytes::{List, Text};
 use nr_config::Config;
 use nr_config::entries::{MAX_ACTIONS, MAX_PREPAID_GAS, STORAGE_PRICE};
 use nr_fees::attached_gas;
 use nr_ids::AccountId;
-use nr_records::{AccessKey, Account, Action, CallPermission, Permission, Transaction};
+use nr_records::{Account, Action, Transaction};
 
 /// The refusals of the nonce and of what the actions are.
-fn judge_use(config: &Config, tx: &Transaction, access: &AccessKey) -> Result<(), TxFault>
-    ensures { FindsFirst result (use_refusals config.now tx.now access.now) }
+fn judge_use(config: &Config, tx: &Transaction, access: &LentKey<'_>) -> Result<(), TxFault>
+    ensures { FindsFirst result (use_refusals config.now tx.now (shown access.now)) }
 {
     if tx.nonce <= access.nonce {
         return Err(TxFault::Nonce {
@@ -39,26 +40,16 @@ fn judge_use(config: &Config, tx: &Transaction, access: &AccessKey) -> Result<()
     Ok(())
 }
 
-fn names_method(methods: &[Text], method: &[u8]) -> bool
-    ensures { result ≡ list_any (bytes_eq method.now) methods.now }
-{
-    methods.iter().any(|name| method == name.inner().as_bytes())
-}
-
 /// Whether a key that names these methods allows this one.
-fn allows_method(methods: &[Text], method: &Text) -> bool
+fn allows_method(methods: &Names<'_>, method: &Text) -> bool
     ensures { result ≡ allows_method methods.now method.now }
 {
-    methods.is_empty() || names_method(methods, method.inner().as_bytes())
+    methods.is_empty() || methods.contains(method.inner().as_bytes())
 }
 
 /// The refusals of a key for calls.
-fn judge_call(
-    call: &CallPermission,
-    receiver: &AccountId,
-    actions: &[Action],
-) -> Result<(), TxFault>
-    ensures { FindsFirst result (call_refusals call.now receiver.now actions.now) }
+fn judge_call(call: &LentCalls<'_>, receiver: &AccountId, actions: &[Action]) -> Result<(), TxFault>
+    ensures { FindsFirst result (call_refusals (shown_calls call.now) receiver.now actions.now) }
 {
     let [
         Action::FunctionCall {
@@ -76,28 +67,28 @@ fn judge_call(
     if call.receiver.inner().as_bytes() != receiver.bytes() {
         return Err(TxFault::KeyForbids { part: 3 });
     }
-    if !allows_method(call.methods.inner(), method) {
+    if !allows_method(&call.methods, method) {
         return Err(TxFault::KeyForbids { part: 4 });
     }
     Ok(())
 }
 
-fn judge_key(permission: &Permission, tx: &Transaction) -> Result<(), TxFault>
-    ensures { FindsFirst result (key_refusals permission.now tx.now) }
+fn judge_key(permission: &LentPermission<'_>, tx: &Transaction) -> Result<(), TxFault>
+    ensures { FindsFirst result (key_refusals (shown_permission permission.now) tx.now) }
 {
     match permission {
-        Permission::Call(call) => judge_call(call, &tx.receiver, tx.actions.inner()),
-        Permission::Full => Ok(()),
+        LentPermission::Call(call) => judge_call(call, &tx.receiver, tx.actions.inner()),
+        LentPermission::Full => Ok(()),
     }
 }
 
 /// What is left on a key for calls that has an allowance.
-fn allowance_of(permission: &Permission) -> Option<u128>
-    ensures { result ≡ allowance_of permission.now }
+fn allowance_of(permission: &LentPermission<'_>) -> Option<u128>
+    ensures { result ≡ allowance_of (shown_permission permission.now) }
 {
     match permission {
-        Permission::Call(call) => call.allowance,
-        Permission::Full => None,
+        LentPermission::Call(call) => call.allowance,
+        LentPermission::Full => None,
     }
 }
 
@@ -116,10 +107,11 @@ fn judge_storage(config: &Config, account: &Account, left: u128) -> Result<(), T
 fn judge_payment(
     config: &Config,
     account: &Account,
-    permission: &Permission,
+    permission: &LentPermission<'_>,
     cost: &Cost,
 ) -> Result<(), TxFault>
-    ensures { FindsFirst result (payment_refusals config.now account.now permission.now cost.now.gas cost.now.whole) }
+    ensures { FindsFirst result (payment_refusals config.now account.now (shown_permission permission.now)
+        cost.now.gas cost.now.whole) }
 {
     if let Some(has) = allowance_of(permission) {
         if has < cost.gas {
@@ -144,9 +136,9 @@ pub(crate) fn judge(
     tx: &Transaction,
     price: u64,
     account: &Account,
-    access: &AccessKey,
+    access: &LentKey<'_>,
 ) -> Result<Cost, TxFault>
-    ensures { Judges result config.now tx.now price account.now access.now }
+    ensures { Judges result config.now tx.now price account.now (shown access.now) }
 {
     judge_use(config, tx, access)?;
     judge_key(&access.permission, tx)?;

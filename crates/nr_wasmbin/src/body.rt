@@ -1,20 +1,17 @@
 //! Bodies of functions.
 
-ghost use Rattle.std.specs.Prelude.{◌≡◌, ◌≤◌, ◌++◌, ◌+◌, Ok, OnOk, IfOk, length, replicate};
-ghost use Rattle.nr_bytes.specs.Answers.{GivesAs};
+ghost use Rattle.std.specs.Prelude.{◌≡◌, ◌≤◌, ◌+◌, Ok, OnOk, IfOk, length};
 ghost use Rattle.nr_wasmbin.specs.Fields.{Gives, GivesAll, whole};
 ghost use Rattle.nr_wasmbin.specs.Parts.{group_at, group_count_at, groups_at, locals_at};
 ghost use Rattle.nr_wasmbin.specs.Modules.{body_at, inner_body_at};
-ghost use Rattle.nr_wasmbin.specs.declared.fault.DecodeFault.TheVariants.{Memory};
 
 use crate::cursor::Cursor;
 use crate::expression::read_expression;
 use crate::fault::DecodeFault;
 use crate::item::Item;
 use crate::parts::read_val_type;
-use nr_bytes::List;
-use nr_wasmtypes::{FuncBody, ValType};
-use std::alloc::{AllocError, Global};
+use nr_wasmtypes::{FuncBody, Locals, ValType};
+use std::alloc::Global;
 
 /// The most locals of a body.
 const MOST_LOCALS: usize = 50_000;
@@ -46,41 +43,26 @@ fn read_group(cursor: &mut Cursor<'_>, so_far: usize) -> Result<(u32, ValType), 
     Ok((count, kind))
 }
 
-/// Appends so many locals of one type.
-fn add_locals(locals: &mut Vec<ValType>, count: u32, kind: ValType) -> Result<(), AllocError>
-    ensures { OnOk result (locals.new.items ≡ locals.old.items ++ replicate count kind) }
-{
-    for _ in 0..count {
-        locals.push(kind)?;
-    }
-    Ok(())
-}
-
 /// The locals of so many groups.
-fn read_groups(
-    alloc: Global,
-    cursor: &mut Cursor<'_>,
-    count: u32,
-) -> Result<Vec<ValType>, DecodeFault>
-    ensures gives { GivesAs Memory (λ v. (v.items, cursor.new)) result (groups_at count 0 cursor.old) }
+fn read_groups(alloc: Global, cursor: &mut Cursor<'_>, count: u32) -> Result<Locals, DecodeFault>
+    ensures gives { Gives result cursor.new (groups_at count 0 cursor.old) }
     ensures shorter { OnOk result (length cursor.new.left ≤ length cursor.old.left) }
 {
-    let mut locals = Vec::new(alloc);
+    let mut locals = Locals::new(alloc);
     for _ in 0..count {
         let (count, kind) = read_group(cursor, locals.len())?;
-        add_locals(&mut locals, count, kind)?;
+        locals.add(count, kind)?;
     }
     Ok(locals)
 }
 
 #[tactic(auto, unfolding(crate::specs::Parts::locals_at))]
-fn read_locals(alloc: Global, cursor: &mut Cursor<'_>) -> Result<List<ValType>, DecodeFault>
+fn read_locals(alloc: Global, cursor: &mut Cursor<'_>) -> Result<Locals, DecodeFault>
     ensures gives { Gives result cursor.new (locals_at cursor.old) }
     ensures shorter { OnOk result (length cursor.new.left ≤ length cursor.old.left) }
 {
     let count = cursor.count()?;
-    let locals = read_groups(alloc, cursor, count)?;
-    Ok(List::of(locals))
+    read_groups(alloc, cursor, count)
 }
 
 fn read_inner_body(alloc: Global, cursor: &mut Cursor<'_>) -> Result<FuncBody, DecodeFault>

@@ -2,6 +2,7 @@
 pub mod Code
 pub mod Coding
 pub mod Body
+pub mod Runs
 pub mod Tables
 pub mod Opcodes
 pub mod Host

@@ -1,6 +1,7 @@
 //! Modules and their parts.
 
 use crate::instr::{Instr, ValType};
+use crate::locals::Locals;
 use nr_bytes::{Blob, List, Text};
 use std::marker::Model;
 
@@ -101,7 +102,7 @@ pub struct Segment {
 /// sequence.
 #[derive(Debug, Drop)]
 pub struct FuncBody {
-    locals: List<ValType>,
+    locals: Locals,
     code: Vec<Instr>,
 }
 
@@ -125,17 +126,17 @@ impl FuncBody {
     ghost use Rattle.nr_wasmtypes.specs.Code.{code_of};
 
     /// A body of these locals and this code.
-    pub fn of(locals: List<ValType>, code: Vec<Instr>) -> FuncBody
+    pub fn of(locals: Locals, code: Vec<Instr>) -> FuncBody
         ensures { result ≡ record { locals = locals; code = code_of code.items } }
     {
         FuncBody { locals, code }
     }
 
     /// Its locals behind the parameters.
-    pub fn locals(&self) -> &[ValType]
+    pub fn locals(&self) -> &Locals
         ensures { result.now ≡ self.now.locals }
     {
-        self.locals.inner()
+        &self.locals
     }
 
     /// Its code.

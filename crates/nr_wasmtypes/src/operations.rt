@@ -43,7 +43,7 @@ impl Load {
         }
     }
 
-    /// Its natural alignment as a power of two, from 0 to 3: so many bytes are read.
+    /// The exponent of its natural alignment, from 0 to 3: 2 to this many bytes are read.
     pub fn align(self) -> u8
         ensures { result ≡ align_of_load self }
     {
@@ -68,7 +68,7 @@ impl Store {
         }
     }
 
-    /// Its natural alignment as a power of two, from 0 to 3: so many bytes are written.
+    /// The exponent of its natural alignment, from 0 to 3: 2 to this many bytes are written.
     pub fn align(self) -> u8
         ensures { result ≡ align_of_store self }
     {

@@ -1,6 +1,7 @@
 -- Lemmas behind the answers.
 pub mod OnStacks
 pub mod OnShapes
+pub mod OnLocals
 pub mod OnJudged
 pub mod Meaning
 pub mod Sequences

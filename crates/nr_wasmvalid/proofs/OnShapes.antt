@@ -1,5 +1,5 @@
 -- Operands of known and unknown types.
-use Rattle.std.proofs.Common.{◌≡◌, ℕ, ◌+◌, ◌<◌, ◌≤◌, List, [], ◌∷◌, length, take, drop, reverse, get_or, Ok, Err, refl, sym, ap, ◌∙◌, arith}
+use Rattle.std.proofs.Common.{◌≡◌, ℕ, ◌+◌, ◌<◌, ◌≤◌, List, [], ◌∷◌, length, take, drop, reverse, get_or, Ok, Err, Bool, true, refl, sym, ap, ◌∙◌, arith}
 use Rattle.std.proofs.lemmas.List.{reverse-append, drop_more, drop_all, take_more}
 use Rattle.nr_wasmtypes.specs.declared.instr.ValType.{ValType}
 use Rattle.nr_wasmvalid.specs.declared.refusal.Refusal.{Refusal}
@@ -38,3 +38,14 @@ pub takes_back_stop : (ts : List ValType) (m : ℕ) (t : ValType) (s : Shape) (a
 unfolding take_all
 takes_back_stop ts m t s all first kind h is e so_far =
     sym so_far ∙ (ap (λ (us : List ValType). take_all us s) (last_of ts m t h is) ∙ ap (λ r. r >>= take_all (reverse (take m ts))) e)
+
+-- ---- where no operand is left and any may stand below
+any_taken : (ts : List ValType) → take_all ts (record { known = []; any_below = true }) ≡ Ok (record { known = []; any_below = true })
+unfolding take_all take_one
+any_taken [] = refl
+any_taken (t ∷ ts) = any_taken ts
+
+pub takes_back_end : (ts : List ValType) (m : ℕ) (s : Shape) (all : List ValType) (first : Shape) (any : Bool) → any ≡ true → (any ≡ true → s ≡ record { known = []; any_below = true }) → take_all (reverse (take m ts)) s ≡ take_all all first → take_all all first ≡ Ok s
+takes_back_end ts m s all first any holds is so_far =
+    let nothing = is holds in
+    sym so_far ∙ ap (take_all (reverse (take m ts))) nothing ∙ any_taken (reverse (take m ts)) ∙ ap (λ (u : Shape). Ok u) (sym nothing)

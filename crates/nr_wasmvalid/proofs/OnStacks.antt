@@ -1,10 +1,10 @@
 -- The two stacks of the checker.
-use Rattle.std.proofs.Common.{◌≡◌, ◌≢◌, ℕ, zero, suc, ◌-◌, ◌<◌, ◌≤◌, List, [], ◌∷◌, ◌++◌, length, take, drop, reverse, map, get_or, Some, refl, sym, ap, ◌∙◌, arith, length-drop}
+use Rattle.std.proofs.Common.{◌≡◌, ◌≢◌, ℕ, zero, suc, ◌-◌, ◌<◌, ◌≤◌, List, [], ◌∷◌, ◌++◌, length, take, drop, reverse, map, get_or, Some, Bool, true, refl, sym, ap, ◌∙◌, arith, length-drop}
 use Rattle.std.specs.Prelude.{slice_get, option_map}
-use Rattle.std.proofs.lemmas.List.{length-reverse, reverse-append, get_or-reverse, take_all}
+use Rattle.std.proofs.lemmas.List.{length-reverse, reverse-append, get_or-reverse, take_all, drop_all}
 use Rattle.std.proofs.lemmas.Option.{slice_get-map, slice_get-get_or}
 use Rattle.nr_wasmvalid.specs.Rules.{Types?}
-use Rattle.nr_wasmvalid.specs.Shapes.{Operand}
+use Rattle.nr_wasmvalid.specs.Shapes.{Operand, Shape}
 use Rattle.nr_wasmvalid.specs.Frames.{shape_at, shapes, label_of}
 use Rattle.nr_wasmvalid.specs.declared.frame.Frame.{Frame}
 
@@ -28,3 +28,10 @@ leave_shape ops h g fs all e is =
 
 pub leave_labels : (label : Types?) (g : Frame) (fs all : List Frame) → all ≡ fs ++ g ∷ [] → label ∷ map label_of (reverse all) ≡ label ∷ g.label ∷ map label_of (reverse fs)
 leave_labels label g fs all is = ap (λ (gs : List Frame). label ∷ map label_of gs) (ap reverse is ∙ reverse-append fs (g ∷ []))
+
+abbrev some_shape : List Operand → Bool → Shape
+some_shape known any = record { known = known; any_below = any }
+
+pub nothing_at : (ops : List Operand) (f : Frame) → length ops ≡ f.height → f.any_below ≡ true → shape_at ops f ≡ record { known = []; any_below = true }
+nothing_at ops f l any =
+    ap (λ (known : List Operand). some_shape (reverse known) f.any_below) (drop_all f.height ops (omega (arith, l))) ∙ ap (some_shape []) any

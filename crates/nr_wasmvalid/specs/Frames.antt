@@ -76,7 +76,7 @@ context w funcs locals result labels =
 
 -- the context of an instruction, where a function stands and these blocks are open
 abbrev pub in_scope : Scope → List Types? → Context
-in_scope s labels = context s.module.now s.funcs.now s.locals.now s.result labels
+in_scope s labels = context s.module.now s.funcs.now s.locals s.result labels
 
 -- what an instruction leaves
 abbrev pub left_by : Scope → Frames → Plain → Result Shape Refusal

@@ -1,14 +1,15 @@
 //! The bodies of a module's functions.
 
-ghost use Rattle.std.specs.Prelude.{◌≡◌, ◌++◌, ℕ, Ok, length, IfOk};
+ghost use Rattle.std.specs.Prelude.{◌≡◌, ℕ, Ok, length, IfOk};
 ghost use Rattle.nr_wasmvalid.specs.Parts.{parts_outcome, imported_type, imported_types, func_indices};
 ghost use Rattle.nr_wasmvalid.specs.Verdict.{FuncJudges, FuncsJudge};
 
 use crate::demand::number;
 use crate::fault::ValidFault;
+use crate::locals::LocalTypes;
 use crate::plain::Scope;
 use crate::typing::check_typing;
-use nr_wasmtypes::{FuncBody, FuncType, Import, ImportKind, Module, ValType};
+use nr_wasmtypes::{FuncBody, FuncType, Import, ImportKind, Module};
 use std::alloc::{AllocError, Global};
 
 /// The number of an imported function's type.
@@ -35,19 +36,6 @@ pub(crate) fn imported_types(alloc: Global, imports: &[Import]) -> Result<Vec<u3
     Ok(types)
 }
 
-/// All locals of a function: its parameters first.
-fn locals_of(
-    alloc: Global,
-    params: &[ValType],
-    more: &[ValType],
-) -> Result<Vec<ValType>, AllocError>
-    ensures { IfOk result (λ v. v.items ≡ params.now ++ more.now) }
-{
-    let mut locals = Vec::from_slice(alloc, params)?;
-    locals.extend_from_slice(more)?;
-    Ok(locals)
-}
-
 /// The body of the function with this number.
 fn check_function(
     alloc: Global,
@@ -61,11 +49,11 @@ fn check_function(
     ensures { FuncJudges module.now func sig.now body.now result }
 {
     let func = number(func)?;
-    let locals = locals_of(alloc, sig.params.inner(), body.locals())?;
+    let locals = LocalTypes::new(sig.params.inner(), body.locals());
     let scope = Scope {
         module,
         funcs,
-        locals: &locals,
+        locals,
         result: sig.result,
     };
     match check_typing(alloc, &scope, body.code_vec()) {

@@ -8,6 +8,7 @@ mod entries;
 mod fault;
 mod frame;
 mod functions;
+mod locals;
 mod parts;
 mod plain;
 mod refusal;

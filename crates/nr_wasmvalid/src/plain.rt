@@ -6,6 +6,7 @@ ghost use Rattle.nr_wasmvalid.specs.Rules.{func_type, are_labels, is_label, same
 ghost use Rattle.nr_wasmvalid.specs.Shapes.{asked_all};
 ghost use Rattle.nr_wasmvalid.specs.Frames.{SameAround, Leaves, left_by};
 
+use crate::locals::LocalTypes;
 use crate::refusal::Refusal;
 use crate::stacks::Stacks;
 use nr_wasmtypes::{FuncType, Labels, Load, Module, Plain, Store, ValType};
@@ -16,7 +17,7 @@ pub(crate) struct Scope<'a> {
     pub(crate) module: &'a Module,
     /// The number of each function's type, imported functions first.
     pub(crate) funcs: &'a [u32],
-    pub(crate) locals: &'a [ValType],
+    pub(crate) locals: LocalTypes<'a>,
     pub(crate) result: Option<ValType>,
 }
 
@@ -233,10 +234,10 @@ fn check_local_get(scope: &Scope<'_>, stacks: &mut Stacks, local: u32) -> Result
     ensures leaves { Leaves result stacks.new (left_by scope.now stacks.old (op.LocalGet local)) }
     ensures around { OnOk result (SameAround stacks.old stacks.new) }
 {
-    let Some(ty) = scope.locals.get(local as usize) else {
+    let Some(ty) = scope.locals.get(local) else {
         return Err(Refusal::Index);
     };
-    stacks.give(*ty)
+    stacks.give(ty)
 }
 
 /// A local's new value.
@@ -245,10 +246,10 @@ fn check_local_set(scope: &Scope<'_>, stacks: &mut Stacks, local: u32) -> Result
     ensures leaves { Leaves result stacks.new (left_by scope.now stacks.old (op.LocalSet local)) }
     ensures around { OnOk result (SameAround stacks.old stacks.new) }
 {
-    let Some(ty) = scope.locals.get(local as usize) else {
+    let Some(ty) = scope.locals.get(local) else {
         return Err(Refusal::Index);
     };
-    stacks.take(&[*ty])
+    stacks.take(&[ty])
 }
 
 /// A local's new value, which stays.
@@ -257,11 +258,11 @@ fn check_local_tee(scope: &Scope<'_>, stacks: &mut Stacks, local: u32) -> Result
     ensures leaves { Leaves result stacks.new (left_by scope.now stacks.old (op.LocalTee local)) }
     ensures around { OnOk result (SameAround stacks.old stacks.new) }
 {
-    let Some(ty) = scope.locals.get(local as usize) else {
+    let Some(ty) = scope.locals.get(local) else {
         return Err(Refusal::Index);
     };
-    stacks.take(&[*ty])?;
-    stacks.give(*ty)
+    stacks.take(&[ty])?;
+    stacks.give(ty)
 }
 
 /// An instruction that takes and gives operands of its own types alone.

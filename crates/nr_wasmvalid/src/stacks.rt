@@ -1,6 +1,7 @@
 //! The operand stack and the control stack of the validation algorithm.
 
 ghost use Rattle.std.specs.Prelude.{◌≡◌, ◌≢◌, [], ◌∷◌, OnOk, IfOk, None, length, option_copied, slice_get, reverse};
+ghost use Rattle.std.specs.Prelude.{true};
 ghost use Rattle.nr_wasmvalid.specs.Rules.{types, Types?, Take, Give, TakeAny, Alike, Empty, Leave};
 ghost use Rattle.nr_wasmvalid.specs.Shapes.{asked, fresh, top, take_one, take_all, give_all, alike, no_more, on_top};
 ghost use Rattle.nr_wasmvalid.specs.Shapes.{can_be, both};
@@ -72,6 +73,14 @@ impl Stacks {
         Ok(self.operands.pop().unwrap())
     }
 
+    /// No operand is left in this block, and any may stand below: whatever is taken, nothing changes.
+    #[tactic(auto, using(crate::proofs::OnStacks::nothing_at))]
+    fn gives_any(&self) -> bool
+        ensures { result ≡ true → self.now.shape ≡ record { known = []; any_below = true } }
+    {
+        self.operands.len() == self.frame.height && self.frame.any_below
+    }
+
     /// A block inside.
     pub(crate) fn enter(&mut self, label: Option<ValType>) -> Result<(), AllocError>
         ensures { OnOk result (self.new ≡ entered label self.old) }
@@ -111,13 +120,13 @@ impl Stacks {
     }
 
     /// The same, where the last one stands on top.
-    #[tactic(auto, using(crate::proofs::OnShapes::takes_back, crate::proofs::OnShapes::takes_back_stop), unfolding(crate::specs::Shapes::take_all))]
+    #[tactic(auto, using(crate::proofs::OnShapes::takes_back, crate::proofs::OnShapes::takes_back_stop, crate::proofs::OnShapes::takes_back_end), unfolding(crate::specs::Shapes::take_all))]
     pub(crate) fn take_last_first(&mut self, wanted: &[ValType]) -> Result<(), Refusal>
         ensures leaves { Leaves result self.new (asked (Take (reverse wanted.now)) self.old.shape) }
         ensures around { OnOk result (SameAround self.old self.new) }
     {
         let mut left = wanted.len();
-        while left > 0 {
+        while left > 0 && !self.gives_any() {
             left -= 1;
             self.take_one(wanted[left])?;
         }

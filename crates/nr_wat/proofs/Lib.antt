@@ -4,3 +4,4 @@ pub mod Numbered
 pub mod Counts
 pub mod Back
 pub mod Turns
+pub mod Listed

@@ -11,7 +11,7 @@ ghost use Rattle.nr_wat.specs.Pieces.{numbered};
 use crate::code::{print_code, push_result};
 use crate::names::type_name;
 use crate::pieces::{push_string, push_type_use};
-use nr_wasmtypes::{FuncBody, FuncType, Import, ImportKind, Module, ValType};
+use nr_wasmtypes::{FuncBody, FuncType, Import, ImportKind, Locals, Module, ValType};
 use std::alloc::{AllocError, Global};
 use std::fmt::Write;
 
@@ -195,12 +195,25 @@ fn push_function_head(imported: usize, number: usize, text: &mut String) -> Resu
     write!(text, "\n  (func (;{index};)")
 }
 
+/// The type of each of these locals.
+#[tactic(auto, using(crate::proofs::Listed::is_there, crate::proofs::Listed::one_more))]
+fn types_of(alloc: Global, locals: &Locals) -> Result<Vec<ValType>, AllocError>
+    ensures { IfOk result (λ v. v.items ≡ locals.now) }
+{
+    let mut types = Vec::new(alloc);
+    for number in 0..locals.len() {
+        types.push(locals.get(number).unwrap())?;
+    }
+    Ok(types)
+}
+
 /// The locals and the code of a function.
 #[tactic(auto, unfolding(crate::specs::Fields::body_text))]
 fn print_body(alloc: Global, body: &FuncBody, text: &mut String) -> Result<(), AllocError>
     ensures { OnOk result (string_bytes text.new ≡ string_bytes text.old ++ body_text body.now) }
 {
-    push_list("\n    (local", body.locals(), text)?;
+    let locals = types_of(alloc, body.locals())?;
+    push_list("\n    (local", &locals, text)?;
     print_code(alloc, "    ", body.code_vec(), text)?;
     text.push_str(")")
 }

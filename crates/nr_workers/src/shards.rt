@@ -38,7 +38,7 @@ fn flags_for(alloc: Global, count: usize) -> Result<Vec<AtomicBool>, AllocError>
 ///
 /// # Errors
 ///
-/// Where memory is wanting, to this call or to a phase of a chunk. Then all shards give up, and all threads have ended.
+/// Where memory is wanting, to this call or to a phase of a chunk. Then all threads have ended.
 pub fn run_shards<R: Threads + Wait + Sync, P: Phases + Sync, G: Gate + Sync>(
     rt: &R,
     alloc: Global,

@@ -9,10 +9,10 @@ pub returns-in-Some : goal.returns-in-Some
 returns-in-Some c =
     let words = texts c.args.words.now in
     let found : Some (found_in c.in-Some.found) ≡ read (table_in c.shown_forms.result.now) words = sym (ap (option_map found_in) c.in-Some.is) ∙ c.in_ok-found.ensures.found in
-    c.shown_of.ensures ∙ ap (by_form shown_of) (found ∙ ap (λ t. read t words) c.shown_forms.ensures)
+    c.shown_of.ensures ∙ ap (by_form (shown_of c.args.compact)) (found ∙ ap (λ t. read t words) c.shown_forms.ensures)
 
 pub returns-in-None : goal.returns-in-None
 returns-in-None c =
     let words = texts c.args.words.now in
     let found : None ≡ read (table_in c.shown_forms.result.now) words = sym (ap (option_map found_in) c.in-None.is) ∙ c.in_ok-found.ensures.found in
-    ap (by_form shown_of) (found ∙ ap (λ t. read t words) c.shown_forms.ensures)
+    ap (by_form (shown_of c.args.compact)) (found ∙ ap (λ t. read t words) c.shown_forms.ensures)

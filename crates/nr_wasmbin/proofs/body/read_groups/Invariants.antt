@@ -6,7 +6,7 @@ use Rattle.nr_wasmbin.proofs.body.read_groups.Given as goal
 
 abbrev pub invariant-loop : goal.invariant-loop
 invariant-loop l = record {
-  reads : with_front l.locals.items (groups_at (l.count - l.counter) (length l.locals.items) l.cursor) ≡ groups_at l.count 0 l.initial.cursor;
-  within : length l.locals.items ≤ 50000;
+  reads : with_front l.locals (groups_at (l.count - l.counter) (length l.locals) l.cursor) ≡ groups_at l.count 0 l.initial.cursor;
+  within : length l.locals ≤ 50000;
   shorter : length l.cursor.left ≤ length l.initial.cursor.left;
 }

@@ -19,40 +19,40 @@ pub check_inside-returns-in_err-next-clause-gives : goal.check_inside-returns-in
 check_inside-returns-in_err-next-clause-gives t c =
     let p = err_from_is_err_and c.from_residual-in_err-next.result c.from_residual-in_err-next.ensures.1 in
     rw (p.1, p.2) (λ other. ended_stops _ _ _ _
-    (sym (ap (λ (v : Frames). judged (context c.args.scope.now.module.now c.args.scope.now.funcs.now c.args.scope.now.locals.now c.args.scope.now.result v.labels) c.args.place (code_of c.args.body.now.items) v.shape) c.in_ok-enter.ensures) ∙ c.in_err-next.ensures.gives other))
+    (sym (ap (λ (v : Frames). judged (context c.args.scope.now.module.now c.args.scope.now.funcs.now c.args.scope.now.locals c.args.scope.now.result v.labels) c.args.place (code_of c.args.body.now.items) v.shape) c.in_ok-enter.ensures) ∙ c.in_err-next.ensures.gives other))
 
 pub check_inside-returns-in-Err-clause-gives : goal.check_inside-returns-in-Err-clause-gives
 check_inside-returns-in-Err-clause-gives t c = λ other.
-    let body = sym (ap (λ (v : Frames). judged (context c.args.scope.now.module.now c.args.scope.now.funcs.now c.args.scope.now.locals.now c.args.scope.now.result v.labels) c.args.place (code_of c.args.body.now.items) v.shape) c.in_ok-enter.ensures) ∙ c.in_ok-next.ensures.gives in
+    let body = sym (ap (λ (v : Frames). judged (context c.args.scope.now.module.now c.args.scope.now.funcs.now c.args.scope.now.locals c.args.scope.now.result v.labels) c.args.place (code_of c.args.body.now.items) v.shape) c.in_ok-enter.ensures) ∙ c.in_ok-next.ensures.gives in
     let at : c.at.result ≡ fault_at (c.args.place + count_of (code_of c.args.body.now.items)) c.in-Err.refusal = c.at.ensures ∙ ap (λ n. fault_at n c.in-Err.refusal) c.in_ok-next.ensures.next in
     ended_refused _ _ _ _ _ body (c.in-Err.ensures.gives (not_memory c.in_ok-next.next c.in-Err.refusal (λ e. other (c.at.ensures ∙ e)))) ∙ sym (ap err at)
 
 pub check_inside-returns-clause-gives : goal.check_inside-returns-clause-gives
 check_inside-returns-clause-gives t c =
     ended_passes _ _ _ _ _
-    (sym (ap (λ (v : Frames). judged (context c.args.scope.now.module.now c.args.scope.now.funcs.now c.args.scope.now.locals.now c.args.scope.now.result v.labels) c.args.place (code_of c.args.body.now.items) v.shape) c.in_ok-enter.ensures) ∙ c.in_ok-next.ensures.gives)
+    (sym (ap (λ (v : Frames). judged (context c.args.scope.now.module.now c.args.scope.now.funcs.now c.args.scope.now.locals c.args.scope.now.result v.labels) c.args.place (code_of c.args.body.now.items) v.shape) c.in_ok-enter.ensures) ∙ c.in_ok-next.ensures.gives)
     c.in_default.ensures.gives
 
 pub check_instr-returns-in-Err-clause-gives : goal.check_instr-returns-in-Err-clause-gives
 check_instr-returns-in-Err-clause-gives t c = λ other rest.
-    ap (λ (k : Code). judged (context c.args.scope.now.module.now c.args.scope.now.funcs.now c.args.scope.now.locals.now c.args.scope.now.result c.args.stacks.now.labels) c.args.place k c.args.stacks.now.shape) (put_plain c.args.instr.now c.in-Plain.plain rest c.in-Plain.is)
+    ap (λ (k : Code). judged (context c.args.scope.now.module.now c.args.scope.now.funcs.now c.args.scope.now.locals c.args.scope.now.result c.args.stacks.now.labels) c.args.place k c.args.stacks.now.shape) (put_plain c.args.instr.now c.in-Plain.plain rest c.in-Plain.is)
     ∙ plain_stops _ _ _ _ _ _ (c.in-Err.ensures.leaves (not_memory c.args.place c.in-Err.refusal (λ e. other (c.at.ensures ∙ e)))) ∙ sym (ap err c.at.ensures)
 
 pub check_instr-returns-in_default-clause-gives : goal.check_instr-returns-in_default-clause-gives
 check_instr-returns-in_default-clause-gives t c = λ rest.
-    ap (λ (k : Code). judged (context c.args.scope.now.module.now c.args.scope.now.funcs.now c.args.scope.now.locals.now c.args.scope.now.result c.args.stacks.now.labels) c.args.place k c.args.stacks.now.shape) (put_plain c.args.instr.now c.in-Plain.plain rest c.in-Plain.is)
+    ap (λ (k : Code). judged (context c.args.scope.now.module.now c.args.scope.now.funcs.now c.args.scope.now.locals c.args.scope.now.result c.args.stacks.now.labels) c.args.place k c.args.stacks.now.shape) (put_plain c.args.instr.now c.in-Plain.plain rest c.in-Plain.is)
     ∙ plain_goes_on _ _ _ _ _ _ _ c.in_ok-inside.ensures.next c.in_default.ensures.leaves
 
 pub check_instr-returns-in_err-next-in-Block-clause-gives : goal.check_instr-returns-in_err-next-in-Block-clause-gives
 check_instr-returns-in_err-next-in-Block-clause-gives t c =
     let p = err_from_is_err_and c.from_residual-in_err-next-in-Block.result c.from_residual-in_err-next-in-Block.ensures.1 in
-    rw (p.1, p.2) (λ other rest. ap (λ (k : Code). judged (context c.args.scope.now.module.now c.args.scope.now.funcs.now c.args.scope.now.locals.now c.args.scope.now.result c.args.stacks.now.labels) c.args.place k c.args.stacks.now.shape) (put_block_at c.args.instr.now c.in-Block.result_type c.in-Block.body c.deref.result.now rest c.in-Block.is c.deref.ensures)
+    rw (p.1, p.2) (λ other rest. ap (λ (k : Code). judged (context c.args.scope.now.module.now c.args.scope.now.funcs.now c.args.scope.now.locals c.args.scope.now.result c.args.stacks.now.labels) c.args.place k c.args.stacks.now.shape) (put_block_at c.args.instr.now c.in-Block.result_type c.in-Block.body c.deref.result.now rest c.in-Block.is c.deref.ensures)
     ∙ block_stops _ _ _ _ _ _ _ _ c.in_ok-inside.ensures.next (c.in_err-next-in-Block.ensures.gives other))
 
 pub check_instr-returns-in_ok-give_result-in-Block-clause-gives : goal.check_instr-returns-in_ok-give_result-in-Block-clause-gives
 check_instr-returns-in_ok-give_result-in-Block-clause-gives t c = λ rest.
     ap (λ (k : Code). judged (context c.args.scope.now.module.now c.args.scope.now.funcs.now
-    c.args.scope.now.locals.now c.args.scope.now.result c.args.stacks.now.labels) c.args.place k
+    c.args.scope.now.locals c.args.scope.now.result c.args.stacks.now.labels) c.args.place k
     c.args.stacks.now.shape) (put_block_at c.args.instr.now c.in-Block.result_type c.in-Block.body
     c.deref.result.now rest c.in-Block.is c.deref.ensures)
     ∙ block_goes_on _ _ _ _ _ _ _ _ _ _ c.in_ok-inside.ensures.next c.in_ok-next-in-Block.ensures.gives c.in_ok-next-in-Block.ensures.next
@@ -61,13 +61,13 @@ check_instr-returns-in_ok-give_result-in-Block-clause-gives t c = λ rest.
 pub check_instr-returns-in_err-next-in-Loop-clause-gives : goal.check_instr-returns-in_err-next-in-Loop-clause-gives
 check_instr-returns-in_err-next-in-Loop-clause-gives t c =
     let p = err_from_is_err_and c.from_residual-in_err-next-in-Loop.result c.from_residual-in_err-next-in-Loop.ensures.1 in
-    rw (p.1, p.2) (λ other rest. ap (λ (k : Code). judged (context c.args.scope.now.module.now c.args.scope.now.funcs.now c.args.scope.now.locals.now c.args.scope.now.result c.args.stacks.now.labels) c.args.place k c.args.stacks.now.shape) (put_loop_at c.args.instr.now c.in-Loop.result_type c.in-Loop.body c.deref-in-Loop.result.now rest c.in-Loop.is c.deref-in-Loop.ensures)
+    rw (p.1, p.2) (λ other rest. ap (λ (k : Code). judged (context c.args.scope.now.module.now c.args.scope.now.funcs.now c.args.scope.now.locals c.args.scope.now.result c.args.stacks.now.labels) c.args.place k c.args.stacks.now.shape) (put_loop_at c.args.instr.now c.in-Loop.result_type c.in-Loop.body c.deref-in-Loop.result.now rest c.in-Loop.is c.deref-in-Loop.ensures)
     ∙ loop_stops _ _ _ _ _ _ _ _ c.in_ok-inside.ensures.next (c.in_err-next-in-Loop.ensures.gives other))
 
 pub check_instr-returns-in_ok-give_result-in-Loop-clause-gives : goal.check_instr-returns-in_ok-give_result-in-Loop-clause-gives
 check_instr-returns-in_ok-give_result-in-Loop-clause-gives t c = λ rest.
     ap (λ (k : Code). judged (context c.args.scope.now.module.now c.args.scope.now.funcs.now
-    c.args.scope.now.locals.now c.args.scope.now.result c.args.stacks.now.labels) c.args.place k
+    c.args.scope.now.locals c.args.scope.now.result c.args.stacks.now.labels) c.args.place k
     c.args.stacks.now.shape) (put_loop_at c.args.instr.now c.in-Loop.result_type c.in-Loop.body
     c.deref-in-Loop.result.now rest c.in-Loop.is c.deref-in-Loop.ensures)
     ∙ loop_goes_on _ _ _ _ _ _ _ _ _ _ c.in_ok-inside.ensures.next c.in_ok-next-in-Loop.ensures.gives c.in_ok-next-in-Loop.ensures.next
@@ -76,7 +76,7 @@ check_instr-returns-in_ok-give_result-in-Loop-clause-gives t c = λ rest.
 pub check_instr-returns-in-Err-take-clause-gives : goal.check_instr-returns-in-Err-take-clause-gives
 check_instr-returns-in-Err-take-clause-gives t c = λ other rest.
     ap (λ (k : Code). judged (context c.args.scope.now.module.now c.args.scope.now.funcs.now
-    c.args.scope.now.locals.now c.args.scope.now.result c.args.stacks.now.labels) c.args.place k
+    c.args.scope.now.locals c.args.scope.now.result c.args.stacks.now.labels) c.args.place k
     c.args.stacks.now.shape) (put_if_at c.args.instr.now c.in-If.result_type c.in-If.arms c.deref-arms.result.now
     rest c.in-If.is c.deref-arms.ensures)
     ∙ condition_stops _ _ _ _ _ _ _ _ (c.in-Err-take.ensures.leaves (not_memory c.args.place c.in-Err-take.refusal (λ e. other (c.at-in-Err-take.ensures ∙ e)))) ∙ sym (ap err c.at-in-Err-take.ensures)
@@ -84,27 +84,27 @@ check_instr-returns-in-Err-take-clause-gives t c = λ other rest.
 pub check_instr-returns-in_err-next-in-If-clause-gives : goal.check_instr-returns-in_err-next-in-If-clause-gives
 check_instr-returns-in_err-next-in-If-clause-gives t c =
     let p = err_from_is_err_and c.from_residual-in_err-next-in-If.result c.from_residual-in_err-next-in-If.ensures.1 in
-    let first = λ (labels : List Types?). ended (c.in_ok-inside.inside + count_of (code_of c.deref-arms.result.now.0.items)) c.in-If.result_type (judged (within c.in-If.result_type (context c.args.scope.now.module.now c.args.scope.now.funcs.now c.args.scope.now.locals.now c.args.scope.now.result labels)) c.in_ok-inside.inside (code_of c.deref-arms.result.now.0.items) fresh) in
-    rw (p.1, p.2) (λ other rest. ap (λ (k : Code). judged (context c.args.scope.now.module.now c.args.scope.now.funcs.now c.args.scope.now.locals.now c.args.scope.now.result c.args.stacks.now.labels) c.args.place k c.args.stacks.now.shape) (put_if_at c.args.instr.now c.in-If.result_type c.in-If.arms c.deref-arms.result.now rest c.in-If.is c.deref-arms.ensures)
+    let first = λ (labels : List Types?). ended (c.in_ok-inside.inside + count_of (code_of c.deref-arms.result.now.0.items)) c.in-If.result_type (judged (within c.in-If.result_type (context c.args.scope.now.module.now c.args.scope.now.funcs.now c.args.scope.now.locals c.args.scope.now.result labels)) c.in_ok-inside.inside (code_of c.deref-arms.result.now.0.items) fresh) in
+    rw (p.1, p.2) (λ other rest. ap (λ (k : Code). judged (context c.args.scope.now.module.now c.args.scope.now.funcs.now c.args.scope.now.locals c.args.scope.now.result c.args.stacks.now.labels) c.args.place k c.args.stacks.now.shape) (put_if_at c.args.instr.now c.in-If.result_type c.in-If.arms c.deref-arms.result.now rest c.in-If.is c.deref-arms.ensures)
     ∙ one_stops _ _ _ _ _ _ _ _ _ _ c.in_ok-inside.ensures.next c.in_default-take.ensures.leaves (sym (ap first c.in_default-take.ensures.around.labels) ∙ c.in_err-next-in-If.ensures.gives other))
 
 pub check_instr-returns-in_err-next-in-If-2-clause-gives : goal.check_instr-returns-in_err-next-in-If-2-clause-gives
 check_instr-returns-in_err-next-in-If-2-clause-gives t c =
     let p = err_from_is_err_and c.from_residual-in_err-next-in-If-2.result c.from_residual-in_err-next-in-If-2.ensures.1 in
-    let first = λ (labels : List Types?). ended (c.in_ok-inside.inside + count_of (code_of c.deref-arms.result.now.0.items)) c.in-If.result_type (judged (within c.in-If.result_type (context c.args.scope.now.module.now c.args.scope.now.funcs.now c.args.scope.now.locals.now c.args.scope.now.result labels)) c.in_ok-inside.inside (code_of c.deref-arms.result.now.0.items) fresh) in
-    let second = λ (labels : List Types?). ended (c.in_ok-next-in-If.next + count_of (code_of c.deref-arms.result.now.1.items)) c.in-If.result_type (judged (within c.in-If.result_type (context c.args.scope.now.module.now c.args.scope.now.funcs.now c.args.scope.now.locals.now c.args.scope.now.result labels)) c.in_ok-next-in-If.next (code_of c.deref-arms.result.now.1.items) fresh) in
+    let first = λ (labels : List Types?). ended (c.in_ok-inside.inside + count_of (code_of c.deref-arms.result.now.0.items)) c.in-If.result_type (judged (within c.in-If.result_type (context c.args.scope.now.module.now c.args.scope.now.funcs.now c.args.scope.now.locals c.args.scope.now.result labels)) c.in_ok-inside.inside (code_of c.deref-arms.result.now.0.items) fresh) in
+    let second = λ (labels : List Types?). ended (c.in_ok-next-in-If.next + count_of (code_of c.deref-arms.result.now.1.items)) c.in-If.result_type (judged (within c.in-If.result_type (context c.args.scope.now.module.now c.args.scope.now.funcs.now c.args.scope.now.locals c.args.scope.now.result labels)) c.in_ok-next-in-If.next (code_of c.deref-arms.result.now.1.items) fresh) in
     let around = ap (λ (v : Frames). v.labels) c.in_ok-next-in-If.ensures.same ∙ c.in_default-take.ensures.around.labels in
-    rw (p.1, p.2) (λ other rest. ap (λ (k : Code). judged (context c.args.scope.now.module.now c.args.scope.now.funcs.now c.args.scope.now.locals.now c.args.scope.now.result c.args.stacks.now.labels) c.args.place k c.args.stacks.now.shape) (put_if_at c.args.instr.now c.in-If.result_type c.in-If.arms c.deref-arms.result.now rest c.in-If.is c.deref-arms.ensures)
+    rw (p.1, p.2) (λ other rest. ap (λ (k : Code). judged (context c.args.scope.now.module.now c.args.scope.now.funcs.now c.args.scope.now.locals c.args.scope.now.result c.args.stacks.now.labels) c.args.place k c.args.stacks.now.shape) (put_if_at c.args.instr.now c.in-If.result_type c.in-If.arms c.deref-arms.result.now rest c.in-If.is c.deref-arms.ensures)
     ∙ other_stops _ _ _ _ _ _ _ _ _ _ _ _ c.in_ok-inside.ensures.next c.in_default-take.ensures.leaves (sym (ap first c.in_default-take.ensures.around.labels) ∙ c.in_ok-next-in-If.ensures.gives)
     c.in_ok-next-in-If.ensures.next (sym (ap second around) ∙ c.in_err-next-in-If-2.ensures.gives other))
 
 pub check_instr-returns-in_ok-give_result-in-If-clause-gives : goal.check_instr-returns-in_ok-give_result-in-If-clause-gives
 check_instr-returns-in_ok-give_result-in-If-clause-gives t c = λ rest.
-    let first = λ (labels : List Types?). ended (c.in_ok-inside.inside + count_of (code_of c.deref-arms.result.now.0.items)) c.in-If.result_type (judged (within c.in-If.result_type (context c.args.scope.now.module.now c.args.scope.now.funcs.now c.args.scope.now.locals.now c.args.scope.now.result labels)) c.in_ok-inside.inside (code_of c.deref-arms.result.now.0.items) fresh) in
-    let second = λ (labels : List Types?). ended (c.in_ok-next-in-If.next + count_of (code_of c.deref-arms.result.now.1.items)) c.in-If.result_type (judged (within c.in-If.result_type (context c.args.scope.now.module.now c.args.scope.now.funcs.now c.args.scope.now.locals.now c.args.scope.now.result labels)) c.in_ok-next-in-If.next (code_of c.deref-arms.result.now.1.items) fresh) in
+    let first = λ (labels : List Types?). ended (c.in_ok-inside.inside + count_of (code_of c.deref-arms.result.now.0.items)) c.in-If.result_type (judged (within c.in-If.result_type (context c.args.scope.now.module.now c.args.scope.now.funcs.now c.args.scope.now.locals c.args.scope.now.result labels)) c.in_ok-inside.inside (code_of c.deref-arms.result.now.0.items) fresh) in
+    let second = λ (labels : List Types?). ended (c.in_ok-next-in-If.next + count_of (code_of c.deref-arms.result.now.1.items)) c.in-If.result_type (judged (within c.in-If.result_type (context c.args.scope.now.module.now c.args.scope.now.funcs.now c.args.scope.now.locals c.args.scope.now.result labels)) c.in_ok-next-in-If.next (code_of c.deref-arms.result.now.1.items) fresh) in
     let around = ap (λ (v : Frames). v.labels) c.in_ok-next-in-If.ensures.same ∙ c.in_default-take.ensures.around.labels in
     ap (λ (k : Code). judged (context c.args.scope.now.module.now c.args.scope.now.funcs.now
-    c.args.scope.now.locals.now c.args.scope.now.result c.args.stacks.now.labels) c.args.place k
+    c.args.scope.now.locals c.args.scope.now.result c.args.stacks.now.labels) c.args.place k
     c.args.stacks.now.shape) (put_if_at c.args.instr.now c.in-If.result_type c.in-If.arms c.deref-arms.result.now
     rest c.in-If.is c.deref-arms.ensures)
     ∙ choice_goes_on _ _ _ _ _ _ _ _ _ _ _ _ _ _ c.in_ok-inside.ensures.next c.in_default-take.ensures.leaves (sym (ap first c.in_default-take.ensures.around.labels) ∙ c.in_ok-next-in-If.ensures.gives)
@@ -114,7 +114,7 @@ check_instr-returns-in_ok-give_result-in-If-clause-gives t c = λ rest.
 pub check_code-loop-index-preserved : goal.check_code-loop-index-preserved
 check_code-loop-index-preserved t c = record {
   judged =
-      goes_on c.args.scope.now.module.now c.args.scope.now.funcs.now c.args.scope.now.locals.now
+      goes_on c.args.scope.now.module.now c.args.scope.now.funcs.now c.args.scope.now.locals
       c.args.scope.now.result c.loop-index.stacks.labels c.args.stacks.now.labels c.loop-index.next c.in_ok-next.next
       c.args.code.now.items c.loop-index.index c.index.result.now c.loop-index.stacks.shape
       c.check_instr.new.stacks.shape _
@@ -129,5 +129,5 @@ check_code-returns-clause-gives t c = sym c.loop-index.invariant.judged ∙ at_e
 pub check_code-returns-in_err-next-clause-gives : goal.check_code-returns-in_err-next-clause-gives
 check_code-returns-in_err-next-clause-gives t c =
     let p = err_from_is_err_and c.from_residual.result c.from_residual.ensures.1 in
-    rw (p.1, p.2) (λ other. stops c.args.scope.now.module.now c.args.scope.now.funcs.now c.args.scope.now.locals.now c.args.scope.now.result c.loop-index.stacks.labels c.args.stacks.now.labels c.loop-index.next c.args.code.now.items c.loop-index.index c.index.result.now c.loop-index.stacks.shape _ _
+    rw (p.1, p.2) (λ other. stops c.args.scope.now.module.now c.args.scope.now.funcs.now c.args.scope.now.locals c.args.scope.now.result c.loop-index.stacks.labels c.args.stacks.now.labels c.loop-index.next c.args.code.now.items c.loop-index.index c.index.result.now c.loop-index.stacks.shape _ _
     c.loop-index.invariant.around.labels (omega arith) c.index.ensures (c.in_err-next.ensures.gives other) c.loop-index.invariant.judged)

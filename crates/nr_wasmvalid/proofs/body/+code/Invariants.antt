@@ -7,7 +7,7 @@ use Rattle.nr_wasmvalid.proofs.body.+code.Given as goal
 
 abbrev pub invariant-check_code-loop-index : goal.invariant-check_code-loop-index
 invariant-check_code-loop-index l =
-    let c = context l.scope.module.now l.scope.funcs.now l.scope.locals.now l.scope.result l.fn.stacks.labels in
+    let c = context l.scope.module.now l.scope.funcs.now l.scope.locals l.scope.result l.fn.stacks.labels in
     record {
       judged : judged c l.next (code_of (drop l.index l.code.items)) l.stacks.shape ≡ judged c l.place (code_of l.code.items) l.fn.stacks.shape;
       counted : l.next + count_of (code_of (drop l.index l.code.items)) ≡ l.place + count_of (code_of l.code.items);

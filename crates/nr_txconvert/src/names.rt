@@ -1,0 +1,103 @@
+//! Names that are lent as they are spelled.
+
+ghost use Rattle.std.specs.Prelude.{◌≡◌, ◌==◌, ◌+◌, ◌≤◌, ℕ, List as Items, length, Some, IsSome, IfSome};
+ghost use Rattle.std.specs.Option.{option_copied};
+ghost use Rattle.std.specs.List.{list_any, flat_map, AllByRecursion};
+ghost use Rattle.std.specs.Str.{bytes_eq};
+ghost use Rattle.nr_bytes.specs.Reading.{counted};
+ghost use Rattle.nr_bytes.specs.Spelling.{list, FitsList, IsString};
+ghost use Rattle.nr_bytes.specs.Writing.{counted_bytes};
+ghost use Rattle.nr_txconvert.specs.Names.{names_read};
+
+use byteorder::{ByteOrder, LittleEndian};
+use std::marker::Model;
+
+/// Names, lent as the bytes that spell their list. Contracts see the names.
+#[derive(Drop)]
+pub(crate) struct Names<'a> {
+    bytes: &'a [u8],
+}
+
+impl<'a> Model for Names<'a> {
+    ghost use Rattle.std.specs.Prelude.{List, ℕ};
+    ghost use Rattle.nr_txconvert.specs.Names.{names_in, SpellNames};
+
+    ghost Value = { List (List ℕ) };
+
+    ghost view = { λ n. names_in n.bytes.now };
+
+    ghost invariant = { λ n. SpellNames n.bytes.now };
+}
+
+/// The bytes behind the count at the front, as many as it says.
+#[tactic(auto, using(nr_bytes::proofs::Numbers::number_4), unfolding(nr_bytes::specs::Reading::counted))]
+fn first_of(bytes: &[u8]) -> Option<&[u8]>
+    ensures value { option_copied result ≡ counted bytes.now }
+    ensures within { IfSome result (λ name. 4 + length name.now ≤ length bytes.now) }
+{
+    if bytes.len() < 4 {
+        return None;
+    }
+    let (front, rest) = bytes.split_at(4);
+    let count = LittleEndian::read_u32(front) as usize;
+    if rest.len() < count {
+        return None;
+    }
+    Some(&rest[..count])
+}
+
+fn is_same(name: &[u8], other: &[u8]) -> bool
+    ensures { result ≡ bytes_eq name.now other.now }
+{
+    name == other
+}
+
+/// Whether a name is one of those that stand one behind the other.
+fn stands_in(bytes: &[u8], name: &[u8]) -> bool
+    ensures { (names : Items (Items ℕ)) → AllByRecursion IsString names → bytes.now ≡ flat_map counted_bytes names
+        → result ≡ list_any (bytes_eq name.now) names }
+{
+    let mut rest = bytes;
+    'names: while let Some(first) = first_of(rest) {
+        if is_same(name, first) {
+            return true;
+        }
+        rest = &rest[4 + first.len()..];
+    }
+    false
+}
+
+impl<'a> Names<'a> {
+    /// The names whose list the bytes spell.
+    #[tactic(auto, using(crate::proofs::SpelledNames::is_spelled))]
+    pub(crate) fn of(bytes: &'a [u8]) -> Names<'a>
+        requires { IsSome (names_read bytes.now) }
+        ensures { names_read bytes.now ≡ Some result }
+    {
+        Names { bytes }
+    }
+
+    /// The bytes that spell their list.
+    #[tactic(auto, using(crate::proofs::SpelledNames::spelled_bytes))]
+    pub(crate) fn bytes(&self) -> &'a [u8]
+        ensures spelled { result.now ≡ list counted_bytes self.now }
+        ensures fits { FitsList IsString self.now }
+    {
+        self.bytes
+    }
+
+    #[tactic(auto, using(crate::proofs::SpelledNames::is_empty))]
+    pub(crate) fn is_empty(&self) -> bool
+        ensures { result ≡ (length self.now == 0) }
+    {
+        self.bytes.len() == 4
+    }
+
+    /// Whether a name is one of them.
+    #[tactic(auto, using(crate::proofs::SpelledNames::behind_count))]
+    pub(crate) fn contains(&self, name: &[u8]) -> bool
+        ensures { result ≡ list_any (bytes_eq name.now) self.now }
+    {
+        stands_in(&self.bytes[4..], name)
+    }
+}
