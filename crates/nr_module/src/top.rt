@@ -128,15 +128,16 @@ fn serve_command<S: Shelf, K: Sink>(
 /// module's own that is exported by it and takes and leaves nothing; or `make 21` where there is such a
 /// method, but an element or a segment doesn't fit.
 ///
-/// `call` writes the lines of `nr_trial::try_call`, or `long`. `list` writes a line for each import, with why the host doesn't have it or `ok`, for each export, table and
-/// memory, and for the size of the file; `text` writes the module (`nr_wat::write_text`); or they write the line
-/// `decode KIND AT` or `long`. They judge by the built-in configuration, which only says how long a file may be.
+/// `call` writes the lines of `nr_trial::try_call`, or `long`. `list` writes a line for each import, with why the
+/// host doesn't have it or `ok`, for each export, table and memory, and for the size of the file; `text` writes the
+/// module (`nr_wat::write_text`); or they write the line `decode KIND AT` or `long`. They judge by the built-in
+/// configuration, which only says how long a file may be.
 ///
 /// # Answers
 ///
 /// - `Sound`: the line `ok` or `end BURNT` was written, the lines of a call that came to its end or of a module, or
-///   what `help` or `version` writes. `Unfit`: the line `ok` was written, and no machine can be made of the module, since an element or a
-///   segment doesn't fit. `Faulty`: another line was written.
+///   what `help` or `version` writes. `Unfit`: the line `ok` was written, and no machine can be made of the module,
+///   since an element or a segment doesn't fit. `Faulty`: another line was written.
 /// - `Usage`: the words are none of these commands, or one is empty or begins with `-`. Nothing was
 ///   loaded or written.
 /// - `Config`: the configuration's file is longer than 1 MiB (kind 0), or its first fault, by the kind
