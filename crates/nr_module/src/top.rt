@@ -128,10 +128,11 @@ fn serve_command<S: Shelf, K: Sink>(
 /// module's own that is exported by it and takes and leaves nothing; or `make 21` where there is such a
 /// method, but an element or a segment doesn't fit.
 ///
-/// `call` writes the lines of `nr_trial::try_call`, or `long`. `list` writes a line for each import, with why the
-/// host doesn't have it or `ok`, for each export, table and memory, and for the size of the file; `text` writes the
-/// module (`nr_wat::write_text`); or they write the line `decode KIND AT` or `long`. They judge by the built-in
-/// configuration, which only says how long a file may be.
+/// `call` writes the lines of `nr_trial::try_call`, or `long`.
+///
+/// `list` writes a line for each import, with why the host doesn't have it or `ok`, for each export, table and
+/// memory, and for the size of the file; `text` writes the module (`nr_wat::write_text`); or they write the line
+/// `decode KIND AT` or `long`. They judge by the built-in configuration, which only says how long a file may be.
 ///
 /// # Answers
 ///
