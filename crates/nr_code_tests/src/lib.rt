@@ -11,6 +11,8 @@ mod module;
 #[cfg(test)]
 mod promises;
 #[cfg(test)]
+mod trial;
+#[cfg(test)]
 mod wasmmem;
 #[cfg(test)]
 mod wasmnum;
