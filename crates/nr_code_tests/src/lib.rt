@@ -9,9 +9,9 @@ mod guest;
 #[cfg(test)]
 mod module;
 #[cfg(test)]
-mod promises;
+mod onecall;
 #[cfg(test)]
-mod trial;
+mod promises;
 #[cfg(test)]
 mod wasmmem;
 #[cfg(test)]

@@ -15,8 +15,8 @@ use Rattle.nr_wasmbin.specs.declared.fault.DecodeFault.TheVariants as decode
 use Rattle.nr_wasmtypes.specs.declared.module.Module.{Module}
 use Rattle.nr_wat.specs.Fields.{module_text as whole_text}
 use Rattle.nr_state.specs.Calls.{Called}
-use Rattle.nr_trial.specs.Setting.{called_of}
-use Rattle.nr_trial.specs.Texts.{called_text, has_ended}
+use Rattle.nr_onecall.specs.Setting.{called_of}
+use Rattle.nr_onecall.specs.Texts.{called_text, has_ended}
 use Rattle.nr_module.specs.Lines.{decode_text, rated, verdict_text}
 use Rattle.nr_module.specs.Listing.{module_text}
 use Rattle.nr_module.specs.Plans.{Question, Due, Judge, Show, Try, Write}

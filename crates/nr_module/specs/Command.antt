@@ -4,7 +4,7 @@
 use Rattle.std.specs.Prelude.{ℕ, List, [], ◌∷◌, cond, Option, Some, None, codes, option_and_then}
 use Rattle.std.specs.Str.{bytes_eq}
 use Rattle.nr_words.specs.Forms.{Value, Text, Number, read}
-use Rattle.nr_trial.specs.Setting.{Request}
+use Rattle.nr_onecall.specs.Setting.{Request}
 use Rattle.nr_module.specs.Arguments.{args_in, deposit_in}
 use Rattle.nr_module.specs.Help.{forms, paid_forms, help_text, version_text}
 use Rattle.nr_module.specs.declared.command.CallNames.{CallNames}

@@ -30,7 +30,7 @@ abbrev pub help_text : List ℕ
 help_text =
     flat_map (form_line (codes "near_module")) (forms ++ paid_forms)
     ++ codes "CONFIG is free or the name of a file, and GAS a number from 0 to 18446744073709551615." ++ 10
-    ∷ codes "ARGS is a text, or hex: and the digits of bytes, and DEPOSIT a number below 2^128." ++ 10 ∷ []
+    ∷ codes "ARGS is a text, or hex: and two digits for each byte, and DEPOSIT a number below 2^128." ++ 10 ∷ []
 
 abbrev pub version_text : List ℕ
 version_text = codes "near_module 0.1.0" ++ 10 ∷ []

@@ -4,7 +4,7 @@ use Rattle.std.specs.Prelude.{ℕ, List, [], ◌∷◌, ◌++◌, Option, Some, 
 use Rattle.nr_config.specs.Config.{Config}
 use Rattle.nr_configfile.specs.Plans.{config_files, config_plan}
 use Rattle.nr_shell.specs.Plans.{Plan, Answer, Refuse, and_then, file_plan}
-use Rattle.nr_trial.specs.Setting.{Request}
+use Rattle.nr_onecall.specs.Setting.{Request}
 use Rattle.nr_module.specs.Command.{Command, OfModule, OfCall, OfShown, OfText, Call, Names, Task, task_in}
 use Rattle.nr_module.specs.declared.command.View.{View}
 use Rattle.nr_module.specs.declared.question.Loaded.{Loaded}

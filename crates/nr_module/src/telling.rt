@@ -3,7 +3,7 @@
 ghost use Rattle.std.specs.Prelude.{◌≡◌, ◌≢◌, IfOk, string_bytes};
 ghost use Rattle.nr_bytes.specs.Outside.{Rose};
 ghost use Rattle.nr_shell.specs.Plans.{Refuse};
-ghost use Rattle.nr_trial.specs.Setting.{called_of, request_in as asked_in};
+ghost use Rattle.nr_onecall.specs.Setting.{called_of, request_in as asked_in};
 ghost use Rattle.nr_module.specs.Answers.{Tells, TellsCall, TellsShown, TellsText, TellsVerdict, Told, rated_end};
 ghost use Rattle.nr_module.specs.Answers.{view_text};
 ghost use Rattle.nr_module.specs.Command.{request_in};
@@ -21,7 +21,7 @@ use crate::verdict::{Answer, Rating, Verdict};
 use nr_bytes::Sink;
 use nr_config::Config;
 use nr_shell::write_all;
-use nr_trial::{Request, try_call};
+use nr_onecall::{Request, try_call};
 use nr_wasmbin::{DecodeFault, decode};
 use nr_wasmtypes::Module;
 use nr_wat::write_text;

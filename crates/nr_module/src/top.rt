@@ -115,7 +115,7 @@ fn serve_command<S: Shelf, K: Sink>(
 /// of a contract as a chain does, and tells how the call ended; `list FILE` decodes the module of a file and tells
 /// what it imports and exports; `text FILE` decodes it and writes it in WebAssembly's text format. CONFIG is `free`,
 /// the built-in configuration, or the name of a file. GAS is a decimal number below 2^64 without leading zeros, and
-/// DEPOSIT one below 2^128. ARGS is a text, or the digits of bytes behind `hex:`. `help` writes the words of the
+/// DEPOSIT one below 2^128. ARGS is a text, or behind `hex:` two digits for each byte. `help` writes the words of the
 /// commands, and `version` the program's name and version.
 ///
 /// The line is `ok`; `decode KIND AT` with the kind of the first fault (1 `Short`, 2 `Leb`,
@@ -128,7 +128,7 @@ fn serve_command<S: Shelf, K: Sink>(
 /// module's own that is exported by it and takes and leaves nothing; or `make 21` where there is such a
 /// method, but an element or a segment doesn't fit.
 ///
-/// `call` writes the lines of `nr_trial::try_call`, or `long`.
+/// `call` writes the lines of `nr_onecall::try_call`, or `long`.
 ///
 /// `list` writes a line for each import, with why the host doesn't have it or `ok`, for each export, table and
 /// memory, and for the size of the file; `text` writes the module (`nr_wat::write_text`); or they write the line

@@ -1,7 +1,7 @@
 -- The goals of `telling::call_line` that no tactic closes.
 use Rattle.std.proofs.Common.{ℕ, List, ◌∙◌, ap, subst}
-use Rattle.nr_trial.specs.Setting.{Request, called_of, request_in}
-use Rattle.nr_trial.specs.Texts.{Tells}
+use Rattle.nr_onecall.specs.Setting.{Request, called_of, request_in}
+use Rattle.nr_onecall.specs.Texts.{Tells}
 use Rattle.nr_module.specs.Answers.{rated_end}
 use Rattle.nr_module.proofs.telling.call_line.Goals as goal
 

@@ -1,0 +1,4 @@
+-- Lemmas behind the answers.
+pub mod Floats
+pub mod Ids
+pub mod Standing

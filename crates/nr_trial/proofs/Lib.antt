@@ -1,3 +1,0 @@
--- Lemmas behind the answers.
-pub mod Floats
-pub mod Standing

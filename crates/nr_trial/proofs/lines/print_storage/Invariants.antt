@@ -1,9 +1,0 @@
--- What holds at the loops of `lines::print_storage`.
-use Rattle.std.proofs.Common.{◌≡◌, ◌++◌, string_bytes, take}
-use Rattle.std.specs.List.{flat_map}
-use Rattle.nr_columns.specs.Entries.{pairs_of}
-use Rattle.nr_trial.specs.Texts.{stored_text}
-use Rattle.nr_trial.proofs.lines.print_storage.Given as goal
-
-abbrev pub invariant-loop-entry : goal.invariant-loop-entry
-invariant-loop-entry l = string_bytes l.text ≡ string_bytes l.initial.text ++ flat_map stored_text (pairs_of (take l.entry-index l.entries))
