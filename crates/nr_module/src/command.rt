@@ -2,9 +2,8 @@
 
 ghost use Rattle.std.specs.Prelude.{◌≡◌, IfOk, map, option_map};
 ghost use Rattle.nr_words.specs.Words.{found_in, table_in, texts, value_in};
-ghost use Rattle.nr_module.specs.Arguments.{args_in, deposit_in};
 ghost use Rattle.nr_module.specs.Command.{call_of, check_of, command, command_in, found_command, paid_command};
-ghost use Rattle.nr_module.specs.Command.{paid_by, paid_of, run_of, to_call, to_pay, view_of};
+ghost use Rattle.nr_module.specs.Command.{paid_behind, paid_by, paid_of, run_of, to_call, to_pay, view_of};
 ghost use Rattle.nr_module.specs.Help.{forms, paid_forms};
 
 use crate::arguments::{args_of, deposit_of};
@@ -220,25 +219,44 @@ fn call_of<'a>(alloc: Global, values: &[Value<'a>]) -> Result<Option<Words<'a>>,
     }
 }
 
-/// The call of a method with the tokens of a word, where it is a number.
+/// The call of a method with tokens, where these are a number.
 fn to_pay<'a>(
+    config: &'a str,
+    file: &'a str,
+    method: &'a str,
+    args: Option<Blob>,
+    gas: u64,
+    deposit: Option<u128>,
+) -> Option<Words<'a>>
+    ensures { option_map command_in result ≡ to_pay config.now file.now method.now args gas deposit }
+{
+    match deposit {
+        Some(deposit) => to_call(config, file, method, args, gas, deposit),
+        None => None,
+    }
+}
+
+/// What stands behind the method of a call with tokens.
+fn paid_behind<'a>(
     alloc: Global,
     config: &'a str,
     file: &'a str,
     method: &'a str,
-    args: &str,
-    gas: u64,
-    deposit: &str,
+    values: &[Value<'a>],
 ) -> Result<Option<Words<'a>>, AllocError>
     ensures { IfOk result (λ read. option_map command_in read
-        ≡ to_pay config.now file.now method.now (args_in args.now) gas (deposit_in deposit.now)) }
+        ≡ paid_behind config.now file.now method.now (map value_in values.now)) }
 {
-    match deposit_of(deposit) {
-        Some(deposit) => {
+    match values {
+        [
+            Value::Text(args),
+            Value::Number(gas),
+            Value::Text(deposit),
+        ] => {
             let args = args_of(alloc, args)?;
-            Ok(to_call(config, file, method, args, gas, deposit))
+            Ok(to_pay(config, file, method, args, *gas, deposit_of(deposit)))
         }
-        None => Ok(None),
+        _ => Ok(None),
     }
 }
 
@@ -251,10 +269,8 @@ fn paid_of<'a>(alloc: Global, values: &[Value<'a>]) -> Result<Option<Words<'a>>,
             Value::Text(config),
             Value::Text(file),
             Value::Text(method),
-            Value::Text(args),
-            Value::Number(gas),
-            Value::Text(deposit),
-        ] => to_pay(alloc, config, file, method, args, *gas, deposit),
+            values @ ..,
+        ] => paid_behind(alloc, config, file, method, values),
         _ => Ok(None),
     }
 }

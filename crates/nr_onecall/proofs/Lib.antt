@@ -2,3 +2,4 @@
 pub mod Floats
 pub mod Ids
 pub mod Standing
+pub mod Stored

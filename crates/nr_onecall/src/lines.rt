@@ -85,7 +85,7 @@ fn print_stored(alloc: Global, entry: &Entry, text: &mut String) -> Result<(), A
 
 fn print_storage(alloc: Global, entries: &[Entry], text: &mut String) -> Result<(), AllocError>
     ensures { OnOk result (string_bytes text.new
-        ≡ string_bytes text.old ++ flat_map stored_text (pairs_of entries.now)) }
+        ≡ string_bytes text.old ++ flat_map (λ e. stored_text (e.key, e.value)) entries.now) }
 {
     for entry in entries {
         print_stored(alloc, entry, text)?;
@@ -98,7 +98,7 @@ fn print_storage(alloc: Global, entries: &[Entry], text: &mut String) -> Result<
 /// # Errors
 ///
 /// Where memory runs out.
-#[tactic(auto, unfolding(crate::specs::Texts::ended_text))]
+#[tactic(auto, using(crate::proofs::Stored::stored_texts), unfolding(crate::specs::Texts::ended_text))]
 pub(crate) fn ended_text(
     alloc: Global,
     end: &CallEnd,

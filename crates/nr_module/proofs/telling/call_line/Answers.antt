@@ -9,6 +9,6 @@ pub returns : goal.returns
 returns c =
     let config = c.args.loaded.now.config in
     let trial = c.in_ok-trial.trial in
-    let by_code = subst (λ (code : List ℕ). Tells trial (called_of config code (request_in c.request_of.result))) c.as_slice.ensures.value c.in_ok-trial.ensures in
-    let by_request = subst (λ (q : Request). Tells trial (called_of config c.args.loaded.now.code.items q)) c.request_of.ensures by_code in
+    let by_code = subst (λ (code : List ℕ). Tells trial (called_of config code (request_in c.request_of-request.result))) c.as_slice.ensures.value c.in_ok-trial.ensures in
+    let by_request = subst (λ (q : Request). Tells trial (called_of config c.args.loaded.now.code.items q)) c.request_of-request.ensures by_code in
     (by_request.0, c.rated_end.ensures ∙ ap rated_end by_request.1)
