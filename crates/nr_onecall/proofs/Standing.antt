@@ -1,5 +1,5 @@
--- The account of a trial stands, and has its code.
-use Rattle.std.proofs.Common.{◌≡◌, ℕ, cond, List, Some, sym, ap, subst, ◌∙◌}
+-- The world in which a call begins: its account stands, and has its code.
+use Rattle.std.proofs.Common.{◌≡◌, ℕ, cond, List, Some, refl, sym, ap, subst, ◌∙◌}
 use Rattle.std.specs.Prelude.{IsSome, is_some, option_map}
 use Rattle.std.specs.FinMap.{FinMap, get, insert, get-insert}
 use Rattle.std.specs.Cmp.{eq_by_cmp_equiv}
@@ -8,6 +8,7 @@ use Rattle.nr_config.specs.Config.{Config}
 use Rattle.nr_records.specs.declared.account.Account.{Account}
 use Rattle.nr_columns.specs.Orders.{bytes_cmp}
 use Rattle.nr_state.specs.Calls.{CanCall, Called}
+use Rattle.nr_state.specs.Changes.{set_code}
 use Rattle.nr_state.specs.Owners.{with_code_of}
 use Rattle.nr_state.specs.World.{World, no_world, with_account}
 use Rattle.nr_state.specs.declared.calls.CallContext.{CallContext}
@@ -20,6 +21,12 @@ inserted m k v = get-insert nat_list_cmp_total m k v k ∙ ap (λ b. cond b (Som
 
 pub stands : (w : World) (id : List ℕ) (account : Account) → IsSome (get (with_account w id account).accounts id)
 stands w id account = ap is_some (inserted w.accounts id account)
+
+-- an account and its code, one written after the other
+pub begins : (c : Config) (code : List ℕ) (deposit : ℕ) (id : List ℕ) (account : Account) (fresh standing world : World) → fresh ≡ no_world → id ≡ contract → account ≡ first_account c deposit → standing ≡ with_account fresh id account
+    → world ≡ set_code standing id code → world ≡ first_world c code deposit
+unfolding first_world
+begins c code deposit id account fresh standing world new named same stood coded = rw (coded, stood, new, named, same) refl
 
 module _ (c : Config) (code : List ℕ) (deposit : ℕ) where
   abbrev before : World

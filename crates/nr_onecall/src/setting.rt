@@ -62,7 +62,7 @@ fn first_account(config: &Config, deposit: u128) -> Account
 /// # Errors
 ///
 /// Where memory runs out.
-#[tactic(auto, using(crate::proofs::Standing::stands), unfolding(crate::specs::Setting::first_world))]
+#[tactic(auto, using(crate::proofs::Standing::stands))]
 pub(crate) fn first_state(
     alloc: Global,
     config: &Config,
