@@ -248,11 +248,7 @@ fn paid_behind<'a>(
         ≡ paid_behind config.now file.now method.now (map value_in values.now)) }
 {
     match values {
-        [
-            Value::Text(args),
-            Value::Number(gas),
-            Value::Text(deposit),
-        ] => {
+        [Value::Text(args), Value::Number(gas), Value::Text(deposit)] => {
             let args = args_of(alloc, args)?;
             Ok(to_pay(config, file, method, args, *gas, deposit_of(deposit)))
         }
