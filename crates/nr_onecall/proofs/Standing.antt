@@ -7,7 +7,7 @@ use Rattle.std.specs.Cmp.Lexicographic.{nat_list_cmp_total}
 use Rattle.nr_config.specs.Config.{Config}
 use Rattle.nr_records.specs.declared.account.Account.{Account}
 use Rattle.nr_columns.specs.Orders.{bytes_cmp}
-use Rattle.nr_state.specs.Calls.{CanCall, Called}
+use Rattle.nr_state.specs.Calls.{CanCall}
 use Rattle.nr_state.specs.Changes.{set_code}
 use Rattle.nr_state.specs.Owners.{with_code_of}
 use Rattle.nr_state.specs.World.{World, no_world, with_account}
@@ -57,10 +57,8 @@ can_call c code q w x world context =
     (subst (λ (y : CallContext). CanCall (first_world c code q.deposit) y) (sym context)
     (record { stands = has_account c code q.deposit; code = has_code c code q.deposit }))
 
--- what a caller's meaning gave is what the call comes to
-pub came : (c : Config) (code : List ℕ) (q : Request) (caller : Config) (w : World) (x : CallContext) (called : Called) → caller ≡ c → w ≡ first_world c code q.deposit
-    → x ≡ first_context c q → call caller w x ≡ called → called ≡ called_of c code q
-came c code q caller w x called same world context is =
-    sym is
-    ∙ (ap (λ (k : Config). call k w x) same
-    ∙ (ap (λ (v : World). call c v x) world ∙ ap (λ (y : CallContext). call c (first_world c code q.deposit) y) context))
+-- the call is what is asked for
+pub came : (c : Config) (code : List ℕ) (q : Request) (caller : Config) (w : World) (x : CallContext) → caller ≡ c → w ≡ first_world c code q.deposit → x ≡ first_context c q → call caller w x ≡ called_of c code q
+came c code q caller w x same world context =
+    ap (λ (k : Config). call k w x) same
+    ∙ (ap (λ (v : World). call c v x) world ∙ ap (λ (y : CallContext). call c (first_world c code q.deposit) y) context)

@@ -1,7 +1,7 @@
 //! A call, and what tells how it ended.
 
-ghost use Rattle.std.specs.Prelude.{◌≡◌, IfOk, true};
-ghost use Rattle.nr_state.specs.Calls.{Ended, Stopped};
+ghost use Rattle.std.specs.Prelude.{◌≡◌, ◌≤◌, IfOk, length, true};
+ghost use Rattle.nr_state.specs.Calls.{CanCall, Ended, Stopped};
 ghost use Rattle.nr_onecall.specs.Setting.{called_of, request_in};
 ghost use Rattle.nr_onecall.specs.Texts.{Tells};
 
@@ -10,7 +10,7 @@ use crate::request::Request;
 use crate::setting::{first_context, first_state};
 use nr_config::Config;
 use nr_contract::ContractCaller;
-use nr_state::{CallEnd, CallStop, Caller, ShardState};
+use nr_state::{CallContext, CallEnd, CallStop, Caller, ShardState};
 use nr_store::PlainStore;
 use std::alloc::{AllocError, Global};
 
@@ -45,6 +45,26 @@ fn failed_trial(alloc: Global, kind: u32, part: u32, burnt: u64) -> Result<Trial
     Ok(Trial { text, ended: false })
 }
 
+/// What tells how a caller's call ended.
+fn told_call<C: Caller<PlainStore>>(
+    alloc: Global,
+    caller: &C,
+    state: &mut ShardState<PlainStore>,
+    context: &CallContext,
+) -> Result<Trial, AllocError>
+    requires whole { state.old.whole ≡ true }
+    requires config { C.config caller.now ≡ state.old.config }
+    requires callable { CanCall state.old.world context.now }
+    requires marks { length state.old.marks ≤ 7 }
+    ensures { IfOk result (λ trial. Tells trial (C.meaning caller.now state.old.world context.now)) }
+{
+    match caller.call(alloc, state, context) {
+        Ok(end) => ended_trial(alloc, &end, state),
+        Err(CallStop::Failed { kind, part, burnt }) => failed_trial(alloc, kind, part, burnt),
+        Err(CallStop::Memory) => Err(AllocError),
+    }
+}
+
 /// Calls a method of a contract as a chain does, in a state that has its account alone.
 ///
 /// The account `contract` has the code, 10^26 tokens and those that come with the call, and no data. `caller` calls it
@@ -71,9 +91,5 @@ pub fn try_call(
     let context = first_context(alloc, config, request)?;
     let mut state = first_state(alloc, config, code, request.deposit)?;
     let caller = ContractCaller::new(config);
-    match caller.call(alloc, &mut state, &context) {
-        Ok(end) => ended_trial(alloc, &end, &state),
-        Err(CallStop::Failed { kind, part, burnt }) => failed_trial(alloc, kind, part, burnt),
-        Err(CallStop::Memory) => Err(AllocError),
-    }
+    told_call(alloc, &caller, &mut state, &context)
 }
