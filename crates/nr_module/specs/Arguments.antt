@@ -19,7 +19,7 @@ without_fault (Ok bytes) = Some bytes
 without_fault (Err e) = None
 
 -- behind `hex:` the bytes that pairs of digits of base 16 spell; any other word is its own bytes
-abbrev pub args_in : List ℕ → Option (List ℕ)
+unfoldable pub args_in : List ℕ → Option (List ℕ)
 args_in word = if is_marked word then without_fault (decode_of (drop (length mark) word)) else Some word
 
 -- ---- tokens: a number in decimal digits without leading zeros
@@ -27,5 +27,5 @@ abbrev pub number_below : ℕ → List ℕ → Option ℕ
 number_below limit word =
     cond (is_numeral word && nat_lt (digits_value 10 word) limit) (Some (digits_value 10 word)) None
 
-abbrev pub deposit_in : List ℕ → Option ℕ
+unfoldable pub deposit_in : List ℕ → Option ℕ
 deposit_in = number_below (2 ^ 128)

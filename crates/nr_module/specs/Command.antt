@@ -66,13 +66,9 @@ abbrev pub to_pay : List ℕ → List ℕ → List ℕ → Option (List ℕ) →
 to_pay config name method args gas None = None
 to_pay config name method args gas (Some deposit) = to_call config name method args gas deposit
 
-abbrev pub paid_behind : List ℕ → List ℕ → List ℕ → List Value → Option Command
-paid_behind config name method (Text args ∷ Number gas ∷ Text deposit ∷ []) =
-    to_pay config name method (args_in args) gas (deposit_in deposit)
-paid_behind config name method values = None
-
 abbrev pub paid_of : List Value → Option Command
-paid_of (Text config ∷ Text name ∷ Text method ∷ values) = paid_behind config name method values
+paid_of (Text config ∷ Text name ∷ Text method ∷ Text args ∷ Number gas ∷ Text deposit ∷ []) =
+    to_pay config name method (args_in args) gas (deposit_in deposit)
 paid_of values = None
 
 abbrev pub view_of : View → List Value → Option Command

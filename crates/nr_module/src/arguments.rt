@@ -26,6 +26,7 @@ fn bytes_of(alloc: Global, digits: &[u8]) -> Result<Option<Blob>, AllocError>
 /// # Errors
 ///
 /// Where memory runs out.
+#[tactic(auto, unfolding(crate::specs::Arguments::args_in))]
 pub(crate) fn args_of(alloc: Global, word: &str) -> Result<Option<Blob>, AllocError>
     ensures { IfOk result (λ args. args ≡ args_in word.now) }
 {
@@ -70,6 +71,7 @@ fn is_numeral(word: &[u8]) -> bool
 }
 
 /// The number of 128 bits that a word spells.
+#[tactic(auto, unfolding(crate::specs::Arguments::deposit_in))]
 pub(crate) fn deposit_of(word: &str) -> Option<u128>
     ensures { result ≡ deposit_in word.now }
 {

@@ -3,7 +3,7 @@
 ghost use Rattle.std.specs.Prelude.{◌≡◌, IfOk, map, option_map};
 ghost use Rattle.nr_words.specs.Words.{found_in, table_in, texts, value_in};
 ghost use Rattle.nr_module.specs.Command.{call_of, check_of, command, command_in, found_command, paid_command};
-ghost use Rattle.nr_module.specs.Command.{paid_behind, paid_by, paid_of, run_of, to_call, to_pay, view_of};
+ghost use Rattle.nr_module.specs.Command.{paid_by, paid_of, run_of, to_call, to_pay, view_of};
 ghost use Rattle.nr_module.specs.Help.{forms, paid_forms};
 
 use crate::arguments::{args_of, deposit_of};
@@ -236,26 +236,6 @@ fn to_pay<'a>(
     }
 }
 
-/// What stands behind the method of a call with tokens.
-fn paid_behind<'a>(
-    alloc: Global,
-    config: &'a str,
-    file: &'a str,
-    method: &'a str,
-    values: &[Value<'a>],
-) -> Result<Option<Words<'a>>, AllocError>
-    ensures { IfOk result (λ read. option_map command_in read
-        ≡ paid_behind config.now file.now method.now (map value_in values.now)) }
-{
-    match values {
-        [Value::Text(args), Value::Number(gas), Value::Text(deposit)] => {
-            let args = args_of(alloc, args)?;
-            Ok(to_pay(config, file, method, args, *gas, deposit_of(deposit)))
-        }
-        _ => Ok(None),
-    }
-}
-
 /// The call of a method with tokens.
 fn paid_of<'a>(alloc: Global, values: &[Value<'a>]) -> Result<Option<Words<'a>>, AllocError>
     ensures { IfOk result (λ read. option_map command_in read ≡ paid_of (map value_in values.now)) }
@@ -265,8 +245,13 @@ fn paid_of<'a>(alloc: Global, values: &[Value<'a>]) -> Result<Option<Words<'a>>,
             Value::Text(config),
             Value::Text(file),
             Value::Text(method),
-            values @ ..,
-        ] => paid_behind(alloc, config, file, method, values),
+            Value::Text(args),
+            Value::Number(gas),
+            Value::Text(deposit),
+        ] => {
+            let args = args_of(alloc, args)?;
+            Ok(to_pay(config, file, method, args, *gas, deposit_of(deposit)))
+        }
         _ => Ok(None),
     }
 }
