@@ -35,7 +35,7 @@ second true b e = absurd cc
 
 put_plain : (k : List ℕ) (d : Data) (ms : Members) → has_float d ≡ false → members_have_float ms ≡ false → members_have_float (put k d ms) ≡ false
 put_plain k d no_members e f = both (has_float d) false e refl
-put_plain k d (member l x ms) e f = by (slice_cmp nat_cmp k l)
+put_plain k d (member l x ms) e f = by (put_plain k d ms e rest_plain) (slice_cmp nat_cmp k l)
   where
     x_plain : has_float x ≡ false
     x_plain = first (has_float x) (members_have_float ms) f
@@ -43,10 +43,10 @@ put_plain k d (member l x ms) e f = by (slice_cmp nat_cmp k l)
     rest_plain : members_have_float ms ≡ false
     rest_plain = second (has_float x) (members_have_float ms) f
 
-    by : (o : Ordering) → members_have_float (match_ordering o (member k d (member l x ms)) (member l d ms) (member l x (put k d ms))) ≡ false
-    by Less = both (has_float d) (has_float x || members_have_float ms) e f
-    by Equal = both (has_float d) (members_have_float ms) e rest_plain
-    by Greater = both (has_float x) (members_have_float (put k d ms)) x_plain (put_plain k d ms e rest_plain)
+    by : members_have_float (put k d ms) ≡ false → (o : Ordering) → members_have_float (match_ordering o (member k d (member l x ms)) (member l d ms) (member l x (put k d ms))) ≡ false
+    by rest Less = both (has_float d) (has_float x || members_have_float ms) e f
+    by rest Equal = both (has_float d) (members_have_float ms) e rest_plain
+    by rest Greater = both (has_float x) (members_have_float (put k d ms)) x_plain rest
 
 tagged_plain : (k : List ℕ) (d : Data) → has_float d ≡ false → has_float (tagged_json k d) ≡ false
 tagged_plain k d e = put_plain k d no_members e refl
