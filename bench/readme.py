@@ -333,11 +333,14 @@ def contract(copy, judge):
     judge.says(f"{CONTRACT}: the code has 483 bytes, twice", len(codes[0]) == 483 and codes == codes[:1] * 2)
     copy.write(f"{CONTRACT}/contract.wasm", codes[0])
     check = Call("near_module", ["check", f"{CONFIG}/generated.json", f"{CONTRACT}/contract.wasm"])
-    report, judged = yield [line_of(copy, CONTRACT, "near_serial"), check]
+    put = ["call", f"{CONFIG}/generated.json", f"{CONTRACT}/contract.wasm", "put", "hello", "2000"]
+    report, judged, called = yield [line_of(copy, CONTRACT, "near_serial"), check, Call("near_module", put)]
     judge.says(f"{CONTRACT}: the line prints the file report", report == copy.data(f"{CONTRACT}/report"))
     told = "".join(blocks(text, "")).splitlines()
     judge.says(f"{CONTRACT}: the {len(told)} lines of the page are the report's", are_lines(told, report))
     judge.says(f"{CONTRACT}: near_module check says ok", judged == b"ok\n")
+    lines = [span for span in spans(text) if span.startswith(("value ", "log ", "store "))]
+    judge.says(f"{CONTRACT}: near_module call says {', '.join(lines)}", called.decode().splitlines() == lines != [])
 
 
 def other_blocks(copy, judge):

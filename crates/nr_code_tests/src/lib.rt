@@ -9,6 +9,8 @@ mod guest;
 #[cfg(test)]
 mod module;
 #[cfg(test)]
+mod onecall;
+#[cfg(test)]
 mod promises;
 #[cfg(test)]
 mod wasmmem;

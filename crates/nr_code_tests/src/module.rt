@@ -130,7 +130,10 @@ fn help_and_version_load_nothing(rt: HostRuntime) -> Result<(), Fail> {
     near_module text FILE\n\
     near_module help\n\
     near_module version\n\
-    CONFIG is free or the name of a file, and GAS a number from 0 to 18446744073709551615.\n";
+    near_module call CONFIG FILE METHOD ARGS GAS\n\
+    near_module call CONFIG FILE METHOD ARGS GAS DEPOSIT\n\
+    CONFIG is free or the name of a file, and GAS a number from 0 to 18446744073709551615.\n\
+    ARGS is a text, or hex: and two digits for each byte, and DEPOSIT a number below 2^128.\n";
     assert!(rt; answers(alloc, &["help"], &[], Status::Sound, help)?);
     let version = "near_module 0.1.0\n";
     assert!(rt; answers(alloc, &["version"], &[], Status::Sound, version)?);

@@ -5,6 +5,7 @@ pub mod Forms
 pub mod Shown
 pub mod Lines
 pub mod LineSentences
+pub mod CallSentences
 pub mod Written
 pub mod Programs
 pub mod Sentences

@@ -7,6 +7,7 @@ use Rattle.nr_explain.specs.Words.{pieces}
 use Rattle.nr_explain.specs.Forms.{Form, form_of}
 use Rattle.nr_explain.specs.LineSentences.{steps, refusals, failures, bad_codes, traps, faults, modules}
 use Rattle.nr_explain.specs.LineSentences.{invalid_modules, module_traps, listings}
+use Rattle.nr_explain.specs.CallSentences.{call_codes, call_ends, call_faults, call_traps}
 use Rattle.nr_explain.specs.Sentences.{programs, items, configurations, geneses, chains, schedules, proofs}
 use Rattle.nr_explain.specs.Sentences.{gathered_chunks, state_parts, sentence_by}
 use Rattle.nr_explain.specs.Written.{reported, answers}
@@ -35,11 +36,18 @@ report_form words =
     (option_or (form_of bad_codes words)
     (option_or (form_of traps words) (option_or (form_of faults words) (form_of reported words)))))
 
+-- lines of calls
+abbrev pub call_form : List (List ℕ) → Option Form
+call_form words =
+    option_or (form_of call_ends words)
+    (option_or (form_of call_codes words) (option_or (form_of call_traps words) (form_of call_faults words)))
+
 -- lines of modules
 abbrev pub module_form : List (List ℕ) → Option Form
 module_form words =
     option_or (form_of modules words)
-    (option_or (form_of invalid_modules words) (option_or (form_of module_traps words) (form_of listings words)))
+    (option_or (form_of invalid_modules words)
+    (option_or (form_of module_traps words) (option_or (form_of listings words) (call_form words))))
 
 abbrev pub serial_form : List (List ℕ) → Option Form
 serial_form words =

@@ -1,6 +1,7 @@
 //! What programs print, for people: a sentence for each line, and a report as JSON.
 #![tactic(auto)]
 
+mod call_sentences;
 mod cut;
 mod entries;
 mod explaining;

@@ -4,9 +4,10 @@ ghost use Rattle.std.specs.Prelude.{◌≡◌, option_map};
 ghost use Rattle.std.specs.Option.{option_or};
 ghost use Rattle.nr_explain.specs.Words.{pieces};
 ghost use Rattle.nr_explain.specs.Coded.{form_in};
-ghost use Rattle.nr_explain.specs.Programs.{common_form, chain_form, file_form, report_form, module_form, serial_form};
-ghost use Rattle.nr_explain.specs.Programs.{program_of, form_by};
+ghost use Rattle.nr_explain.specs.Programs.{call_form, common_form, chain_form, file_form, report_form, module_form};
+ghost use Rattle.nr_explain.specs.Programs.{serial_form, program_of, form_by};
 
+use crate::call_sentences::{call_codes, call_ends, call_faults, call_traps};
 use crate::form::{Field, form_of};
 use crate::line_sentences::{
     bad_codes, failures, faults, invalid_modules, listings, module_traps, modules, refusals, steps,
@@ -104,11 +105,22 @@ fn report_form(line: &[u8]) -> Option<&'static [Field]>
     either(form_of(refusals(), line), form)
 }
 
+/// The form of a line that tells of a call.
+fn call_form(line: &[u8]) -> Option<&'static [Field]>
+    ensures { option_map (λ f. form_in f.now) result ≡ call_form (pieces 32 line.now) }
+{
+    let form = form_of(call_faults(), line);
+    let form = either(form_of(call_traps(), line), form);
+    let form = either(form_of(call_codes(), line), form);
+    either(form_of(call_ends(), line), form)
+}
+
 /// The form of a line that tells of a module.
 fn module_form(line: &[u8]) -> Option<&'static [Field]>
     ensures { option_map (λ f. form_in f.now) result ≡ module_form (pieces 32 line.now) }
 {
-    let form = form_of(listings(), line);
+    let form = call_form(line);
+    let form = either(form_of(listings(), line), form);
     let form = either(form_of(module_traps(), line), form);
     let form = either(form_of(invalid_modules(), line), form);
     either(form_of(modules(), line), form)

@@ -283,6 +283,65 @@ fn lines_of_a_listing_have_sentences(rt: HostRuntime) -> Result<(), Fail> {
 }
 
 #[test]
+fn lines_of_a_call_have_sentences(rt: HostRuntime) -> Result<(), Fail> {
+    for (line, sentence) in [
+        (
+            "value - 5",
+            "The call came to its end. It gave no bytes. It burnt 5 gas.",
+        ),
+        (
+            "near_module value 00ff 5",
+            "The call came to its end. It gave the bytes 00ff. It burnt 5 gas.",
+        ),
+        (
+            "promise ID 5",
+            "The call came to its end. Its value will be that of receipt ID. It burnt 5 gas.",
+        ),
+        (
+            "failure 13 21 7",
+            "The call failed: the code is no valid module: an element or a segment doesn't fit. It burnt 7 gas.",
+        ),
+        (
+            "failure 14 0 7",
+            "The call failed: the code has no such method. It burnt 7 gas.",
+        ),
+        (
+            "failure 15 3 7",
+            "The call failed: it trapped: a division by zero. It burnt 7 gas.",
+        ),
+        (
+            "near_module failure 16 14 7",
+            "The call failed: it asked for what it can't have: the contract gave up. It burnt 7 gas.",
+        ),
+        (
+            "failure 17 0 7",
+            "The call failed: it used up its gas. It burnt 7 gas.",
+        ),
+        ("near_module log -", "The call logged no bytes."),
+        ("near_module log 6869", "The call logged the bytes 6869."),
+        ("store - -", "The storage has the empty key, with no bytes."),
+        (
+            "store - 00",
+            "The storage has the empty key, with the bytes 00.",
+        ),
+        ("store 6b -", "The storage has the key 6b, with no bytes."),
+        (
+            "store 6b 7676",
+            "The storage has the key 6b, with the bytes 7676.",
+        ),
+        ("receipt ID bob", "The call made receipt ID for bob."),
+        ("wait ID", "The receipt waits for datum ID."),
+        (
+            "give ID contract",
+            "The receipt gives its result as datum ID to contract.",
+        ),
+    ] {
+        assert!(rt; is_told(rt.alloc(), line, sentence)?, "{line}");
+    }
+    Ok(())
+}
+
+#[test]
 fn lines_of_a_report_have_sentences(rt: HostRuntime) -> Result<(), Fail> {
     for (line, sentence) in [
         (
@@ -459,6 +518,9 @@ fn other_numbers_have_none(rt: HostRuntime) -> Result<(), Fail> {
         "import env go maybe",
         "table none 1",
         "near_serial size 40",
+        "failure 13 8 1",
+        "failure 14 1 5",
+        "near_serial value - 5",
         "no 8 0 0",
         "trap 9 12",
         "tx 0b refused 1 0 0",

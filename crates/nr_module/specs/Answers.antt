@@ -1,6 +1,6 @@
 -- Which answers of the top call are right for a plan, and what the sink then took. This project's own.
 use Rattle.std.specs.Prelude.{◌≡◌, ◌≢◌, ℕ, Bool, true, false, List, [], ◌∷◌, ◌++◌, length, Option, Result, Ok, Err}
-use Rattle.std.specs.Prelude.{codes, string_bytes}
+use Rattle.std.specs.Prelude.{codes, cond, string_bytes}
 use Rattle.std.specs.declared.alloc.AllocError.{AllocError}
 use Rattle.nr_bytes.specs.Outside.{Grew}
 use Rattle.nr_config.specs.Config.{free, max_code}
@@ -14,9 +14,12 @@ use Rattle.nr_wasmbin.specs.declared.fault.DecodeFault.{DecodeFault}
 use Rattle.nr_wasmbin.specs.declared.fault.DecodeFault.TheVariants as decode
 use Rattle.nr_wasmtypes.specs.declared.module.Module.{Module}
 use Rattle.nr_wat.specs.Fields.{module_text as whole_text}
+use Rattle.nr_state.specs.Calls.{Called}
+use Rattle.nr_onecall.specs.Setting.{called_of}
+use Rattle.nr_onecall.specs.Texts.{called_text, has_ended}
 use Rattle.nr_module.specs.Lines.{decode_text, rated, verdict_text}
 use Rattle.nr_module.specs.Listing.{module_text}
-use Rattle.nr_module.specs.Plans.{Question, Due, Judge, Show, Write}
+use Rattle.nr_module.specs.Plans.{Question, Due, Judge, Show, Try, Write}
 use Rattle.nr_module.specs.Verdicts.{IsVerdict}
 use Rattle.nr_module.specs.declared.command.View.{View}
 use Rattle.nr_module.specs.declared.command.View.TheVariants.{Brief, Whole}
@@ -50,6 +53,13 @@ stop_status (Refused status) = status
 abbrev pub TellsVerdict : Question → List ℕ → Rating → Type 0
 TellsVerdict q line r = (v : Verdict) × IsVerdict q v × (line ≡ verdict_text v) × (r ≡ rated v)
 
+-- the lines of a call, which is well where it came to its end
+abbrev pub rated_end : Bool → Rating
+rated_end ended = cond ended rating.Sound rating.Faulty
+
+abbrev pub TellsCall : Called → List ℕ → Rating → Type 0
+TellsCall called line r = (line ≡ called_text called) × (r ≡ rated_end (has_ended called))
+
 -- a text, which is well
 abbrev pub TellsText : List ℕ → List ℕ → Rating → Type 0
 TellsText text line r = (line ≡ text) × (r ≡ rating.Sound)
@@ -68,10 +78,11 @@ TellsDecoded view size (Err fault) line r = (fault ≢ decode.Memory) × (line �
 abbrev pub TellsShown : View → List ℕ → List ℕ → Rating → Type 0
 TellsShown view bytes line r = TellsDecoded view (length bytes) (decoded (max_code free) bytes) line r
 
--- what tells an end of a plan: the line of a verdict on what the files give, the lines of a module, a text, or `long`
--- for a file that is too long
+-- what tells an end of a plan: the line of a verdict on what the files give, the lines of a call or of a module, a
+-- text, or `long` for a file that is too long
 abbrev pub Tells : Plan Due Status → List ℕ → Rating → Type 0
 Tells (Answer (Judge q)) line r = TellsVerdict q line r
+Tells (Answer (Try c q code)) line r = TellsCall (called_of c code q) line r
 Tells (Answer (Show view bytes)) line r = TellsShown view bytes line r
 Tells (Answer (Write text)) line r = TellsText text line r
 Tells (Refuse status) line r = (status ≡ Faulty) × (line ≡ codes "long" ++ 10 ∷ []) × (r ≡ rating.Faulty)

@@ -1,5 +1,6 @@
 -- Definitions that the contracts cite.
 pub mod Help
+pub mod Arguments
 pub mod Command
 pub mod Plans
 pub mod Counter

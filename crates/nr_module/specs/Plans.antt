@@ -4,8 +4,10 @@ use Rattle.std.specs.Prelude.{ℕ, List, [], ◌∷◌, ◌++◌, Option, Some, 
 use Rattle.nr_config.specs.Config.{Config}
 use Rattle.nr_configfile.specs.Plans.{config_files, config_plan}
 use Rattle.nr_shell.specs.Plans.{Plan, Answer, Refuse, and_then, file_plan}
-use Rattle.nr_module.specs.Command.{Command, OfModule, OfShown, OfText, Names, Task, task_in}
+use Rattle.nr_onecall.specs.Setting.{Request}
+use Rattle.nr_module.specs.Command.{Command, OfModule, OfCall, OfShown, OfText, Call, Names, Task, task_in}
 use Rattle.nr_module.specs.declared.command.View.{View}
+use Rattle.nr_module.specs.declared.question.Loaded.{Loaded}
 use Rattle.nr_module.specs.declared.question.Question.{Question as LentQuestion}
 use Rattle.nr_module.specs.declared.question.Shown.{Shown}
 use Rattle.nr_module.specs.declared.status.Status.{Status}
@@ -17,9 +19,11 @@ pub record Question : Type 0 where
   pub task : Task
   pub bytes : List ℕ
 
--- what a plan comes to: bytes that are to be judged, or shown as a module, or a text that is to be written
+-- what a plan comes to: bytes that are to be judged, called under a configuration, or shown as a module, or a text that
+-- is to be written
 pub data Due : Type 0 where
   Judge : Question → Due
+  Try : Config → Request → List ℕ → Due
   Show : View → List ℕ → Due
   Write : List ℕ → Due
 
@@ -28,6 +32,9 @@ question_in q = record { config = q.config; task = task_in q.work; bytes = q.byt
 
 abbrev pub due_in : LentQuestion → Due
 due_in q = Judge (question_in q)
+
+abbrev pub tried_in : Request → Loaded → Due
+tried_in q l = Try l.config q l.code.items
 
 abbrev pub shown_in : Shown → Due
 shown_in s = Show s.view s.bytes.items
@@ -41,6 +48,12 @@ by_config names c =
 abbrev pub module_plan : Names → Plan Due Status
 module_plan names = and_then (config_plan faulty_config names.config) (by_config names)
 
+abbrev pub code_plan : Call → Config → Plan Due Status
+code_plan call c = and_then (file_plan call.file 67108864 Faulty) (λ bytes. Answer (Try c call.request bytes))
+
+abbrev pub call_plan : Call → Plan Due Status
+call_plan call = and_then (config_plan faulty_config call.config) (code_plan call)
+
 -- a module is shown under the built-in configuration, which loads no file
 abbrev pub shown_plan : View → List ℕ → Plan Due Status
 shown_plan view name = and_then (file_plan name 67108864 Faulty) (λ bytes. Answer (Show view bytes))
@@ -49,6 +62,7 @@ shown_plan view name = and_then (file_plan name 67108864 Faulty) (λ bytes. Answ
 abbrev pub plan : Option Command → Plan Due Status
 plan None = Refuse Usage
 plan (Some (OfModule names)) = module_plan names
+plan (Some (OfCall call)) = call_plan call
 plan (Some (OfShown view name)) = shown_plan view name
 plan (Some (OfText text)) = Answer (Write text)
 
@@ -56,5 +70,6 @@ plan (Some (OfText text)) = Answer (Write text)
 abbrev pub files_of : Option Command → List (List ℕ)
 files_of None = []
 files_of (Some (OfModule names)) = config_files names.config ++ names.file ∷ []
+files_of (Some (OfCall call)) = config_files call.config ++ call.file ∷ []
 files_of (Some (OfShown view name)) = name ∷ []
 files_of (Some (OfText text)) = []

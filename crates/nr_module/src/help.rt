@@ -13,7 +13,10 @@ pub(crate) fn help_text() -> &'static str
     near_module text FILE\n\
     near_module help\n\
     near_module version\n\
-    CONFIG is free or the name of a file, and GAS a number from 0 to 18446744073709551615.\n"
+    near_module call CONFIG FILE METHOD ARGS GAS\n\
+    near_module call CONFIG FILE METHOD ARGS GAS DEPOSIT\n\
+    CONFIG is free or the name of a file, and GAS a number from 0 to 18446744073709551615.\n\
+    ARGS is a text, or hex: and two digits for each byte, and DEPOSIT a number below 2^128.\n"
 }
 
 /// The program's name and its version.

@@ -1,7 +1,8 @@
-//! The check of one module, its listing and its text, and the run of one of its methods, for authors of
+//! The check of one module, its listing and its text, and the run or the call of one of its methods, for authors of
 //! contracts: from the words of the command line to the lines that tell the answer.
 #![tactic(auto)]
 
+mod arguments;
 mod command;
 mod counter;
 mod exit;

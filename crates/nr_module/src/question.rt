@@ -2,10 +2,11 @@
 
 ghost use Rattle.nr_shell.specs.Answers.{Follows};
 ghost use Rattle.nr_module.specs.Answers.{refuses};
-ghost use Rattle.nr_module.specs.Command.{names_in};
-ghost use Rattle.nr_module.specs.Plans.{by_config, due_in, module_plan, shown_in, shown_plan};
+ghost use Rattle.nr_module.specs.Command.{call_in, names_in, request_in};
+ghost use Rattle.nr_module.specs.Plans.{by_config, call_plan, code_plan, due_in, module_plan, shown_in, shown_plan};
+ghost use Rattle.nr_module.specs.Plans.{tried_in};
 
-use crate::command::{FileNames, View, Work};
+use crate::command::{CallNames, FileNames, View, Work};
 use crate::status::Status;
 use nr_bytes::Shelf;
 use nr_config::Config;
@@ -29,6 +30,13 @@ pub(crate) struct Question<'a> {
 pub(crate) struct Shown {
     pub(crate) view: View,
     pub(crate) bytes: Vec<u8>,
+}
+
+/// The bytes of a contract's file, and the configuration under which it is called.
+#[derive(Drop)]
+pub(crate) struct Loaded {
+    pub(crate) config: Config,
+    pub(crate) code: Vec<u8>,
 }
 
 /// What the module's file gives under a configuration.
@@ -91,6 +99,43 @@ pub(crate) fn question_of<'a, S: Shelf>(
 {
     match config_of::<Status, S>(alloc, names.config, shelf) {
         Ok(config) => with_file(alloc, config, names, shelf),
+        Err(stop) => Err(stop),
+    }
+}
+
+/// What the contract's file gives under a configuration.
+fn with_code<S: Shelf>(
+    alloc: Global,
+    config: Config,
+    names: &CallNames<'_>,
+    shelf: &mut S,
+) -> Result<Loaded, Stop<Status>>
+    ensures { Follows refuses (tried_in (request_in names.now)) (S.held shelf.old) (S.held shelf.new)
+        (S.asked shelf.old) (S.asked shelf.new) (S.faults shelf.old) (S.faults shelf.new)
+        result (code_plan (call_in names.now) config) }
+{
+    match load(alloc, names.file, FILE_LIMIT, Status::Faulty, shelf) {
+        Ok(code) => Ok(Loaded { config, code }),
+        Err(stop) => Err(stop),
+    }
+}
+
+/// What the files that a call names give.
+///
+/// # Errors
+///
+/// As `question_of` for a check or a run.
+pub(crate) fn loaded_of<S: Shelf>(
+    alloc: Global,
+    names: &CallNames<'_>,
+    shelf: &mut S,
+) -> Result<Loaded, Stop<Status>>
+    ensures { Follows refuses (tried_in (request_in names.now)) (S.held shelf.old) (S.held shelf.new)
+        (S.asked shelf.old) (S.asked shelf.new) (S.faults shelf.old) (S.faults shelf.new)
+        result (call_plan (call_in names.now)) }
+{
+    match config_of::<Status, S>(alloc, names.config, shelf) {
+        Ok(config) => with_code(alloc, config, names, shelf),
         Err(stop) => Err(stop),
     }
 }

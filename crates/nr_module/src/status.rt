@@ -6,7 +6,8 @@ use nr_configfile::ConfigRefusal;
 #[derive(Clone, Copy, Debug, PartialEq, Eq)]
 pub enum Status {
     /// The module is valid or its method's run came to its end, and the line `ok` or `end BURNT` was
-    /// written; or the lines or the text of a module, or the text of `help` or `version`, were.
+    /// written; or the lines of a call that came to its end, the lines or the text of a module, or the text of `help`
+    /// or `version`, were.
     Sound,
     /// The module is valid, and the line `ok` was written; but no machine can be made of it, since an element or a
     /// segment doesn't fit.

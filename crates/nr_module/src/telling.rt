@@ -3,20 +3,24 @@
 ghost use Rattle.std.specs.Prelude.{◌≡◌, ◌≢◌, IfOk, string_bytes};
 ghost use Rattle.nr_bytes.specs.Outside.{Rose};
 ghost use Rattle.nr_shell.specs.Plans.{Refuse};
-ghost use Rattle.nr_module.specs.Answers.{Tells, TellsShown, TellsText, TellsVerdict, Told, view_text};
+ghost use Rattle.nr_onecall.specs.Setting.{called_of, request_in as asked_in};
+ghost use Rattle.nr_module.specs.Answers.{Tells, TellsCall, TellsShown, TellsText, TellsVerdict, Told, rated_end};
+ghost use Rattle.nr_module.specs.Answers.{view_text};
+ghost use Rattle.nr_module.specs.Command.{request_in};
 ghost use Rattle.nr_module.specs.Lines.{rated, rated_answer};
 ghost use Rattle.nr_module.specs.Plans.{question_in};
 ghost use Rattle.nr_module.specs.declared.status.Status.TheVariants.{Faulty, ReadFault, Sound, Unfit, WriteFault};
 
-use crate::command::View;
+use crate::command::{CallNames, View};
 use crate::judging::judge;
 use crate::listing::module_text;
 use crate::printed::{decode_text, verdict_text};
-use crate::question::{Question, Shown};
+use crate::question::{Loaded, Question, Shown};
 use crate::status::Status;
 use crate::verdict::{Answer, Rating, Verdict};
 use nr_bytes::Sink;
 use nr_config::Config;
+use nr_onecall::{Request, try_call};
 use nr_shell::write_all;
 use nr_wasmbin::{DecodeFault, decode};
 use nr_wasmtypes::Module;
@@ -62,6 +66,46 @@ pub(crate) fn verdict_line(alloc: Global, question: &Question<'_>) -> Result<Lin
     Ok(Line {
         text,
         rating: rated(&verdict),
+    })
+}
+
+/// What is called, by its names.
+fn request_of<'a>(names: &'a CallNames<'_>) -> Request<'a>
+    ensures { asked_in result ≡ request_in names.now }
+{
+    Request {
+        method: names.method,
+        args: names.args.inner(),
+        gas: names.gas,
+        deposit: names.deposit,
+    }
+}
+
+fn rated_end(ended: bool) -> Rating
+    ensures { result ≡ rated_end ended }
+{
+    if ended { Rating::Sound } else { Rating::Faulty }
+}
+
+/// The lines of the call of a contract that is loaded.
+///
+/// # Errors
+///
+/// Where memory runs out.
+pub(crate) fn call_line(
+    alloc: Global,
+    loaded: &Loaded,
+    names: &CallNames<'_>,
+) -> Result<Line, AllocError>
+    ensures { IfOk result (λ line.
+        TellsCall (called_of loaded.now.config loaded.now.code.items (request_in names.now))
+        (string_bytes line.text) line.rating) }
+{
+    let request = request_of(names);
+    let trial = try_call(alloc, &loaded.config, loaded.code.as_slice(), &request)?;
+    Ok(Line {
+        text: trial.text,
+        rating: rated_end(trial.ended),
     })
 }
 

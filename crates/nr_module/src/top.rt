@@ -4,14 +4,14 @@ ghost use Rattle.std.specs.Prelude.{◌≡◌, ◌≢◌, Some};
 ghost use Rattle.nr_bytes.specs.Outside.{Rose};
 ghost use Rattle.nr_words.specs.Words.{texts};
 ghost use Rattle.nr_module.specs.Answers.{Serves, stop_status};
-ghost use Rattle.nr_module.specs.Command.{command, command_in, names_in};
-ghost use Rattle.nr_module.specs.Plans.{module_plan, plan, shown_plan};
+ghost use Rattle.nr_module.specs.Command.{call_in, command, command_in, names_in};
+ghost use Rattle.nr_module.specs.Plans.{call_plan, module_plan, plan, shown_plan};
 ghost use Rattle.nr_module.specs.declared.status.Status.TheVariants.{Faulty, ReadFault, Sound, Unfit, WriteFault};
 
-use crate::command::{FileNames, View, Words, command_of};
-use crate::question::{question_of, shown_of};
+use crate::command::{CallNames, FileNames, View, Words, command_of};
+use crate::question::{loaded_of, question_of, shown_of};
 use crate::status::Status;
-use crate::telling::{long_line, shown_line, tell, text_line, verdict_line};
+use crate::telling::{call_line, long_line, shown_line, tell, text_line, verdict_line};
 use nr_bytes::{Shelf, Sink};
 use nr_shell::Stop;
 use std::alloc::Global;
@@ -42,6 +42,26 @@ fn serve_names<S: Shelf, K: Sink>(
 {
     match question_of(alloc, names, shelf) {
         Ok(question) => tell(verdict_line(alloc, &question), sink),
+        Err(Stop::Refused(Status::Faulty)) => tell(long_line(alloc), sink),
+        Err(stop) => stop_status(stop),
+    }
+}
+
+/// Calls a contract.
+fn serve_call<S: Shelf, K: Sink>(
+    alloc: Global,
+    names: &CallNames<'_>,
+    shelf: &mut S,
+    sink: &mut K,
+) -> Status
+    ensures serves { Serves result (call_plan (call_in names.now)) (S.held shelf.old)
+        (S.asked shelf.old) (S.asked shelf.new) (K.taken sink.old) (K.taken sink.new) }
+    ensures untouched { result ≢ Sound → result ≢ Unfit → result ≢ Faulty → result ≢ WriteFault → sink.new ≡ sink.old }
+    ensures read_fault { result ≡ ReadFault → Rose (S.faults shelf.old) (S.faults shelf.new) }
+    ensures write_fault { result ≡ WriteFault → Rose (K.faults sink.old) (K.faults sink.new) }
+{
+    match loaded_of(alloc, names, shelf) {
+        Ok(loaded) => tell(call_line(alloc, &loaded, names), sink),
         Err(Stop::Refused(Status::Faulty)) => tell(long_line(alloc), sink),
         Err(stop) => stop_status(stop),
     }
@@ -83,6 +103,7 @@ fn serve_command<S: Shelf, K: Sink>(
 {
     match command {
         Words::Module(names) => serve_names(alloc, names, shelf, sink),
+        Words::Call(names) => serve_call(alloc, names, shelf, sink),
         Words::Shown(view, file) => serve_shown(alloc, *view, file, shelf, sink),
         Words::Text(text) => tell(text_line(alloc, text), sink),
     }
@@ -90,10 +111,12 @@ fn serve_command<S: Shelf, K: Sink>(
 
 /// Does what the words ask for: `check CONFIG FILE` decodes and validates the module of a file, and
 /// writes a line that says what it is; `run CONFIG FILE METHOD GAS` runs a method of it besides, and
-/// writes how the run ended; `list FILE` decodes the module of a file and tells what it imports and
-/// exports; `text FILE` decodes it and writes it in WebAssembly's text format. CONFIG is `free`, the built-in
-/// configuration, or the name of a file. GAS is a decimal number below 2^64 without leading zeros. `help`
-/// writes the words of the commands, and `version` the program's name and version.
+/// writes how the run ended; `call CONFIG FILE METHOD ARGS GAS`, or the same with DEPOSIT behind it, calls a method
+/// of a contract as a chain does, and tells how the call ended; `list FILE` decodes the module of a file and tells
+/// what it imports and exports; `text FILE` decodes it and writes it in WebAssembly's text format. CONFIG is `free`,
+/// the built-in configuration, or the name of a file. GAS is a decimal number below 2^64 without leading zeros, and
+/// DEPOSIT one below 2^128. ARGS is a text, or behind `hex:` two digits for each byte. `help` writes the words of the
+/// commands, and `version` the program's name and version.
 ///
 /// The line is `ok`; `decode KIND AT` with the kind of the first fault (1 `Short`, 2 `Leb`,
 /// 3 `Section`, 4 `Opcode`, 5 `Float`, 6 `Utf8`, 7 `TooMany`) and its place; `valid KIND FUNC PLACE`
@@ -105,15 +128,17 @@ fn serve_command<S: Shelf, K: Sink>(
 /// module's own that is exported by it and takes and leaves nothing; or `make 21` where there is such a
 /// method, but an element or a segment doesn't fit.
 ///
+/// `call` writes the lines of `nr_onecall::try_call`, or `long`.
+///
 /// `list` writes a line for each import, with why the host doesn't have it or `ok`, for each export, table and
 /// memory, and for the size of the file; `text` writes the module (`nr_wat::write_text`); or they write the line
 /// `decode KIND AT` or `long`. They judge by the built-in configuration, which only says how long a file may be.
 ///
 /// # Answers
 ///
-/// - `Sound`: the line `ok` or `end BURNT` was written, the lines of a module, or what `help` or `version`
-///   writes. `Unfit`: the line `ok` was written, and no machine can be made of the module, since an element or a
-///   segment doesn't fit. `Faulty`: another line was written.
+/// - `Sound`: the line `ok` or `end BURNT` was written, the lines of a call that came to its end or of a module, or
+///   what `help` or `version` writes. `Unfit`: the line `ok` was written, and no machine can be made of the module,
+///   since an element or a segment doesn't fit. `Faulty`: another line was written.
 /// - `Usage`: the words are none of these commands, or one is empty or begins with `-`. Nothing was
 ///   loaded or written.
 /// - `Config`: the configuration's file is longer than 1 MiB (kind 0), or its first fault, by the kind

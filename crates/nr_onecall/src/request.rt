@@ -1,0 +1,13 @@
+//! What is called.
+
+/// What is called, and with what.
+#[derive(Clone, Copy, Debug)]
+pub struct Request<'a> {
+    /// The name of the function.
+    pub method: &'a str,
+    pub args: &'a [u8],
+    /// The gas that the call can burn or promise.
+    pub gas: u64,
+    /// Tokens that come with the call.
+    pub deposit: u128,
+}
