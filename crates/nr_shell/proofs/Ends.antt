@@ -47,11 +47,11 @@ then_asks (f ∷ files) more (Answer a) next one two = absurd one
 then_asks (f ∷ files) more (Refuse e) next one two = tt
 then_asks (f ∷ files) more (Ask name limit long by_bytes) next one two = (one.0, λ bytes. then_asks files more (by_bytes bytes) next (one.1 bytes) two)
 
-refuse_asks : (A : Type 0) {E : Type 0} (files : List (List ℕ)) (e : E) → Asks {A = A} files (Refuse e)
+pub refuse_asks : (A : Type 0) {E : Type 0} (files : List (List ℕ)) (e : E) → Asks {A = A} files (Refuse e)
 refuse_asks A [] e = tt
 refuse_asks A (f ∷ files) e = tt
 
-length_asks : {A E : Type 0} (files : List (List ℕ)) (limit : ℕ) (long : E) (by_bytes : List ℕ → Plan A E) (bytes : List ℕ) → Asks files (by_bytes bytes) → Asks files (by_length limit long by_bytes bytes)
+pub length_asks : {A E : Type 0} (files : List (List ℕ)) (limit : ℕ) (long : E) (by_bytes : List ℕ → Plan A E) (bytes : List ℕ) → Asks files (by_bytes bytes) → Asks files (by_length limit long by_bytes bytes)
 length_asks {A} files limit long by_bytes bytes asks = elim (nat_lt limit (length bytes)) as (λ t. Asks files (cond t (Refuse long) (by_bytes bytes))) [ true ↦ refuse_asks A files long | false ↦ asks ]
 
 module _ {A E : Type 0} (held : List ℕ → Option (List ℕ)) where
