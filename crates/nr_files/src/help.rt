@@ -1,7 +1,8 @@
 //! What `help` and `version` write.
 
 ghost use Rattle.std.specs.Prelude.{◌≡◌, option_map};
-ghost use Rattle.nr_files.specs.Help.{help_of, help_text, serial_help, show_help, version_text};
+ghost use Rattle.nr_files.specs.Help.{driven_help, help_of, help_text, serial_help, show_help, tried_help};
+ghost use Rattle.nr_files.specs.Help.{version_text};
 
 /// The words of the commands, a line for each, without the last line feed.
 pub(crate) fn help_text() -> &'static str
@@ -10,6 +11,8 @@ pub(crate) fn help_text() -> &'static str
     "near_files genesis CONFIG JSON\n\
     near_files blocks JSON\n\
     near_files hex FILE\n\
+    near_files replay CONFIG GENESIS.json BLOCKS.json\n\
+    near_files check CONFIG GENESIS.json BLOCKS.json SCHEDULE\n\
     near_files show genesis CONFIG FILE\n\
     near_files show blocks FILE\n\
     near_files show report FILE\n\
@@ -21,8 +24,8 @@ pub(crate) fn help_text() -> &'static str
     near_files help\n\
     near_files help COMMAND\n\
     near_files version\n\
-    CONFIG is free or the name of a file. COMMAND is genesis, blocks, hex, show, explain, help or \
-    version, or the program near_serial, near_replay, near_audit or near_module."
+    CONFIG is free or the name of a file. COMMAND is genesis, blocks, hex, replay, check, show, \
+    explain, help or version, or the program near_serial, near_replay, near_audit or near_module."
 }
 
 /// The program's name and its version, without the line feed.
@@ -50,6 +53,8 @@ pub(crate) fn help_of(command: &str) -> Option<&'static str>
             "near_files hex FILE\n\
             Writes the bytes of FILE as a JSON text of hexadecimal digits, as code and args have them.",
         ),
+        "replay" => Some(tried_help()),
+        "check" => Some(driven_help()),
         "show" => Some(show_help()),
         "explain" => Some(
             "near_files explain WORDS..\n\
@@ -73,6 +78,22 @@ pub(crate) fn help_of(command: &str) -> Option<&'static str>
         "near_module" => Some("near_module help\nWrites the words of near_module."),
         _ => None,
     }
+}
+
+fn tried_help() -> &'static str
+    ensures { result.now ≡ tried_help }
+{
+    "near_files replay CONFIG GENESIS.json BLOCKS.json\n\
+    Makes both files as genesis and blocks do, replays them as near_serial run does, and writes \
+    the report as show report does. A refusal is told in words."
+}
+
+fn driven_help() -> &'static str
+    ensures { result.now ≡ driven_help }
+{
+    "near_files check CONFIG GENESIS.json BLOCKS.json SCHEDULE\n\
+    Makes both files as genesis and blocks do, drives them by the lines of SCHEDULE as \
+    near_serial check does, and writes its lines as show report does. A refusal is told in words."
 }
 
 fn show_help() -> &'static str
