@@ -9,6 +9,7 @@ ghost use Rattle.nr_tryout.specs.Words.{of_file, of_run};
 use crate::words::{of_file, of_run};
 use nr_files::{Halt, Status};
 use nr_shell::Stop;
+use nr_top::Status as RunStatus;
 use std::alloc::Global;
 
 /// Why a command stops at a file, with the file's name.
@@ -26,7 +27,7 @@ pub(crate) fn file_stop(alloc: Global, file: &str, stop: Stop<Status>) -> Stop<S
 }
 
 /// Why a run stops, in words.
-pub(crate) fn run_stop(alloc: Global, stop: Stop<nr_top::Status>) -> Stop<Status>
+pub(crate) fn run_stop(alloc: Global, stop: Stop<RunStatus>) -> Stop<Status>
     ensures { Retells of_run stop result }
 {
     match stop {

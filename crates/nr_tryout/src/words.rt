@@ -8,6 +8,7 @@ ghost use Rattle.nr_tryout.specs.Words.{named, of_file, of_run, sentence_of};
 use nr_bytes::{Blob, Text};
 use nr_explain::told_of;
 use nr_files::Status;
+use nr_top::Status as RunStatus;
 use std::alloc::{AllocError, Global};
 use std::fmt::Write;
 
@@ -79,7 +80,7 @@ fn sentence_of(alloc: Global, line: &str) -> Result<Text, AllocError>
 /// # Errors
 ///
 /// Where memory runs out.
-pub(crate) fn of_run(alloc: Global, status: &nr_top::Status) -> Result<Status, AllocError>
+pub(crate) fn of_run(alloc: Global, status: &RunStatus) -> Result<Status, AllocError>
     ensures { IfOk result (λ told. told ≡ of_run status.now) }
 {
     let status_line = format!(in alloc; "{status}")?;
