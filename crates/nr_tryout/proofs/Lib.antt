@@ -1,3 +1,5 @@
 -- Lemmas behind the answers.
 pub mod Asking
 pub mod Steps
+pub mod Showing
+pub mod Serving
