@@ -47,7 +47,7 @@ then_asks (f ∷ files) more (Answer a) next one two = absurd one
 then_asks (f ∷ files) more (Refuse e) next one two = tt
 then_asks (f ∷ files) more (Ask name limit long by_bytes) next one two = (one.0, λ bytes. then_asks files more (by_bytes bytes) next (one.1 bytes) two)
 
-pub refuse_asks : (A : Type 0) {E : Type 0} (files : List (List ℕ)) (e : E) → Asks {A = A} files (Refuse e)
+refuse_asks : (A : Type 0) {E : Type 0} (files : List (List ℕ)) (e : E) → Asks {A = A} files (Refuse e)
 refuse_asks A [] e = tt
 refuse_asks A (f ∷ files) e = tt
 

@@ -5,7 +5,7 @@ use Rattle.nr_shell.specs.Answers.{Answers, Breaks, Comes, Follows, Judges, Rete
 use Rattle.nr_shell.specs.Plans.{Plan, Answer, Refuse, Ask, Asks, LeadsBy, Turns, and_then, by_length, file_plan, given, refusing}
 use Rattle.nr_shell.specs.declared.stop.Stop.{Stop}
 use Rattle.nr_shell.specs.declared.stop.Stop.TheVariants.{Unread, Memory, Refused}
-use Rattle.nr_shell.proofs.Ends.{length_asks, refuse_asks}
+use Rattle.nr_shell.proofs.Ends.{length_asks}
 use Rattle.nr_shell.proofs.Leading.{length_behind}
 
 -- ---- one step behind another
@@ -73,7 +73,8 @@ pub refusing_asks : {A E F : Type 0} (other : E → F) (files : List (List ℕ))
 unfolding refusing
 refusing_asks other [] (Answer a) asks = tt
 refusing_asks other (f ∷ files) (Answer a) asks = absurd asks
-refusing_asks {A} other files (Refuse e) asks = refuse_asks A files (other e)
+refusing_asks other [] (Refuse e) asks = tt
+refusing_asks other (f ∷ files) (Refuse e) asks = tt
 refusing_asks other [] (Ask name limit long by_bytes) asks = absurd asks
 refusing_asks other (f ∷ files) (Ask name limit long by_bytes) asks = (asks.0, λ bytes. refusing_asks other files (by_bytes bytes) (asks.1 bytes))
 
@@ -137,10 +138,10 @@ stop_refusing {X} {Y} {A} {E} {F} known refuses view same other held old new p (
 -- what is unread was so before
 pub unread_before : {E F : Type 0} (other : E → F) (s : Stop E) (t : Stop F) → Retells other s t → t ≡ Unread → s ≡ Unread
 unread_before other Unread t told e = refl
-unread_before {E} {F} other Memory t told e = let wrong : ◌≡◌ {A = Stop F} Memory Unread = sym told ∙ e in absurd cc
+unread_before other Memory t told e = let wrong : ⊥ = cc in absurd wrong
 unread_before other (Refused e) Unread told is = absurd told
-unread_before other (Refused e) Memory told is = absurd cc
-unread_before other (Refused e) (Refused f) told is = absurd cc
+unread_before other (Refused e) Memory told is = let wrong : ⊥ = cc in absurd wrong
+unread_before other (Refused e) (Refused f) told is = let wrong : ⊥ = cc in absurd wrong
 
 pub pass_follows : {X A E F : Type 0} {known : E → Bool} {refuses : F → Bool} {view : X → A} {held kept : List ℕ → Option (List ℕ)} {old new : List (List ℕ)} {before after : ℕ} {x : X} {p : Plan A E} (other : E → F)
     → Follows known view held kept old new before after (Ok x) p → Follows refuses view held kept old new before after (Ok x) (refusing other p)

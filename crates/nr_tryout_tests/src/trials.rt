@@ -37,11 +37,11 @@ fn other_words_are_those_of_the_files(rt: HostRuntime) -> Result<(), Fail> {
     let alloc = rt.alloc();
     let version = ended(alloc, &["version"], &[])?;
     assert_eq!(rt; version.status.exit_status(), 0);
-    assert_eq!(rt; version.written(), b"near_files 0.1.0\n");
+    assert_eq!(rt; version.written(), "near_files 0.1.0\n".as_bytes());
     let files: [(&str, &[u8]); 1] = [("B", b"{\"blocks\": []}")];
     let made = ended(alloc, &["blocks", "B"], &files)?;
     assert_eq!(rt; made.status.exit_status(), 0);
-    assert_eq!(rt; made.written(), b"NRB1\0\0\0\0");
+    assert_eq!(rt; made.written(), "NRB1\0\0\0\0".as_bytes());
     let words: [&[&str]; 5] = [
         &["replay"],
         &["replay", "free", "G"],
