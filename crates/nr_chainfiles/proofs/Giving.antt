@@ -1,5 +1,5 @@
 -- The chain of bytes that are there.
-use Rattle.std.proofs.Common.{◌≡◌, ℕ, ◌+◌, Bool, true, List, length, Result, Ok, Err, sym, ap, subst, ◌∙◌}
+use Rattle.std.proofs.Common.{◌≡◌, ℕ, ◌+◌, Bool, List, length, Result, Err, sym, ap, subst, ◌∙◌}
 use Rattle.nr_blocks.specs.declared.genesis.Genesis.{Genesis}
 use Rattle.nr_chainfiles.specs.Plans.{by_blocks_bytes, by_config, by_genesis, by_genesis_bytes, files_with}
 use Rattle.nr_chainfiles.specs.declared.loading.ChainFiles.{ChainFiles}

@@ -1,6 +1,6 @@
 //! The chain of bytes that are there, which are judged as those of its files are.
 
-ghost use Rattle.std.specs.Prelude.{◌≡◌, ◌+◌, ℕ, List, Some, IfOk, length};
+ghost use Rattle.std.specs.Prelude.{◌≡◌, ◌+◌, Some, IfOk, length};
 ghost use Rattle.nr_blocks.specs.Genesis.{IsSoundGenesis};
 ghost use Rattle.nr_chainfiles.specs.Plans.{by_blocks_bytes, by_config, by_genesis_bytes, files_with};
 ghost use Rattle.nr_reshard.specs.Spellings.{CanReshard};

@@ -1,5 +1,5 @@
 -- Plans to which files are given, and plans whose refusals are told otherwise.
-use Rattle.std.proofs.Common.{◌≡◌, ℕ, Bool, true, false, cond, List, [], ◌∷◌, ◌++◌, length, Option, Result, Ok, Err, refl, sym, ap, subst, ◌∙◌}
+use Rattle.std.proofs.Common.{◌≡◌, ℕ, Bool, true, false, cond, List, [], ◌∷◌, length, Option, Result, Ok, Err, refl, sym, ap, subst, ◌∙◌}
 use Rattle.std.specs.Prelude.{nat_lt}
 use Rattle.nr_shell.specs.Answers.{Answers, Breaks, Comes, Follows, Judges, Retells, Stops}
 use Rattle.nr_shell.specs.Plans.{Plan, Answer, Refuse, Ask, Asks, LeadsBy, Turns, and_then, by_length, file_plan, given, refusing}

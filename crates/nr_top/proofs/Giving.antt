@@ -2,7 +2,6 @@
 use Rattle.std.proofs.Common.{◌≡◌, ℕ, [], List, Option, None, Some, ap, sym, ◌∙◌}
 use Rattle.nr_chainfiles.proofs.Asking.{by_config_asks}
 use Rattle.nr_chainfiles.specs.Plans.{by_config}
-use Rattle.nr_chainfiles.specs.declared.loading.ChainFiles.{ChainFiles}
 use Rattle.nr_config.specs.Config.{Config}
 use Rattle.nr_configfile.specs.Plans.{config_plan}
 use Rattle.nr_course.specs.Course.{Course}
@@ -10,7 +9,7 @@ use Rattle.nr_course.specs.Texts.{course_text}
 use Rattle.nr_shell.proofs.Giving.{given_both, then_then}
 use Rattle.nr_shell.specs.Plans.{Plan, Answer, and_then, given}
 use Rattle.nr_top.proofs.Asking.{course_by_asks}
-use Rattle.nr_top.specs.Plans.{by_course, course_by, course_plan, files_plan, replay_by, replay_bytes, replay_plan}
+use Rattle.nr_top.specs.Plans.{by_course, course_by, course_plan, replay_by, replay_bytes, replay_plan}
 use Rattle.nr_top.specs.Run.{loaded}
 use Rattle.nr_top.specs.declared.status.Status.{Status}
 use Rattle.nr_top.specs.declared.status.Status.TheVariants.{Config as faulty_config, Genesis as faulty_genesis, Blocks as faulty_blocks}

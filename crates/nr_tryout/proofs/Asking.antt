@@ -1,5 +1,5 @@
 -- Which files the plan of a command asks for.
-use Rattle.std.proofs.Common.{ℕ, List, [], ◌∷◌, ◌++◌, Option, None, Some}
+use Rattle.std.proofs.Common.{ℕ, List, [], ◌∷◌, Option, None, Some}
 use Rattle.nr_config.specs.Config.{Config as Configuration, free}
 use Rattle.nr_configfile.proofs.Asking.{config_asks}
 use Rattle.nr_configfile.specs.Plans.{config_files, config_plan}

@@ -1,10 +1,7 @@
 -- The plan of words, which are one of the two commands or none.
-use Rattle.std.proofs.Common.{◌≡◌, ℕ, List, Option, None, Some, ap}
+use Rattle.std.proofs.Common.{◌≡◌, ℕ, List, None, Some, ap}
 use Rattle.nr_files.specs.Command.{meant}
-use Rattle.nr_files.specs.Due.{Output}
 use Rattle.nr_files.specs.Plans.{plan as other_plan}
-use Rattle.nr_files.specs.declared.status.Status.{Status}
-use Rattle.nr_shell.specs.Plans.{Plan}
 use Rattle.nr_tryout.specs.Command.{tried}
 use Rattle.nr_tryout.specs.Plans.{plan, plan_by, tried_plan}
 use Rattle.nr_words.specs.Command.{Names}

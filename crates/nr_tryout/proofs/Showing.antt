@@ -1,16 +1,16 @@
 -- A text that is shown as a report.
-use Rattle.std.proofs.Common.{◌≡◌, List, ℕ, Bool, true, Ok, Err, ap, sym, ◌∙◌}
+use Rattle.std.proofs.Common.{◌≡◌, List, ℕ, Ok, Err, ap, sym, ◌∙◌}
 use Rattle.nr_config.specs.Config.{free}
 use Rattle.nr_files.specs.Answers.{output_in, refuses}
 use Rattle.nr_files.specs.Due.{Output}
-use Rattle.nr_files.specs.Plans.{by_bytes, by_config}
+use Rattle.nr_files.specs.Plans.{by_bytes}
 use Rattle.nr_files.specs.declared.command.Work.TheVariants.{ShowReport}
 use Rattle.nr_files.specs.declared.output.Output.{Output as CodeOutput}
 use Rattle.nr_files.specs.declared.status.Status.{Status}
 use Rattle.nr_files.specs.declared.status.Status.TheVariants.{TooLong}
 use Rattle.nr_shell.proofs.Giving.{given_file}
 use Rattle.nr_shell.specs.Answers.{Judges, Retells}
-use Rattle.nr_shell.specs.Plans.{Plan, Answer, Refuse, by_length, given, refusing}
+use Rattle.nr_shell.specs.Plans.{Plan, Refuse, by_length, refusing}
 use Rattle.nr_shell.specs.declared.stop.Stop.{Stop}
 use Rattle.nr_shell.specs.declared.stop.Stop.TheVariants.{Unread, Memory, Refused}
 use Rattle.nr_tryout.proofs.Steps.{file_refuses}

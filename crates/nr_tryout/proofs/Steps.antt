@@ -1,5 +1,5 @@
 -- From the files of a chain to what is written of it.
-use Rattle.std.proofs.Common.{◌≡◌, ℕ, true, List, Option, None, Some, Result, Err, refl, ap, subst, sym}
+use Rattle.std.proofs.Common.{◌≡◌, ℕ, true, List, Option, None, Some, refl}
 use Rattle.nr_files.proofs.Last.{file_last, word_last}
 use Rattle.nr_files.specs.Answers.{EndsIn, refuses}
 use Rattle.nr_files.specs.declared.status.Status.{Status}

@@ -1,6 +1,6 @@
 //! The two commands before anything is written: one step behind another.
 
-ghost use Rattle.std.specs.Prelude.{◌≡◌, ℕ, List};
+ghost use Rattle.std.specs.Prelude.{◌≡◌};
 ghost use Rattle.nr_files.specs.Answers.{NamesLast, output_in, refuses, stopped};
 ghost use Rattle.nr_shell.specs.Answers.{Follows};
 ghost use Rattle.nr_tryout.specs.Plans.{over_both, over_config, over_genesis, ran, tried_plan};
@@ -100,7 +100,13 @@ fn over_genesis<'a, S: Shelf>(
         (stopped result) (over_genesis (names_in names.now) config genesis) }
     ensures names { NamesLast result (S.asked shelf.new) }
 {
-    match made(alloc, Work::MakeBlocks, &Config::free(), names.blocks, shelf) {
+    match made(
+        alloc,
+        Work::MakeBlocks,
+        &Config::free(),
+        names.blocks,
+        shelf,
+    ) {
         Ok(blocks) => over_both(alloc, names, config, genesis, blocks, shelf),
         Err(halt) => Err(halt),
     }

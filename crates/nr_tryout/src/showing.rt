@@ -5,7 +5,7 @@ ghost use Rattle.nr_files.specs.Answers.{output_in, refuses};
 ghost use Rattle.nr_files.specs.Plans.{by_bytes};
 ghost use Rattle.nr_files.specs.declared.command.Work.TheVariants.{ShowReport};
 ghost use Rattle.nr_files.specs.declared.status.Status.TheVariants.{TooLong};
-ghost use Rattle.nr_shell.specs.Answers.{Follows, Judges};
+ghost use Rattle.nr_shell.specs.Answers.{Judges};
 ghost use Rattle.nr_shell.specs.Plans.{by_length};
 ghost use Rattle.nr_tryout.specs.Plans.{report, request, shown};
 

@@ -41,10 +41,7 @@ pub(crate) fn run_stop(alloc: Global, stop: Stop<RunStatus>) -> Stop<Status>
 }
 
 /// What was answered or stopped, with the file that was to be loaded last.
-pub(crate) fn at_file<'a, X>(
-    file: &'a str,
-    answer: Result<X, Stop<Status>>,
-) -> Result<X, Halt<'a>>
+pub(crate) fn at_file<'a, X>(file: &'a str, answer: Result<X, Stop<Status>>) -> Result<X, Halt<'a>>
     ensures same { stopped result ≡ answer }
     ensures names { (asks : List (List ℕ)) → (answer ≡ Failed Unread → EndsIn asks file.now) → NamesLast result asks }
 {

@@ -1,6 +1,6 @@
 //! Refusals in words.
 
-ghost use Rattle.std.specs.Prelude.{◌≡◌, ◌∷◌, ◌++◌, [], IfOk, codes, map, string_bytes};
+ghost use Rattle.std.specs.Prelude.{◌≡◌, ◌∷◌, [], IfOk, codes, map, string_bytes};
 ghost use Rattle.nr_explain.specs.Programs.{told_of};
 ghost use Rattle.nr_top.specs.Exit.{status_line};
 ghost use Rattle.nr_tryout.specs.Words.{named, of_file, of_run, sentence_of};

@@ -61,11 +61,13 @@ fn a_schedule_is_refused_in_words(rt: HostRuntime) -> Result<(), Fail> {
         ("S", b"open 0\nopen 1\n"),
     ];
     let end = ended(alloc, &["check", "free", "G", "B", "S"], &files)?;
-    assert!(rt; end.refused(
-        alloc,
-        20,
-        "The schedule is refused: line 2 (from 1) is no step, or names a shard that is not there.",
-    )?);
+    assert!(rt;
+        end.refused(
+            alloc,
+            20,
+            "The schedule is refused: line 2 (from 1) is no step, or names a shard that is not there.",
+        )?
+    );
     Ok(())
 }
 

@@ -59,12 +59,7 @@ fn reported(alloc: Global, files: ChainFiles) -> Result<Blob, Stop<Status>>
 
 /// The report of the run of these bytes.
 #[inline(never)]
-fn ran(
-    alloc: Global,
-    config: Config,
-    genesis: Blob,
-    blocks: Blob,
-) -> Result<Blob, Stop<Status>>
+fn ran(alloc: Global, config: Config, genesis: Blob, blocks: Blob) -> Result<Blob, Stop<Status>>
     ensures { (names : Names) → Judges refuses (λ text. text) result (replay_bytes names None config genesis blocks) }
 {
     match course_of(alloc, config, genesis, blocks) {

@@ -1,6 +1,5 @@
 -- The goals of `making::made` that no tactic closes.
 use Rattle.std.proofs.Common.{sym, ap}
-use Rattle.nr_files.proofs.Asking.{by_config_asks}
 use Rattle.nr_files.specs.Due.{Output}
 use Rattle.nr_shell.proofs.Giving.{pass_follows, retold_follows, unread_before}
 use Rattle.nr_shell.proofs.Leading.{judge_follows, stop_follows, then_follows}

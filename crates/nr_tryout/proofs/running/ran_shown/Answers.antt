@@ -1,10 +1,7 @@
 -- The goals of `running::ran_shown` that no tactic closes.
-use Rattle.std.proofs.Common.{ℕ, List, Result, subst}
+use Rattle.std.proofs.Common.{ℕ, List, subst}
 use Rattle.nr_files.specs.Answers.{output_in, refuses}
-use Rattle.nr_files.specs.declared.output.Output.{Output}
-use Rattle.nr_files.specs.declared.status.Status.{Status}
 use Rattle.nr_shell.specs.Answers.{Judges}
-use Rattle.nr_shell.specs.declared.stop.Stop.{Stop}
 use Rattle.nr_shell.proofs.Leading.{judge_follows, stop_follows, then_follows}
 use Rattle.nr_tryout.specs.Plans.{shown}
 use Rattle.nr_tryout.proofs.running.ran_shown.Goals as goal
