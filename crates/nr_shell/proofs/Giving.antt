@@ -50,6 +50,9 @@ both_asks one two first second files p asks = given_asks two second files (given
 pub judges_same : {X A E : Type 0} {refuses : E → Bool} {view : X → A} {r : Result X (Stop E)} {p q : Plan A E} → p ≡ q → Judges refuses view r p → Judges refuses view r q
 judges_same {X} {A} {E} {refuses} {view} {r} {p} {q} e judges = subst (λ (plan : Plan A E). Judges refuses view r plan) e judges
 
+pub judges_bytes : {X A E : Type 0} {refuses : E → Bool} {view : X → A} {r : Result X (Stop E)} {p : Plan A E} {first second one two : List ℕ} → first ≡ one → second ≡ two → Judges refuses view r (given second (given first p)) → Judges refuses view r (given two (given one p))
+judges_bytes {X} {A} {E} {refuses} {view} {r} {p} e f judges = judges_same (λ i. given (f i) (given (e i) p)) judges
+
 pub judges_then : {X Y A B E : Type 0} {refuses : E → Bool} {view : X → A} {other : Y → B} {x : X} {r : Result Y (Stop E)} {p : Plan A E} (next : A → Plan B E) → Judges refuses view (Ok x) p → Judges refuses other r (next (view x)) → Judges refuses other r (and_then p next)
 unfolding and_then
 judges_then {X} {Y} {A} {B} {E} {refuses} {view} {other} {x} {r} {p} next one two = subst (λ (q : Plan A E). Judges refuses other r (and_then q next)) (sym one) two

@@ -36,7 +36,9 @@ fn course_of(
     ensures sound { IfOk result (λ files. IsSoundGenesis files.config files.genesis) }
     ensures can { IfOk result (λ files. CanRun (loaded files)) }
 {
-    match chain_of::<Status>(alloc, config, genesis.inner(), blocks.inner()) {
+    let first = genesis.inner();
+    let second = blocks.inner();
+    match chain_of::<Status>(alloc, config, first, second) {
         Ok(files) => {
             can_run(&files);
             Ok(files)
