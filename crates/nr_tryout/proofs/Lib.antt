@@ -2,4 +2,3 @@
 pub mod Asking
 pub mod Steps
 pub mod Showing
-pub mod Serving

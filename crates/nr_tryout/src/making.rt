@@ -47,9 +47,9 @@ pub(crate) fn made<'a, S: Shelf>(
     };
     match with_config(alloc, &request, config, shelf) {
         Ok(output) => Ok(bytes_of(alloc, output)),
-        Err(halt) => Err(Halt {
-            stop: file_stop(alloc, file, halt.stop),
-            file: halt.file,
+        Err(Halt { stop, file: last }) => Err(Halt {
+            stop: file_stop(alloc, file, stop),
+            file: last,
         }),
     }
 }

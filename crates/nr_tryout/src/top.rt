@@ -1,10 +1,10 @@
 //! The top call.
 
-ghost use Rattle.std.specs.Prelude.{◌≡◌, ◌≢◌, ℕ, List};
+ghost use Rattle.std.specs.Prelude.{◌≡◌, ◌≢◌, ℕ, List, option_map};
 ghost use Rattle.nr_bytes.specs.Outside.{Rose};
 ghost use Rattle.nr_files.specs.Answers.{Serves};
 ghost use Rattle.nr_files.specs.declared.status.Status.TheVariants.{Done, ReadFault, WriteFault};
-ghost use Rattle.nr_tryout.specs.Plans.{plan, tried_plan};
+ghost use Rattle.nr_tryout.specs.Plans.{plan, plan_by, tried_plan};
 ghost use Rattle.nr_words.specs.Words.{names_in, texts};
 
 use crate::command::tried;
@@ -30,6 +30,26 @@ fn serve_tried<S: Shelf, K: Sink>(
     match output_of(alloc, names, shelf) {
         Ok(output) => tell(alloc, output, sink),
         Err(Halt { stop, file }) => stop_status(alloc, stop, file),
+    }
+}
+
+/// The same where the words are one of them, and else what `nr_files` makes of the words.
+fn serve_found<S: Shelf, K: Sink>(
+    alloc: Global,
+    words: &[String],
+    found: Option<FileNames<'_>>,
+    shelf: &mut S,
+    sink: &mut K,
+) -> Status
+    ensures serves { Serves result (plan_by (texts words.now) (option_map names_in found.entry)) (S.held shelf.old)
+        (S.asked shelf.old) (S.asked shelf.new) (K.taken sink.old) (K.taken sink.new) }
+    ensures untouched { result ≢ Done → result ≢ WriteFault → sink.new ≡ sink.old }
+    ensures read_fault { (name : List ℕ) → result ≡ ReadFault name → Rose (S.faults shelf.old) (S.faults shelf.new) }
+    ensures write_fault { result ≡ WriteFault → Rose (K.faults sink.old) (K.faults sink.new) }
+{
+    match found {
+        Some(names) => serve_tried(alloc, &names, shelf, sink),
+        None => serve_files(alloc, words, shelf, sink),
     }
 }
 
@@ -70,8 +90,7 @@ pub fn serve_words<S: Shelf, K: Sink>(
     ensures write_fault { result ≡ WriteFault → Rose (K.faults sink.old) (K.faults sink.new) }
 {
     match tried(alloc, words) {
-        Ok(Some(names)) => serve_tried(alloc, &names, shelf, sink),
-        Ok(None) => serve_files(alloc, words, shelf, sink),
+        Ok(found) => serve_found(alloc, words, found, shelf, sink),
         Err(_) => Status::NoMemory,
     }
 }
