@@ -1,8 +1,8 @@
 -- Plans to which files are given, and plans whose refusals are told otherwise.
-use Rattle.std.proofs.Common.{◌≡◌, ℕ, Bool, true, false, cond, List, [], ◌∷◌, length, Option, Result, Ok, Err, refl, sym, ap, subst, ◌∙◌}
+use Rattle.std.proofs.Common.{◌≡◌, ℕ, Bool, true, false, cond, List, [], ◌∷◌, length, Option, Some, Result, Ok, Err, refl, sym, ap, subst, ◌∙◌}
 use Rattle.std.specs.Prelude.{nat_lt}
 use Rattle.nr_shell.specs.Answers.{Answers, Breaks, Comes, Follows, Judges, Retells, Stops}
-use Rattle.nr_shell.specs.Plans.{Plan, Answer, Refuse, Ask, Asks, LeadsBy, Turns, and_then, by_length, file_plan, given, refusing}
+use Rattle.nr_shell.specs.Plans.{Plan, Answer, Refuse, Ask, Allows, Asks, LeadsBy, Turns, and_then, by_length, file_plan, given, refusing}
 use Rattle.nr_shell.specs.declared.stop.Stop.{Stop}
 use Rattle.nr_shell.specs.declared.stop.Stop.TheVariants.{Unread, Memory, Refused}
 use Rattle.nr_shell.proofs.Ends.{length_asks}
@@ -16,6 +16,16 @@ then_then (Refuse e) next last = refl
 then_then (Ask name limit long by_bytes) next last = λ i. Ask name limit long (λ bytes. then_then (by_bytes bytes) next last i)
 
 -- ---- a file that is given
+turn_given : {A E : Type 0} (held : List ℕ → Option (List ℕ)) (name bytes : List ℕ) (p r : Plan A E) → held name ≡ Some bytes → Turns held name p r → r ≡ given bytes p
+turn_given held name bytes (Answer a) r told turns = absurd turns
+turn_given held name bytes (Refuse e) r told turns = absurd turns
+turn_given {A} {E} held name bytes (Ask asked limit long by_bytes) r told turns =
+    let same : bytes ≡ turns.0 = subst (λ (o : Option (List ℕ)). Allows o turns.0) told turns.2 in
+    sym turns.3 ∙ ap (λ (b : List ℕ). by_length limit long by_bytes b) (sym same)
+
+pub leads_given : {A E : Type 0} (held : List ℕ → Option (List ℕ)) (name bytes : List ℕ) (p q : Plan A E) → held name ≡ Some bytes → LeadsBy held (name ∷ []) p q → q ≡ given bytes p
+leads_given held name bytes p q told leads = sym leads.2 ∙ turn_given held name bytes p leads.0 told leads.1
+
 pub given_file : {A E : Type 0} (bytes name : List ℕ) (limit : ℕ) (long : E) (next : List ℕ → Plan A E) → given bytes (and_then (file_plan name limit long) next) ≡ by_length limit long next bytes
 unfolding and_then
 given_file bytes name limit long next = refl
