@@ -260,7 +260,7 @@ def file_cases(at):
         ("genesis refused", "near_files", ["genesis", priced, example("contract", "blocks.json")]),
         ("replay texts", "near_files", ["replay", priced, *texts("contract")]),
         ("check texts", "near_files", ["check", "free", *texts("reshard"), example("reshard", "steps")]),
-        ("replay texts refused", "near_files", ["replay", "free", texts("contract")[0], texts("reshard")[1]]),
+        ("replay texts refused", "near_files", ["replay", priced, texts("contract")[0], texts("reshard")[1]]),
         ("hex", "near_files", ["hex", module]),
         ("show genesis", "near_files", ["show", "genesis", priced, genesis]),
         ("show blocks", "near_files", ["show", "blocks", blocks]),
