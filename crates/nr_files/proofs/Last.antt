@@ -16,6 +16,10 @@ use Rattle.nr_files.specs.declared.status.Status.TheVariants.{ReadFault, WriteFa
 none_more : {A E : Type 0} (limit : ℕ) (long : E) (by_bytes : List ℕ → Plan A E) (bytes : List ℕ) → Asks [] (by_bytes bytes) → Asks [] (by_length limit long by_bytes bytes)
 none_more {A} {E} limit long by_bytes bytes asks = elim (nat_lt limit (length bytes)) as (λ t. Asks {A = A} [] (cond t (Refuse long) (by_bytes bytes))) [ true ↦ tt | false ↦ asks ]
 
+allowed : (told : Option (List ℕ)) → (bytes : List ℕ) × Allows told bytes
+allowed None = ([], tt)
+allowed (Some told) = (told, refl)
+
 module _ {A E : Type 0} (held : List ℕ → Option (List ℕ)) where
   -- a plan that asks for no file comes to none
   none_due : (names : List (List ℕ)) (p : Plan A E) (name : List ℕ) (limit : ℕ) (long : E) (by_bytes : List ℕ → Plan A E) → Asks [] p → LeadsBy held names p (Ask name limit long by_bytes) → ⊥
@@ -45,10 +49,6 @@ module _ {A E : Type 0} (held : List ℕ → Option (List ℕ)) where
   leads_on : (names more : List (List ℕ)) (p q r : Plan A E) → LeadsBy held names p q → LeadsBy held more q r → LeadsBy held (names ++ more) p r
   leads_on [] more p q r one two = subst (λ (x : Plan A E). LeadsBy held more x r) (sym one) two
   leads_on (n ∷ ns) more p q r one two = (one.0, one.1, leads_on ns more one.0 q r one.2 two)
-
-  allowed : (told : Option (List ℕ)) → (bytes : List ℕ) × Allows told bytes
-  allowed None = ([], tt)
-  allowed (Some told) = (told, refl)
 
   -- a plan that came to a file was begun
   pub break_stops : (old new : List (List ℕ)) (p : Plan A E) → Breaks held old new p → Stops held old new p

@@ -1,8 +1,8 @@
 //! What `help` and `version` write.
 
 ghost use Rattle.std.specs.Prelude.{◌≡◌, option_map};
-ghost use Rattle.nr_files.specs.Help.{driven_help, help_of, help_text, serial_help, show_help, tried_help};
-ghost use Rattle.nr_files.specs.Help.{version_text};
+ghost use Rattle.nr_files.specs.Help.{driven_help, explain_help, genesis_help, help_help, help_of, help_text};
+ghost use Rattle.nr_files.specs.Help.{hex_help, serial_help, show_help, tried_help, version_text};
 
 /// The words of the commands, a line for each, without the last line feed.
 pub(crate) fn help_text() -> &'static str
@@ -41,32 +41,16 @@ pub(crate) fn help_of(command: &str) -> Option<&'static str>
     ensures { option_map (λ text. text.now) result ≡ help_of command.now }
 {
     match command {
-        "genesis" => Some(
-            "near_files genesis CONFIG JSON\n\
-            Writes the genesis file that the JSON text describes, counted under CONFIG. An account may \
-            leave out storage_usage and code_hash.",
-        ),
+        "genesis" => Some(genesis_help()),
         "blocks" => Some(
             "near_files blocks JSON\nWrites the blocks file that the JSON text describes.",
         ),
-        "hex" => Some(
-            "near_files hex FILE\n\
-            Writes the bytes of FILE as a JSON text of hexadecimal digits, as code and args have them.",
-        ),
+        "hex" => Some(hex_help()),
         "replay" => Some(tried_help()),
         "check" => Some(driven_help()),
         "show" => Some(show_help()),
-        "explain" => Some(
-            "near_files explain WORDS..\n\
-            Writes in one sentence what a line says that a program wrote, on standard output or \
-            standard error. WORDS are the whole line, and may stand behind the program's name.",
-        ),
-        "help" => Some(
-            "near_files help\n\
-            near_files help COMMAND\n\
-            Writes the words of all commands, or those of one and what it does, or those of another \
-            program.",
-        ),
+        "explain" => Some(explain_help()),
+        "help" => Some(help_help()),
         "version" => Some("near_files version\nWrites the program's name and its version."),
         "near_serial" => Some(serial_help()),
         "near_replay" => Some(
@@ -78,6 +62,37 @@ pub(crate) fn help_of(command: &str) -> Option<&'static str>
         "near_module" => Some("near_module help\nWrites the words of near_module."),
         _ => None,
     }
+}
+
+fn genesis_help() -> &'static str
+    ensures { result.now ≡ genesis_help }
+{
+    "near_files genesis CONFIG JSON\n\
+    Writes the genesis file that the JSON text describes, counted under CONFIG. An account may leave \
+    out storage_usage and code_hash."
+}
+
+fn hex_help() -> &'static str
+    ensures { result.now ≡ hex_help }
+{
+    "near_files hex FILE\n\
+    Writes the bytes of FILE as a JSON text of hexadecimal digits, as code and args have them."
+}
+
+fn explain_help() -> &'static str
+    ensures { result.now ≡ explain_help }
+{
+    "near_files explain WORDS..\n\
+    Writes in one sentence what a line says that a program wrote, on standard output or standard \
+    error. WORDS are the whole line, and may stand behind the program's name."
+}
+
+fn help_help() -> &'static str
+    ensures { result.now ≡ help_help }
+{
+    "near_files help\n\
+    near_files help COMMAND\n\
+    Writes the words of all commands, or those of one and what it does, or those of another program."
 }
 
 fn tried_help() -> &'static str

@@ -22,4 +22,4 @@ returns-in-Err-clause-follows g c =
 
 pub returns-in-Err-clause-names : goal.returns-in-Err-clause-names
 returns-in-Err-clause-names g c = λ e.
-    c.in-Err.ensures.names (unread_before (of_file c.args.file.now) c.in-Err.stop c.file_stop.result c.file_stop.ensures e)
+    c.in-Err.ensures.names (unread_before (of_file c.args.file.now) c.in-Err.field-0.stop c.file_stop.result c.file_stop.ensures e)

@@ -16,16 +16,16 @@ returns-in-Ok-clause-read_fault g c = λ name e. absurd (c.tell.ensures.no_read_
 
 pub returns-in-Err-clause-serves : goal.returns-in-Err-clause-serves
 returns-in-Err-clause-serves g c =
-    stop_serves c.in-Err.stop c.in-Err.file.now c.stop_status.result (tried_plan (names_in c.args.names.now)) (g.S.Shelf.held c.args.shelf.now) (g.S.Shelf.asked c.args.shelf.now)
+    stop_serves c.in-Err.field-0.stop c.in-Err.field-0.file.now c.stop_status.result (tried_plan (names_in c.args.names.now)) (g.S.Shelf.held c.args.shelf.now) (g.S.Shelf.asked c.args.shelf.now)
     (g.S.Shelf.asked c.output_of.new.shelf) (g.K.Sink.taken c.args.sink.now) c.stop_status.ensures c.in-Err.ensures.follows.answers c.in-Err.ensures.names
 
 pub returns-in-Err-clause-read_fault : goal.returns-in-Err-clause-read_fault
 returns-in-Err-clause-read_fault g c = λ name e.
-    let unread = read_fault c.in-Err.stop c.in-Err.file.now name c.stop_status.result (tried_plan (names_in c.args.names.now)) (g.S.Shelf.held c.args.shelf.now) (g.S.Shelf.asked c.args.shelf.now)
+    let unread = read_fault c.in-Err.field-0.stop c.in-Err.field-0.file.now name c.stop_status.result (tried_plan (names_in c.args.names.now)) (g.S.Shelf.held c.args.shelf.now) (g.S.Shelf.asked c.args.shelf.now)
     (g.S.Shelf.asked c.output_of.new.shelf) c.stop_status.ensures c.in-Err.ensures.follows.answers e in
     c.in-Err.ensures.follows.failed (ap (λ (s : Stop Status). Err s) unread)
 
 pub returns-in-Err-clause-write_fault : goal.returns-in-Err-clause-write_fault
 returns-in-Err-clause-write_fault g c = λ e.
-    absurd (no_write_fault c.in-Err.stop c.in-Err.file.now c.stop_status.result (tried_plan (names_in c.args.names.now)) (g.S.Shelf.held c.args.shelf.now) (g.S.Shelf.asked c.args.shelf.now)
+    absurd (no_write_fault c.in-Err.field-0.stop c.in-Err.field-0.file.now c.stop_status.result (tried_plan (names_in c.args.names.now)) (g.S.Shelf.held c.args.shelf.now) (g.S.Shelf.asked c.args.shelf.now)
     (g.S.Shelf.asked c.output_of.new.shelf) c.stop_status.ensures c.in-Err.ensures.follows.answers e)
