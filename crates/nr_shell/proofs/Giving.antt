@@ -57,24 +57,25 @@ pub both_asks : {A E : Type 0} (one two first second : List ℕ) (files : List (
 both_asks one two first second files p asks = given_asks two second files (given one p) (given_asks one first (second ∷ files) p asks)
 
 -- ---- calls that ask for no file
-pub judges_same : {X A E : Type 0} {refuses : E → Bool} {view : X → A} {r : Result X (Stop E)} {p q : Plan A E} → p ≡ q → Judges refuses view r p → Judges refuses view r q
-judges_same {X} {A} {E} {refuses} {view} {r} {p} {q} e judges = subst (λ (plan : Plan A E). Judges refuses view r plan) e judges
+module _ {X A E : Type 0} (refuses : E → Bool) (view : X → A) (r : Result X (Stop E)) where
+  pub judges_same : {p q : Plan A E} → p ≡ q → Judges refuses view r p → Judges refuses view r q
+  judges_same {p} {q} e judges = subst (λ (plan : Plan A E). Judges refuses view r plan) e judges
 
-pub judges_bytes : {X A E : Type 0} {refuses : E → Bool} {view : X → A} {r : Result X (Stop E)} {p : Plan A E} {first second one two : List ℕ} → first ≡ one → second ≡ two → Judges refuses view r (given second (given first p)) → Judges refuses view r (given two (given one p))
-judges_bytes {X} {A} {E} {refuses} {view} {r} {p} e f judges = judges_same (λ i. given (f i) (given (e i) p)) judges
+  -- where lent bytes are those
+  pub judges_bytes : (p : Plan A E) {first second one two : List ℕ} → first ≡ one → second ≡ two → Judges refuses view r (given second (given first p)) → Judges refuses view r (given two (given one p))
+  judges_bytes p {first} {second} {one} {two} e f judges =
+      let same : given second (given first p) ≡ given two (given one p) = ap (λ (bytes : List ℕ). given second (given bytes p)) e ∙ ap (λ (bytes : List ℕ). given bytes (given one p)) f in
+      judges_same same judges
 
-pub judges_then : {X Y A B E : Type 0} {refuses : E → Bool} {view : X → A} {other : Y → B} {x : X} {r : Result Y (Stop E)} {p : Plan A E} (next : A → Plan B E) → Judges refuses view (Ok x) p → Judges refuses other r (next (view x)) → Judges refuses other r (and_then p next)
+pub judges_then : {X A B E : Type 0} (refuses : E → Bool) (view : X → B) (r : Result X (Stop E)) (p : Plan A E) (a : A) (next : A → Plan B E) → p ≡ Answer a → Judges refuses view r (next a) → Judges refuses view r (and_then p next)
 unfolding and_then
-judges_then {X} {Y} {A} {B} {E} {refuses} {view} {other} {x} {r} {p} next one two = subst (λ (q : Plan A E). Judges refuses other r (and_then q next)) (sym one) two
+judges_then {X} {A} {B} {E} refuses view r p a next is judges = subst (λ (q : Plan A E). Judges refuses view r (and_then q next)) (sym is) judges
 
-stop_judges : {X Y A B E : Type 0} (refuses : E → Bool) (view : X → A) (other : Y → B) (s : Stop E) (p : Plan A E) (next : A → Plan B E) → Judges refuses view (Err s) p → Judges refuses other (Err s) (and_then p next)
+pub judges_stop : {X Y A B E : Type 0} (refuses : E → Bool) (view : X → A) (other : Y → B) (s : Stop E) (p : Plan A E) (next : A → Plan B E) → Judges refuses view (Err s) p → Judges refuses other (Err s) (and_then p next)
 unfolding and_then
-stop_judges {X} {Y} {A} {B} {E} refuses view other (Refused e) p next h = (h.0, ap (λ (q : Plan A E). and_then q next) h.1)
-stop_judges refuses view other Unread p next h = h
-stop_judges refuses view other Memory p next h = tt
-
-pub judges_stop : {X Y A B E : Type 0} {refuses : E → Bool} {view : X → A} {other : Y → B} {s : Stop E} {p : Plan A E} (next : A → Plan B E) → Judges refuses view (Err s) p → Judges refuses other (Err s) (and_then p next)
-judges_stop {X} {Y} {A} {B} {E} {refuses} {view} {other} {s} {p} next h = stop_judges refuses view other s p next h
+judges_stop {X} {Y} {A} {B} {E} refuses view other (Refused e) p next h = (h.0, ap (λ (q : Plan A E). and_then q next) h.1)
+judges_stop refuses view other Unread p next h = h
+judges_stop refuses view other Memory p next h = tt
 
 -- ---- refusals that are told otherwise
 length_refusing : {A E F : Type 0} (other : E → F) (limit : ℕ) (long : E) (by_bytes : List ℕ → Plan A E) (bytes : List ℕ) → by_length limit (other long) (λ b. refusing other (by_bytes b)) bytes ≡ refusing other (by_length limit long by_bytes bytes)
