@@ -138,16 +138,16 @@ breaks_refusing other held old new p b = record {
 refuse_stops : {A E F : Type 0} (other : E → F) (held : List ℕ → Option (List ℕ)) (old new : List (List ℕ)) (p : Plan A E) (e : E) → Comes held old new p (Refuse e) → Stops held old new (refusing other p)
 refuse_stops other held old new p e comes = record { rest = Refuse (other e); comes = refuse_refusing other held old new p e comes }
 
-stop_refusing : {X Y A E F : Type 0} (known : E → Bool) (refuses : F → Bool) (view : X → A) (same : Y → A) (other : E → F) (held : List ℕ → Option (List ℕ)) (old new : List (List ℕ)) (p : Plan A E) (s : Stop E) (t : Stop F)
-    → ((e : E) → known e ≡ true → refuses (other e) ≡ true) → Retells other s t → Answers known view held old new (Err s) p → Answers refuses same held old new (Err t) (refusing other p)
-stop_refusing {X} {Y} {A} {E} {F} known refuses view same other held old new p Unread t goes_on told h =
-    subst (λ (u : Stop F). Answers refuses same held old new (Err u) (refusing other p)) (sym told) (breaks_refusing other held old new p h)
-stop_refusing {X} {Y} {A} {E} {F} known refuses view same other held old new p Memory t goes_on told h =
-    subst (λ (u : Stop F). Answers refuses same held old new (Err u) (refusing other p)) (sym told) (stops_refusing other held old new p h)
-stop_refusing known refuses view same other held old new p (Refused e) Unread goes_on told h = absurd told
-stop_refusing known refuses view same other held old new p (Refused e) Memory goes_on told h = refuse_stops other held old new p e h.1
-stop_refusing {X} {Y} {A} {E} {F} known refuses view same other held old new p (Refused e) (Refused f) goes_on told h =
-    subst (λ (x : F). Answers refuses same held old new (Err (Refused x)) (refusing other p)) (sym told) (goes_on e h.0, refuse_refusing other held old new p e h.1)
+stop_refusing : {X A E F : Type 0} (known : E → Bool) (refuses : F → Bool) (view : X → A) (other : E → F) (held : List ℕ → Option (List ℕ)) (old new : List (List ℕ)) (p : Plan A E) (s : Stop E) (t : Stop F)
+    → ((e : E) → known e ≡ true → refuses (other e) ≡ true) → Retells other s t → Answers known view held old new (Err s) p → Answers refuses view held old new (Err t) (refusing other p)
+stop_refusing {X} {A} {E} {F} known refuses view other held old new p Unread t goes_on told h =
+    subst (λ (u : Stop F). Answers refuses view held old new (Err u) (refusing other p)) (sym told) (breaks_refusing other held old new p h)
+stop_refusing {X} {A} {E} {F} known refuses view other held old new p Memory t goes_on told h =
+    subst (λ (u : Stop F). Answers refuses view held old new (Err u) (refusing other p)) (sym told) (stops_refusing other held old new p h)
+stop_refusing known refuses view other held old new p (Refused e) Unread goes_on told h = absurd told
+stop_refusing known refuses view other held old new p (Refused e) Memory goes_on told h = refuse_stops other held old new p e h.1
+stop_refusing {X} {A} {E} {F} known refuses view other held old new p (Refused e) (Refused f) goes_on told h =
+    subst (λ (x : F). Answers refuses view held old new (Err (Refused x)) (refusing other p)) (sym told) (goes_on e h.0, refuse_refusing other held old new p e h.1)
 
 -- what is unread was so before
 pub unread_before : {E F : Type 0} (other : E → F) (s : Stop E) (t : Stop F) → Retells other s t → t ≡ Unread → s ≡ Unread
@@ -166,10 +166,10 @@ pass_follows {X} {A} {E} {F} {known} {refuses} {view} {held} {kept} {old} {new} 
   rises = one.rises;
 }
 
-pub retold_follows : {X Y A E F : Type 0} {known : E → Bool} {refuses : F → Bool} {view : X → A} {same : Y → A} {held kept : List ℕ → Option (List ℕ)} {old new : List (List ℕ)} {before after : ℕ} {s : Stop E} {t : Stop F} {p : Plan A E} (other : E → F)
-    → ((e : E) → known e ≡ true → refuses (other e) ≡ true) → Retells other s t → Follows known view held kept old new before after (Err s) p → Follows refuses same held kept old new before after (Err t) (refusing other p)
-retold_follows {X} {Y} {A} {E} {F} {known} {refuses} {view} {same} {held} {kept} {old} {new} {before} {after} {s} {t} {p} other goes_on told one = record {
-  answers = stop_refusing known refuses view same other held old new p s t goes_on told one.answers;
+pub retold_follows : {X A E F : Type 0} {known : E → Bool} {refuses : F → Bool} {view : X → A} {held kept : List ℕ → Option (List ℕ)} {old new : List (List ℕ)} {before after : ℕ} {s : Stop E} {t : Stop F} {p : Plan A E} (other : E → F)
+    → ((e : E) → known e ≡ true → refuses (other e) ≡ true) → Retells other s t → Follows known view held kept old new before after (Err s) p → Follows refuses view held kept old new before after (Err t) (refusing other p)
+retold_follows {X} {A} {E} {F} {known} {refuses} {view} {held} {kept} {old} {new} {before} {after} {s} {t} {p} other goes_on told one = record {
+  answers = stop_refusing known refuses view other held old new p s t goes_on told one.answers;
   keeps = one.keeps;
   failed = λ e. let is : t ≡ Unread = cc in one.failed (ap (λ (u : Stop E). Err u) (unread_before other s t told is));
   rises = one.rises;
