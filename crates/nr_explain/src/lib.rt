@@ -14,5 +14,5 @@ mod sentences;
 mod shown;
 mod written;
 
-pub use explaining::explain;
+pub use explaining::{explain, told_of};
 pub use report::{ReportFault, show_report};

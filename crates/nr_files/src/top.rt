@@ -55,8 +55,12 @@ fn loaded<S: Shelf>(
     }
 }
 
-/// The same, with the file at which it stops.
-fn with_config<'a, S: Shelf>(
+/// What the file of a request gives under a configuration that is there.
+///
+/// # Errors
+///
+/// Why it stops, and at which file.
+pub fn with_config<'a, S: Shelf>(
     alloc: Global,
     request: &Request<'a>,
     config: &Config,
@@ -136,7 +140,7 @@ fn output_of<'a, S: Shelf>(
 }
 
 /// The answer of a command that stopped at a file.
-fn stop_status(alloc: Global, stop: Stop<Status>, file: &str) -> Status
+pub fn stop_status(alloc: Global, stop: Stop<Status>, file: &str) -> Status
     ensures { IsStatusOf stop file.now result }
 {
     match stop {
@@ -152,7 +156,7 @@ fn stop_status(alloc: Global, stop: Stop<Status>, file: &str) -> Status
 }
 
 /// Writes an output, where memory suffices for its text, and answers how the command ended that came to it.
-fn tell<K: Sink>(alloc: Global, output: Output, sink: &mut K) -> Status
+pub fn tell<K: Sink>(alloc: Global, output: Output, sink: &mut K) -> Status
     ensures serves { (p : Plan Due Status) (held : List ℕ → Option (List ℕ)) (asked asks : List (List ℕ))
         → Comes held asked asks p (Answer (output_in output))
         → Serves result p held asked asks (K.taken sink.old) (K.taken sink.new) }
@@ -179,7 +183,8 @@ fn tell<K: Sink>(alloc: Global, output: Output, sink: &mut K) -> Status
 /// JSON text of the bytes of a file. `explain WORDS..` writes what the line of these words says, which a
 /// program wrote. `help` writes the words of the commands, `help COMMAND` those of one and what it does, and `version`
 /// the program's name and version. Behind `show --compact` a JSON text has no spaces between its parts. Each text that
-/// isn't empty ends with a line feed.
+/// isn't empty ends with a line feed. `replay` and `check`, whose words `help` writes too, are no commands of this call:
+/// they are those of `nr_tryout`.
 ///
 /// # Answers
 ///
