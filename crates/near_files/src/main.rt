@@ -14,7 +14,7 @@
 
 use nr_bytes::{FileShelf, StdoutSink};
 use nr_files::Status;
-use nr_tryout::serve_words;
+use nr_jsonrun::serve_words;
 use std::alloc::Global;
 use std::io;
 use std::process::ExitCode;

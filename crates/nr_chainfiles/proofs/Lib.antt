@@ -1,3 +1,3 @@
 -- Lemmas behind the answers.
 pub mod Asking
-pub mod Giving
+pub mod WithBytes

@@ -30,9 +30,9 @@ replay_form = form (codes "replay") json_files
 abbrev pub check_form : Form
 check_form = form (codes "check") (json_files ++ file (codes "SCHEDULE") ∷ [])
 
--- `nr_tryout` does these
-abbrev pub tried_forms : List Form
-tried_forms = replay_form ∷ check_form ∷ []
+-- `nr_jsonrun` does these
+abbrev pub jsonrun_forms : List Form
+jsonrun_forms = replay_form ∷ check_form ∷ []
 
 abbrev pub shown_forms : List Form
 shown_forms =
@@ -53,7 +53,7 @@ shown_lines = flat_map (form_line (codes "near_files show")) shown_forms
 -- a line for each command, and then what two of the words may be; the last line feed is left out
 abbrev pub help_text : List ℕ
 help_text =
-    flat_map made_line made_forms ++ flat_map made_line tried_forms ++ shown_lines ++ codes "near_files show --compact .." ++ 10
+    flat_map made_line made_forms ++ flat_map made_line jsonrun_forms ++ shown_lines ++ codes "near_files show --compact .." ++ 10
     ∷ codes "near_files explain WORDS.." ++ 10 ∷ codes "near_files help" ++ 10 ∷ codes "near_files help COMMAND" ++ 10
     ∷ codes "near_files version" ++ 10
     ∷ codes "CONFIG is free or the name of a file. COMMAND is genesis, blocks, hex, replay, check, show, explain, help or version, or the program near_serial, near_replay, near_audit or near_module."

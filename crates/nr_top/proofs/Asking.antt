@@ -24,7 +24,7 @@ use Rattle.nr_report.specs.Lines.{chunk_text}
 use Rattle.nr_top.specs.Rechecking.{by_gathered, by_gathered_bytes, gathered_plan, gathered_status, recheck_answer, recheck_status}
 use Rattle.nr_shell.specs.Plans.{Plan, Answer, Asks, and_then, by_reading, file_plan}
 use Rattle.nr_shell.proofs.Ends.{file_asks, reading_asks, then_asks}
-use Rattle.nr_shell.proofs.Giving.{both_asks}
+use Rattle.nr_shell.proofs.WithBytes.{both_asks}
 use Rattle.nr_top.specs.Plans.{by_course, by_schedule_bytes, course_by, course_plan, files_of, files_plan, most_shards, plan, prove_plan, recheck_plan, replay_by, replay_bytes, replay_plan, schedule_files, schedule_plan, schedule_status, verify_plan}
 use Rattle.nr_top.specs.Chunks.{result_at}
 use Rattle.nr_top.specs.Proving.{by_chunk, by_item, by_proof, by_proof_bytes, by_proof_read, roots_text}

@@ -19,7 +19,7 @@ use Rattle.nr_schedule.specs.declared.schedule.Line.{Line}
 use Rattle.nr_schedule.specs.declared.schedule.ScheduleFault.{ScheduleFault}
 use Rattle.nr_schedule.specs.declared.schedule.ScheduleFault.TheVariants as schedule
 use Rattle.nr_config.specs.Config.{Config}
-use Rattle.nr_shell.specs.Plans.{Plan, Answer, Refuse, and_then, by_reading, file_plan, given}
+use Rattle.nr_shell.specs.Plans.{Plan, Answer, Refuse, and_then, by_reading, file_plan, with_bytes}
 use Rattle.nr_top.specs.Gathering.{gather_answer}
 use Rattle.nr_top.specs.Generated.{generated_text}
 use Rattle.nr_top.specs.Proving.{by_item, by_proof_bytes, roots_text}
@@ -84,7 +84,7 @@ replay_by names (Some file) c = and_then (course_by names c) (by_course file)
 
 -- where the files of the genesis and of the blocks have these bytes
 abbrev pub replay_bytes : Names → Option (List ℕ) → Config → List ℕ → List ℕ → Plan (List ℕ) Status
-replay_bytes names schedule c genesis blocks = given blocks (given genesis (replay_by names schedule c))
+replay_bytes names schedule c genesis blocks = with_bytes blocks (with_bytes genesis (replay_by names schedule c))
 
 -- `roots`
 abbrev pub roots_plan : Names → Plan (List ℕ) Status

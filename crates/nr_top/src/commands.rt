@@ -11,7 +11,6 @@ mod check;
 mod check_part;
 mod gather;
 mod generate;
-mod given;
 mod join_parts;
 mod part;
 mod prove;
@@ -19,6 +18,7 @@ mod recheck;
 mod roots;
 mod run;
 mod verify;
+mod with_bytes;
 
 use crate::status::Status;
 use crate::work::Work;
@@ -26,7 +26,6 @@ use check::check_text;
 use check_part::check_part_text;
 use gather::gather_text;
 use generate::generate_text;
-pub use given::replay_bytes;
 use join_parts::join_parts_text;
 use nr_bytes::{Blob, Shelf};
 use nr_shell::Stop;
@@ -38,6 +37,7 @@ use roots::roots_text;
 use run::run_text;
 use std::alloc::{AllocError, Global};
 use verify::verify_text;
+pub use with_bytes::replay_bytes;
 
 /// The text of a replay, to its end or by a schedule.
 fn replay_text<F: Fn(Work) -> Result<Blob, AllocError>, S: Shelf>(

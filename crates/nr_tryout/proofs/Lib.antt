@@ -1,4 +1,0 @@
--- Lemmas behind the answers.
-pub mod Asking
-pub mod Steps
-pub mod Showing
