@@ -74,15 +74,15 @@ abbrev pub hex_help : List ℕ
 hex_help =
     made_line hex_form ++ codes "Writes the bytes of FILE as a JSON text of hexadecimal digits, as code and args have them."
 
-abbrev pub tried_help : List ℕ
-tried_help =
+abbrev pub run_help : List ℕ
+run_help =
     made_line replay_form
-    ++ codes "Makes both files as genesis and blocks do, replays them as near_serial run does, and writes the report as show report does. A refusal is told in words."
+    ++ codes "Makes both files as genesis and blocks do, replays them as near_serial run does, and writes the report as show report does. A refusal is told in words, one of CONFIG in numbers."
 
-abbrev pub driven_help : List ℕ
-driven_help =
+abbrev pub check_help : List ℕ
+check_help =
     made_line check_form
-    ++ codes "Makes both files as genesis and blocks do, drives them by the lines of SCHEDULE as near_serial check does, and writes its lines as show report does. A refusal is told in words."
+    ++ codes "Makes both files as genesis and blocks do, drives them by the lines of SCHEDULE as near_serial check does, and writes its lines as show report does. A refusal is told in words, one of CONFIG in numbers."
 
 abbrev pub show_help : List ℕ
 show_help =
@@ -117,8 +117,8 @@ help_of command =
     cond (bytes_eq command (codes "genesis")) (Some genesis_help)
     (cond (bytes_eq command (codes "blocks")) (Some blocks_help)
     (cond (bytes_eq command (codes "hex")) (Some hex_help)
-    (cond (bytes_eq command (codes "replay")) (Some tried_help)
-    (cond (bytes_eq command (codes "check")) (Some driven_help)
+    (cond (bytes_eq command (codes "replay")) (Some run_help)
+    (cond (bytes_eq command (codes "check")) (Some check_help)
     (cond (bytes_eq command (codes "show")) (Some show_help)
     (cond (bytes_eq command (codes "explain")) (Some explain_help)
     (cond (bytes_eq command (codes "help")) (Some help_help)

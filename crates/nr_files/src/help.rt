@@ -1,8 +1,8 @@
 //! What `help` and `version` write.
 
 ghost use Rattle.std.specs.Prelude.{◌≡◌, option_map};
-ghost use Rattle.nr_files.specs.Help.{driven_help, explain_help, genesis_help, help_help, help_of, help_text};
-ghost use Rattle.nr_files.specs.Help.{hex_help, serial_help, show_help, tried_help, version_text};
+ghost use Rattle.nr_files.specs.Help.{check_help, explain_help, genesis_help, help_help, help_of, help_text};
+ghost use Rattle.nr_files.specs.Help.{hex_help, run_help, serial_help, show_help, version_text};
 
 /// The words of the commands, a line for each, without the last line feed.
 pub(crate) fn help_text() -> &'static str
@@ -46,8 +46,8 @@ pub(crate) fn help_of(command: &str) -> Option<&'static str>
             "near_files blocks JSON\nWrites the blocks file that the JSON text describes.",
         ),
         "hex" => Some(hex_help()),
-        "replay" => Some(tried_help()),
-        "check" => Some(driven_help()),
+        "replay" => Some(run_help()),
+        "check" => Some(check_help()),
         "show" => Some(show_help()),
         "explain" => Some(explain_help()),
         "help" => Some(help_help()),
@@ -95,20 +95,21 @@ fn help_help() -> &'static str
     Writes the words of all commands, or those of one and what it does, or those of another program."
 }
 
-fn tried_help() -> &'static str
-    ensures { result.now ≡ tried_help }
+fn run_help() -> &'static str
+    ensures { result.now ≡ run_help }
 {
     "near_files replay CONFIG GENESIS.json BLOCKS.json\n\
     Makes both files as genesis and blocks do, replays them as near_serial run does, and writes \
-    the report as show report does. A refusal is told in words."
+    the report as show report does. A refusal is told in words, one of CONFIG in numbers."
 }
 
-fn driven_help() -> &'static str
-    ensures { result.now ≡ driven_help }
+fn check_help() -> &'static str
+    ensures { result.now ≡ check_help }
 {
     "near_files check CONFIG GENESIS.json BLOCKS.json SCHEDULE\n\
     Makes both files as genesis and blocks do, drives them by the lines of SCHEDULE as \
-    near_serial check does, and writes its lines as show report does. A refusal is told in words."
+    near_serial check does, and writes its lines as show report does. A refusal is told in words, \
+    one of CONFIG in numbers."
 }
 
 fn show_help() -> &'static str

@@ -24,4 +24,4 @@ pub use halt::Halt;
 pub use laws::{asked_law, round_trips};
 pub use output::Output;
 pub use status::Status;
-pub use top::{serve_files, stop_status, tell, with_config};
+pub use top::{FILE_LIMIT, at_file, serve_files, stop_status, tell, with_config};

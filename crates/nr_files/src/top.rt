@@ -25,10 +25,14 @@ use nr_shell::{Stop, load, write_all};
 use std::alloc::Global;
 
 /// The most bytes of a file, 256 MiB.
-const FILE_LIMIT: usize = 268_435_456;
+pub const FILE_LIMIT: usize = 268_435_456;
 
 /// What was answered or stopped, with the file that was to be loaded last.
-fn at_file<'a>(file: &'a str, answer: Result<Output, Stop<Status>>) -> Result<Output, Halt<'a>>
+///
+/// # Errors
+///
+/// Why it stopped, and this file.
+pub fn at_file<'a>(file: &'a str, answer: Result<Output, Stop<Status>>) -> Result<Output, Halt<'a>>
     ensures same { stopped result ≡ answer }
     ensures names { (asks : List (List ℕ)) → (answer ≡ Failed Unread → EndsIn asks file.now) → NamesLast result asks }
 {

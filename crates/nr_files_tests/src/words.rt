@@ -74,13 +74,14 @@ fn commands_are_told(rt: HostRuntime) -> Result<(), Fail> {
         (
             &["help", "replay"],
             "near_files replay CONFIG GENESIS.json BLOCKS.json\nMakes both files as genesis and blocks do, replays \
-            them as near_serial run does, and writes the report as show report does. A refusal is told in words.\n",
+            them as near_serial run does, and writes the report as show report does. A refusal is told in words, one \
+            of CONFIG in numbers.\n",
         ),
         (
             &["help", "check"],
             "near_files check CONFIG GENESIS.json BLOCKS.json SCHEDULE\nMakes both files as genesis and blocks do, \
             drives them by the lines of SCHEDULE as near_serial check does, and writes its lines as show report \
-            does. A refusal is told in words.\n",
+            does. A refusal is told in words, one of CONFIG in numbers.\n",
         ),
         (&["help", "show"], SHOW),
         (

@@ -9,11 +9,11 @@ ghost use Rattle.nr_words.specs.Words.{names_in};
 
 use crate::making::made;
 use crate::showing::shown;
-use crate::stops::{at_file, run_stop};
+use crate::stops::run_stop;
 use nr_bytes::{Blob, Shelf};
 use nr_config::Config;
 use nr_configfile::config_of;
-use nr_files::{Halt, Output, Status, Work};
+use nr_files::{Halt, Output, Status, Work, at_file};
 use nr_shell::Stop;
 use nr_top::replay_bytes;
 use nr_words::FileNames;

@@ -11,19 +11,16 @@ ghost use Rattle.nr_jsonrun.specs.Plans.{report, request, shown};
 
 use crate::stops::file_stop;
 use nr_config::Config;
-use nr_files::{Output, Request, Status, Work, judged};
+use nr_files::{FILE_LIMIT, Output, Request, Status, Work, judged};
 use nr_shell::Stop;
 use std::alloc::Global;
-
-/// The most bytes of a text, 256 MiB.
-const TEXT_LIMIT: usize = 268_435_456;
 
 /// What `show report` gives of a text.
 fn report_of(alloc: Global, text: &[u8]) -> Result<Output, Stop<Status>>
     ensures { Judges refuses output_in result
         (by_length 268435456 TooLong (by_bytes (request ShowReport report) free) text.now) }
 {
-    if TEXT_LIMIT < text.len() {
+    if FILE_LIMIT < text.len() {
         return Err(Stop::Refused(Status::TooLong));
     }
     let request = Request {

@@ -1,13 +1,10 @@
 //! Why a command stops, with what it is told of.
 
-ghost use Rattle.std.specs.Prelude.{◌≡◌, ℕ, List, Err as Failed};
-ghost use Rattle.nr_files.specs.Answers.{EndsIn, NamesLast, stopped};
 ghost use Rattle.nr_shell.specs.Answers.{Retells};
-ghost use Rattle.nr_shell.specs.declared.stop.Stop.TheVariants.{Unread};
 ghost use Rattle.nr_jsonrun.specs.Words.{of_file, of_run};
 
 use crate::words::{of_file, of_run};
-use nr_files::{Halt, Status};
+use nr_files::Status;
 use nr_shell::Stop;
 use nr_top::Status as RunStatus;
 use std::alloc::Global;
@@ -37,16 +34,5 @@ pub(crate) fn run_stop(alloc: Global, stop: Stop<RunStatus>) -> Stop<Status>
             Ok(told) => Stop::Refused(told),
             Err(_) => Stop::Memory,
         },
-    }
-}
-
-/// What was answered or stopped, with the file that was to be loaded last.
-pub(crate) fn at_file<'a, X>(file: &'a str, answer: Result<X, Stop<Status>>) -> Result<X, Halt<'a>>
-    ensures same { stopped result ≡ answer }
-    ensures names { (asks : List (List ℕ)) → (answer ≡ Failed Unread → EndsIn asks file.now) → NamesLast result asks }
-{
-    match answer {
-        Ok(found) => Ok(found),
-        Err(stop) => Err(Halt { stop, file }),
     }
 }
