@@ -78,8 +78,8 @@ fn over_genesis<E: ChainRefusal>(
 }
 
 /// The chain of a configuration, and of the bytes of a genesis and of blocks. They are judged as `load_chain` judges
-/// those of its files: at most 64 MiB and at most 256 MiB, of any version. The genesis' are let go before the blocks are
-/// made.
+/// those of its files: at most 64 MiB and at most 256 MiB, of any version. The genesis' are let go before the blocks
+/// are made.
 ///
 /// # Errors
 ///

@@ -187,8 +187,8 @@ pub fn tell<K: Sink>(alloc: Global, output: Output, sink: &mut K) -> Status
 /// JSON text of the bytes of a file. `explain WORDS..` writes what the line of these words says, which a
 /// program wrote. `help` writes the words of the commands, `help COMMAND` those of one and what it does, and `version`
 /// the program's name and version. Behind `show --compact` a JSON text has no spaces between its parts. Each text that
-/// isn't empty ends with a line feed. `replay` and `check`, whose words `help` writes too, are no commands of this call:
-/// they are those of `nr_jsonrun`.
+/// isn't empty ends with a line feed. `replay` and `check`, whose words `help` writes too, are no commands of this
+/// call: they are those of `nr_jsonrun`.
 ///
 /// # Answers
 ///
