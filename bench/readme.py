@@ -272,6 +272,15 @@ def files_of(copy, judge, folder, config):
         judge.says(f"{folder}: {name}.json makes {name}", data == file)
 
 
+def in_one_step(copy, judge, folder, config, words, text):
+    """That `near_files` makes an example's JSON texts in one step into what it shows of a text."""
+    copy.write(f"{folder}/text", text)
+    verb, *more = words
+    texts = [verb, config, f"{folder}/genesis.json", f"{folder}/blocks.json", *more]
+    tried, shown = yield [Call("near_files", texts), Call("near_files", ["show", "report", f"{folder}/text"])]
+    judge.says(f"{folder}: near_files {verb} does it in one step", tried == shown != b"")
+
+
 def line_of(copy, folder, program):
     begin = f"crates/{program}/out" if copy.way == "built" else f"(cd crates/{program}"
     return copy.step(command(copy.page(f"{folder}/README.md"), begin))
@@ -285,6 +294,7 @@ def one_transfer(copy, judge):
         judge.says(f"{TRANSFER}: {name} is shown as {name}.json", data == copy.data(f"{TRANSFER}/{name}.json"))
     table = rows(between(copy.page("README.md"), "It prints this", "To give Alice"))
     judge.says(f"{TRANSFER}: the line prints README's lines", are_lines(table, report))
+    yield from in_one_step(copy, judge, TRANSFER, "free", ["replay"], report)
 
 
 def four_shards(copy, judge):
@@ -309,6 +319,7 @@ def reshard(copy, judge):
     judge.says(f"{RESHARD}: {' and '.join(refused)}", refused == [answer for answer in answers if answer != "ok"])
     again, = yield [Call("near_serial", ["recheck", "free", copy.at("chunk")])]
     judge.says(f"{RESHARD}: recheck prints the chunk's lines of the run", again != b"" and again in report)
+    yield from in_one_step(copy, judge, RESHARD, "free", ["check", f"{RESHARD}/steps"], driven)
 
 
 def config(copy, judge):
@@ -341,6 +352,7 @@ def contract(copy, judge):
     judge.says(f"{CONTRACT}: near_module check says ok", judged == b"ok\n")
     lines = [span for span in spans(text) if span.startswith(("value ", "log ", "store "))]
     judge.says(f"{CONTRACT}: near_module call says {', '.join(lines)}", called.decode().splitlines() == lines != [])
+    yield from in_one_step(copy, judge, CONTRACT, f"{CONFIG}/generated.json", ["replay"], report)
 
 
 def other_blocks(copy, judge):

@@ -251,12 +251,16 @@ def chain_cases(at, config, people):
 def file_cases(at):
     """Commands on files of other kinds, as (name, program, words)."""
     priced, genesis = CHAIN[:2]
+    texts = lambda name: [example(name, f"{file}.json") for file in ("genesis", "blocks")]
     blocks, module = at("blocks"), write(at("module"), wasm.lively())
     return [
         ("genesis", "near_files", ["genesis", priced, example("contract", "genesis.json")]),
         ("blocks", "near_files", ["blocks", example("four_shards", "blocks.json")]),
         ("blocks changing boundaries", "near_files", ["blocks", example("reshard", "blocks.json")]),
         ("genesis refused", "near_files", ["genesis", priced, example("contract", "blocks.json")]),
+        ("replay texts", "near_files", ["replay", priced, *texts("contract")]),
+        ("check texts", "near_files", ["check", "free", *texts("reshard"), example("reshard", "steps")]),
+        ("replay texts refused", "near_files", ["replay", priced, texts("contract")[0], texts("reshard")[1]]),
         ("hex", "near_files", ["hex", module]),
         ("show genesis", "near_files", ["show", "genesis", priced, genesis]),
         ("show blocks", "near_files", ["show", "blocks", blocks]),

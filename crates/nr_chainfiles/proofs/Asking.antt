@@ -36,7 +36,7 @@ module _ {E : Type 0} (config : ℕ → ℕ → E) (genesis : ℕ → ℕ → �
       then_asks (names.blocks ∷ []) [] (blocks_plan blocks (length g.layout + 1) names.blocks)
       (λ file. Answer (files_with c g file)) (blocks_asks blocks (length g.layout + 1) names.blocks) (λ file. tt)
 
-  by_config_asks : (c : Config) → Asks (names.genesis ∷ names.blocks ∷ []) (by_config config genesis blocks names c)
+  pub by_config_asks : (c : Config) → Asks (names.genesis ∷ names.blocks ∷ []) (by_config config genesis blocks names c)
   by_config_asks c =
       then_asks (names.genesis ∷ []) (names.blocks ∷ []) (genesis_plan genesis c names.genesis)
       (by_genesis config genesis blocks names c) (genesis_asks genesis c names.genesis) (by_genesis_asks c)

@@ -1,2 +1,3 @@
 -- Lemmas behind the answers.
 pub mod Asking
+pub mod WithBytes

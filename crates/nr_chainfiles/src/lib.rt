@@ -3,6 +3,8 @@
 
 mod loading;
 mod refusal;
+mod with_bytes;
 
 pub use loading::{ChainFiles, load_chain};
 pub use refusal::ChainRefusal;
+pub use with_bytes::chain_of;

@@ -23,10 +23,10 @@ use nr_words::FileNames;
 use std::alloc::Global;
 
 /// The most bytes of a genesis, 64 MiB.
-const GENESIS_LIMIT: usize = 67_108_864;
+pub(crate) const GENESIS_LIMIT: usize = 67_108_864;
 
 /// The most bytes of a blocks file, 256 MiB.
-const BLOCKS_LIMIT: usize = 268_435_456;
+pub(crate) const BLOCKS_LIMIT: usize = 268_435_456;
 
 /// What the files of a chain hold.
 #[derive(Drop)]
@@ -77,7 +77,7 @@ fn blocks_stop<E: ChainRefusal>(fault: ChainFault) -> Stop<E>
 }
 
 /// The genesis that some bytes spell.
-fn genesis_in<E: ChainRefusal>(
+pub(crate) fn genesis_in<E: ChainRefusal>(
     alloc: Global,
     config: &Config,
     bytes: &[u8],
@@ -111,7 +111,7 @@ fn genesis_of<E: ChainRefusal, S: Shelf>(
 }
 
 /// The blocks that some bytes spell, for so many shards at first.
-fn blocks_in<E: ChainRefusal>(
+pub(crate) fn blocks_in<E: ChainRefusal>(
     alloc: Global,
     shards: u32,
     bytes: Vec<u8>,

@@ -86,8 +86,12 @@ fn told_by(alloc: Global, program: Program, words: &[String]) -> Result<Option<B
     line_told(alloc, program, &line)
 }
 
-/// The sentence of a line's words, before which the name of a program may stand.
-fn told_of(alloc: Global, words: &[String]) -> Result<Option<Blob>, AllocError>
+/// The sentence of `explain`, without the line feed.
+///
+/// # Errors
+///
+/// Where memory ran out.
+pub fn told_of(alloc: Global, words: &[String]) -> Result<Option<Blob>, AllocError>
     ensures { IfOk result (λ told. told ≡ told_of (map (λ w. string_bytes w) words.now)) }
 {
     told_by(alloc, program_of(name_of(words)), words)

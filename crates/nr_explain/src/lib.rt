@@ -15,5 +15,5 @@ mod sentences;
 mod shown;
 mod written;
 
-pub use explaining::explain;
+pub use explaining::{explain, told_of};
 pub use report::{ReportFault, show_report};

@@ -21,6 +21,19 @@ hex_form = form (codes "hex") one_file
 abbrev pub made_forms : List Form
 made_forms = genesis_form ∷ blocks_form ∷ hex_form ∷ []
 
+abbrev pub json_files : List Place
+json_files = file (codes "CONFIG") ∷ file (codes "GENESIS.json") ∷ file (codes "BLOCKS.json") ∷ []
+
+abbrev pub replay_form : Form
+replay_form = form (codes "replay") json_files
+
+abbrev pub check_form : Form
+check_form = form (codes "check") (json_files ++ file (codes "SCHEDULE") ∷ [])
+
+-- `nr_jsonrun` does these
+abbrev pub jsonrun_forms : List Form
+jsonrun_forms = replay_form ∷ check_form ∷ []
+
 abbrev pub shown_forms : List Form
 shown_forms =
     form (codes "genesis") (file (codes "CONFIG") ∷ one_file) ∷ form (codes "blocks") one_file
@@ -40,10 +53,10 @@ shown_lines = flat_map (form_line (codes "near_files show")) shown_forms
 -- a line for each command, and then what two of the words may be; the last line feed is left out
 abbrev pub help_text : List ℕ
 help_text =
-    flat_map made_line made_forms ++ shown_lines ++ codes "near_files show --compact .." ++ 10
+    flat_map made_line made_forms ++ flat_map made_line jsonrun_forms ++ shown_lines ++ codes "near_files show --compact .." ++ 10
     ∷ codes "near_files explain WORDS.." ++ 10 ∷ codes "near_files help" ++ 10 ∷ codes "near_files help COMMAND" ++ 10
     ∷ codes "near_files version" ++ 10
-    ∷ codes "CONFIG is free or the name of a file. COMMAND is genesis, blocks, hex, show, explain, help or version, or the program near_serial, near_replay, near_audit or near_module."
+    ∷ codes "CONFIG is free or the name of a file. COMMAND is genesis, blocks, hex, replay, check, show, explain, help or version, or the program near_serial, near_replay, near_audit or near_module."
 
 abbrev pub version_text : List ℕ
 version_text = codes "near_files 0.1.0"
@@ -60,6 +73,16 @@ blocks_help = made_line blocks_form ++ codes "Writes the blocks file that the JS
 abbrev pub hex_help : List ℕ
 hex_help =
     made_line hex_form ++ codes "Writes the bytes of FILE as a JSON text of hexadecimal digits, as code and args have them."
+
+abbrev pub run_help : List ℕ
+run_help =
+    made_line replay_form
+    ++ codes "Makes both files as genesis and blocks do, replays them as near_serial run does, and writes the report as show report does. A refusal is told in words, one of CONFIG in numbers."
+
+abbrev pub check_help : List ℕ
+check_help =
+    made_line check_form
+    ++ codes "Makes both files as genesis and blocks do, drives them by the lines of SCHEDULE as near_serial check does, and writes its lines as show report does. A refusal is told in words, one of CONFIG in numbers."
 
 abbrev pub show_help : List ℕ
 show_help =
@@ -94,6 +117,8 @@ help_of command =
     cond (bytes_eq command (codes "genesis")) (Some genesis_help)
     (cond (bytes_eq command (codes "blocks")) (Some blocks_help)
     (cond (bytes_eq command (codes "hex")) (Some hex_help)
+    (cond (bytes_eq command (codes "replay")) (Some run_help)
+    (cond (bytes_eq command (codes "check")) (Some check_help)
     (cond (bytes_eq command (codes "show")) (Some show_help)
     (cond (bytes_eq command (codes "explain")) (Some explain_help)
     (cond (bytes_eq command (codes "help")) (Some help_help)
@@ -101,4 +126,4 @@ help_of command =
     (cond (bytes_eq command (codes "near_serial")) (Some serial_help)
     (cond (bytes_eq command (codes "near_replay")) (Some replay_help)
     (cond (bytes_eq command (codes "near_audit")) (Some (own_help (codes "near_audit")))
-    (cond (bytes_eq command (codes "near_module")) (Some (own_help (codes "near_module"))) None))))))))))
+    (cond (bytes_eq command (codes "near_module")) (Some (own_help (codes "near_module"))) None))))))))))))

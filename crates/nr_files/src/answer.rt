@@ -282,7 +282,7 @@ fn of_bytes(alloc: Global, work: Work, config: &Config, bytes: &[u8]) -> Result<
 /// # Errors
 ///
 /// `Refused` where the bytes are refused, with the words that say why, and `Memory` where memory ran out.
-pub(crate) fn judged(
+pub fn judged(
     alloc: Global,
     request: &Request<'_>,
     config: &Config,

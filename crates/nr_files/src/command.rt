@@ -16,7 +16,7 @@ use std::alloc::{AllocError, Global};
 
 /// What is done with a file.
 #[derive(Clone, Copy, Debug)]
-pub(crate) enum Work {
+pub enum Work {
     /// The blocks that a JSON text describes are written as a file.
     MakeBlocks,
     /// The genesis that a JSON text describes is written as a file.
@@ -40,11 +40,15 @@ pub(crate) enum Work {
 /// What is done, whether a JSON text of it has no spaces between its parts, under which configuration (`free`, or the
 /// name of a file), and with which file.
 #[derive(Clone, Copy, Debug)]
-pub(crate) struct Request<'a> {
-    pub(crate) work: Work,
-    pub(crate) compact: bool,
-    pub(crate) config: &'a str,
-    pub(crate) file: &'a str,
+pub struct Request<'a> {
+    /// What is done.
+    pub work: Work,
+    /// Whether a JSON text has no spaces.
+    pub compact: bool,
+    /// The configuration.
+    pub config: &'a str,
+    /// The file.
+    pub file: &'a str,
 }
 
 /// What the words ask for.

@@ -1,8 +1,8 @@
 //! What `help` and `version` write.
 
 ghost use Rattle.std.specs.Prelude.{◌≡◌, option_map};
-ghost use Rattle.nr_files.specs.Help.{explain_help, genesis_help, help_help, help_of, help_text, hex_help};
-ghost use Rattle.nr_files.specs.Help.{serial_help, show_help, version_text};
+ghost use Rattle.nr_files.specs.Help.{check_help, explain_help, genesis_help, help_help, help_of, help_text};
+ghost use Rattle.nr_files.specs.Help.{hex_help, run_help, serial_help, show_help, version_text};
 
 /// The words of the commands, a line for each, without the last line feed.
 pub(crate) fn help_text() -> &'static str
@@ -11,6 +11,8 @@ pub(crate) fn help_text() -> &'static str
     "near_files genesis CONFIG JSON\n\
     near_files blocks JSON\n\
     near_files hex FILE\n\
+    near_files replay CONFIG GENESIS.json BLOCKS.json\n\
+    near_files check CONFIG GENESIS.json BLOCKS.json SCHEDULE\n\
     near_files show genesis CONFIG FILE\n\
     near_files show blocks FILE\n\
     near_files show report FILE\n\
@@ -22,8 +24,8 @@ pub(crate) fn help_text() -> &'static str
     near_files help\n\
     near_files help COMMAND\n\
     near_files version\n\
-    CONFIG is free or the name of a file. COMMAND is genesis, blocks, hex, show, explain, help or \
-    version, or the program near_serial, near_replay, near_audit or near_module."
+    CONFIG is free or the name of a file. COMMAND is genesis, blocks, hex, replay, check, show, \
+    explain, help or version, or the program near_serial, near_replay, near_audit or near_module."
 }
 
 /// The program's name and its version, without the line feed.
@@ -44,6 +46,8 @@ pub(crate) fn help_of(command: &str) -> Option<&'static str>
             "near_files blocks JSON\nWrites the blocks file that the JSON text describes.",
         ),
         "hex" => Some(hex_help()),
+        "replay" => Some(run_help()),
+        "check" => Some(check_help()),
         "show" => Some(show_help()),
         "explain" => Some(explain_help()),
         "help" => Some(help_help()),
@@ -89,6 +93,23 @@ fn help_help() -> &'static str
     "near_files help\n\
     near_files help COMMAND\n\
     Writes the words of all commands, or those of one and what it does, or those of another program."
+}
+
+fn run_help() -> &'static str
+    ensures { result.now ≡ run_help }
+{
+    "near_files replay CONFIG GENESIS.json BLOCKS.json\n\
+    Makes both files as genesis and blocks do, replays them as near_serial run does, and writes \
+    the report as show report does. A refusal is told in words, one of CONFIG in numbers."
+}
+
+fn check_help() -> &'static str
+    ensures { result.now ≡ check_help }
+{
+    "near_files check CONFIG GENESIS.json BLOCKS.json SCHEDULE\n\
+    Makes both files as genesis and blocks do, drives them by the lines of SCHEDULE as \
+    near_serial check does, and writes its lines as show report does. A refusal is told in words, \
+    one of CONFIG in numbers."
 }
 
 fn show_help() -> &'static str

@@ -18,6 +18,10 @@ mod telling;
 mod top;
 mod versions;
 
+pub use answer::judged;
+pub use command::{Request, Work};
+pub use halt::Halt;
 pub use laws::{asked_law, round_trips};
+pub use output::Output;
 pub use status::Status;
-pub use top::serve_files;
+pub use top::{FILE_LIMIT, at_file, serve_files, stop_status, tell, with_config};

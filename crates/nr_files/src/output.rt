@@ -13,7 +13,7 @@ use std::alloc::{AllocError, Global};
 
 /// What a command writes.
 #[derive(Drop)]
-pub(crate) enum Output {
+pub enum Output {
     /// These bytes.
     Bytes(Blob),
     /// A text of this value, over lines.

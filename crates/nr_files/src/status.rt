@@ -18,7 +18,8 @@ pub enum Status {
     Config { kind: u32, entry: u32 },
     /// The file is longer than 256 MiB.
     TooLong,
-    /// The file is refused, and this says why: the path of a member or the place of a byte, and what is wrong.
+    /// The file is refused, and this says why: the path of a member or the place of a byte, and what is wrong. A run
+    /// may be refused so too (`nr_jsonrun`).
     Faulty { line: Text },
     /// The file of this name could not be read.
     ReadFault { name: Text },

@@ -25,10 +25,14 @@ use nr_shell::{Stop, load, write_all};
 use std::alloc::Global;
 
 /// The most bytes of a file, 256 MiB.
-const FILE_LIMIT: usize = 268_435_456;
+pub const FILE_LIMIT: usize = 268_435_456;
 
 /// What was answered or stopped, with the file that was to be loaded last.
-fn at_file<'a>(file: &'a str, answer: Result<Output, Stop<Status>>) -> Result<Output, Halt<'a>>
+///
+/// # Errors
+///
+/// Why it stopped, and this file.
+pub fn at_file<'a>(file: &'a str, answer: Result<Output, Stop<Status>>) -> Result<Output, Halt<'a>>
     ensures same { stopped result ≡ answer }
     ensures names { (asks : List (List ℕ)) → (answer ≡ Failed Unread → EndsIn asks file.now) → NamesLast result asks }
 {
@@ -55,8 +59,12 @@ fn loaded<S: Shelf>(
     }
 }
 
-/// The same, with the file at which it stops.
-fn with_config<'a, S: Shelf>(
+/// What the file of a request gives under a configuration that is there.
+///
+/// # Errors
+///
+/// Why it stops, and at which file.
+pub fn with_config<'a, S: Shelf>(
     alloc: Global,
     request: &Request<'a>,
     config: &Config,
@@ -136,7 +144,7 @@ fn output_of<'a, S: Shelf>(
 }
 
 /// The answer of a command that stopped at a file.
-fn stop_status(alloc: Global, stop: Stop<Status>, file: &str) -> Status
+pub fn stop_status(alloc: Global, stop: Stop<Status>, file: &str) -> Status
     ensures { IsStatusOf stop file.now result }
 {
     match stop {
@@ -152,7 +160,7 @@ fn stop_status(alloc: Global, stop: Stop<Status>, file: &str) -> Status
 }
 
 /// Writes an output, where memory suffices for its text, and answers how the command ended that came to it.
-fn tell<K: Sink>(alloc: Global, output: Output, sink: &mut K) -> Status
+pub fn tell<K: Sink>(alloc: Global, output: Output, sink: &mut K) -> Status
     ensures serves { (p : Plan Due Status) (held : List ℕ → Option (List ℕ)) (asked asks : List (List ℕ))
         → Comes held asked asks p (Answer (output_in output))
         → Serves result p held asked asks (K.taken sink.old) (K.taken sink.new) }
@@ -179,7 +187,8 @@ fn tell<K: Sink>(alloc: Global, output: Output, sink: &mut K) -> Status
 /// JSON text of the bytes of a file. `explain WORDS..` writes what the line of these words says, which a
 /// program wrote. `help` writes the words of the commands, `help COMMAND` those of one and what it does, and `version`
 /// the program's name and version. Behind `show --compact` a JSON text has no spaces between its parts. Each text that
-/// isn't empty ends with a line feed.
+/// isn't empty ends with a line feed. `replay` and `check`, whose words `help` writes too, are no commands of this
+/// call: they are those of `nr_jsonrun`.
 ///
 /// # Answers
 ///

@@ -7,6 +7,8 @@ use std::test::Fail;
 const WORDS: &str = "near_files genesis CONFIG JSON
 near_files blocks JSON
 near_files hex FILE
+near_files replay CONFIG GENESIS.json BLOCKS.json
+near_files check CONFIG GENESIS.json BLOCKS.json SCHEDULE
 near_files show genesis CONFIG FILE
 near_files show blocks FILE
 near_files show report FILE
@@ -18,8 +20,8 @@ near_files explain WORDS..
 near_files help
 near_files help COMMAND
 near_files version
-CONFIG is free or the name of a file. COMMAND is genesis, blocks, hex, show, explain, help or version, or the program \
-near_serial, near_replay, near_audit or near_module.";
+CONFIG is free or the name of a file. COMMAND is genesis, blocks, hex, replay, check, show, explain, help or \
+version, or the program near_serial, near_replay, near_audit or near_module.";
 
 /// How what `show` writes of a command begins.
 const SHOW: &str = "near_files show genesis CONFIG FILE
@@ -52,7 +54,7 @@ CONFIG is free or the name of a file.
 fn commands_are_told(rt: HostRuntime) -> Result<(), Fail> {
     let alloc = rt.alloc();
     let all = format!(in alloc; "{WORDS}\n")?;
-    let rows: [(&[&str], &str); 14] = [
+    let rows: [(&[&str], &str); 16] = [
         (&["version"], "near_files 0.1.0\n"),
         (&["help"], all.as_str()),
         (
@@ -68,6 +70,18 @@ fn commands_are_told(rt: HostRuntime) -> Result<(), Fail> {
             &["help", "hex"],
             "near_files hex FILE\nWrites the bytes of FILE as a JSON text of hexadecimal digits, as code and args \
             have them.\n",
+        ),
+        (
+            &["help", "replay"],
+            "near_files replay CONFIG GENESIS.json BLOCKS.json\nMakes both files as genesis and blocks do, replays \
+            them as near_serial run does, and writes the report as show report does. A refusal is told in words, one \
+            of CONFIG in numbers.\n",
+        ),
+        (
+            &["help", "check"],
+            "near_files check CONFIG GENESIS.json BLOCKS.json SCHEDULE\nMakes both files as genesis and blocks do, \
+            drives them by the lines of SCHEDULE as near_serial check does, and writes its lines as show report \
+            does. A refusal is told in words, one of CONFIG in numbers.\n",
         ),
         (&["help", "show"], SHOW),
         (

@@ -1,7 +1,7 @@
 -- Which files the plan of a command asks for.
 use Rattle.std.proofs.Common.{ℕ, List, [], ◌∷◌, ◌++◌, length, Option, Some, None, Result, Ok, Err}
-use Rattle.nr_chainfiles.specs.Plans.{chain_files}
-use Rattle.nr_chainfiles.proofs.Asking.{chain_asks}
+use Rattle.nr_chainfiles.specs.Plans.{by_config, chain_files}
+use Rattle.nr_chainfiles.proofs.Asking.{by_config_asks, chain_asks}
 use Rattle.nr_course.specs.Course.{Course, height_in, leg_at}
 use Rattle.nr_course.specs.Texts.{course_text}
 use Rattle.nr_chunk.specs.Chain.{Chain, shards_of}
@@ -24,7 +24,8 @@ use Rattle.nr_report.specs.Lines.{chunk_text}
 use Rattle.nr_top.specs.Rechecking.{by_gathered, by_gathered_bytes, gathered_plan, gathered_status, recheck_answer, recheck_status}
 use Rattle.nr_shell.specs.Plans.{Plan, Answer, Asks, and_then, by_reading, file_plan}
 use Rattle.nr_shell.proofs.Ends.{file_asks, reading_asks, then_asks}
-use Rattle.nr_top.specs.Plans.{by_course, by_schedule_bytes, course_plan, files_of, files_plan, most_shards, plan, prove_plan, recheck_plan, replay_plan, schedule_files, schedule_plan, schedule_status, verify_plan}
+use Rattle.nr_shell.proofs.WithBytes.{both_asks}
+use Rattle.nr_top.specs.Plans.{by_course, by_schedule_bytes, course_by, course_plan, files_of, files_plan, most_shards, plan, prove_plan, recheck_plan, replay_by, replay_bytes, replay_plan, schedule_files, schedule_plan, schedule_status, verify_plan}
 use Rattle.nr_top.specs.Chunks.{result_at}
 use Rattle.nr_top.specs.Proving.{by_chunk, by_item, by_proof, by_proof_bytes, by_proof_read, roots_text}
 use Rattle.nr_top.specs.Roots.{root_in}
@@ -61,6 +62,20 @@ by_course_asks file o =
 replay_asks : (names : Names) (schedule : Option (List ℕ)) → Asks (chain_files names ++ schedule_files schedule) (replay_plan names schedule)
 replay_asks names None = then_asks (chain_files names) [] (course_plan names) (λ o. Answer (course_text o)) (course_asks names) (λ o. tt)
 replay_asks names (Some file) = then_asks (chain_files names) (file ∷ []) (course_plan names) (by_course file) (course_asks names) (by_course_asks file)
+
+-- ---- behind the configuration
+pub course_by_asks : (names : Names) (c : Config) → Asks (names.genesis ∷ names.blocks ∷ []) (course_by names c)
+course_by_asks names c =
+    then_asks (names.genesis ∷ names.blocks ∷ []) [] (by_config faulty_config faulty_genesis faulty_blocks names c) (λ files. Answer (loaded files))
+    (by_config_asks faulty_config faulty_genesis faulty_blocks names c) (λ files. tt)
+
+replay_by_asks : (names : Names) (schedule : Option (List ℕ)) (c : Config) → Asks (names.genesis ∷ names.blocks ∷ schedule_files schedule) (replay_by names schedule c)
+replay_by_asks names None c = then_asks (names.genesis ∷ names.blocks ∷ []) [] (course_by names c) (λ o. Answer (course_text o)) (course_by_asks names c) (λ o. tt)
+replay_by_asks names (Some file) c = then_asks (names.genesis ∷ names.blocks ∷ []) (file ∷ []) (course_by names c) (by_course file) (course_by_asks names c) (by_course_asks file)
+
+pub replay_bytes_asks : (names : Names) (schedule : Option (List ℕ)) (c : Config) (genesis blocks : List ℕ) → Asks (schedule_files schedule) (replay_bytes names schedule c genesis blocks)
+replay_bytes_asks names schedule c genesis blocks =
+    both_asks genesis blocks names.genesis names.blocks (schedule_files schedule) (replay_by names schedule c) (replay_by_asks names schedule c)
 
 -- the chain, behind whose files no other is asked for
 course_alone : (names : Names) (next : Course → Plan (List ℕ) Status) → ((o : Course) → Asks [] (next o)) → Asks (chain_files names) (and_then (course_plan names) next)

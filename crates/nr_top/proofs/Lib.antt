@@ -11,3 +11,4 @@ pub mod Digests
 pub mod Present
 pub mod Named
 pub mod RecheckAnswers
+pub mod WithBytes

@@ -7,7 +7,7 @@ use Rattle.nr_words.specs.declared.words.ChunkItem.{ChunkItem}
 use Rattle.nr_words.specs.declared.words.ChunkPlace.{ChunkPlace}
 use Rattle.nr_words.specs.declared.words.StatePart.{StatePart}
 use Rattle.nr_configfile.specs.Plans.{config_files, config_plan}
-use Rattle.nr_chainfiles.specs.Plans.{chain_files, chain_plan}
+use Rattle.nr_chainfiles.specs.Plans.{by_config, chain_files, chain_plan}
 use Rattle.nr_chainfiles.specs.declared.loading.ChainFiles.{ChainFiles}
 use Rattle.nr_chunk.specs.Chain.{shards_of}
 use Rattle.nr_course.specs.Course.{Course}
@@ -18,7 +18,8 @@ use Rattle.nr_schedule.specs.Schedule.{schedule_read}
 use Rattle.nr_schedule.specs.declared.schedule.Line.{Line}
 use Rattle.nr_schedule.specs.declared.schedule.ScheduleFault.{ScheduleFault}
 use Rattle.nr_schedule.specs.declared.schedule.ScheduleFault.TheVariants as schedule
-use Rattle.nr_shell.specs.Plans.{Plan, Answer, Refuse, and_then, by_reading, file_plan}
+use Rattle.nr_config.specs.Config.{Config}
+use Rattle.nr_shell.specs.Plans.{Plan, Answer, Refuse, and_then, by_reading, file_plan, with_bytes}
 use Rattle.nr_top.specs.Gathering.{gather_answer}
 use Rattle.nr_top.specs.Generated.{generated_text}
 use Rattle.nr_top.specs.Proving.{by_item, by_proof_bytes, roots_text}
@@ -71,6 +72,19 @@ check_plan names file = and_then (course_plan names) (by_course file)
 abbrev pub replay_plan : Names → Option (List ℕ) → Plan (List ℕ) Status
 replay_plan names None = run_plan names
 replay_plan names (Some file) = check_plan names file
+
+-- ---- the same behind the configuration
+abbrev pub course_by : Names → Config → Plan Course Status
+course_by names c =
+    and_then (by_config faulty_config faulty_genesis faulty_blocks names c) (λ files. Answer (loaded files))
+
+abbrev pub replay_by : Names → Option (List ℕ) → Config → Plan (List ℕ) Status
+replay_by names None c = and_then (course_by names c) (λ o. Answer (course_text o))
+replay_by names (Some file) c = and_then (course_by names c) (by_course file)
+
+-- where the files of the genesis and of the blocks have these bytes
+abbrev pub replay_bytes : Names → Option (List ℕ) → Config → List ℕ → List ℕ → Plan (List ℕ) Status
+replay_bytes names schedule c genesis blocks = with_bytes blocks (with_bytes genesis (replay_by names schedule c))
 
 -- `roots`
 abbrev pub roots_plan : Names → Plan (List ℕ) Status

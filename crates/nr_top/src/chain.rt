@@ -44,7 +44,7 @@ fn block_count(file: &ChainFile) -> u64
 }
 
 /// The run of files can be made: it does nothing when it runs.
-fn can_run(files: &ChainFiles)
+pub(crate) fn can_run(files: &ChainFiles)
     requires { (r : Reshard) → files.now.file.reshard ≡ Some r
         → CanReshard (length files.now.genesis.layout + 1) files.now.file.blocks r }
     ensures { CanRun (loaded files.now) }

@@ -18,6 +18,7 @@ mod recheck;
 mod roots;
 mod run;
 mod verify;
+mod with_bytes;
 
 use crate::status::Status;
 use crate::work::Work;
@@ -36,6 +37,7 @@ use roots::roots_text;
 use run::run_text;
 use std::alloc::{AllocError, Global};
 use verify::verify_text;
+pub use with_bytes::replay_bytes;
 
 /// The text of a replay, to its end or by a schedule.
 fn replay_text<F: Fn(Work) -> Result<Blob, AllocError>, S: Shelf>(

@@ -14,13 +14,15 @@ ghost use Rattle.nr_overlap.specs.declared.event.Event.{Event};
 ghost use Rattle.nr_records.specs.declared.chunk_result.ChunkResult.{ChunkResult};
 ghost use Rattle.nr_schedule.specs.Checking.{standing_after, totals_there};
 ghost use Rattle.nr_schedule.specs.declared.schedule.Line.{Line};
-ghost use Rattle.nr_shell.specs.Plans.{Answer, LeadsBy, Plan};
-ghost use Rattle.nr_top.specs.Plans.{files_of, plan};
+ghost use Rattle.nr_configfile.specs.Plans.{config_plan};
+ghost use Rattle.nr_shell.specs.Plans.{Answer, LeadsBy, Plan, and_then};
+ghost use Rattle.nr_top.specs.Plans.{files_of, plan, replay_by, replay_plan};
 ghost use Rattle.nr_top.specs.Chunks.{has_chunk, result_at};
 ghost use Rattle.nr_top.specs.Run.{loaded};
 ghost use Rattle.nr_top.specs.Totals.{AddUp};
 ghost use Rattle.nr_top.specs.declared.status.Status.{Status};
-ghost use Rattle.nr_words.specs.Command.{Command};
+ghost use Rattle.nr_top.specs.declared.status.Status.TheVariants.{Config};
+ghost use Rattle.nr_words.specs.Command.{Command, Names};
 
 use nr_course::laws::course_laws;
 use nr_schedule::laws::schedule_laws;
@@ -57,6 +59,12 @@ pub fn asked_law()
         → LeadsBy held names (plan asked) q → (rest : List (List ℕ)) × (files_of asked ≡ names ++ rest) }
     ensures all { (held : List ℕ → Option (List ℕ)) (asked : Option Command) (names : List (List ℕ)) (text : List ℕ)
         → LeadsBy held names (plan asked) (Answer text) → names ≡ files_of asked }
+{}
+
+/// What `run` and `check` do is their configuration and what they do behind it. It does nothing when it runs.
+pub fn behind_law()
+    ensures { (names : Names) (schedule : Option (List ℕ)) → replay_plan names schedule
+        ≡ and_then (config_plan Config names.config) (replay_by names schedule) }
 {}
 
 /// A run to its end has the result of a chunk exactly where the chain has the chunk, and it states the chunk's shard

@@ -18,8 +18,9 @@ mod top;
 mod work;
 
 pub use chain::{Begun, begin};
+pub use commands::replay_bytes;
 pub use generated::first_lines;
-pub use laws::{asked_law, chunks_law, totals_law};
+pub use laws::{asked_law, behind_law, chunks_law, totals_law};
 pub use status::Status;
 pub use top::{serial, serve};
 pub use work::Work;

@@ -98,7 +98,7 @@ fn driven(alloc: Global, files: ChainFiles, lines: &[Line]) -> Result<Blob, Stop
 }
 
 /// The text of a run that is driven by the lines of a file.
-fn scheduled<S: Shelf>(
+pub(crate) fn scheduled<S: Shelf>(
     alloc: Global,
     files: ChainFiles,
     schedule: &str,

@@ -1,0 +1,4 @@
+-- Lemmas behind the answers.
+pub mod Asking
+pub mod Steps
+pub mod Retold
