@@ -72,7 +72,7 @@ struct Row {
 }
 
 /// Where an instruction costs 1 and all else nothing.
-const UNPRICED_CALLS: [Row; 14] = [
+const UNPRICED_CALLS: [Row; 15] = [
     Row {
         words: &["call", "free", "M", "save", "x", "1000"],
         status: Status::Sound,
@@ -89,6 +89,11 @@ const UNPRICED_CALLS: [Row; 14] = [
         words: &["call", "free", "M", "echo", "hex:00ff", "1000"],
         status: Status::Sound,
         lines: "value 00ff 5\n",
+    },
+    Row {
+        words: &["call", "free", "M", "echo", "hex:A0fF", "1000", "5"],
+        status: Status::Sound,
+        lines: "value a0ff 5\n",
     },
     Row {
         words: &["call", "free", "M", "echo", "hex:", "1000"],
@@ -164,7 +169,7 @@ const UNPRICED_CALLS: [Row; 14] = [
 ];
 
 /// Where all costs something: the loading 100 and 1 for each of 533 bytes.
-const PRICED_CALLS: [Row; 5] = [
+const PRICED_CALLS: [Row; 6] = [
     Row {
         words: &["call", "C", "M", "save", "x", "1000"],
         status: Status::Sound,
@@ -176,6 +181,11 @@ const PRICED_CALLS: [Row; 5] = [
         words: &["call", "C", "M", "gone", "x", "1000"],
         status: Status::Faulty,
         lines: "failure 14 0 633\n",
+    },
+    Row {
+        words: &["call", "C", "E", "save", "x", "1000"],
+        status: Status::Faulty,
+        lines: "failure 13 1 102\n",
     },
     Row {
         words: &["call", "C", "M", "save", "x", "632"],

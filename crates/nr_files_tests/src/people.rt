@@ -341,6 +341,92 @@ fn lines_of_a_call_have_sentences(rt: HostRuntime) -> Result<(), Fail> {
     Ok(())
 }
 
+/// The parts of a failure 13, and what they say.
+const NO_MODULE: [(&str, &str); 12] = [
+    ("1", "a field is too short"),
+    ("2", "a LEB128 is too long or has wrong bits"),
+    (
+        "3",
+        "the magic number, the version, or the id, order, size or count of a section or a body is wrong",
+    ),
+    (
+        "4",
+        "a byte is no opcode, type, kind or flag that may stand there",
+    ),
+    ("5", "it has a float"),
+    ("6", "a name isn't UTF-8"),
+    (
+        "7",
+        "it has too many bytes of code, entries of a list, locals, blocks in one another or results of a type",
+    ),
+    ("11", "an operand, a result or a constant has another type"),
+    (
+        "12",
+        "a type, function, table, memory, global or local isn't there, an export's name stands twice, or a constant \
+        global is assigned",
+    ),
+    (
+        "13",
+        "a branch leads past the open blocks, or to labels of unequal type",
+    ),
+    ("14", "a limit is passed"),
+    ("15", "an import is no function that a contract may have"),
+];
+
+/// The parts of a failure 15, and what they say.
+const TRAPS: [(&str, &str); 7] = [
+    ("1", "`unreachable`"),
+    ("2", "an access outside of memory"),
+    ("4", "a quotient that its type can't hold"),
+    ("5", "a call outside of the table"),
+    ("6", "a call of a place that holds no function"),
+    ("7", "a call of a function of another type"),
+    ("8", "too many frames, or operands and locals"),
+];
+
+/// The parts of a failure 16, and what they say.
+const CANNOT_HAVE: [(&str, &str); 18] = [
+    ("1", "the register is absent"),
+    ("2", "a range isn't inside the memory"),
+    ("3", "the registers would hold too much"),
+    ("4", "a text isn't UTF-8"),
+    ("5", "the bytes are no account id"),
+    ("6", "there is no promise of this index"),
+    ("7", "the method's name is empty"),
+    ("8", "the deposit is above the account's amount"),
+    ("9", "the key is longer than max_key_bytes"),
+    ("10", "the value is longer than max_value_bytes"),
+    ("11", "there are too many logs, or too long ones"),
+    ("12", "there are max_promises promises"),
+    ("13", "there is no result of this index"),
+    ("15", "the value is longer than max_return_bytes"),
+    ("16", "the bytes aren't exactly one public key"),
+    ("17", "the promise is a joint one"),
+    ("18", "the receipt has max_actions actions"),
+    ("19", "more than 128 receipts would be joined"),
+];
+
+// Whether each of these parts of a failed call of this kind has its sentence.
+fn are_told(alloc: Global, kind: &str, how: &str, rows: &[(&str, &str)]) -> Result<bool, Fail> {
+    for (part, why) in rows {
+        let line = format!(in alloc; "failure {kind} {part} 7")?;
+        let sentence = format!(in alloc; "The call failed: {how}: {why}. It burnt 7 gas.")?;
+        if !is_told(alloc, line.as_str(), sentence.as_str())? {
+            return Ok(false);
+        }
+    }
+    Ok(true)
+}
+
+#[test]
+fn each_failure_of_a_call_has_a_sentence(rt: HostRuntime) -> Result<(), Fail> {
+    let alloc = rt.alloc();
+    assert!(rt; are_told(alloc, "13", "the code is no valid module", &NO_MODULE)?);
+    assert!(rt; are_told(alloc, "15", "it trapped", &TRAPS)?);
+    assert!(rt; are_told(alloc, "16", "it asked for what it can't have", &CANNOT_HAVE)?);
+    Ok(())
+}
+
 #[test]
 fn lines_of_a_report_have_sentences(rt: HostRuntime) -> Result<(), Fail> {
     for (line, sentence) in [
@@ -521,6 +607,7 @@ fn other_numbers_have_none(rt: HostRuntime) -> Result<(), Fail> {
         "failure 13 8 1",
         "failure 14 1 5",
         "near_serial value - 5",
+        "near_module action {\"Transfer\":{\"deposit\":\"3\"}}",
         "no 8 0 0",
         "trap 9 12",
         "tx 0b refused 1 0 0",

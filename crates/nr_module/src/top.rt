@@ -112,7 +112,7 @@ fn serve_command<S: Shelf, K: Sink>(
 /// Does what the words ask for: `check CONFIG FILE` decodes and validates the module of a file, and
 /// writes a line that says what it is; `run CONFIG FILE METHOD GAS` runs a method of it besides, and
 /// writes how the run ended; `call CONFIG FILE METHOD ARGS GAS`, or the same with DEPOSIT behind it, calls a method
-/// of a contract as a chain does, and tells how the call ended; `list FILE` decodes the module of a file and tells
+/// of a contract in a state of its account alone, and tells how the call ended; `list FILE` decodes the module of a file and tells
 /// what it imports and exports; `text FILE` decodes it and writes it in WebAssembly's text format. CONFIG is `free`,
 /// the built-in configuration, or the name of a file. GAS is a decimal number below 2^64 without leading zeros, and
 /// DEPOSIT one below 2^128. ARGS is a text, or behind `hex:` two digits for each byte. `help` writes the words of the

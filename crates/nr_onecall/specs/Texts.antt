@@ -53,7 +53,7 @@ wait_line id = line (codes "wait" ∷ hash_word id ∷ [])
 abbrev pub give_line : DataReceiver → List ℕ
 give_line d = line (codes "give" ∷ hash_word d.data_id ∷ d.receiver ∷ [])
 
--- as a JSON text without spaces
+-- as a JSON text without spaces between its parts
 abbrev pub action_line : Action → List ℕ
 action_line action = line (codes "action" ∷ compact_text (action_json action) ∷ [])
 

@@ -5,6 +5,7 @@
 pub struct Request<'a> {
     /// The name of the function.
     pub method: &'a str,
+    /// Its arguments: any bytes, or none.
     pub args: &'a [u8],
     /// The gas that the call can burn or promise.
     pub gas: u64,

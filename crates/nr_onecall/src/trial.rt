@@ -65,13 +65,14 @@ fn told_call<C: Caller<PlainStore>>(
     }
 }
 
-/// Calls a method of a contract as a chain does, in a state that has its account alone.
+/// Calls a method of a contract by the caller that a chain has, in a state that has its account alone. Whether the
+/// account can pay for its storage isn't looked at.
 ///
-/// The account `contract` has the code, 10^26 tokens and those that come with the call, and no data. `caller` calls it
-/// and signed. The height is 1, the time 0, the price of gas that of the configuration, the signer's key `ed25519:`
+/// The account `contract` has the code, 10^26 tokens and those that come with the call, at most 2^128 - 1 together, and
+/// no data. `caller` calls it and signed. The height is 1, the time 0, the price of gas that of the configuration, the signer's key `ed25519:`
 /// with zeros, and the receipt's id zeros. It waited for no data, and nobody waits for its result.
 ///
-/// The text has the lines `value BYTES BURNT`, `promise ID BURNT` or `failure KIND PART BURNT`, with what was burnt,
+/// The text has the line `value BYTES GAS`, `promise ID GAS` or `failure KIND PART GAS`, with the gas that was burnt,
 /// the loading of the code included. Of a call that came to its end lines follow for what it logged, `log BYTES`, for
 /// the account's data, `store KEY VALUE`, and for each receipt that it made, `receipt ID RECEIVER`, with `wait ID`,
 /// `give ID RECEIVER` and `action JSON`.

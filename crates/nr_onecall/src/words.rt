@@ -41,7 +41,7 @@ pub(crate) fn id_word(id: &AccountId) -> &str
     }
 }
 
-/// An action as a JSON text without spaces.
+/// An action as a JSON text without spaces between its parts.
 pub(crate) fn action_word(alloc: Global, action: &Action) -> Result<String, AllocError>
     ensures { IfOk result (λ word. string_bytes word ≡ compact_text (action_json action.now)) }
 {
