@@ -26,7 +26,8 @@ bytes_of (Json d) = []
 bytes_of (Compact d) = []
 
 abbrev pub made : Work → Configuration → List ℕ → Plan (List ℕ) Status
-made work c file = and_then (map_refusal (of_file file) (by_config (request work file) c)) (λ output. Answer (bytes_of output))
+made work c file =
+    and_then (map_refusal (of_file file) (by_config (request work file) c)) (λ output. Answer (bytes_of output))
 
 -- ---- `run`, or with a schedule `check`, over these bytes
 abbrev pub ran : Names → Configuration → List ℕ → List ℕ → Plan (List ℕ) Status

@@ -66,8 +66,9 @@ fn serve_found<S: Shelf, K: Sink>(
 /// - `Usage`: the words are no command. Nothing was loaded or written.
 /// - `Config`: the configuration is refused. Nothing was written.
 /// - `Faulty`: a JSON text is refused, or what was made of it: the name of its file, and the words of `genesis` or
-///   `blocks`; the run is refused: the sentence that `explain` has for the line of `near_serial`; or the report is
-///   longer than 256 MiB. Nothing was written.
+///   `blocks`; the run is refused: the sentence that `explain` has for the line of `near_serial`, or the line where it
+///   has none; or `show report` refuses the report, as one longer than 256 MiB. Nothing was written.
+/// - `TooLong`, `NoSentence`: as `nr_files::serve_files` answers other words. Nothing was written.
 /// - `ReadFault`: the file of this name could not be read. Nothing was written.
 /// - `WriteFault`: the sink failed. A front was written.
 /// - `NoMemory`: memory ran out, or a total doesn't fit its number. Nothing was written.

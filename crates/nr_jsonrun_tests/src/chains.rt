@@ -56,7 +56,7 @@ pub(crate) const RESHARDED: &str =
     \"actions\": [{\"Transfer\": {\"deposit\": \"5\"}}]}]]},\
     {\"height\": 2, \"timestamp\": 0, \"price\": 0, \"chunks\": [[], []]}]}";
 
-/// Steps of both legs; three of them aren't made.
+/// Steps of both legs; two of them aren't made.
 pub(crate) const STEPS: &str =
     "open 0\nseal 0\nreshard\npublish 0\nopen 1\nreshard\nopen 1\nseal 1\n";
 

@@ -72,6 +72,26 @@ fn a_schedule_is_refused_in_words(rt: HostRuntime) -> Result<(), Fail> {
 }
 
 #[test]
+fn a_schedule_may_be_too_long(rt: HostRuntime) -> Result<(), Fail> {
+    let alloc = rt.alloc();
+    let long = vec![in alloc; b'\n'; 1_048_577]?;
+    let files: [(&str, &[u8]); 3] = [
+        ("G", GENESIS.as_bytes()),
+        ("B", TRANSFER.as_bytes()),
+        ("S", long.as_slice()),
+    ];
+    let end = ended(alloc, &["check", "free", "G", "B", "S"], &files)?;
+    assert!(rt;
+        end.refused(
+            alloc,
+            20,
+            "The schedule is refused: its file is longer than 1048576 bytes.",
+        )?
+    );
+    Ok(())
+}
+
+#[test]
 fn files_that_are_not_there_are_named(rt: HostRuntime) -> Result<(), Fail> {
     let alloc = rt.alloc();
     let files: [(&str, &[u8]); 3] = [
