@@ -1,7 +1,7 @@
 //! What is refused, in words.
 
 use crate::chains::{GENESIS, TRANSFER};
-use crate::setting::ended;
+use crate::setting::ended_by;
 use std::test::Fail;
 
 /// Texts of a genesis and of blocks, and the line that refuses them.
@@ -44,9 +44,9 @@ fn texts_and_chains_are_refused_in_words(rt: HostRuntime) -> Result<(), Fail> {
     let alloc = rt.alloc();
     for (genesis, blocks, line) in FAULTY {
         let files: [(&str, &[u8]); 2] = [("G", genesis.as_bytes()), ("B", blocks.as_bytes())];
-        let end = ended(alloc, &["replay", "free", "G", "B"], &files)?;
+        let end = ended_by(alloc, &["replay", "free", "G", "B"], &files)?;
         assert!(rt; end.refused(alloc, 20, line)?, "{line}");
-        let driven = ended(alloc, &["check", "free", "G", "B", "S"], &files)?;
+        let driven = ended_by(alloc, &["check", "free", "G", "B", "S"], &files)?;
         assert!(rt; driven.refused(alloc, 20, line)?, "{line}");
     }
     Ok(())
@@ -60,7 +60,7 @@ fn a_schedule_is_refused_in_words(rt: HostRuntime) -> Result<(), Fail> {
         ("B", TRANSFER.as_bytes()),
         ("S", b"open 0\nopen 1\n"),
     ];
-    let end = ended(alloc, &["check", "free", "G", "B", "S"], &files)?;
+    let end = ended_by(alloc, &["check", "free", "G", "B", "S"], &files)?;
     assert!(rt;
         end.refused(
             alloc,
@@ -80,7 +80,7 @@ fn a_schedule_may_be_too_long(rt: HostRuntime) -> Result<(), Fail> {
         ("B", TRANSFER.as_bytes()),
         ("S", long.as_slice()),
     ];
-    let end = ended(alloc, &["check", "free", "G", "B", "S"], &files)?;
+    let end = ended_by(alloc, &["check", "free", "G", "B", "S"], &files)?;
     assert!(rt;
         end.refused(
             alloc,
@@ -127,7 +127,7 @@ fn files_that_are_not_there_are_named(rt: HostRuntime) -> Result<(), Fail> {
         (&["replay", "C", "G", "B"], 2, "2 1 0", "Some([\"C\"])"),
     ];
     for (words, number, line, asked) in rows {
-        let end = ended(alloc, words, &files)?;
+        let end = ended_by(alloc, words, &files)?;
         assert!(rt; end.refused(alloc, number, line)?, "{asked}");
         assert!(rt; end.asked(alloc, asked)?, "{asked}");
     }

@@ -37,7 +37,11 @@ impl Ended {
 }
 
 /// How a command over files ends.
-pub(crate) fn ended(alloc: Global, words: &[&str], files: &[(&str, &[u8])]) -> Result<Ended, Fail> {
+pub(crate) fn ended_by(
+    alloc: Global,
+    words: &[&str],
+    files: &[(&str, &[u8])],
+) -> Result<Ended, Fail> {
     let mut texts = Vec::new(alloc);
     for word in words {
         texts.push(String::from_str(alloc, word)?)?;
