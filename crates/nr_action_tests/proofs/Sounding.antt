@@ -9,7 +9,7 @@ use Rattle.nr_actions.proofs.Standing.{stands_with_account}
 use Rattle.nr_config.specs.Config.{Config}
 use Rattle.nr_fees.specs.Fees.{receipt_tokens}
 use Rattle.nr_ids.specs.Grammar.{is_system}
-use Rattle.nr_receipt_tests.specs.Sound.{IsSound}
+use Rattle.nr_action_tests.specs.Sound.{IsSound}
 use Rattle.nr_records.specs.declared.account.Account.{Account}
 use Rattle.nr_state.specs.Changes.{set_code}
 use Rattle.nr_state.specs.Keeping.{IsKept, MovesTokens}

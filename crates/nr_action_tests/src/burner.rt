@@ -1,7 +1,7 @@
 //! Calls that burn gas.
 
 ghost use Rattle.std.specs.Prelude.{◌≡◌, IfOk};
-ghost use Rattle.nr_receipt_tests.specs.Burning.{Comes, asked, asked_gas, asking, asks, returning};
+ghost use Rattle.nr_action_tests.specs.Burning.{Comes, asked, asked_gas, asking, asks, returning};
 ghost use Rattle.nr_state.specs.World.{World};
 
 use nr_bytes::{Blob, List};
@@ -102,7 +102,7 @@ fn ask(
 }
 
 impl<S: Store> Caller<S> for Burner {
-    ghost use Rattle.nr_receipt_tests.specs.Burning.{burns, burning_law, burning_local};
+    ghost use Rattle.nr_action_tests.specs.Burning.{burns, burning_law, burning_local};
 
     ghost config = { λ caller. caller.config };
 

@@ -1,5 +1,6 @@
-//! Receipts by a layout of two shards, parted at `kk`, that are carried to other shards. The
-//! expected lists are those of a program apart, which finds a shard by bisection.
+//! Receipts that go to the shards of a layout, and receipts by a layout of two shards, parted at `kk`,
+//! that are carried to other shards. The expected lists of these are those of a program apart, which
+//! finds a shard by bisection.
 
 use nr_bytes::List;
 use nr_cut::carry;
@@ -45,6 +46,33 @@ fn list(alloc: Global, receipts: &[(&str, u8)]) -> Result<List<Receipt>, Fail> {
     Ok(List::of(list))
 }
 
+/// The numbers of the receipts in a list.
+fn numbers(alloc: Global, list: &List<Receipt>) -> Result<Vec<u8>, Fail> {
+    let mut numbers = Vec::new(alloc);
+    for receipt in list.inner() {
+        numbers.push(receipt.receipt_id.0[0])?;
+    }
+    Ok(numbers)
+}
+
+/// Three shards, parted at `hh` and `pp`.
+const ROUTED: &[u8] = b"\x02\0\0\0\x02\0\0\0hh\x02\0\0\0pp";
+
+#[test]
+fn receipts_go_to_the_shard_of_their_receiver(rt: HostRuntime) -> Result<(), Fail> {
+    let alloc = rt.alloc();
+    let layout = decode::<Layout>(alloc, ROUTED)?;
+    let rows: [(&str, u8); 5] = [("pp", 1), ("aa", 2), ("po", 3), ("zz", 4), ("hh", 5)];
+    let lists = layout.route(alloc, list(alloc, &rows)?)?;
+    let [first, second, third] = lists.inner() else {
+        return Err(Fail::new("not three lists"));
+    };
+    assert_eq!(rt; numbers(alloc, first)?.as_slice(), [2].as_slice());
+    assert_eq!(rt; numbers(alloc, second)?.as_slice(), [3, 5].as_slice());
+    assert_eq!(rt; numbers(alloc, third)?.as_slice(), [1, 4].as_slice());
+    Ok(())
+}
+
 /// What two shards sent to themselves and to each other, by source and then by destination.
 fn sent(alloc: Global) -> Result<List<List<Receipt>>, Fail> {
     let mut lists = Vec::new(alloc);
@@ -53,15 +81,6 @@ fn sent(alloc: Global) -> Result<List<List<Receipt>>, Fail> {
     lists.push(list(alloc, &[("aa", 7), ("bb", 8)])?)?;
     lists.push(list(alloc, &[("ml", 9), ("mm", 10), ("zz", 11)])?)?;
     Ok(List::of(lists))
-}
-
-/// The numbers of the receipts in a list.
-fn numbers(alloc: Global, list: &List<Receipt>) -> Result<Vec<u8>, Fail> {
-    let mut numbers = Vec::new(alloc);
-    for receipt in list.inner() {
-        numbers.push(receipt.receipt_id.0[0])?;
-    }
-    Ok(numbers)
 }
 
 /// Carries lists to the shards of a layout, each of which gets the receipts of these numbers.

@@ -1,10 +1,11 @@
 //! Receipts that are executed or settled.
 
-ghost use Rattle.nr_receipt_tests.specs.Sound.{IsSmall, IsSound};
+ghost use Rattle.nr_action_tests.specs.Sound.{IsSmall, IsSound};
 ghost use Rattle.std.specs.Prelude.{◌≡◌, true};
 
 use crate::burner::Burner;
-use crate::setting::{Ask, ID, PLACE, Sent, State, config_of, id_of, receipt_of, state_with};
+use crate::receipt_setting::{ID, Sent, config_of, receipt_of, state_with};
+use crate::setting::{Ask, PLACE, State, id_of};
 use nr_bytes::List;
 use nr_config::Config;
 use nr_fees::receipt_tokens;

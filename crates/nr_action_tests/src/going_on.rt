@@ -1,19 +1,20 @@
 //! A chain of one shard that is cut in two by hand.
 
 ghost use Rattle.std.specs.Prelude.{◌≡◌, ◌+◌, [], ◌∷◌, length, IfOk};
-ghost use Rattle.nr_blocks.specs.Genesis.{IsSoundGenesis};
 ghost use Rattle.nr_chunk.specs.Starts.{IsSoundStart};
 ghost use Rattle.nr_chunk.specs.declared.start.FirstState.TheVariants as first;
 ghost use Rattle.nr_state.specs.FromEntries.{AreWholeEntries, world_from};
 ghost use Rattle.nr_state.specs.World.{no_world};
 
+use crate::setting::id_of;
+use crate::splitting::genesis;
 use nr_actions::deposit_refund;
-use nr_blocks::{Block, Genesis, read_blocks, read_genesis};
+use nr_blocks::{Block, Genesis, read_blocks};
 use nr_bytes::List;
 use nr_chunk::{ChainRun, ChunkStore, Resumed};
 use nr_config::Config;
 use nr_contract::ContractCaller;
-use nr_ids::{AccountId, Hash32, Height, ShardId};
+use nr_ids::{Hash32, Height, ShardId};
 use nr_layout::Layout;
 use nr_overlap::{Core, run_serially};
 use nr_records::{ChunkLine, ChunkResult, Outcome, Receipt, RunStatus};
@@ -46,23 +47,9 @@ const LAST: [u8; 33] = *b"\
     NRB1\x01\0\0\0\x01\0\0\0\0\0\0\0\0\0\0\0\0\0\0\0\x01\0\0\0\x01\0\0\0\0\
 ";
 
-/// The account id of these bytes.
-fn id_of(alloc: Global, bytes: &[u8]) -> Result<AccountId, AllocError> {
-    AccountId::parse(alloc, bytes).map_err(|_| AllocError)
-}
-
 fn blocks_of(alloc: Global, bytes: &[u8]) -> Result<List<Block>, AllocError> {
     let bytes = Vec::from_slice(alloc, bytes)?;
     read_blocks(alloc, bytes, 1).map_err(|_| AllocError)
-}
-
-fn genesis(alloc: Global, config: &Config) -> Result<Genesis, AllocError>
-    ensures { IfOk result (IsSoundGenesis config.now) }
-{
-    let Ok(genesis) = read_genesis(alloc, &GENESIS, config) else {
-        return Err(AllocError);
-    };
-    Ok(genesis)
 }
 
 /// A chain that is run to its end.
@@ -75,7 +62,7 @@ fn ended(alloc: Global, chain: ChainRun<ContractCaller>) -> Result<Run, AllocErr
 /// Both blocks over the genesis.
 fn whole(alloc: Global) -> Result<Run, AllocError> {
     let config = Config::free();
-    let genesis = genesis(alloc, &config)?;
+    let genesis = genesis(alloc, &config, &GENESIS)?;
     let caller = ContractCaller::new(&config);
     let blocks = blocks_of(alloc, &BLOCKS)?;
     ended(alloc, ChainRun::new(config, genesis, blocks, caller))
@@ -93,7 +80,7 @@ fn sent_last(run: &Run) -> Option<Hash32> {
 fn one_shard(alloc: Global, config: &Config) -> Result<Layout, AllocError>
     ensures { IfOk result (λ layout. length layout + 1 ≡ 1) }
 {
-    let Genesis { layout, .. } = genesis(alloc, config)?;
+    let Genesis { layout, .. } = genesis(alloc, config, &GENESIS)?;
     if layout.shards() != 1 {
         return Err(AllocError);
     }

@@ -34,7 +34,12 @@ const TWO: [u8; 176] = *b"\
     \0\0\0\0\0\0\0\0\0\0\0\0\0\0\0\0\0\0\0\0\0\0\0\0\0\0\0\0\0\0\0\0d\0\0\0\0\0\0\0\
 ";
 
-fn genesis(alloc: Global, config: &Config, bytes: &[u8]) -> Result<Genesis, AllocError>
+/// The genesis of a file.
+pub(crate) fn genesis(
+    alloc: Global,
+    config: &Config,
+    bytes: &[u8],
+) -> Result<Genesis, AllocError>
     ensures { IfOk result (IsSoundGenesis config.now) }
 {
     let Ok(genesis) = read_genesis(alloc, bytes, config) else {

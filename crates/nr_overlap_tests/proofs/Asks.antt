@@ -10,9 +10,9 @@ use Rattle.nr_exchange.specs.Notes.{no_link, link, looked, claims, gave_back}
 use Rattle.nr_exchange.specs.Ports.{Publishes}
 use Rattle.nr_exchange.specs.Laws.{lists_there}
 use Rattle.nr_exchange.proofs.Claimed.{looked_claims, taken_here, published_stays, published_number, refused_number}
-use Rattle.nr_exchange_tests.specs.declared.pair.Chunk.{Chunk}
-use Rattle.nr_exchange_tests.specs.declared.pair.Sent.{Sent}
-use Rattle.nr_exchange_tests.specs.Pair.{rules, sent}
+use Rattle.nr_overlap_tests.specs.declared.pair.Chunk.{Chunk}
+use Rattle.nr_overlap_tests.specs.declared.pair.Sent.{Sent}
+use Rattle.nr_overlap_tests.specs.Pair.{rules, sent}
 
 -- the chunk of shard 0 at each height is there
 there : {h : ℕ} → 0 < h → (plan_of rules).present 0 h ≡ true

@@ -2,12 +2,12 @@
 -- name and that shard's. These tests' own.
 use Rattle.std.specs.Prelude.{ℕ, ◌+◌, [], ◌∷◌, nat_lt}
 use Rattle.nr_overlap.specs.Rules.{Rules}
-use Rattle.nr_exchange_tests.specs.declared.answer.Answer.{Answer}
-use Rattle.nr_exchange_tests.specs.declared.answer.Answer.TheVariants.{List, GivenUp, NotYet}
-use Rattle.nr_exchange_tests.specs.declared.answer.Gave.{Gave}
-use Rattle.nr_exchange_tests.specs.declared.answer.Gave.TheVariants.{Published, Full}
-use Rattle.nr_exchange_tests.specs.declared.pair.Chunk.{Chunk}
-use Rattle.nr_exchange_tests.specs.declared.pair.Sent.{Sent}
+use Rattle.nr_overlap_tests.specs.declared.answer.Answer.{Answer}
+use Rattle.nr_overlap_tests.specs.declared.answer.Answer.TheVariants.{List, GivenUp, NotYet}
+use Rattle.nr_overlap_tests.specs.declared.answer.Gave.{Gave}
+use Rattle.nr_overlap_tests.specs.declared.answer.Gave.TheVariants.{Published, Full}
+use Rattle.nr_overlap_tests.specs.declared.pair.Chunk.{Chunk}
+use Rattle.nr_overlap_tests.specs.declared.pair.Sent.{Sent}
 
 abbrev pub sent : Chunk → ℕ → Sent
 sent k d = record { by = k; dest = d }

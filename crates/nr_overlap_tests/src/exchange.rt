@@ -5,7 +5,7 @@ ghost use Rattle.std.specs.Mem.Slots.{slots_len, IsFull};
 ghost use Rattle.nr_exchange.specs.Plan.{plan_of};
 ghost use Rattle.nr_exchange.specs.Notes.{link};
 ghost use Rattle.nr_exchange.specs.Ports.{IsPortOf};
-ghost use Rattle.nr_exchange_tests.specs.Pair.{rules, claimed_by, number_after};
+ghost use Rattle.nr_overlap_tests.specs.Pair.{rules, claimed_by, number_after};
 
 use crate::answer::{Answer, Gave, Round};
 use crate::pair::{Chunk, Pair, Sent};

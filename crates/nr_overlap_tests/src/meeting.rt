@@ -1,9 +1,10 @@
 //! A roll of two shards whose first chunks wait for each other.
 
+use crate::roll::Roll;
+use crate::roll_call::{Calling, Last, Name};
 use nr_bytes::List;
 use nr_ids::{Height, ShardId};
 use nr_overlap::Phases;
-use nr_overlap_tests::{Calling, Last, Name, Roll};
 use std::alloc::{AllocError, Global};
 use std::sync::atomic::{AtomicBool, Ordering};
 use std::thread;

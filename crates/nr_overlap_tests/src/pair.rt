@@ -23,8 +23,8 @@ pub struct Sent {
 }
 
 impl Phases for Pair {
-    ghost use Rattle.nr_exchange_tests.specs.Pair.{rules};
-    ghost use Rattle.nr_exchange_tests.specs.Laws.{laws};
+    ghost use Rattle.nr_overlap_tests.specs.Pair.{rules};
+    ghost use Rattle.nr_overlap_tests.specs.PairLaws.{laws};
 
     ghost is_run = { λ _. Unit {0} };
 

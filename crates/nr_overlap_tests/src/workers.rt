@@ -1,34 +1,19 @@
 //! Runs by threads: reports, lists left, and shards that work beside each other.
 
 use crate::meeting::Meeting;
+use crate::roll::Roll;
+use crate::roll_call::Name;
+use crate::rolls::{name, roll};
 use nr_bytes::List;
 use nr_exchange::{Serial, make_exchange};
 use nr_ids::{Height, ShardId};
 use nr_overlap::Phases;
-use nr_overlap_tests::{Name, Roll};
 use nr_workers::{Finished, Gate, Moment, OpenGate, run_shards};
 use std::alloc::{AllocError, Global};
 use std::sync::Wait;
 use std::sync::atomic::{AtomicBool, AtomicU64, Ordering};
 use std::test::Fail;
 use std::thread::Threads;
-
-fn roll(
-    alloc: Global,
-    shards: u32,
-    blocks: &[&[bool]],
-    refused: Option<(u32, u64)>,
-) -> Result<Roll, AllocError> {
-    let mut all = Vec::new(alloc);
-    for block in blocks {
-        all.push(block.to_vec(alloc)?)?;
-    }
-    Ok(Roll {
-        shards,
-        blocks: all,
-        refused,
-    })
-}
 
 /// Runs the shards of a chain. There are some, and at most 100,000 heights.
 fn run<R: Threads + Wait + Sync, P: Phases + Sync + Drop, G: Gate + Sync>(
@@ -43,10 +28,6 @@ fn run<R: Threads + Wait + Sync, P: Phases + Sync + Drop, G: Gate + Sync>(
     let run = Serial(phases);
     let (exchange, ports) = make_exchange(alloc, &run)?;
     run_shards(rt, alloc, &run.0, &exchange, ports, gate)
-}
-
-const fn name(height: u64, source: u32) -> Name {
-    Name { height, source }
 }
 
 /// Whether the reports of a shard's chunks tell these names.

@@ -1,8 +1,8 @@
 -- The goals of `going_on::cut` that no tactic closes.
 use Rattle.std.proofs.Common.{[], ◌∷◌, ap, ◌∙◌}
 use Rattle.nr_records.specs.declared.receipt.Receipt.{Receipt}
-use Rattle.nr_start_tests.proofs.Sound.{is_sound}
-use Rattle.nr_start_tests.proofs.going_on.cut.Goals as goal
+use Rattle.nr_action_tests.proofs.Starting.{is_sound}
+use Rattle.nr_action_tests.proofs.going_on.cut.Goals as goal
 
 pub returns-clause-sound : goal.returns-clause-sound
 returns-clause-sound c =

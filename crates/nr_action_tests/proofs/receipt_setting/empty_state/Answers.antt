@@ -1,8 +1,8 @@
--- The goals of `setting::empty_state` that no tactic closes.
+-- The goals of `receipt_setting::empty_state` that no tactic closes.
 use Rattle.std.proofs.Common.{ap, arith}
 use Rattle.nr_state.specs.Tokens.{world_tokens}
-use Rattle.nr_receipt_tests.proofs.Sounding.{nothing_held}
-use Rattle.nr_receipt_tests.proofs.setting.empty_state.Goals as goal
+use Rattle.nr_action_tests.proofs.Sounding.{nothing_held}
+use Rattle.nr_action_tests.proofs.receipt_setting.empty_state.Goals as goal
 
 pub returns-clause-sound : goal.returns-clause-sound
 returns-clause-sound c = record {

@@ -1,9 +1,9 @@
--- The goals of `setting::put_account` that no tactic closes.
+-- The goals of `receipt_setting::put_account` that no tactic closes.
 use Rattle.std.proofs.Common.{sym, ap, ◌∙◌}
 use Rattle.nr_state.specs.View.{with_world}
 use Rattle.nr_state.specs.World.{with_account}
-use Rattle.nr_receipt_tests.proofs.Sounding.{account_put, account_stands}
-use Rattle.nr_receipt_tests.proofs.setting.put_account.Goals as goal
+use Rattle.nr_action_tests.proofs.Sounding.{account_put, account_stands}
+use Rattle.nr_action_tests.proofs.receipt_setting.put_account.Goals as goal
 
 pub returns-clause-sound : goal.returns-clause-sound
 returns-clause-sound c =

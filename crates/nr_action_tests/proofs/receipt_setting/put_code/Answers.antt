@@ -1,6 +1,6 @@
--- The goals of `setting::put_code` that no tactic closes.
-use Rattle.nr_receipt_tests.proofs.Sounding.{code_put}
-use Rattle.nr_receipt_tests.proofs.setting.put_code.Goals as goal
+-- The goals of `receipt_setting::put_code` that no tactic closes.
+use Rattle.nr_action_tests.proofs.Sounding.{code_put}
+use Rattle.nr_action_tests.proofs.receipt_setting.put_code.Goals as goal
 
 pub returns : goal.returns
 returns c =

@@ -1,7 +1,7 @@
--- The goals of `tests::run` that no tactic closes.
+-- The goals of `workers::run` that no tactic closes.
 use Rattle.std.proofs.Common.{sym, ap, subst}
 use Rattle.nr_exchange.specs.Ports.{AreMade}
-use Rattle.nr_workers_tests.proofs.tests.run.Goals as goal
+use Rattle.nr_overlap_tests.proofs.workers.run.Goals as goal
 
 pub run_shards-requires-clause-run : goal.run_shards-requires-clause-run
 run_shards-requires-clause-run g c κs within = ap (λ run. run.0) (sym c.in_ok-exchange.ensures.run)

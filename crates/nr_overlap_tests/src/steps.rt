@@ -1,10 +1,11 @@
 //! Steps in many orders: answers, what stands, and sums.
 
-ghost use Rattle.std.specs.Prelude.{◌≡◌, ◌<◌, IfOk, false};
+ghost use Rattle.std.specs.Prelude.{◌≡◌, ◌<◌, false};
 
 use crate::bag::Bag;
 use crate::roll::Roll;
 use crate::roll_call::Name;
+use crate::rolls::{name, roll};
 use crate::small_chain::SmallChain;
 use nr_bytes::List;
 use nr_ids::{Height, ShardId};
@@ -23,25 +24,6 @@ const fn no(why: Why) -> Result<(), StepFault> {
 }
 
 // ---- chunks that tell which lists they took
-
-fn roll(
-    alloc: Global,
-    shards: u32,
-    blocks: &[&[bool]],
-    refused: Option<(u32, u64)>,
-) -> Result<Roll, AllocError>
-    ensures { IfOk result (λ roll. roll.shards ≡ shards) }
-{
-    let mut all = Vec::new(alloc);
-    for block in blocks {
-        all.push(block.to_vec(alloc)?)?;
-    }
-    Ok(Roll {
-        shards,
-        blocks: all,
-        refused,
-    })
-}
 
 /// Makes a step, and says whether this was the answer.
 fn answers(core: &mut Core<Roll>, event: Event, answer: Result<(), StepFault>) -> bool {
@@ -108,10 +90,6 @@ fn one_shard_in_order(rt: HostRuntime) -> Result<(), Fail> {
     ];
     assert_eq!(rt; right_answers(&mut core, &steps), 7);
     Ok(())
-}
-
-const fn name(height: u64, source: u32) -> Name {
-    Name { height, source }
 }
 
 /// Whether the report of a chunk tells these names.
