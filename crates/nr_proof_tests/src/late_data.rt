@@ -4,7 +4,7 @@
 ghost use Rattle.std.specs.Prelude.{IfOk};
 ghost use Rattle.nr_blocks.specs.Genesis.{IsSoundGenesis};
 
-use crate::setting::text_of;
+use crate::rechecking::text_of;
 use nr_blocks::{Genesis, read_blocks, read_genesis};
 use nr_bytes::Blob;
 use nr_chunk::ChainRun;

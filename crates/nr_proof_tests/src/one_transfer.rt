@@ -1,6 +1,6 @@
 //! One chunk with a transfer, run again from its file.
 
-use crate::setting::text_of;
+use crate::rechecking::text_of;
 use nr_config::Config;
 use nr_gathered::{Gathered, read_gathered};
 use nr_ids::{Height, ShardId};

@@ -2,7 +2,8 @@
 
 ghost use Rattle.std.specs.Prelude.{◌≡◌, true, OnOk};
 
-use crate::setting::{A, B, State, ab, empty_state, holds, size};
+use crate::queue_setting::{A, B, ab, holds};
+use crate::setting::{State, empty_state, size};
 use nr_bytes::Blob;
 use nr_ids::{AccountId, Hash32};
 use nr_state::queues;

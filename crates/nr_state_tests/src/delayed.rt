@@ -2,7 +2,8 @@
 
 ghost use Rattle.std.specs.Prelude.{◌≡◌, true, IfOk, OnOk};
 
-use crate::setting::{A, B, R, State, ab, empty_state, holds, size};
+use crate::queue_setting::{A, B, R, ab, holds};
+use crate::setting::{State, empty_state, size};
 use nr_ids::Hash32;
 use nr_records::{Body, DataReceipt, Receipt};
 use nr_state::queues;

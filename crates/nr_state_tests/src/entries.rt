@@ -1,4 +1,6 @@
-//! The entries, and entries with a damage.
+//! Entries of a world with two accounts, a code, a key and a datum, a datum that came, a postponed
+//! receipt that lacks one of its two inputs, and two delayed receipts, of which one more was served;
+//! and these with a damage. The bytes are those of a program apart, which spells each record by itself.
 
 use nr_bytes::{Blob, List};
 use nr_columns::Entry;

@@ -2,7 +2,7 @@
 
 ghost use Rattle.std.specs.Prelude.{◌≡◌, ◌≤◌, length};
 
-use crate::calls::{Call, Dice};
+use crate::drawn_calls::{Call, Dice};
 use crate::roots::root;
 use nr_store::PlainStore;
 use nr_triedef::Store;

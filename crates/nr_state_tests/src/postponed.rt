@@ -5,7 +5,8 @@ ghost use Rattle.std.specs.FinMap as map;
 ghost use Rattle.nr_state.specs.Flat.{inputs_of};
 ghost use Rattle.nr_state.specs.Queues.{is_act, awaited_by};
 
-use crate::setting::{State, ab};
+use crate::queue_setting::ab;
+use crate::setting::State;
 use nr_bytes::List;
 use nr_ids::{AccountId, Hash32, PublicKey};
 use nr_records::{ActionReceipt, Body, Receipt};

@@ -1,15 +1,11 @@
-//! An empty state, and what the store below it holds.
+//! Ids, and what the store below a state holds.
 
 ghost use Rattle.std.specs.Prelude.{◌≡◌, true};
 
+use crate::setting::{State, id_of};
 use nr_columns::Entry;
-use nr_config::Config;
 use nr_ids::{AccountId, Hash32};
-use nr_state::ShardState;
-use nr_store::PlainStore;
 use std::alloc::{AllocError, Global};
-
-pub(crate) type State = ShardState<PlainStore>;
 
 /// Two data ids and an id of a receipt, as letters.
 pub(crate) const A: Hash32 = Hash32(*b"aaaaaaaaaaaaaaaaaaaaaaaaaaaaaaaa");
@@ -20,17 +16,7 @@ pub(crate) const R: Hash32 = Hash32(*b"rrrrrrrrrrrrrrrrrrrrrrrrrrrrrrrr");
 
 /// The account `ab`.
 pub(crate) fn ab(alloc: Global) -> Result<AccountId, AllocError> {
-    let Ok(id) = AccountId::parse(alloc, b"ab") else {
-        return Err(AllocError);
-    };
-    Ok(id)
-}
-
-/// An empty state under the configuration `free`.
-pub(crate) fn empty_state(alloc: Global) -> State
-    ensures { result.whole ≡ true }
-{
-    ShardState::new(alloc, PlainStore::new(alloc), &Config::free())
+    id_of(alloc, b"ab")
 }
 
 fn is_entry(entry: &Entry, key: &[u8], value: &[u8]) -> bool {
@@ -52,12 +38,4 @@ pub(crate) fn holds(state: &State, key: &[u8], value: &[u8]) -> Result<bool, All
 {
     let entries = state.entries()?;
     Ok(is_among(entries.inner(), key, value))
-}
-
-/// How many entries the store has.
-pub(crate) fn size(state: &State) -> Result<usize, AllocError>
-    requires { state.now.whole ≡ true }
-{
-    let entries = state.entries()?;
-    Ok(entries.inner().len())
 }

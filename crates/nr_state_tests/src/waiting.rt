@@ -4,7 +4,8 @@ ghost use Rattle.std.specs.Prelude.{◌≡◌, true, IfOk, OnOk};
 
 use crate::arrived::add;
 use crate::postponed::put;
-use crate::setting::{A, B, R, State, ab, empty_state, holds, size};
+use crate::queue_setting::{A, B, R, ab, holds};
+use crate::setting::{State, empty_state, size};
 use nr_ids::{AccountId, Hash32};
 use nr_records::{Receipt, encode};
 use nr_state::queues;

@@ -1,4 +1,4 @@
--- What holds at the loops of `tests::entries_of`.
+-- What holds at the loops of `gather::entries_of`.
 use Rattle.std.proofs.Common.{◌≡◌, map, take}
 use Rattle.nr_gather.specs.Entries.{pairs_of}
 use Rattle.nr_proof_tests.proofs.gather.entries_of.Given as goal

@@ -1,4 +1,4 @@
--- The goals of `tests::gathered` that no tactic closes.
+-- The goals of `gather::gathered` that no tactic closes.
 use Rattle.std.proofs.Common.{List, ℕ, sym, subst}
 use Rattle.std.specs.Prelude.{T}
 use Rattle.std.specs.FinMap.Entries.{is_sorted}
