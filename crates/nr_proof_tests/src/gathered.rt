@@ -5,8 +5,8 @@ use nr_gathered::{GatheredFault, read_gathered, write_gathered};
 use std::alloc::{AllocError, Global};
 use std::test::Fail;
 
-/// The chunk at height 2 of shard 0: the receipt that it takes, and eight texts.
-const FILE: &[u8] = b"\
+/// The chunk at height 2 of a chain of one shard: the receipt of a transfer, which it takes, and eight texts.
+pub(crate) const FILE: &[u8] = b"\
     NRS1\xfe\x17\x0e0\x8d\x93\x87\x14w\xcd\xec\xdb\xb8\x01\x08\x05\xa18\xe1\x04F\xcc\xaa\xb0\xce\
     d1;y\x88n2\0\0\0\0\x02\0\0\0\0\0\0\0\0\0\0\0\0\0\0\0\0\0\0\0\0\0\0\0\0\x01\0\0\0\x05\0\0\0al\
     ice\x03\0\0\0bob\x1d\xb4\x9a\x92\xf6VZ\xf8@\xd6I\xa7J\xd2\xea\xcf\xc1\xd2\xc5\x93r7P\xfcz\

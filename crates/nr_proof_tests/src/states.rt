@@ -11,7 +11,8 @@ use nr_columns::Entry;
 use nr_parts::{Part, cut_part, write_part};
 use std::alloc::{AllocError, Global};
 
-fn push_entry(
+/// Puts an entry behind the others.
+pub(crate) fn push_entry(
     alloc: Global,
     entries: &mut Vec<Entry>,
     key: &[u8],
@@ -57,8 +58,8 @@ fn is_below(key: &[u8], entries: &[Entry]) -> bool
     }
 }
 
-// Whether the keys rise.
-fn is_sorted(entries: &[Entry]) -> bool
+/// Whether the keys rise.
+pub(crate) fn is_sorted(entries: &[Entry]) -> bool
     ensures { result ≡ is_sorted (slice_cmp nat_cmp) (pairs_of entries.now) }
 {
     match entries {
