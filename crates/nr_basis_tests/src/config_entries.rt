@@ -1,8 +1,7 @@
 //! Configurations that are read, and the first fault of those that are not.
 
-use crate::entries::*;
-use crate::table::rows;
-use crate::{Config, ConfigFault};
+use nr_config::entries::*;
+use nr_config::{Config, ConfigFault};
 use std::alloc::Global;
 use std::process::Abort;
 use std::test::Fail;
@@ -150,13 +149,9 @@ static WRITTEN: [(&str, u64, u64, u64, u64); 75] = [
 #[test]
 fn entries_are_as_written(rt: HostRuntime) {
     let (free, generated) = (Config::free(), Config::generated());
-    for (i, (name, least, greatest, of_free, of_generated)) in WRITTEN.iter().enumerate() {
-        let row = &rows()[i];
-        assert_eq!(rt; row.name, *name);
-        assert_eq!(rt; row.least, *least);
-        assert_eq!(rt; row.greatest, *greatest);
-        assert_eq!(rt; free.entry(i as u32 + 1), *of_free);
-        assert_eq!(rt; generated.entry(i as u32 + 1), *of_generated);
+    for (i, (name, _, _, of_free, of_generated)) in WRITTEN.iter().enumerate() {
+        assert_eq!(rt; free.entry(i as u32 + 1), *of_free, "{name}");
+        assert_eq!(rt; generated.entry(i as u32 + 1), *of_generated, "{name}");
     }
 }
 
@@ -231,6 +226,35 @@ fn built_in_configurations_are_read(rt: HostRuntime) -> Result<(), Fail> {
     for config in [Config::free(), Config::generated()] {
         let text = text(rt.alloc(), &config, 0, "")?;
         assert_eq!(rt; Config::read(rt.alloc(), text.as_bytes()), Ok(config));
+    }
+    Ok(())
+}
+
+/// The fault of the free configuration with this number of an entry in place of its own. The whole of which the reward
+/// is a part is the greatest, so that each part may stand there.
+fn fault_with(alloc: Global, name: &str, number: u64) -> Result<Option<ConfigFault>, Fail> {
+    let members = format!(in alloc;
+        "\"delete_account_exec\": 0, \"reward_denominator\": 1000000, \"{name}\": {number}"
+    )?;
+    let text = text(alloc, &Config::free(), 75, members.as_str())?;
+    Ok(Config::read(alloc, text.as_bytes()).err())
+}
+
+#[test]
+fn entries_keep_to_their_bounds(rt: HostRuntime) -> Result<(), Fail> {
+    let alloc = rt.alloc();
+    for (i, (name, least, greatest, _, _)) in WRITTEN.iter().enumerate() {
+        let outside = Some(ConfigFault::OutOfRange {
+            entry: i as u32 + 1,
+        });
+        assert_eq!(rt; fault_with(alloc, name, *least)?, None, "{name}");
+        assert_eq!(rt; fault_with(alloc, name, *greatest)?, None, "{name}");
+        if *least > 0 {
+            assert_eq!(rt; fault_with(alloc, name, *least - 1)?, outside, "{name}");
+        }
+        if *greatest < u64::MAX {
+            assert_eq!(rt; fault_with(alloc, name, *greatest + 1)?, outside, "{name}");
+        }
     }
     Ok(())
 }

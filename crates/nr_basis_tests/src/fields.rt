@@ -1,9 +1,8 @@
 //! Fields by bytes worked out by hand, and shelves and sinks that fail.
 
-use crate::file_shelf::append_rest;
-use crate::{
+use nr_bytes::{
     Blob, BytesFault, FileShelf, List, LoadFault, MemoryShelf, MemorySink, Reader, Shelf, Sink,
-    StdoutSink, Text, WriteFailed, Writer,
+    StdoutSink, Text, WriteFailed, Writer, append_rest,
 };
 use std::cell::Cell;
 use std::fmt::Display;

@@ -1,4 +1,4 @@
-//! What the calls answer, as plain values.
+//! What the calls for proofs of items answer, as plain values.
 
 use nr_bytes::Blob;
 use nr_ids::Hash32;

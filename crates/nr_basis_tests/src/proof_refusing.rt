@@ -1,8 +1,8 @@
 //! Proofs that are bent, and texts that are none.
 
-use crate::chunks::late;
-use crate::judging::{faulty_line, is_accepted};
-use crate::texts::SECOND;
+use crate::proof_chunks::late;
+use crate::proof_judging::{faulty_line, is_accepted};
+use crate::proof_texts::SECOND;
 use nr_ids::Hash32;
 use nr_outproof::{ProofKind, chunk_root};
 use std::alloc::{AllocError, Global};

@@ -1,8 +1,8 @@
 //! Roots and proofs by the values of an independent program.
 
-use crate::chunks::{late, mixed};
-use crate::judging::{Passed, path_length, texts, tried};
-use crate::texts::{OUTCOMES, RECEIPTS};
+use crate::proof_chunks::{late, mixed};
+use crate::proof_judging::{Passed, path_length, texts, tried};
+use crate::proof_texts::{OUTCOMES, RECEIPTS};
 use nr_outproof::{ProofKind, chunk_root};
 use nr_records::ChunkResult;
 use std::alloc::{AllocError, Global};

@@ -52,8 +52,13 @@ fn append_piece<F: Read>(file: &mut F, limit: usize, out: &mut Vec<u8>) -> Resul
     Ok(n)
 }
 
-/// Appends what a reader has left, at most `limit` bytes. After a refusal `out` is as before.
-pub(crate) fn append_rest<F: Read>(
+/// Appends what a reader has left, at most `limit` bytes.
+///
+/// # Errors
+///
+/// `Failed` where a read failed, `TooLong` where the reader has more bytes than `limit`, and `Memory`. After each of
+/// them `out` is as before.
+pub fn append_rest<F: Read>(
     file: &mut F,
     limit: usize,
     out: &mut Vec<u8>,

@@ -13,15 +13,13 @@ mod reader;
 mod shelf;
 mod sink;
 mod stdout_sink;
-#[cfg(test)]
-mod tests;
 mod text;
 mod threads;
 mod writer;
 
 pub use blob::Blob;
 pub use fault::BytesFault;
-pub use file_shelf::FileShelf;
+pub use file_shelf::{FileShelf, append_rest};
 pub use list::List;
 pub use memory_shelf::MemoryShelf;
 pub use memory_sink::MemorySink;

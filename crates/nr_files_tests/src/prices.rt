@@ -1,7 +1,7 @@
 //! Blocks files with prices, whole, cut and damaged.
 
-use nr_blocks::{Block, BlocksFault, BlocksFile, Version, read_blocks};
-use nr_bytes::List;
+use crate::reading::{blocks_fault, read};
+use nr_blocks::{BlocksFault, BlocksFile, Version};
 use nr_records::{Spelled, decode, encode};
 use std::alloc::Global;
 use std::test::Fail;
@@ -15,21 +15,6 @@ const PRICED: [u8; 184] = *b"\
     \0\0\0\0\0\0\x01\0\0\0\x03\x05\0\0\0\0\0\0\0\0\0\0\0\0\0\0\0\x02\0\0\0\0\0\0\0\0\
     \0\0\0\0\0\0\0\xff\xff\xff\xff\xff\xff\xff\xff\x01\0\0\0\x01\0\0\0\0\
 ";
-
-fn read(alloc: Global, bytes: &[u8], shards: u32) -> Result<List<Block>, BlocksFault> {
-    match Vec::from_slice(alloc, bytes) {
-        Ok(bytes) => read_blocks(alloc, bytes, shards),
-        Err(_) => Err(BlocksFault::Memory),
-    }
-}
-
-/// The fault of these bytes as the blocks of so many shards.
-fn fault_of(alloc: Global, bytes: &[u8], shards: u32) -> Option<BlocksFault> {
-    match read(alloc, bytes, shards) {
-        Ok(_) => None,
-        Err(fault) => Some(fault),
-    }
-}
 
 #[test]
 fn prices_are_read(rt: HostRuntime) {
@@ -48,8 +33,8 @@ fn prices_are_read(rt: HostRuntime) {
 #[test]
 fn no_block_has_no_price(rt: HostRuntime) {
     let alloc = rt.alloc();
-    assert!(rt; fault_of(alloc, b"NRB1\0\0\0\0".as_slice(), 3) == None);
-    assert!(rt; fault_of(alloc, b"NRB2\0\0\0\0".as_slice(), 3) == None);
+    assert!(rt; blocks_fault(alloc, b"NRB1\0\0\0\0".as_slice(), 3) == None);
+    assert!(rt; blocks_fault(alloc, b"NRB2\0\0\0\0".as_slice(), 3) == None);
 }
 
 /// Where the cut file can't be read.
@@ -78,11 +63,11 @@ fn cut_blocks_tell_the_place(rt: HostRuntime) {
     let alloc = rt.alloc();
     for length in 0..37 {
         let at = place_of(length);
-        assert!(rt; fault_of(alloc, &PRICED[..length], 1) == Some(BlocksFault::Spelling { at }));
+        assert!(rt; blocks_fault(alloc, &PRICED[..length], 1) == Some(BlocksFault::Spelling { at }));
     }
     for length in 134..184 {
         let at = place_of(length);
-        assert!(rt; fault_of(alloc, &PRICED[..length], 1) == Some(BlocksFault::Spelling { at }));
+        assert!(rt; blocks_fault(alloc, &PRICED[..length], 1) == Some(BlocksFault::Spelling { at }));
     }
 }
 
@@ -100,17 +85,17 @@ fn blocks_are_judged(rt: HostRuntime) -> Result<(), Fail> {
     let alloc = rt.alloc();
     let mut rest = Vec::from_slice(alloc, PRICED.as_slice())?;
     rest.push(0)?;
-    assert!(rt; fault_of(alloc, &rest, 1) == Some(BlocksFault::Spelling { at: 184 }));
+    assert!(rt; blocks_fault(alloc, &rest, 1) == Some(BlocksFault::Spelling { at: 184 }));
     let word = changed(alloc, 3, b'0')?;
-    assert!(rt; fault_of(alloc, &word, 1) == Some(BlocksFault::Spelling { at: 0 }));
+    assert!(rt; blocks_fault(alloc, &word, 1) == Some(BlocksFault::Spelling { at: 0 }));
     let stake = changed(alloc, 134, 4)?;
-    assert!(rt; fault_of(alloc, &stake, 1) == Some(BlocksFault::Stake { at: 134 }));
+    assert!(rt; blocks_fault(alloc, &stake, 1) == Some(BlocksFault::Stake { at: 134 }));
     let height = changed(alloc, 151, 3)?;
-    assert!(rt; fault_of(alloc, &height, 1) == Some(BlocksFault::HeightOrder { height: 3 }));
-    assert!(rt; fault_of(alloc, &height, 2) == Some(BlocksFault::ShardCount { height: 1 }));
+    assert!(rt; blocks_fault(alloc, &height, 1) == Some(BlocksFault::HeightOrder { height: 3 }));
+    assert!(rt; blocks_fault(alloc, &height, 2) == Some(BlocksFault::ShardCount { height: 1 }));
     // The price is read as 5 chunks, of which the last has an account id of one byte.
     let unpriced = changed(alloc, 3, b'1')?;
-    assert!(rt; fault_of(alloc, &unpriced, 1) == Some(BlocksFault::Spelling { at: 37 }));
+    assert!(rt; blocks_fault(alloc, &unpriced, 1) == Some(BlocksFault::Spelling { at: 37 }));
     Ok(())
 }
 

@@ -14,7 +14,7 @@ use std::alloc::Global;
 use std::test::Fail;
 
 /// Alice has 100 and a key, and bob has 20.
-const GENESIS: [u8; 226] = *b"\
+pub(crate) const GENESIS: [u8; 226] = *b"\
     NRG1\0\0\0\0\x03\0\0\0\0\x05\0\0\0aliced\0\0\0\0\0\0\0\0\0\0\0\0\0\0\0\0\0\0\0\0\0\
     \0\0\0\0\0\0\0\0\0\0\0\0\0\0\0\0\0\0\0\0\0\0\0\0\0\0\0\0\0\0\0\0\0\0\0\0\0\0\0\0\0\
     \0\xb6\0\0\0\0\0\0\0\0\x03\0\0\0bob\x14\0\0\0\0\0\0\0\0\0\0\0\0\0\0\0\0\0\0\0\0\0\
@@ -36,14 +36,15 @@ const TRANSFER: [u8; 168] = *b"\
 
 const NO_CODE: Hash32 = Hash32([0; 32]);
 
-fn read(alloc: Global, bytes: &[u8], shards: u32) -> Result<List<Block>, BlocksFault> {
+pub(crate) fn read(alloc: Global, bytes: &[u8], shards: u32) -> Result<List<Block>, BlocksFault> {
     match Vec::from_slice(alloc, bytes) {
         Ok(bytes) => read_blocks(alloc, bytes, shards),
         Err(_) => Err(BlocksFault::Memory),
     }
 }
 
-fn blocks_fault(alloc: Global, bytes: &[u8], shards: u32) -> Option<BlocksFault> {
+/// The fault of these bytes as the blocks of so many shards.
+pub(crate) fn blocks_fault(alloc: Global, bytes: &[u8], shards: u32) -> Option<BlocksFault> {
     match read(alloc, bytes, shards) {
         Ok(_) => None,
         Err(fault) => Some(fault),

@@ -213,7 +213,7 @@ fn texts_are_gathered(rt: HostRuntime) -> Result<(), Fail> {
 #[test]
 fn long_values_alike(rt: HostRuntime) -> Result<(), Fail> {
     let alloc = rt.alloc();
-    let long = [120; 2000];
+    let long = [b'x'; 2000];
     let mut entries = Vec::new(alloc);
     push_entry(alloc, &mut entries, b"a", &long)?;
     push_entry(alloc, &mut entries, b"b", &long)?;

@@ -1,32 +1,14 @@
 //! Archives in memory, with ample memory. What is wanted comes from GNU tar 1.34 over files whose lines are those of an
 //! independent program.
 
-use crate::{Status, audit};
-use nr_bytes::{MemoryShelf, MemorySink};
+use crate::rows::{BOTH_ACCOUNTS, RESHARDED, chain_of};
+use crate::setting::words_of;
+use nr_audit::{Status, audit};
+use nr_bytes::MemorySink;
 use nr_ids::Hash32;
 use nr_triedef::value_hash;
-use std::alloc::{AllocError, Global};
+use std::alloc::Global;
 use std::test::Fail;
-
-/// One shard.
-const GENESIS: &[u8] = b"\
-    NRG1\0\0\0\0\x03\0\0\0\0\x02\0\0\0aad\0\0\0\0\0\0\0\0\0\0\0\0\0\0\0\0\0\0\0\0\0\0\0\0\0\0\
-    \0\0\0\0\0\0\0\0\0\0\0\0\0\0\0\0\0\0\0\0\0\0\0\0\0\0\0\0\0\0\0\0\0\0\0\0\0\xb6\0\0\0\0\0\0\
-    \0\0\x02\0\0\0zz\x14\0\0\0\0\0\0\0\0\0\0\0\0\0\0\0\0\0\0\0\0\0\0\0\0\0\0\0\0\0\0\0\0\0\0\0\
-    \0\0\0\0\0\0\0\0\0\0\0\0\0\0\0\0\0\0\0\0\0\0\0\0\0\0\0\0d\0\0\0\0\0\0\0\x02\x02\0\0\0aa\0\
-    \x01\x01\x01\x01\x01\x01\x01\x01\x01\x01\x01\x01\x01\x01\x01\x01\x01\x01\x01\x01\x01\x01\
-    \x01\x01\x01\x01\x01\x01\x01\x01\x01\x01\0\0\0\0\0\0\0\0\x01\
-";
-
-/// Two blocks; from the second on there are two shards, and the second takes what the first one sent.
-const BLOCKS: &[u8] = b"\
-    NRB3\x01\x02\0\0\0\0\0\0\0\x01\0\0\0\x02\0\0\0mm\x02\0\0\0\x01\0\0\0\0\0\0\0\0\0\0\0\0\0\0\
-    \0\0\0\0\0\0\0\0\0\x01\0\0\0\x01\x01\0\0\0\x02\0\0\0aa\0\x01\x01\x01\x01\x01\x01\x01\x01\
-    \x01\x01\x01\x01\x01\x01\x01\x01\x01\x01\x01\x01\x01\x01\x01\x01\x01\x01\x01\x01\x01\x01\
-    \x01\x01\x01\0\0\0\0\0\0\0\x02\0\0\0zz\0\0\0\0\0\0\0\0\0\0\0\0\0\0\0\0\0\0\0\0\0\0\0\0\0\0\
-    \0\0\0\0\0\0\x01\0\0\0\x03\x05\0\0\0\0\0\0\0\0\0\0\0\0\0\0\0\x02\0\0\0\0\0\0\0\0\0\0\0\0\0\
-    \0\0\0\0\0\0\0\0\0\0\x02\0\0\0\x01\0\0\0\0\x01\0\0\0\0\
-";
 
 /// The SHA-256 of the archive of both legs: three chunks, two files each.
 const DIGEST: [u8; 32] = *b"\
@@ -34,29 +16,19 @@ const DIGEST: [u8; 32] = *b"\
     \xa5\xa2\xd8\xaa\x39\x78\x62\xb6\x36\x62\x78\x95\x8a\x56\x27\x23\
 ";
 
-fn files_of(alloc: Global) -> Result<Vec<(String, Vec<u8>)>, AllocError> {
-    let mut files = Vec::new(alloc);
-    let genesis = Vec::from_slice(alloc, GENESIS)?;
-    files.push((String::from_str(alloc, "G")?, genesis))?;
-    let blocks = Vec::from_slice(alloc, BLOCKS)?;
-    files.push((String::from_str(alloc, "B")?, blocks))?;
-    Ok(files)
-}
-
-/// How these words are answered where some writes fail, of at most 1,024 bytes each, and what was then taken.
+/// How these words are answered where some writes fail, of at most 1,024 bytes each, and what was then taken. There
+/// are a chain `G`, of one shard, and `B`, of two blocks; from the second on there are two shards, and the second takes
+/// what the first one sent.
 fn answered(
     alloc: Global,
     words: &[&str],
     failing: &[u64],
-) -> Result<(Status, Vec<u8>), AllocError> {
-    let mut texts = Vec::new(alloc);
-    for word in words {
-        texts.push(String::from_str(alloc, word)?)?;
-    }
-    let mut shelf = MemoryShelf::new(files_of(alloc)?, Vec::new(alloc));
+) -> Result<(Status, Vec<u8>), Fail> {
+    let words = words_of(alloc, words)?;
+    let mut shelf = chain_of(alloc, BOTH_ACCOUNTS, RESHARDED)?;
     let failing = Vec::from_slice(alloc, failing)?;
     let mut sink = MemorySink::new(alloc, 1024, failing, 10_000)?;
-    let status = audit(alloc, &texts, &mut shelf, &mut sink);
+    let status = audit(alloc, &words, &mut shelf, &mut sink);
     Ok((status, Vec::from_slice(alloc, sink.bytes())?))
 }
 

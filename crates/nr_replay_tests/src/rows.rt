@@ -1,6 +1,7 @@
 //! Runs of two shards, by words and files.
 
 use crate::gates::{AheadOfBarrier, TwoAtOpen};
+use crate::setting::{shelf_of, words_of};
 use nr_bytes::{MemoryShelf, MemorySink};
 use nr_replay::replay;
 use nr_top::{Status, serial};
@@ -36,7 +37,7 @@ const TOTALS: &str = "total supply 0\ntotal accounts 0\ntotal receipts 0\ntotal 
                       total places 0 0 0 0 0\n";
 
 /// A genesis of one shard with `aa`, who has a key, and `zz`.
-const BOTH_ACCOUNTS: &str =
+pub(crate) const BOTH_ACCOUNTS: &str =
     "4e5247310000000003000000000200000061616400000000000000000000000000000000000000000000\
      0000000000000000000000000000000000000000000000000000000000000000000000000000000000b6\
      0000000000000000020000007a7a14000000000000000000000000000000000000000000000000000000\
@@ -45,7 +46,7 @@ const BOTH_ACCOUNTS: &str =
      000000000000000001";
 
 /// Two blocks, with the boundary `mm` from the second on. In the first `aa` sends 5 to `zz`.
-const RESHARDED: &str =
+pub(crate) const RESHARDED: &str =
     "4e52423301020000000000000001000000020000006d6d02000000010000000000000000000000000000\
      000000000000000000010000000101000000020000006161000101010101010101010101010101010101\
      0101010101010101010101010101010100000000000000020000007a7a00000000000000000000000000\
@@ -82,20 +83,14 @@ const SUMMARY: &str = "gen 4 2 2\n\
                        total burnt 17174400\n\
                        total places 44 16 0 0 28\n";
 
-pub(crate) fn words_of(alloc: Global, of: &[&str; 4]) -> Result<Vec<String>, Fail> {
-    let mut words = Vec::new(alloc);
-    for word in *of {
-        words.push(String::from_str(alloc, word)?)?;
-    }
-    Ok(words)
-}
-
 /// A shelf with the genesis `G` and blocks `B`, given in hexadecimal.
-fn shelf_of(alloc: Global, genesis: &str, blocks: &str) -> Result<MemoryShelf, Fail> {
-    let mut files = Vec::new(alloc);
-    files.push((String::from_str(alloc, "G")?, hex::decode(alloc, genesis)?))?;
-    files.push((String::from_str(alloc, "B")?, hex::decode(alloc, blocks)?))?;
-    Ok(MemoryShelf::new(files, Vec::new(alloc)))
+pub(crate) fn chain_of(alloc: Global, genesis: &str, blocks: &str) -> Result<MemoryShelf, Fail> {
+    let genesis = hex::decode(alloc, genesis)?;
+    let blocks = hex::decode(alloc, blocks)?;
+    Ok(shelf_of(
+        alloc,
+        &[("G", genesis.as_slice()), ("B", blocks.as_slice())],
+    )?)
 }
 
 /// Whether the words over these files, through a gate, write just this text.
@@ -108,7 +103,7 @@ fn writes_over<R: Threads + Wait + Sync, G: Gate + Sync>(
     text: &str,
 ) -> Result<bool, Fail> {
     let words = words_of(alloc, words)?;
-    let mut shelf = shelf_of(alloc, genesis, blocks)?;
+    let mut shelf = chain_of(alloc, genesis, blocks)?;
     let mut sink = MemorySink::new(alloc, 64, Vec::new(alloc), 4096)?;
     let status = replay(rt, alloc, &words, &mut shelf, &mut sink, gate);
     Ok(status == Status::Done && sink.bytes() == text.as_bytes())
@@ -171,7 +166,7 @@ fn a_generated_chain_has_its_digest(rt: HostRuntime) -> Result<(), Fail> {
 fn the_serial_call_knows_no_replay(rt: HostRuntime) -> Result<(), Fail> {
     let alloc = rt.alloc();
     let words = words_of(alloc, &REPLAY)?;
-    let mut shelf = shelf_of(alloc, GENESIS, BOTH)?;
+    let mut shelf = chain_of(alloc, GENESIS, BOTH)?;
     let mut sink = MemorySink::new(alloc, 64, Vec::new(alloc), 4096)?;
     let status = serial(alloc, &words, &mut shelf, &mut sink);
     assert!(rt; status == Status::Usage);

@@ -3,7 +3,7 @@
 use nr_bytes::{MemoryShelf, MemorySink};
 use nr_files::Status;
 use nr_jsonrun::serve_words;
-use std::alloc::Global;
+use std::alloc::{AllocError, Global};
 use std::test::Fail;
 
 /// How a command ended: its exit status, the line that tells it, what the sink took, and the shelf.
@@ -36,16 +36,17 @@ impl Ended {
     }
 }
 
-/// How a command over files ends.
-pub(crate) fn ended_by(
-    alloc: Global,
-    words: &[&str],
-    files: &[(&str, &[u8])],
-) -> Result<Ended, Fail> {
+/// Words as texts of their own.
+pub(crate) fn words_of(alloc: Global, words: &[&str]) -> Result<Vec<String>, AllocError> {
     let mut texts = Vec::new(alloc);
     for word in words {
         texts.push(String::from_str(alloc, word)?)?;
     }
+    Ok(texts)
+}
+
+/// A shelf with these files, where no call fails.
+pub(crate) fn shelf_of(alloc: Global, files: &[(&str, &[u8])]) -> Result<MemoryShelf, AllocError> {
     let mut held = Vec::new(alloc);
     for (name, bytes) in files {
         held.push((
@@ -53,9 +54,19 @@ pub(crate) fn ended_by(
             Vec::from_slice(alloc, bytes)?,
         ))?;
     }
-    let mut shelf = MemoryShelf::new(held, Vec::new(alloc));
+    Ok(MemoryShelf::new(held, Vec::new(alloc)))
+}
+
+/// How a command of `near_files` over files ends.
+pub(crate) fn ended_by(
+    alloc: Global,
+    words: &[&str],
+    files: &[(&str, &[u8])],
+) -> Result<Ended, Fail> {
+    let words = words_of(alloc, words)?;
+    let mut shelf = shelf_of(alloc, files)?;
     let mut sink = MemorySink::new(alloc, 100, Vec::new(alloc), 16_384)?;
-    let status = serve_words(alloc, &texts, &mut shelf, &mut sink);
+    let status = serve_words(alloc, &words, &mut shelf, &mut sink);
     Ok(Ended {
         status,
         sink,
