@@ -35,11 +35,7 @@ const TWO: [u8; 176] = *b"\
 ";
 
 /// The genesis of a file.
-pub(crate) fn genesis(
-    alloc: Global,
-    config: &Config,
-    bytes: &[u8],
-) -> Result<Genesis, AllocError>
+pub(crate) fn genesis(alloc: Global, config: &Config, bytes: &[u8]) -> Result<Genesis, AllocError>
     ensures { IfOk result (IsSoundGenesis config.now) }
 {
     let Ok(genesis) = read_genesis(alloc, bytes, config) else {

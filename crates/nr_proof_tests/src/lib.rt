@@ -1,5 +1,5 @@
-//! Tests of what is known of a state without the whole of it: walks over held texts and what is gathered for them, roots
-//! after changes, a state in parts, and chunks that are run again.
+//! Tests of what is known of a state without the whole of it: walks over held texts and what is gathered for them,
+//! roots after changes, a state in parts, and chunks that are run again.
 #![tactic(auto)]
 
 #[cfg(test)]

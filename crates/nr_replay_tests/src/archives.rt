@@ -19,11 +19,7 @@ const DIGEST: [u8; 32] = *b"\
 /// How these words are answered where some writes fail, of at most 1,024 bytes each, and what was then taken. There
 /// are a chain `G`, of one shard, and `B`, of two blocks; from the second on there are two shards, and the second takes
 /// what the first one sent.
-fn answered(
-    alloc: Global,
-    words: &[&str],
-    failing: &[u64],
-) -> Result<(Status, Vec<u8>), Fail> {
+fn answered(alloc: Global, words: &[&str], failing: &[u64]) -> Result<(Status, Vec<u8>), Fail> {
     let words = words_of(alloc, words)?;
     let mut shelf = chain_of(alloc, BOTH_ACCOUNTS, RESHARDED)?;
     let failing = Vec::from_slice(alloc, failing)?;

@@ -1,5 +1,5 @@
-//! Tests of a shard's state and of what waits in it over the store in memory, of both stores with the nodes of the state
-//! trie, and of the entries of a world and of a delayed queue.
+//! Tests of a shard's state and of what waits in it over the store in memory, of both stores with the nodes of the
+//! state trie, and of the entries of a world and of a delayed queue.
 #![tactic(auto)]
 
 #[cfg(test)]
