@@ -1,7 +1,7 @@
 //! Small modules in memory, with ample memory. The bytes are written by the standard, by hand.
 
-use nr_bytes::{MemoryShelf, MemorySink};
-use nr_module::{Status, check_module};
+use crate::answering::answers;
+use nr_module::Status;
 use std::alloc::Global;
 use std::test::Fail;
 
@@ -52,79 +52,8 @@ const ELEMENT_LAST: [u8; 47] = [
     103, 111, 0, 0, 9, 7, 1, 0, 65, 0, 11, 1, 0, 10, 4, 1, 2, 0, 11,
 ];
 
-/// Whether these words, over a file `M`, are answered so.
-fn answers(
-    alloc: Global,
-    words: &[&str],
-    module: &[u8],
-    status: Status,
-    line: &str,
-) -> Result<bool, Fail> {
-    let mut texts = Vec::new(alloc);
-    for word in words {
-        texts.push(String::from_str(alloc, word)?)?;
-    }
-    let mut files = Vec::new(alloc);
-    files.push((
-        String::from_str(alloc, "M")?,
-        Vec::from_slice(alloc, module)?,
-    ))?;
-    let mut shelf = MemoryShelf::new(files, Vec::new(alloc));
-    let mut sink = MemorySink::new(alloc, 8, Vec::new(alloc), 1024)?;
-    let ended = check_module(alloc, &texts, &mut shelf, &mut sink);
-    Ok(ended == status && sink.bytes() == line.as_bytes())
-}
-
-#[test]
-fn host_has_no_functions(rt: HostRuntime) -> Result<(), Fail> {
-    let alloc = rt.alloc();
-    let run = ["run", "free", "M", "go", "100"];
-    assert!(rt; answers(alloc, &run, &CALLS_HOST, Status::Faulty, "fault 20 2\n")?);
-    let absent = ["run", "free", "M", "host", "100"];
-    assert!(rt; answers(alloc, &absent, &CALLS_HOST, Status::Faulty, "method\n")?);
-    let check = ["check", "free", "M"];
-    assert!(rt; answers(alloc, &check, &CALLS_HOST, Status::Sound, "ok\n")?);
-    Ok(())
-}
-
-#[test]
-fn a_method_is_looked_up_before_anything_is_put_in(rt: HostRuntime) -> Result<(), Fail> {
-    let alloc = rt.alloc();
-    let run = ["run", "free", "M", "go", "100"];
-    assert!(rt; answers(alloc, &run, &DATA_BEHIND, Status::Faulty, "make 21\n")?);
-    assert!(rt; answers(alloc, &run, &DATA_LAST, Status::Sound, "end 0\n")?);
-    assert!(rt; answers(alloc, &run, &ELEMENT_BEHIND, Status::Faulty, "make 21\n")?);
-    assert!(rt; answers(alloc, &run, &ELEMENT_LAST, Status::Sound, "end 0\n")?);
-    let absent = ["run", "free", "M", "gone", "100"];
-    assert!(rt; answers(alloc, &absent, &DATA_BEHIND, Status::Faulty, "method\n")?);
-    assert!(rt; answers(alloc, &absent, &DATA_LAST, Status::Faulty, "method\n")?);
-    assert!(rt; answers(alloc, &absent, &ELEMENT_BEHIND, Status::Faulty, "method\n")?);
-    Ok(())
-}
-
-#[test]
-fn a_check_tells_whether_all_fits(rt: HostRuntime) -> Result<(), Fail> {
-    let alloc = rt.alloc();
-    let check = ["check", "free", "M"];
-    assert!(rt; answers(alloc, &check, &DATA_BEHIND, Status::Unfit, "ok\n")?);
-    assert!(rt; answers(alloc, &check, &DATA_LAST, Status::Sound, "ok\n")?);
-    assert!(rt; answers(alloc, &check, &ELEMENT_BEHIND, Status::Unfit, "ok\n")?);
-    assert!(rt; answers(alloc, &check, &ELEMENT_LAST, Status::Sound, "ok\n")?);
-    Ok(())
-}
-
-#[test]
-fn gas_has_no_leading_zeros(rt: HostRuntime) -> Result<(), Fail> {
-    let alloc = rt.alloc();
-    let run = ["run", "free", "M", "go", "0100"];
-    assert!(rt; answers(alloc, &run, &CALLS_HOST, Status::Usage, "")?);
-    Ok(())
-}
-
-#[test]
-fn help_and_version_load_nothing(rt: HostRuntime) -> Result<(), Fail> {
-    let alloc = rt.alloc();
-    let help = "near_module check CONFIG FILE\n\
+/// What `help` writes.
+const HELP: &str = "near_module check CONFIG FILE\n\
     near_module run CONFIG FILE METHOD GAS\n\
     near_module list FILE\n\
     near_module text FILE\n\
@@ -134,20 +63,12 @@ fn help_and_version_load_nothing(rt: HostRuntime) -> Result<(), Fail> {
     near_module call CONFIG FILE METHOD ARGS GAS DEPOSIT\n\
     CONFIG is free or the name of a file, and GAS a number from 0 to 18446744073709551615.\n\
     ARGS is a text, or hex: and two digits for each byte, and DEPOSIT a number below 2^128.\n";
-    assert!(rt; answers(alloc, &["help"], &[], Status::Sound, help)?);
-    let version = "near_module 0.1.0\n";
-    assert!(rt; answers(alloc, &["version"], &[], Status::Sound, version)?);
-    assert!(rt; answers(alloc, &["help", "run"], &[], Status::Usage, "")?);
-    Ok(())
-}
 
-#[test]
-fn a_listing_says_what_the_host_lacks(rt: HostRuntime) -> Result<(), Fail> {
-    let alloc = rt.alloc();
-    let list = ["list", "M"];
-    let calls = "import env input ok\nexport method go\nexport function host\nsize 62\n";
-    assert!(rt; answers(alloc, &list, &CALLS_HOST, Status::Sound, calls)?);
-    let much = "import env input ok\n\
+/// What is listed of a module.
+const CALLS_HOST_LISTED: &str =
+    "import env input ok\nexport method go\nexport function host\nsize 62\n";
+
+const BRINGS_MUCH_LISTED: &str = "import env input ok\n\
     import env storage_has_key ok\n\
     import env storage_read type\n\
     import env burn_gas name\n\
@@ -167,26 +88,9 @@ fn a_listing_says_what_the_host_lacks(rt: HostRuntime) -> Result<(), Fail> {
     table 3 none\n\
     memory 1 16\n\
     size 269\n";
-    assert!(rt; answers(alloc, &list, &BRINGS_MUCH, Status::Sound, much)?);
-    Ok(())
-}
 
-#[test]
-fn a_faulty_file_isnt_listed(rt: HostRuntime) -> Result<(), Fail> {
-    let alloc = rt.alloc();
-    let list = ["list", "M"];
-    assert!(rt; answers(alloc, &list, b"\0asm", Status::Faulty, "decode 1 4\n")?);
-    assert!(rt; answers(alloc, &["list", "N"], b"", Status::ReadFault, "")?);
-    assert!(rt; answers(alloc, &["list"], b"", Status::Usage, "")?);
-    Ok(())
-}
-
-#[test]
-fn a_module_is_written_as_text(rt: HostRuntime) -> Result<(), Fail> {
-    let alloc = rt.alloc();
-    let text = ["text", "M"];
-    // What wasm2wat writes of it.
-    let calls = "(module\n\
+/// What `wasm2wat` writes of a module.
+const CALLS_HOST_TEXT: &str = "(module\n\
     \x20 (type (;0;) (func))\n\
     \x20 (type (;1;) (func (param i64)))\n\
     \x20 (import \"env\" \"input\" (func (;0;) (type 1)))\n\
@@ -195,9 +99,219 @@ fn a_module_is_written_as_text(rt: HostRuntime) -> Result<(), Fail> {
     \x20   call 0)\n\
     \x20 (export \"go\" (func 1))\n\
     \x20 (export \"host\" (func 0)))\n";
-    assert!(rt; answers(alloc, &text, &CALLS_HOST, Status::Sound, calls)?);
-    assert!(rt; answers(alloc, &text, b"\0asm", Status::Faulty, "decode 1 4\n")?);
-    assert!(rt; answers(alloc, &["text", "N"], b"", Status::ReadFault, "")?);
-    assert!(rt; answers(alloc, &["text"], b"", Status::Usage, "")?);
+
+/// Words over a file `M`, and what they are answered.
+struct Row {
+    words: &'static [&'static str],
+    module: &'static [u8],
+    status: Status,
+    lines: &'static str,
+}
+
+const RUN: &[&str] = &["run", "free", "M", "go", "100"];
+
+const CHECK: &[&str] = &["check", "free", "M"];
+
+const LIST: &[&str] = &["list", "M"];
+
+const TEXT: &[&str] = &["text", "M"];
+
+/// Functions of the host that a run has none of, what fits, gas with a leading zero, what loads nothing, what is
+/// listed, and what is written as a text.
+const ROWS: [Row; 20] = [
+    Row {
+        words: RUN,
+        module: &CALLS_HOST,
+        status: Status::Faulty,
+        lines: "fault 20 2\n",
+    },
+    Row {
+        words: &["run", "free", "M", "host", "100"],
+        module: &CALLS_HOST,
+        status: Status::Faulty,
+        lines: "method\n",
+    },
+    Row {
+        words: CHECK,
+        module: &CALLS_HOST,
+        status: Status::Sound,
+        lines: "ok\n",
+    },
+    Row {
+        words: CHECK,
+        module: &DATA_BEHIND,
+        status: Status::Unfit,
+        lines: "ok\n",
+    },
+    Row {
+        words: CHECK,
+        module: &DATA_LAST,
+        status: Status::Sound,
+        lines: "ok\n",
+    },
+    Row {
+        words: CHECK,
+        module: &ELEMENT_BEHIND,
+        status: Status::Unfit,
+        lines: "ok\n",
+    },
+    Row {
+        words: CHECK,
+        module: &ELEMENT_LAST,
+        status: Status::Sound,
+        lines: "ok\n",
+    },
+    Row {
+        words: &["run", "free", "M", "go", "0100"],
+        module: &CALLS_HOST,
+        status: Status::Usage,
+        lines: "",
+    },
+    Row {
+        words: &["help"],
+        module: &[],
+        status: Status::Sound,
+        lines: HELP,
+    },
+    Row {
+        words: &["version"],
+        module: &[],
+        status: Status::Sound,
+        lines: "near_module 0.1.0\n",
+    },
+    Row {
+        words: &["help", "run"],
+        module: &[],
+        status: Status::Usage,
+        lines: "",
+    },
+    Row {
+        words: LIST,
+        module: &CALLS_HOST,
+        status: Status::Sound,
+        lines: CALLS_HOST_LISTED,
+    },
+    Row {
+        words: LIST,
+        module: &BRINGS_MUCH,
+        status: Status::Sound,
+        lines: BRINGS_MUCH_LISTED,
+    },
+    Row {
+        words: LIST,
+        module: b"\0asm",
+        status: Status::Faulty,
+        lines: "decode 1 4\n",
+    },
+    Row {
+        words: &["list", "N"],
+        module: b"",
+        status: Status::ReadFault,
+        lines: "",
+    },
+    Row {
+        words: &["list"],
+        module: b"",
+        status: Status::Usage,
+        lines: "",
+    },
+    Row {
+        words: TEXT,
+        module: &CALLS_HOST,
+        status: Status::Sound,
+        lines: CALLS_HOST_TEXT,
+    },
+    Row {
+        words: TEXT,
+        module: b"\0asm",
+        status: Status::Faulty,
+        lines: "decode 1 4\n",
+    },
+    Row {
+        words: &["text", "N"],
+        module: b"",
+        status: Status::ReadFault,
+        lines: "",
+    },
+    Row {
+        words: &["text"],
+        module: b"",
+        status: Status::Usage,
+        lines: "",
+    },
+];
+
+/// A run of an absent method.
+const ABSENT: &[&str] = &["run", "free", "M", "gone", "100"];
+
+/// Runs of modules whose data or elements fit or do not, by a method that is there or not.
+const RUNS: [Row; 7] = [
+    Row {
+        words: RUN,
+        module: &DATA_BEHIND,
+        status: Status::Faulty,
+        lines: "make 21\n",
+    },
+    Row {
+        words: RUN,
+        module: &DATA_LAST,
+        status: Status::Sound,
+        lines: "end 0\n",
+    },
+    Row {
+        words: RUN,
+        module: &ELEMENT_BEHIND,
+        status: Status::Faulty,
+        lines: "make 21\n",
+    },
+    Row {
+        words: RUN,
+        module: &ELEMENT_LAST,
+        status: Status::Sound,
+        lines: "end 0\n",
+    },
+    Row {
+        words: ABSENT,
+        module: &DATA_BEHIND,
+        status: Status::Faulty,
+        lines: "method\n",
+    },
+    Row {
+        words: ABSENT,
+        module: &DATA_LAST,
+        status: Status::Faulty,
+        lines: "method\n",
+    },
+    Row {
+        words: ABSENT,
+        module: &ELEMENT_BEHIND,
+        status: Status::Faulty,
+        lines: "method\n",
+    },
+];
+
+fn is_answered(alloc: Global, row: &Row) -> Result<bool, Fail> {
+    answers(
+        alloc,
+        row.words,
+        &[("M", row.module)],
+        row.status,
+        row.lines,
+    )
+}
+
+#[test]
+fn words_over_a_module_are_answered(rt: HostRuntime) -> Result<(), Fail> {
+    for (place, row) in ROWS.iter().enumerate() {
+        assert!(rt; is_answered(rt.alloc(), row)?, "row {place}");
+    }
+    Ok(())
+}
+
+#[test]
+fn a_method_is_looked_up_before_anything_is_put_in(rt: HostRuntime) -> Result<(), Fail> {
+    for (place, row) in RUNS.iter().enumerate() {
+        assert!(rt; is_answered(rt.alloc(), row)?, "row {place}");
+    }
     Ok(())
 }
