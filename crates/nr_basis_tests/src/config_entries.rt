@@ -3,7 +3,6 @@
 use nr_config::entries::*;
 use nr_config::{Config, ConfigFault};
 use std::alloc::Global;
-use std::process::Abort;
 use std::test::Fail;
 
 /// The name of each entry, its least and greatest number, and its number in the two built-in
@@ -259,94 +258,96 @@ fn entries_keep_to_their_bounds(rt: HostRuntime) -> Result<(), Fail> {
     Ok(())
 }
 
-fn is_refused(
-    rt: &impl Abort,
-    alloc: Global,
-    entry: usize,
-    members: &str,
-    fault: ConfigFault,
-) -> Result<(), Fail> {
-    assert_eq!(rt; changed(alloc, entry, members)?, Err(fault), "{members}");
-    Ok(())
-}
+/// Members in place of one entry's in the generated configuration, and the first entry's number, or the fault.
+const CHANGED: [(usize, &str, Result<u64, ConfigFault>); 19] = [
+    (
+        1,
+        "\"gas_price\": -1",
+        Err(ConfigFault::NotWhole { entry: 1 }),
+    ),
+    (
+        1,
+        "\"gas_price\": 1.0",
+        Err(ConfigFault::NotWhole { entry: 1 }),
+    ),
+    (
+        1,
+        "\"gas_price\": 1e5",
+        Err(ConfigFault::NotWhole { entry: 1 }),
+    ),
+    (
+        1,
+        "\"gas_price\": -0",
+        Err(ConfigFault::NotWhole { entry: 1 }),
+    ),
+    (
+        1,
+        "\"gas_price\": \"7\"",
+        Err(ConfigFault::NotWhole { entry: 1 }),
+    ),
+    (
+        1,
+        "\"gas_price\": null",
+        Err(ConfigFault::NotWhole { entry: 1 }),
+    ),
+    (
+        1,
+        "\"gas_price\": 18446744073709551616",
+        Err(ConfigFault::NotWhole { entry: 1 }),
+    ),
+    (
+        4,
+        "\"regular_op_cost\": 0",
+        Err(ConfigFault::OutOfRange { entry: 4 }),
+    ),
+    (
+        9,
+        "\"top_level_min_len\": 66",
+        Err(ConfigFault::OutOfRange { entry: 9 }),
+    ),
+    (
+        12,
+        "\"reward_denominator\": 0",
+        Err(ConfigFault::OutOfRange { entry: 12 }),
+    ),
+    (
+        75,
+        "\"delete_account_exec\": 1000000000000001",
+        Err(ConfigFault::OutOfRange { entry: 75 }),
+    ),
+    (
+        75,
+        "\"Delete_account_exec\": 1",
+        Err(ConfigFault::Missing { entry: 75 }),
+    ),
+    // The first faulty entry is told.
+    (
+        5,
+        "\"chunk_gas_limit\": 0",
+        Err(ConfigFault::OutOfRange { entry: 3 }),
+    ),
+    (
+        12,
+        "\"reward_denominator\": 29",
+        Err(ConfigFault::OutOfRange { entry: 11 }),
+    ),
+    (
+        75,
+        "\"reward_denominator\": 29",
+        Err(ConfigFault::Missing { entry: 75 }),
+    ),
+    // The last of equal names counts, and other names are passed over.
+    (1, "\"gas_price\": -1, \"gas_price\": 7", Ok(7)),
+    (1, "\"gas_price\": 18446744073709551615", Ok(u64::MAX)),
+    (1, "\"gas_price\": 5, \"other\": [-1]", Ok(5)),
+    (12, "\"reward_denominator\": 30", Ok(100)),
+];
 
 #[test]
 fn first_faulty_entry_is_told(rt: HostRuntime) -> Result<(), Fail> {
-    let alloc = rt.alloc();
-    for members in [
-        "\"gas_price\": -1",
-        "\"gas_price\": 1.0",
-        "\"gas_price\": 1e5",
-        "\"gas_price\": -0",
-        "\"gas_price\": \"7\"",
-        "\"gas_price\": null",
-        "\"gas_price\": 18446744073709551616",
-    ] {
-        is_refused(&rt, alloc, 1, members, ConfigFault::NotWhole { entry: 1 })?;
+    for (entry, members, want) in CHANGED {
+        assert_eq!(rt; changed(rt.alloc(), entry, members)?, want, "{members}");
     }
-    for (entry, members) in [
-        (4, "\"regular_op_cost\": 0"),
-        (9, "\"top_level_min_len\": 66"),
-        (12, "\"reward_denominator\": 0"),
-        (75, "\"delete_account_exec\": 1000000000000001"),
-    ] {
-        is_refused(
-            &rt,
-            alloc,
-            entry,
-            members,
-            ConfigFault::OutOfRange {
-                entry: entry as u32,
-            },
-        )?;
-    }
-    is_refused(
-        &rt,
-        alloc,
-        75,
-        "\"Delete_account_exec\": 1",
-        ConfigFault::Missing { entry: 75 },
-    )?;
-    is_refused(
-        &rt,
-        alloc,
-        5,
-        "\"chunk_gas_limit\": 0",
-        ConfigFault::OutOfRange { entry: 3 },
-    )?;
-    is_refused(
-        &rt,
-        alloc,
-        12,
-        "\"reward_denominator\": 29",
-        ConfigFault::OutOfRange { entry: 11 },
-    )?;
-    is_refused(
-        &rt,
-        alloc,
-        75,
-        "\"reward_denominator\": 29",
-        ConfigFault::Missing { entry: 75 },
-    )?;
-    Ok(())
-}
-
-#[test]
-fn last_of_equal_names_counts(rt: HostRuntime) -> Result<(), Fail> {
-    let alloc = rt.alloc();
-    assert_eq!(rt;
-        changed(alloc, 1, "\"gas_price\": -1, \"gas_price\": 7")?,
-        Ok(7)
-    );
-    assert_eq!(rt;
-        changed(alloc, 1, "\"gas_price\": 18446744073709551615")?,
-        Ok(u64::MAX)
-    );
-    assert_eq!(rt;
-        changed(alloc, 1, "\"gas_price\": 5, \"other\": [-1]")?,
-        Ok(5)
-    );
-    assert_eq!(rt; changed(alloc, 12, "\"reward_denominator\": 30")?, Ok(100));
     Ok(())
 }
 

@@ -1,6 +1,6 @@
 //! Files that are damaged, or that are of another kind. Places are counted by hand from the formats.
 
-use crate::files::{BLOCKS_HEX, GENESIS_HEX, PART, refuses_bytes};
+use crate::files::{BLOCKS_HEX, GENESIS_HEX, PART, refuses_bytes, with_byte, with_rest};
 use crate::gathered::GATHERED;
 use std::alloc::Global;
 use std::test::Fail;
@@ -10,26 +10,10 @@ fn bytes_of(alloc: Global, digits: &str) -> Result<Vec<u8>, Fail> {
     Ok(hex::decode(alloc, digits)?)
 }
 
-/// The bytes with another byte at a place.
-fn with_byte(alloc: Global, bytes: &[u8], at: usize, byte: u8) -> Result<Vec<u8>, Fail> {
-    let mut other = Vec::from_slice(alloc, bytes)?;
-    if let Some(place) = other.get_mut(at) {
-        *place = byte;
-    }
-    Ok(other)
-}
-
 /// The bytes without the last one.
 fn without_last(alloc: Global, bytes: &[u8]) -> Result<Vec<u8>, Fail> {
     let mut other = Vec::from_slice(alloc, bytes)?;
     let _last = other.pop();
-    Ok(other)
-}
-
-/// The bytes with one more.
-fn with_rest(alloc: Global, bytes: &[u8]) -> Result<Vec<u8>, Fail> {
-    let mut other = Vec::from_slice(alloc, bytes)?;
-    other.push(0)?;
     Ok(other)
 }
 

@@ -121,6 +121,22 @@ pub(crate) fn ended(alloc: Global, words: &[&str], file: &[u8]) -> Result<(Statu
     Ok((status, Vec::from_slice(alloc, sink.bytes())?))
 }
 
+/// The bytes with another byte at a place.
+pub(crate) fn with_byte(alloc: Global, bytes: &[u8], at: usize, byte: u8) -> Result<Vec<u8>, Fail> {
+    let mut other = Vec::from_slice(alloc, bytes)?;
+    if let Some(place) = other.get_mut(at) {
+        *place = byte;
+    }
+    Ok(other)
+}
+
+/// The bytes with a zero behind them.
+pub(crate) fn with_rest(alloc: Global, bytes: &[u8]) -> Result<Vec<u8>, Fail> {
+    let mut other = Vec::from_slice(alloc, bytes)?;
+    other.push(0)?;
+    Ok(other)
+}
+
 /// Whether a file is refused with this line, and nothing is written.
 pub(crate) fn refuses_bytes(
     alloc: Global,

@@ -1,9 +1,9 @@
 //! Blocks files with prices, whole, cut and damaged.
 
+use crate::files::{with_byte, with_rest};
 use crate::reading::{blocks_fault, read};
 use nr_blocks::{BlocksFault, BlocksFile, Version};
 use nr_records::{Spelled, decode, encode};
-use std::alloc::Global;
 use std::test::Fail;
 
 /// In block 1 alice sends 5 to bob at price 5, and block 2 is empty at the greatest price.
@@ -71,31 +71,25 @@ fn cut_blocks_tell_the_place(rt: HostRuntime) {
     }
 }
 
-/// The blocks with another byte at a place.
-fn changed(alloc: Global, at: usize, byte: u8) -> Result<Vec<u8>, Fail> {
-    let mut all = Vec::from_slice(alloc, PRICED.as_slice())?;
-    if let Some(old) = all.get_mut(at) {
-        *old = byte;
-    }
-    Ok(all)
-}
+/// Bytes that stand at a place, of so many shards, and the fault.
+const CHANGED: [(usize, u8, u32, BlocksFault); 5] = [
+    (3, b'0', 1, BlocksFault::Spelling { at: 0 }),
+    (134, 4, 1, BlocksFault::Stake { at: 134 }),
+    (151, 3, 1, BlocksFault::HeightOrder { height: 3 }),
+    (151, 3, 2, BlocksFault::ShardCount { height: 1 }),
+    // The price is read as 5 chunks, of which the last has an account id of one byte.
+    (3, b'1', 1, BlocksFault::Spelling { at: 37 }),
+];
 
 #[test]
 fn blocks_are_judged(rt: HostRuntime) -> Result<(), Fail> {
     let alloc = rt.alloc();
-    let mut rest = Vec::from_slice(alloc, PRICED.as_slice())?;
-    rest.push(0)?;
+    let rest = with_rest(alloc, PRICED.as_slice())?;
     assert!(rt; blocks_fault(alloc, &rest, 1) == Some(BlocksFault::Spelling { at: 184 }));
-    let word = changed(alloc, 3, b'0')?;
-    assert!(rt; blocks_fault(alloc, &word, 1) == Some(BlocksFault::Spelling { at: 0 }));
-    let stake = changed(alloc, 134, 4)?;
-    assert!(rt; blocks_fault(alloc, &stake, 1) == Some(BlocksFault::Stake { at: 134 }));
-    let height = changed(alloc, 151, 3)?;
-    assert!(rt; blocks_fault(alloc, &height, 1) == Some(BlocksFault::HeightOrder { height: 3 }));
-    assert!(rt; blocks_fault(alloc, &height, 2) == Some(BlocksFault::ShardCount { height: 1 }));
-    // The price is read as 5 chunks, of which the last has an account id of one byte.
-    let unpriced = changed(alloc, 3, b'1')?;
-    assert!(rt; blocks_fault(alloc, &unpriced, 1) == Some(BlocksFault::Spelling { at: 37 }));
+    for (at, byte, shards, fault) in CHANGED {
+        let bytes = with_byte(alloc, PRICED.as_slice(), at, byte)?;
+        assert!(rt; blocks_fault(alloc, &bytes, shards) == Some(fault), "{at}");
+    }
     Ok(())
 }
 

@@ -1,5 +1,6 @@
 //! Genesis and blocks files, whole, cut and damaged.
 
+use crate::files::{with_byte, with_rest};
 use nr_blocks::{
     Block, BlocksFault, BlocksFile, GenesisEntry, GenesisFault, GenesisFile, read_blocks,
     read_genesis,
@@ -74,33 +75,23 @@ fn cut_blocks_tell_the_place(rt: HostRuntime) {
     }
 }
 
-fn longer(alloc: Global, bytes: &[u8]) -> Result<Vec<u8>, Fail> {
-    let mut all = Vec::from_slice(alloc, bytes)?;
-    all.push(0)?;
-    Ok(all)
-}
-
-/// The blocks with another byte at a place.
-fn changed(alloc: Global, at: usize, byte: u8) -> Result<Vec<u8>, Fail> {
-    let mut all = Vec::from_slice(alloc, TRANSFER.as_slice())?;
-    if let Some(old) = all.get_mut(at) {
-        *old = byte;
-    }
-    Ok(all)
-}
+/// Bytes that stand at a place, of so many shards, and the fault.
+const CHANGED: [(usize, u8, u32, BlocksFault); 4] = [
+    (3, b'0', 1, BlocksFault::Spelling { at: 0 }),
+    (126, 4, 1, BlocksFault::Stake { at: 126 }),
+    (143, 3, 1, BlocksFault::HeightOrder { height: 3 }),
+    (143, 3, 2, BlocksFault::ShardCount { height: 1 }),
+];
 
 #[test]
 fn blocks_are_judged(rt: HostRuntime) -> Result<(), Fail> {
     let alloc = rt.alloc();
-    let rest = longer(alloc, TRANSFER.as_slice())?;
+    let rest = with_rest(alloc, TRANSFER.as_slice())?;
     assert!(rt; blocks_fault(alloc, &rest, 1) == Some(BlocksFault::Spelling { at: 168 }));
-    let word = changed(alloc, 3, b'0')?;
-    assert!(rt; blocks_fault(alloc, &word, 1) == Some(BlocksFault::Spelling { at: 0 }));
-    let stake = changed(alloc, 126, 4)?;
-    assert!(rt; blocks_fault(alloc, &stake, 1) == Some(BlocksFault::Stake { at: 126 }));
-    let height = changed(alloc, 143, 3)?;
-    assert!(rt; blocks_fault(alloc, &height, 1) == Some(BlocksFault::HeightOrder { height: 3 }));
-    assert!(rt; blocks_fault(alloc, &height, 2) == Some(BlocksFault::ShardCount { height: 1 }));
+    for (at, byte, shards, fault) in CHANGED {
+        let bytes = with_byte(alloc, TRANSFER.as_slice(), at, byte)?;
+        assert!(rt; blocks_fault(alloc, &bytes, shards) == Some(fault), "{at}");
+    }
     Ok(())
 }
 

@@ -94,7 +94,7 @@ pub(crate) fn chain_of(alloc: Global, genesis: &str, blocks: &str) -> Result<Mem
 }
 
 /// Whether the words over these files, through a gate, write just this text.
-fn writes_over<R: Threads + Wait + Sync, G: Gate + Sync>(
+fn writes<R: Threads + Wait + Sync, G: Gate + Sync>(
     rt: &R,
     alloc: Global,
     words: &[&str; 4],
@@ -109,25 +109,14 @@ fn writes_over<R: Threads + Wait + Sync, G: Gate + Sync>(
     Ok(status == Status::Done && sink.bytes() == text.as_bytes())
 }
 
-/// The same over the genesis of two shards.
-fn writes<R: Threads + Wait + Sync, G: Gate + Sync>(
-    rt: &R,
-    alloc: Global,
-    words: &[&str; 4],
-    blocks: &str,
-    gate: &G,
-    text: &str,
-) -> Result<bool, Fail> {
-    writes_over(rt, alloc, words, (GENESIS, blocks), gate, text)
-}
-
 #[test]
 fn two_at_open(rt: HostRuntime) -> Result<(), Fail> {
     let gate = TwoAtOpen {
         there: [AtomicBool::new(false), AtomicBool::new(false)],
         alone: AtomicBool::new(false),
     };
-    assert!(rt; writes(&rt, rt.alloc(), &REPLAY, BOTH, &gate, CHUNKS)?);
+    let files = (GENESIS, BOTH);
+    assert!(rt; writes(&rt, rt.alloc(), &REPLAY, files, &gate, CHUNKS)?);
     assert!(rt; !gate.alone.load(Ordering::SeqCst));
     Ok(())
 }
@@ -138,27 +127,23 @@ fn ahead_of_barrier(rt: HostRuntime) -> Result<(), Fail> {
         ahead: AtomicBool::new(false),
         alone: AtomicBool::new(false),
     };
-    assert!(rt; writes(&rt, rt.alloc(), &REPLAY, BOTH, &gate, CHUNKS)?);
+    let files = (GENESIS, BOTH);
+    assert!(rt; writes(&rt, rt.alloc(), &REPLAY, files, &gate, CHUNKS)?);
     assert!(rt; !gate.alone.load(Ordering::SeqCst));
     Ok(())
 }
 
+/// Two blocks without a chunk, boundaries that change where all threads have ended, and a generated chain.
 #[test]
-fn missing_chunks_give_totals_alone(rt: HostRuntime) -> Result<(), Fail> {
-    assert!(rt; writes(&rt, rt.alloc(), &REPLAY, NONE, &OpenGate, TOTALS)?);
-    Ok(())
-}
-
-#[test]
-fn boundaries_change_where_all_threads_have_ended(rt: HostRuntime) -> Result<(), Fail> {
-    let files = (BOTH_ACCOUNTS, RESHARDED);
-    assert!(rt; writes_over(&rt, rt.alloc(), &REPLAY, files, &OpenGate, RESHARDED_REPORT)?);
-    Ok(())
-}
-
-#[test]
-fn a_generated_chain_has_its_digest(rt: HostRuntime) -> Result<(), Fail> {
-    assert!(rt; writes(&rt, rt.alloc(), &GENERATED, NONE, &OpenGate, SUMMARY)?);
+fn runs_by_threads_are_written(rt: HostRuntime) -> Result<(), Fail> {
+    let rows: [(&[&str; 4], (&str, &str), &str); 3] = [
+        (&REPLAY, (GENESIS, NONE), TOTALS),
+        (&REPLAY, (BOTH_ACCOUNTS, RESHARDED), RESHARDED_REPORT),
+        (&GENERATED, (GENESIS, NONE), SUMMARY),
+    ];
+    for (words, files, text) in rows {
+        assert!(rt; writes(&rt, rt.alloc(), words, files, &OpenGate, text)?, "{text}");
+    }
     Ok(())
 }
 
