@@ -1,7 +1,8 @@
 //! Boundaries between shards, and how layouts are read.
 
+use crate::spelling::id;
 use nr_bytes::Reader;
-use nr_ids::{AccountId, ShardId};
+use nr_ids::ShardId;
 use nr_layout::Layout;
 use nr_records::{RecordFault, Spelled, decode, encode};
 use std::alloc::Global;
@@ -18,10 +19,6 @@ const FIFTEEN: &[u8] = b"\
     \x02\0\0\0b5\x02\0\0\0b6\x02\0\0\0b7\x02\0\0\0b8\x02\0\0\0b9\
     \x02\0\0\0ba\x02\0\0\0bb\x02\0\0\0bc\x02\0\0\0bd\x02\0\0\0be\
 ";
-
-fn id(alloc: Global, name: &str) -> Result<AccountId, Fail> {
-    Ok(AccountId::parse(alloc, name.as_bytes())?)
-}
 
 #[test]
 fn a_boundary_is_the_first_id_of_its_shard(rt: HostRuntime) -> Result<(), Fail> {

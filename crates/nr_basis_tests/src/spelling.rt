@@ -66,7 +66,8 @@ const ACCOUNT: &[u8] = b"\
     \xb6\0\0\0\0\0\0\0\
 ";
 
-fn id(alloc: Global, name: &str) -> Result<AccountId, Fail> {
+/// The account id of this name.
+pub(crate) fn id(alloc: Global, name: &str) -> Result<AccountId, Fail> {
     Ok(AccountId::parse(alloc, name.as_bytes())?)
 }
 

@@ -10,7 +10,8 @@ use nr_wasmtypes::{
 use nr_wasmvalid::validate;
 use std::alloc::{AllocError, Global};
 
-fn list<T>(alloc: Global) -> List<T> {
+/// Nothing.
+pub(crate) fn list<T>(alloc: Global) -> List<T> {
     List::of(Vec::new(alloc))
 }
 

@@ -1,5 +1,6 @@
 //! Modules that are valid, and the first breach of others.
 
+use crate::running::list;
 use nr_bytes::{List, Text};
 use nr_config::Config;
 use nr_wasmtypes::{
@@ -8,10 +9,6 @@ use nr_wasmtypes::{
 };
 use nr_wasmvalid::{ValidFault, validate};
 use std::alloc::{AllocError, Global};
-
-fn list<T>(alloc: Global) -> List<T> {
-    List::of(Vec::new(alloc))
-}
 
 /// Types in runs of one type.
 fn spread(alloc: Global, runs: &[(u32, ValType)]) -> Result<List<ValType>, AllocError> {
