@@ -10,7 +10,7 @@ use nr_wasmtypes::{
 use nr_wasmvalid::validate;
 use std::alloc::{AllocError, Global};
 
-/// Nothing.
+/// An empty list.
 pub(crate) fn list<T>(alloc: Global) -> List<T> {
     List::of(Vec::new(alloc))
 }
