@@ -58,7 +58,8 @@ pub(crate) fn full_key() -> AccessKey
 
 /// What a key's allowance is once tokens came back: more by the amount, to at most 2^128 - 1.
 pub(crate) fn raised(permission: &LentPermission<'_>, amount: u128) -> Option<u128>
-    ensures { with_allowance result (shown_permission permission.now) ≡ raised amount (shown_permission permission.now) }
+    ensures { with_allowance result (shown_permission permission.now)
+        ≡ raised amount (shown_permission permission.now) }
 {
     match permission {
         LentPermission::Call(calls) => calls
