@@ -27,6 +27,16 @@ fn put_nonce(spelled: &mut Vec<u8>, nonce: u64) -> Result<(), AllocError>
 }
 
 #[tactic(auto, using(nr_bytes::proofs::Numbers::written_16))]
+fn put_most(spelled: &mut Vec<u8>, most: u128) -> Result<(), AllocError>
+    ensures appends { OnOk result (spelled.new.items ≡ spelled.old.items ++ little 16 most) }
+    ensures in_range { OnOk result (most < 256 ^ 16) }
+{
+    let mut field = [0; 16];
+    LittleEndian::write_u128(&mut field, most);
+    spelled.extend_from_slice(&field)?;
+    Ok(())
+}
+
 fn put_allowance(spelled: &mut Vec<u8>, allowance: Option<u128>) -> Result<(), AllocError>
     ensures appends { OnOk result (spelled.new.items ≡ spelled.old.items ++ option_bytes (little 16) allowance) }
     ensures in_range { OnOk result (IsOption (Below (256 ^ 16)) allowance) }
@@ -35,10 +45,8 @@ fn put_allowance(spelled: &mut Vec<u8>, allowance: Option<u128>) -> Result<(), A
         spelled.push(0)?;
         return Ok(());
     };
-    let mut field = [0; 16];
-    LittleEndian::write_u128(&mut field, most);
     spelled.push(1)?;
-    spelled.extend_from_slice(&field)?;
+    put_most(spelled, most)?;
     Ok(())
 }
 
