@@ -21,3 +21,5 @@ mod refuser;
 mod refusing;
 #[cfg(test)]
 mod setting;
+#[cfg(test)]
+mod spelling;
