@@ -2,7 +2,6 @@
 use Rattle.std.proofs.Common.{◌≡◌, ℕ, List, Option, Some, sym, ap, ◌∙◌}
 use Rattle.std.specs.FinMap.{get}
 use Rattle.nr_actions.specs.Accounts.{raised, with_raised}
-use Rattle.nr_columns.specs.SpelledKeys.{key_read}
 use Rattle.nr_ids.specs.declared.key.PublicKey.{PublicKey}
 use Rattle.nr_keys.specs.Changed.{with_allowance, changed}
 use Rattle.nr_records.specs.declared.access_key.AccessKey.{AccessKey}
@@ -27,12 +26,12 @@ same_key o x y e d = same (sym e ∙ d)
     same : some x ≡ some y → x ≡ y
     same e = cc
 
--- the world once the bytes of that key were written
-pub raises : (old new : StateView) (id : List ℕ) (signer_key : PublicKey) (amount : ℕ) (found : Option AccessKey) (key made : AccessKey) (bytes : List ℕ)
-    → found ≡ get old.world.keys (id, signer_key) → found ≡ Some key → key_read bytes ≡ Some made → key_read bytes ≡ Some (raised_key amount key)
+-- the world once that key was written, as it was told
+pub raises : (old new : StateView) (id : List ℕ) (signer_key : PublicKey) (amount : ℕ) (found told : Option AccessKey) (key made : AccessKey)
+    → found ≡ get old.world.keys (id, signer_key) → found ≡ Some key → told ≡ Some made → told ≡ Some (raised_key amount key)
     → new ≡ with_world old (set_key old.config old.world id signer_key made)
     → new ≡ with_world old (with_raised old.config old.world id signer_key amount (get old.world.keys (id, signer_key)))
-raises old new id signer_key amount found key made bytes got there read is after =
+raises old new id signer_key amount found told key made got there read is after =
     after
-    ∙ ap (λ (k : AccessKey). with_world old (set_key old.config old.world id signer_key k)) (same_key (key_read bytes) made (raised_key amount key) read is)
+    ∙ ap (λ (k : AccessKey). with_world old (set_key old.config old.world id signer_key k)) (same_key told made (raised_key amount key) read is)
     ∙ ap (λ (o : Option AccessKey). with_world old (with_raised old.config old.world id signer_key amount o)) (sym there ∙ got)

@@ -10,5 +10,5 @@ of-requires g c = subst (λ bytes. IsSome (key_read bytes)) (sym c.inner.ensures
 
 pub returns : goal.returns
 returns g c =
-    raises c.args.state.now c.set_spelled_key.new.self c.args.frame.now.receiver c.args.frame.now.act.signer_key c.args.amount _ c.in-Some.key c.of.result _
+    raises c.args.state.now c.set_spelled_key.new.self c.args.frame.now.receiver c.args.frame.now.act.signer_key c.args.amount _ _ c.in-Some.key c.of.result
     c.in_ok-key.ensures c.in-Some.is c.of.ensures (ap key_read c.inner.ensures ∙ c.in_ok-bytes.ensures) c.in_ok-set_spelled_key.ensures.ok
