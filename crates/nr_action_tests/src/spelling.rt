@@ -7,8 +7,6 @@ use crate::setting::{Ask, KEY, State, account_of, id_of, priced};
 use nr_config::Config;
 use std::alloc::{AllocError, Global};
 
-const METHODS: Has = Has::MethodsKey(&["go", "halt", ""]);
-
 /// Whether alice has a key that these bytes spell.
 fn has_key(alloc: Global, state: &State, bytes: &[u8]) -> Result<bool, AllocError> {
     let id = id_of(alloc, b"alice")?;
@@ -52,16 +50,25 @@ fn try_refunding(alloc: Global, has: Has, bytes: &[u8]) -> Result<bool, AllocErr
     has_key(alloc, &state, bytes)
 }
 
+/// The same; false where memory runs out.
+fn signs(alloc: Global, has: Has, bytes: &[u8]) -> bool {
+    try_signing(alloc, has, bytes).unwrap_or(false)
+}
+
+fn is_refunded(alloc: Global, has: Has, bytes: &[u8]) -> bool {
+    try_refunding(alloc, has, bytes).unwrap_or(false)
+}
+
 #[test]
 fn a_key_that_signed_has_another_nonce_and_less_to_spend(rt: HostRuntime) {
     let alloc = rt.alloc();
     let methods = b"\x02\x01\0\0\0\0\0\0\0\x01\0\0\0\0\0\0\0\0\0\0\0\0\0\0\0\0\
         \x03\0\0\0con\x03\0\0\0\x02\0\0\0go\x04\0\0\0halt\0\0\0\0";
-    assert_eq!(rt; try_signing(alloc, METHODS, methods), Ok(true));
+    assert!(rt; signs(alloc, Has::MethodsKey(&["go", "halt", ""]), methods));
     let open = b"\x02\x01\0\0\0\0\0\0\0\0\x03\0\0\0con\x01\0\0\0\x02\0\0\0go";
-    assert_eq!(rt; try_signing(alloc, Has::OpenKey, open), Ok(true));
+    assert!(rt; signs(alloc, Has::OpenKey, open));
     let full = b"\x02\x01\0\0\0\0\0\0\x01";
-    assert_eq!(rt; try_signing(alloc, Has::FullKey, full), Ok(true));
+    assert!(rt; signs(alloc, Has::FullKey, full));
 }
 
 #[test]
@@ -69,16 +76,13 @@ fn a_refund_changes_an_allowance_alone(rt: HostRuntime) {
     let alloc = rt.alloc();
     let methods = b"\0\0\0\0\0\0\0\0\0\x01\xbe\0\0\0\0\0\0\0\0\0\0\0\0\0\0\0\
         \x03\0\0\0con\x03\0\0\0\x02\0\0\0go\x04\0\0\0halt\0\0\0\0";
-    assert_eq!(rt; try_refunding(alloc, METHODS, methods), Ok(true));
+    assert!(rt; is_refunded(alloc, Has::MethodsKey(&["go", "halt", ""]), methods));
     let most =
         b"\0\0\0\0\0\0\0\0\0\x01\xff\xff\xff\xff\xff\xff\xff\xff\xff\xff\xff\xff\xff\xff\xff\xff\
         \x03\0\0\0con\x01\0\0\0\x02\0\0\0go";
-    assert_eq!(rt;
-        try_refunding(alloc, Has::CallKey(u128::MAX - 5), most),
-        Ok(true)
-    );
+    assert!(rt; is_refunded(alloc, Has::CallKey(u128::MAX - 5), most));
     let open = b"\0\0\0\0\0\0\0\0\0\0\x03\0\0\0con\x01\0\0\0\x02\0\0\0go";
-    assert_eq!(rt; try_refunding(alloc, Has::OpenKey, open), Ok(true));
+    assert!(rt; is_refunded(alloc, Has::OpenKey, open));
     let full = b"\x07\0\0\0\0\0\0\0\x01";
-    assert_eq!(rt; try_refunding(alloc, Has::FullKey, full), Ok(true));
+    assert!(rt; is_refunded(alloc, Has::FullKey, full));
 }

@@ -81,6 +81,12 @@ pub(crate) fn limits_with(limits: Limits, bytes: usize) -> Limits
     }
 }
 
+// Whether values of so many bytes are more than may come between two trims of all nodes, where so many
+// are held.
+fn is_much(bytes: usize, held: usize) -> bool {
+    bytes > MOST_BYTES.max(held.saturating_mul(NODE_BYTES))
+}
+
 // Trims the young nodes to the tries of the two roots. These stay where memory ran out.
 fn trim_young(
     nodes: &mut Nodes,
@@ -147,8 +153,8 @@ pub(crate) fn make_room(
     }
     trim_young(nodes, root, draft, limits.oldest)?;
     let held = nodes.len();
-    let most = MOST_BYTES.max(held.saturating_mul(NODE_BYTES));
-    if limits.all.saturating_sub(held) >= LEAST_YOUNG && limits.all_bytes <= most {
+    let much = is_much(limits.all_bytes, held);
+    if limits.all.saturating_sub(held) >= LEAST_YOUNG && !much {
         return Ok(limits_of(held, limits.all, limits.all_bytes));
     }
     trim_all(nodes, root, draft)
