@@ -74,17 +74,17 @@ fn used(
     alloc: Global,
     tx: &Transaction,
     key: &SpelledKey<'_>,
-    access: &LentKey<'_>,
+    access: LentKey<'_>,
     cost: u128,
 ) -> Result<Blob, AllocError>
-    requires { shown access.now ≡ key.now }
+    requires { shown access ≡ key.now }
     ensures { IfOk result (λ bytes. key_read bytes ≡ Some (record {
       nonce = tx.now.nonce;
-      permission = lowered cost (shown access.now).permission;
+      permission = lowered cost (shown access.entry).permission;
     })) }
 {
     let left = lowered(&access.permission, cost);
-    changed(alloc, key, access, tx.nonce, left)
+    changed(alloc, key, &access, tx.nonce, left)
 }
 
 /// Takes the whole cost from the signer.
@@ -152,7 +152,7 @@ pub fn convert_hashed<S: Store>(
         Err(fault) => return Err(fault),
     };
     let receipt = receipt_of(alloc, tx, hash, place)?;
-    let used = used(alloc, tx, &spelled, &access, cost.gas)?;
+    let used = used(alloc, tx, &spelled, access, cost.gas)?;
     charge(
         state,
         tx,
