@@ -61,11 +61,11 @@ fn fill_nested<S: Store>(store: &mut S, alloc: Global, keys: u32) -> Result<(), 
 
 const LARGE: usize = 1_000_000;
 
-/// Puts a large value at one key and then longer ones in its place, 70 in all, each with its root where
-/// roots are asked for.
+/// Puts a large value at one key and then longer ones in its place, 80 in all, each with its root where
+/// roots are asked for. That is past the bytes after which all nodes are trimmed.
 fn put_large<S: Store>(store: &mut S, alloc: Global, roots: bool) -> Result<(), AllocError> {
     let mut value = vec![in alloc; b'x'; LARGE]?;
-    for _turn in 0..70 {
+    for _turn in 0..80 {
         value.push(b'y')?;
         store.set(b"large", &value)?;
         if roots {
