@@ -35,4 +35,6 @@ mod refusing;
 #[cfg(test)]
 mod setting;
 #[cfg(test)]
+mod spelling;
+#[cfg(test)]
 mod splitting;

@@ -1,4 +1,4 @@
-//! Roots of many keys, and of keys that nest.
+//! Roots of many keys, of keys that nest, and of large values that come and go.
 
 ghost use Rattle.std.specs.Prelude.{◌≡◌};
 
@@ -59,6 +59,22 @@ fn fill_nested<S: Store>(store: &mut S, alloc: Global, keys: u32) -> Result<(), 
     Ok(())
 }
 
+const LARGE: usize = 1_000_000;
+
+/// Puts a large value at one key and then longer ones in its place, 80 in all, each with its root where
+/// roots are asked for. That is past the bytes after which all nodes are trimmed.
+fn put_large<S: Store>(store: &mut S, alloc: Global, roots: bool) -> Result<(), AllocError> {
+    let mut value = vec![in alloc; b'x'; LARGE]?;
+    for _turn in 0..80 {
+        value.push(b'y')?;
+        store.set(b"large", &value)?;
+        if roots {
+            root(store)?;
+        }
+    }
+    Ok(())
+}
+
 #[test]
 fn many_roots(rt: HostRuntime) -> Result<(), Fail> {
     let mut plain = PlainStore::new(rt.alloc());
@@ -77,6 +93,18 @@ fn root_of_nested_keys(rt: HostRuntime) -> Result<(), Fail> {
     let mut trie = TrieStore::new(rt.alloc());
     fill_nested(&mut plain, rt.alloc(), 1_000)?;
     fill_nested(&mut trie, rt.alloc(), 1_000)?;
+    assert!(rt; same_root(&mut plain, &mut trie)?);
+    Ok(())
+}
+
+#[test]
+fn large_values_come_and_go(rt: HostRuntime) -> Result<(), Fail> {
+    let mut plain = PlainStore::new(rt.alloc());
+    let mut trie = TrieStore::new(rt.alloc());
+    plain.set(b"small", b"value")?;
+    trie.set(b"small", b"value")?;
+    put_large(&mut plain, rt.alloc(), false)?;
+    put_large(&mut trie, rt.alloc(), true)?;
     assert!(rt; same_root(&mut plain, &mut trie)?);
     Ok(())
 }

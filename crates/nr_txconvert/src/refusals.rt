@@ -4,17 +4,16 @@ ghost use Rattle.std.specs.Prelude.{◌≡◌, ◌+◌};
 ghost use Rattle.nr_txconvert.specs.Refusals.{use_refusals, call_refusals, key_refusals, payment_refusals};
 ghost use Rattle.nr_txconvert.specs.Refusals.{allows_method, allowance_of, storage_stake};
 ghost use Rattle.nr_txconvert.specs.Parts.{FindsFirst, Judges, storage_refusals};
-ghost use Rattle.nr_txconvert.specs.Lent.{shown_calls, shown_permission, shown};
+ghost use Rattle.nr_keys.specs.Lent.{shown_calls, shown_permission, shown};
 
 use crate::cost::{Cost, cost_of, price_of};
 use crate::fault::TxFault;
-use crate::lent::{LentCalls, LentKey, LentPermission};
-use crate::names::Names;
 use nr_bytes::{List, Text};
 use nr_config::Config;
 use nr_config::entries::{MAX_ACTIONS, MAX_PREPAID_GAS, STORAGE_PRICE};
 use nr_fees::attached_gas;
 use nr_ids::AccountId;
+use nr_keys::{LentCalls, LentKey, LentPermission, Names};
 use nr_records::{Account, Action, Transaction};
 
 /// The refusals of the nonce and of what the actions are.

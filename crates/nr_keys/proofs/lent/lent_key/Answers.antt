@@ -1,9 +1,9 @@
--- The goals of `lent::lent` that no tactic closes.
+-- The goals of `lent::lent_key` that no tactic closes.
 use Rattle.std.proofs.Common.{sym, ap, subst, arith, ◌∙◌}
 use Rattle.std.specs.Prelude.{IsSome}
-use Rattle.nr_txconvert.specs.Lent.{calls_read, shown_calls}
-use Rattle.nr_txconvert.proofs.LentKeys.{calls_stand, calls_within, calls_told, calls_key, full_key}
-use Rattle.nr_txconvert.proofs.lent.lent.Goals as goal
+use Rattle.nr_keys.specs.Lent.{calls_read, shown_calls}
+use Rattle.nr_keys.proofs.LentKeys.{calls_stand, calls_within, calls_told, calls_key, full_key}
+use Rattle.nr_keys.proofs.lent.lent_key.Goals as goal
 
 pub returns-then-ordinal-ne0 : goal.returns-then-ordinal-ne0
 returns-then-ordinal-ne0 c =

@@ -18,7 +18,7 @@ use Rattle.nr_records.specs.Fault.{record_fault}
 use Rattle.nr_records.specs.Reading.{all_of, list_at, string_at}
 use Rattle.nr_records.specs.declared.fault.RecordFault.{RecordFault}
 use Rattle.nr_columns.specs.Tables.{read_of}
-use Rattle.nr_txconvert.specs.Names.{names_read, names_in, SpellNames, IsLeft}
+use Rattle.nr_keys.specs.Names.{names_read, names_in, SpellNames, IsLeft}
 
 -- ---- all names
 

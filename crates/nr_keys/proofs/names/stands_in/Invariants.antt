@@ -4,8 +4,8 @@ use Rattle.std.specs.List.{list_any, flat_map, AllByRecursion}
 use Rattle.std.specs.Str.{bytes_eq}
 use Rattle.nr_bytes.specs.Spelling.{IsString}
 use Rattle.nr_bytes.specs.Writing.{counted_bytes}
-use Rattle.nr_txconvert.specs.Names.{IsLeft}
-use Rattle.nr_txconvert.proofs.names.stands_in.Given as goal
+use Rattle.nr_keys.specs.Names.{IsLeft}
+use Rattle.nr_keys.proofs.names.stands_in.Given as goal
 
 -- whatever the names are, those that are left decide
 abbrev pub invariant-names : goal.invariant-names

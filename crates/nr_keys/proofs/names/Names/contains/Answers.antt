@@ -3,8 +3,8 @@ use Rattle.std.proofs.Common.{ap, ◌∙◌}
 use Rattle.std.proofs.lemmas.List.{take_rest}
 use Rattle.std.specs.List.{list_any}
 use Rattle.std.specs.Str.{bytes_eq}
-use Rattle.nr_txconvert.proofs.SpelledNames.{spelled_fits, names_from_4}
-use Rattle.nr_txconvert.proofs.names.Names.contains.Goals as goal
+use Rattle.nr_keys.proofs.SpelledNames.{spelled_fits, names_from_4}
+use Rattle.nr_keys.proofs.names.Names.contains.Goals as goal
 
 pub returns : goal.returns
 returns c =

@@ -1,8 +1,8 @@
 -- The goals of `names::stands_in` that no tactic closes.
 use Rattle.std.proofs.Common.{◌+◌, length, refl, sym}
 use Rattle.std.proofs.lemmas.List.{take_rest}
-use Rattle.nr_txconvert.proofs.SpelledNames.{none_left, found_first, left_behind}
-use Rattle.nr_txconvert.proofs.names.stands_in.Goals as goal
+use Rattle.nr_keys.proofs.SpelledNames.{none_left, found_first, left_behind}
+use Rattle.nr_keys.proofs.names.stands_in.Goals as goal
 
 pub names-init : goal.names-init
 names-init c = λ names fits spelled. record { names = names; fits = fits; spelled = spelled; same = refl }

@@ -21,9 +21,9 @@ use Rattle.nr_records.specs.declared.access_key.CallPermission.{CallPermission}
 use Rattle.nr_records.specs.declared.access_key.Permission.{Permission}
 use Rattle.nr_records.specs.declared.access_key.Permission.TheVariants.{Call, Full}
 use Rattle.nr_columns.specs.Tables.{read_of}
-use Rattle.nr_txconvert.specs.Lent.{calls_read}
-use Rattle.nr_txconvert.specs.Names.{names_read}
-use Rattle.nr_txconvert.proofs.SpelledNames.{read_ok, is_read, names_again}
+use Rattle.nr_keys.specs.Lent.{calls_read}
+use Rattle.nr_keys.specs.Names.{names_read}
+use Rattle.nr_keys.proofs.SpelledNames.{read_ok, is_read, names_again}
 
 -- ---- the calls of a key
 

@@ -1,9 +1,9 @@
 -- The goals of `lent::calls_of` that no tactic closes.
 use Rattle.std.proofs.Common.{refl, sym, ap, subst, arith, ◌∙◌}
 use Rattle.std.specs.Prelude.{IsSome}
-use Rattle.nr_txconvert.specs.Names.{names_read}
-use Rattle.nr_txconvert.proofs.LentKeys.{calls_in, calls_there, are_here, calls_are}
-use Rattle.nr_txconvert.proofs.lent.calls_of.Goals as goal
+use Rattle.nr_keys.specs.Names.{names_read}
+use Rattle.nr_keys.proofs.LentKeys.{calls_in, calls_there, are_here, calls_are}
+use Rattle.nr_keys.proofs.lent.calls_of.Goals as goal
 
 pub behind-requires : goal.behind-requires
 behind-requires c =

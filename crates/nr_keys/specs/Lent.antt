@@ -7,10 +7,10 @@ use Rattle.nr_records.specs.declared.access_key.CallPermission.{CallPermission}
 use Rattle.nr_records.specs.declared.access_key.Permission.{Permission}
 use Rattle.nr_records.specs.declared.access_key.Permission.TheVariants as kept
 use Rattle.nr_columns.specs.Tables.{read_of}
-use Rattle.nr_txconvert.specs.declared.lent.LentCalls.{LentCalls}
-use Rattle.nr_txconvert.specs.declared.lent.LentKey.{LentKey}
-use Rattle.nr_txconvert.specs.declared.lent.LentPermission.{LentPermission}
-use Rattle.nr_txconvert.specs.declared.lent.LentPermission.TheVariants.{Call, Full}
+use Rattle.nr_keys.specs.declared.lent.LentCalls.{LentCalls}
+use Rattle.nr_keys.specs.declared.lent.LentKey.{LentKey}
+use Rattle.nr_keys.specs.declared.lent.LentPermission.{LentPermission}
+use Rattle.nr_keys.specs.declared.lent.LentPermission.TheVariants.{Call, Full}
 
 -- the calls that bytes permit
 abbrev pub calls_read : List ℕ → Option CallPermission

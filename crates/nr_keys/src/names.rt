@@ -5,22 +5,22 @@ ghost use Rattle.std.specs.Option.{option_copied};
 ghost use Rattle.std.specs.List.{list_any, flat_map, AllByRecursion};
 ghost use Rattle.std.specs.Str.{bytes_eq};
 ghost use Rattle.nr_bytes.specs.Reading.{counted};
-ghost use Rattle.nr_bytes.specs.Spelling.{list, FitsList, IsString};
+ghost use Rattle.nr_bytes.specs.Spelling.{IsString};
 ghost use Rattle.nr_bytes.specs.Writing.{counted_bytes};
-ghost use Rattle.nr_txconvert.specs.Names.{names_read};
+ghost use Rattle.nr_keys.specs.Names.{names_read};
 
 use byteorder::{ByteOrder, LittleEndian};
 use std::marker::Model;
 
 /// Names, lent as the bytes that spell their list. Contracts see the names.
 #[derive(Drop)]
-pub(crate) struct Names<'a> {
+pub struct Names<'a> {
     bytes: &'a [u8],
 }
 
 impl<'a> Model for Names<'a> {
     ghost use Rattle.std.specs.Prelude.{List, ℕ};
-    ghost use Rattle.nr_txconvert.specs.Names.{names_in, SpellNames};
+    ghost use Rattle.nr_keys.specs.Names.{names_in, SpellNames};
 
     ghost Value = { List (List ℕ) };
 
@@ -77,17 +77,9 @@ impl<'a> Names<'a> {
         Names { bytes }
     }
 
-    /// The bytes that spell their list.
-    #[tactic(auto, using(crate::proofs::SpelledNames::spelled_bytes))]
-    pub(crate) fn bytes(&self) -> &'a [u8]
-        ensures spelled { result.now ≡ list counted_bytes self.now }
-        ensures fits { FitsList IsString self.now }
-    {
-        self.bytes
-    }
-
+    /// Whether there are none.
     #[tactic(auto, using(crate::proofs::SpelledNames::is_empty))]
-    pub(crate) fn is_empty(&self) -> bool
+    pub fn is_empty(&self) -> bool
         ensures { result ≡ (length self.now == 0) }
     {
         self.bytes.len() == 4
@@ -95,7 +87,7 @@ impl<'a> Names<'a> {
 
     /// Whether a name is one of them.
     #[tactic(auto, using(crate::proofs::SpelledNames::behind_count))]
-    pub(crate) fn contains(&self, name: &[u8]) -> bool
+    pub fn contains(&self, name: &[u8]) -> bool
         ensures { result ≡ list_any (bytes_eq name.now) self.now }
     {
         stands_in(&self.bytes[4..], name)
