@@ -154,7 +154,7 @@ fn if_sound(alloc: Global, config: &Config, bytes: Blob) -> Result<Output, Fault
 }
 
 /// The genesis that a JSON text states, by the tree of the whole text.
-#[tactic(auto, using(crate::proofs::Steps::refuses_on))]
+#[tactic(auto, using(crate::proofs::Steps::refuses_on, crate::proofs::Steps::stated_then))]
 fn stated_by_tree(alloc: Global, text: &[u8]) -> Result<StatedGenesis, Fault>
     ensures { AnswersAs (λ x. x) result (stated_in text.now) }
 {
@@ -164,6 +164,7 @@ fn stated_by_tree(alloc: Global, text: &[u8]) -> Result<StatedGenesis, Fault>
 }
 
 /// The genesis that a JSON text states. A text with nothing wrong is read entry by entry, which takes less memory.
+#[tactic(auto, using(crate::proofs::Steps::state_found))]
 fn stated_in(alloc: Global, text: &[u8]) -> Result<StatedGenesis, Fault>
     ensures { AnswersAs (λ x. x) result (stated_in text.now) }
 {
@@ -185,7 +186,7 @@ fn bytes_of_state(alloc: Global, config: &Config, state: StatedGenesis) -> Resul
     }
 }
 
-#[tactic(auto, using(crate::proofs::Steps::refuses_on), unfolding(crate::specs::Due::made_genesis))]
+#[tactic(auto, using(crate::proofs::Steps::not_stated))]
 fn made_genesis(alloc: Global, config: &Config, text: &[u8]) -> Result<Output, Fault>
     ensures { AnswersAs output_in result (made_genesis config.now text.now) }
 {

@@ -1,5 +1,6 @@
 -- Records of the values of a list and of the members of an object.
-use Rattle.std.proofs.Common.{◌≡◌, ℕ, ◌+◌, List, [], ◌∷◌, length, map, Option, Some, None, Ok, option_map, refl, ap, ◌∙◌, arith}
+use Rattle.std.proofs.Common.{◌≡◌, ℕ, ◌+◌, List, [], ◌∷◌, ◌++◌, length, map, Option, Some, None, Ok, option_map, refl, sym, ap, ◌∙◌, arith}
+use Rattle.std.proofs.lemmas.List.{map-append}
 use Rattle.std.specs.Prelude.{codes}
 use Rattle.nr_bytes.specs.Reading.{◌>>=◌}
 use Rattle.serde_json.specs.Data.{Data, object, Members, put}
@@ -16,7 +17,7 @@ use Rattle.nr_jsonstream.specs.Stream.{Holds}
 use Rattle.nr_jsonstream.specs.declared.genesis.Found.{Found}
 
 -- ---- lists
-abbrev good : {X : Type 0} → X → Read X
+abbrev pub good : {X : Type 0} → X → Read X
 good x = Ok x
 
 pub each_is : {X : Type 0} (reading : Data → Read X) (n : ℕ) (ds : List Data) (xs : List X) → map reading ds ≡ map good xs → each_of reading n (items_of ds) ≡ Ok xs
@@ -28,6 +29,9 @@ each_is reading n (d ∷ ds) (x ∷ xs) e =
     let first : reading d ≡ good x = cc in
     let others : map reading ds ≡ map good xs = cc in
     rw (first, each_is reading (n + 1) ds xs others) refl
+
+pub one_more : {X : Type 0} (reading : Data → Read X) (ds : List Data) (d : Data) (xs : List X) (x : X) → map reading ds ≡ map good xs → reading d ≡ Ok x → map reading (ds ++ d ∷ []) ≡ map good (xs ++ x ∷ [])
+one_more reading ds d xs x e is = map-append reading ds (d ∷ []) ∙ ap (λ rs. rs ++ reading d ∷ []) e ∙ ap (λ r. map good xs ++ r ∷ []) is ∙ sym (map-append good xs (x ∷ []))
 
 -- ---- members
 unlike : codes "entries" ≡ codes "boundaries" → ⊥

@@ -1,6 +1,6 @@
 //! The next value of a text.
 
-ghost use Rattle.std.specs.Prelude.{◌≡◌, ◌<◌, Some, length, IfOk, IfSome, OnOk};
+ghost use Rattle.std.specs.Prelude.{◌≡◌, ◌<◌, ◌==◌, Some, length, slice_index, IfOk, IfSome, OnOk};
 ghost use Rattle.json.specs.Json.{items, members, value};
 ghost use Rattle.serde_json.specs.Data.{no_members, unsigned};
 ghost use Rattle.serde_json.specs.Read.{converted, number_of, of_items, of_json, of_members};
@@ -12,12 +12,19 @@ use json::{Reader, Token};
 use serde_json::{Map, Value};
 use std::alloc::Global;
 
+fn has_minus(bytes: &[u8]) -> bool
+    ensures { result ≡ (slice_index bytes.now 0 == 45) }
+{
+    !bytes.is_empty() && bytes[0] == b'-'
+}
+
 /// The whole number from 0 to 2^64 - 1 that a JSON number is.
+#[tactic(auto, using(crate::proofs::Numbers::number_is))]
 fn unsigned_in(text: &str) -> Option<u64>
     ensures { IfSome result (λ n. number_of text.now ≡ Some (unsigned n)) }
 {
     let bytes = text.as_bytes();
-    if bytes.first() == Some(&b'-') {
+    if has_minus(bytes) {
         return None;
     }
     Numeral::scan(bytes).to_u64()
