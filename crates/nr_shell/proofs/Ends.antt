@@ -51,7 +51,7 @@ refuse_asks : (A : Type 0) {E : Type 0} (files : List (List ℕ)) (e : E) → As
 refuse_asks A [] e = tt
 refuse_asks A (f ∷ files) e = tt
 
-length_asks : {A E : Type 0} (files : List (List ℕ)) (limit : ℕ) (long : E) (by_bytes : List ℕ → Plan A E) (bytes : List ℕ) → Asks files (by_bytes bytes) → Asks files (by_length limit long by_bytes bytes)
+pub length_asks : {A E : Type 0} (files : List (List ℕ)) (limit : ℕ) (long : E) (by_bytes : List ℕ → Plan A E) (bytes : List ℕ) → Asks files (by_bytes bytes) → Asks files (by_length limit long by_bytes bytes)
 length_asks {A} files limit long by_bytes bytes asks = elim (nat_lt limit (length bytes)) as (λ t. Asks files (cond t (Refuse long) (by_bytes bytes))) [ true ↦ refuse_asks A files long | false ↦ asks ]
 
 module _ {A E : Type 0} (held : List ℕ → Option (List ℕ)) where

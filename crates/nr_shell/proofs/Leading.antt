@@ -24,7 +24,7 @@ leads_same other held [] p q same leads = leads
 leads_same other held (n ∷ ns) p q same leads = (leads.0, turns_same other held n p leads.0 same leads.1, leads_same other held ns leads.0 q same leads.2)
 
 -- ---- what stands behind a step
-length_behind : {A B E : Type 0} (limit : ℕ) (long : E) (by_bytes : List ℕ → Plan A E) (next : A → Plan B E) (bytes : List ℕ) → by_length limit long (λ b. and_then (by_bytes b) next) bytes ≡ and_then (by_length limit long by_bytes bytes) next
+pub length_behind : {A B E : Type 0} (limit : ℕ) (long : E) (by_bytes : List ℕ → Plan A E) (next : A → Plan B E) (bytes : List ℕ) → by_length limit long (λ b. and_then (by_bytes b) next) bytes ≡ and_then (by_length limit long by_bytes bytes) next
 unfolding and_then
 length_behind {A} {B} {E} limit long by_bytes next bytes =
     elim (nat_lt limit (length bytes)) as (λ t. ◌≡◌ {A = Plan B E} (cond t (Refuse long) (and_then (by_bytes bytes) next)) (and_then (cond t (Refuse long) (by_bytes bytes)) next)) [ true ↦ refl | false ↦ refl ]
@@ -108,7 +108,7 @@ judged {X} {A} {E} refuses view held names (Err (Refused e)) p h = (h.0, subst (
 judged refuses view held names (Err Unread) p h = absurd h
 judged refuses view held names (Err Memory) p h = begun held names p
 
-make_judges : {A E : Type 0} (refuses : E → Bool) (r : Result A (Stop E)) (due : A) → Makes r due → Judges refuses (λ x. x) r (Answer due)
+pub make_judges : {A E : Type 0} (refuses : E → Bool) (r : Result A (Stop E)) (due : A) → Makes r due → Judges refuses (λ x. x) r (Answer due)
 make_judges {A} {E} refuses (Ok x) due made = let answered : A → Plan A E = λ a. Answer a in ap answered (sym made)
 make_judges refuses (Err (Refused e)) due made = absurd made
 make_judges refuses (Err Unread) due made = made

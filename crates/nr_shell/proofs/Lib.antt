@@ -3,3 +3,4 @@ pub mod Growth
 pub mod Loaded
 pub mod Ends
 pub mod Leading
+pub mod WithBytes

@@ -74,3 +74,11 @@ abbrev pub StopsBy : {E F : Type 0} → (E → Bool) → F → (F → E) → F �
 StopsBy refuses memory status fault (Refused e) = (refuses e ≡ true) × (fault ≢ memory) × (e ≡ status fault)
 StopsBy refuses memory status fault Unread = ⊥
 StopsBy refuses memory status fault Memory = fault ≡ memory
+
+-- why a command stops, where each refusal is told by another, or there is no memory to tell it
+abbrev pub Retells : {E F : Type 0} → (E → F) → Stop E → Stop F → Type 0
+Retells other Unread s = s ≡ Unread
+Retells other Memory s = s ≡ Memory
+Retells other (Refused e) Unread = ⊥
+Retells other (Refused e) Memory = Unit {0}
+Retells other (Refused e) (Refused f) = f ≡ other e

@@ -28,6 +28,18 @@ by_reading status (Err fault) = Refuse (status fault)
 abbrev pub by_length : {A E : Type 0} → ℕ → E → (List ℕ → Plan A E) → List ℕ → Plan A E
 by_length limit long by_bytes bytes = cond (nat_lt limit (length bytes)) (Refuse long) (by_bytes bytes)
 
+-- the plan behind the first file that it asks for, where this has these bytes
+abbrev pub with_bytes : {A E : Type 0} → List ℕ → Plan A E → Plan A E
+with_bytes bytes (Answer a) = Answer a
+with_bytes bytes (Refuse e) = Refuse e
+with_bytes bytes (Ask name limit long by_bytes) = by_length limit long by_bytes bytes
+
+-- the same plan, which refuses with what another tells of each refusal
+unfoldable pub map_refusal : {A E F : Type 0} → (E → F) → Plan A E → Plan A F
+map_refusal other (Answer a) = Answer a
+map_refusal other (Refuse e) = Refuse (other e)
+map_refusal other (Ask name limit long by_bytes) = Ask name limit (other long) (λ bytes. map_refusal other (by_bytes bytes))
+
 -- ---- a plan over a shelf, which holds bytes under a name, where it tells them
 -- what is told of a file, if anything, are these bytes
 abbrev pub Allows : Option (List ℕ) → List ℕ → Type 0

@@ -6,7 +6,7 @@ mod loading;
 mod stop;
 mod writing;
 
-pub use laws::plan_law;
+pub use laws::{plan_law, with_bytes_law};
 pub use loading::load;
 pub use stop::Stop;
 pub use writing::write_all;

@@ -74,3 +74,8 @@ walk_whole m ps e small = record { order = subst Rise (sym e) (rise_paths (entri
 pub entries_walked : (es rest : List (Text × Option Text)) (list : Paths) → IsStrictlySortedBy C (keys_of es) → rest ≡ [] → list ++ paths (filled (keyed rest)) ≡ paths (filled (keyed es)) → list ≡ paths (entries (held_in es))
 entries_walked es rest list s e h =
     sym (append-nil list) ∙ ap (λ (r : List (Text × Option Text)). list ++ paths (filled (keyed r))) (sym e) ∙ h ∙ ap paths (sym (entries-held_in es s))
+
+-- the same as bytes
+pub lent_walked : (es rest : List (Text × Option Text)) (list : List (List ℕ × List ℕ)) → IsStrictlySortedBy C (keys_of es) → rest ≡ [] → list ++ filled (keyed rest) ≡ filled (keyed es) → list ≡ entries (held_in es)
+lent_walked es rest list s e h =
+    sym (append-nil list) ∙ ap (λ (r : List (Text × Option Text)). list ++ filled (keyed r)) (sym e) ∙ h ∙ sym (entries-held_in es s)

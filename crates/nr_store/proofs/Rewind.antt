@@ -98,6 +98,14 @@ pub length-seen : (m : Contents) (log : List Undo) (starts : List ℕ) (count : 
 length-seen m log starts zero = refl
 length-seen m log starts (suc c) = ap suc (length-seen m log starts c)
 
+-- where the checkpoints saw nothing, none stands
+pub none_stand : (m : Contents) (log : List Undo) (starts : List ℕ) (count : ℕ) (saw : List Contents) → seen m log starts count ≡ saw → saw ≡ [] → count ≡ 0
+none_stand m log starts count saw e none = sym (length-seen m log starts count) ∙ ap length (e ∙ none)
+
+pub seen_none : (m : Contents) (log : List Undo) (starts : List ℕ) (count : ℕ) → count ≡ 0 → seen m log starts count ≡ []
+seen_none m log starts zero e = refl
+seen_none m log starts (suc n) e = absurd (omega arith)
+
 -- one more change, noted in the log
 pub changed_back : (m new : Contents) (k : List ℕ) (w : Option (List ℕ)) (u : Undo) → new ≡ put_back m k w → u.key.items ≡ k → value_before u ≡ get m k → put_back new u.key.items (value_before u) ≡ m
 changed_back m new k w u e f g = ap (λ n. put_back n u.key.items (value_before u)) e ∙ ap (λ j. put_back (put_back m k w) j (value_before u)) f ∙ ap (put_back (put_back m k w) k) g ∙ put_back-put_back m k w

@@ -2,6 +2,7 @@
 #![tactic(auto)]
 
 mod fork;
+mod lending;
 mod nodes;
 mod plain;
 mod root;
@@ -12,5 +13,6 @@ mod tests;
 mod threads;
 mod trie;
 
+pub use lending::Lent;
 pub use plain::PlainStore;
 pub use span::{Entry, Span};

@@ -1,8 +1,9 @@
 //! A store in memory.
 
-ghost use Rattle.std.specs.Prelude.{◌≡◌, []};
+ghost use Rattle.std.specs.Prelude.{◌≡◌, [], IfOk};
 ghost use Rattle.std.specs.FinMap as map;
 
+use crate::lending::{Lent, lent_entries};
 use crate::root::root;
 use crate::slots::{Slots, Undo, below, clear, drop_empty_slots, drop_slot, fits, put, undo_to};
 use nr_bytes::{Blob, List};
@@ -73,6 +74,27 @@ impl PlainStore {
             standing: 0,
             spare: 0,
         }
+    }
+
+    /// All entries in the order of their keys, lent. It takes memory for the list alone.
+    ///
+    /// # Errors
+    ///
+    /// Where memory ran out.
+    pub fn entries(&self) -> Result<Vec<Lent<'_>>, AllocError>
+        ensures { IfOk result (λ entries. entries.items ≡ map.entries self.now.contents) }
+    {
+        lent_entries(self.alloc, &self.slots)
+    }
+
+    /// Takes all keys out, where no checkpoint stands, and gives their memory back. It takes none.
+    pub fn clear(&mut self)
+        requires { self.old.marks ≡ [] }
+        ensures contents { self.new.contents ≡ map.empty }
+        ensures marks { self.new.marks ≡ [] }
+        ensures spare { self.new.spare ≡ self.old.spare }
+    {
+        self.slots = BTreeMap::new(self.alloc);
     }
 
     /// How many keys have a slot, with a value or without.

@@ -8,6 +8,8 @@ mod counting;
 #[cfg(test)]
 mod many;
 #[cfg(test)]
+mod merges;
+#[cfg(test)]
 mod nodes;
 #[cfg(test)]
 mod pair;

@@ -12,11 +12,11 @@ use std::test::Fail;
 
 /// The root of `ab`, `a` and `b1`, each with the value `abc`. It was computed outside this
 /// repository, from the rules of the trie alone.
-const THREE: &[u8; 32] =
+pub(crate) const THREE: &[u8; 32] =
     b"\xad\x83\x9f\x75\x36\x25\xd1\x83\x9b\x01\xbb\x6d\x6e\xcb\xb7\xff\xd8\x69\xa7\xd6\x37\x41\x44\x3a\x0f\x60\xcc\xf8\xe9\xc6\xcb\x63";
 
 /// The root with `c` beside them, which has the value `abc` too; computed likewise.
-const FOUR: &[u8; 32] =
+pub(crate) const FOUR: &[u8; 32] =
     b"\x6f\xff\x5e\x51\x08\x57\x05\x25\x5f\xfc\xaf\xdb\x12\xfe\x36\xcb\x0f\x20\xe7\x62\x36\x9d\xc5\xe7\x51\x51\x2c\x82\xa2\xfc\xb4\x99";
 
 fn counted<L: Ledger>(
@@ -34,7 +34,8 @@ fn counted<L: Ledger>(
     Ok(bytes_of(&hash))
 }
 
-fn hashed(nodes: &mut Nodes, root: Option<NodeId>) -> Result<[u8; 32], AllocError>
+/// The hash of a root, without the count of its steps.
+pub(crate) fn hashed(nodes: &mut Nodes, root: Option<NodeId>) -> Result<[u8; 32], AllocError>
     requires { IsRoot nodes.old root }
 {
     counted::<Brand>(nodes, root, Blank::new(1))

@@ -25,13 +25,13 @@ use Rattle.nr_trienodes.proofs.Maps.{get_is}
 use Rattle.nr_trienodes.proofs.Sets.{extends_fold, extends_longer}
 use Rattle.nr_triedef.specs.Node.{paired}
 
-same_key : (q k : List ℕ) → eq_by_cmp R q k ≡ true → q ≡ k
+pub same_key : (q k : List ℕ) → eq_by_cmp R q k ≡ true → q ≡ k
 same_key q k e = tells_apart exact_bytes q k e
 
-other_key : (q k : List ℕ) → eq_by_cmp R q k ≡ false → q ≢ k
+pub other_key : (q k : List ℕ) → eq_by_cmp R q k ≡ false → q ≢ k
 other_key q k e same = false≢true (sym e ∙ ap (eq_by_cmp R q) (sym same) ∙ ap (λ r. is_eq r) (tied_itself nat_list_cmp_total q))
 
-other_nibbles : (q k : List ℕ) → q ≢ k → nibbles q ≢ nibbles k
+pub other_nibbles : (q k : List ℕ) → q ≢ k → nibbles q ≢ nibbles k
 other_nibbles q k ne same = ne (sym (paired-nibbles q) ∙ ap paired same ∙ paired-nibbles k)
 
 changed_root : (old new : List Shape) (before after : Option NodeId) (key : List ℕ) (o : Option (List ℕ)) (extra : ℕ) → IsRoot old before → Changes old new (name_in before) (name_in after) (nibbles key) o extra → IsRoot new after
@@ -57,7 +57,7 @@ changed_get old new before after key o extra so sn root c q =
       | false ↦ λ e. c.sets.other (nibbles q) (other_nibbles q key (other_key q key e)) ∙ sym (get_is old before q so root)
     ] refl
 
-cost_is : (nodes : List Shape) (r : Option NodeId) → cost nodes r ≡ cost_in nodes (name_in r)
+pub cost_is : (nodes : List Shape) (r : Option NodeId) → cost nodes r ≡ cost_in nodes (name_in r)
 unfolding cost
 cost_is nodes None = refl
 cost_is nodes (Some id) = refl

@@ -29,7 +29,7 @@ found_down nodes id key at x next c sound lt by down = found_on nodes id (left k
 pub found_sprout : (nodes : List Shape) (id : ℕ) (key : List ℕ) (at x next : ℕ) → Sound nodes → id < length nodes → GoesBy (shape_at nodes id) key at x next → child (shape_at nodes id).below x ≡ None → found nodes id (left key at) ≡ None
 found_sprout nodes id key at x next sound lt by down = found_on nodes id (left key at) x (left key next) None sound lt by.part down
 
-stripped_apart : (p k r : List ℕ) (n : ℕ) → stripped (take n p) k ≡ Some r → stripped (drop n p) r ≡ None → stripped p k ≡ None
+pub stripped_apart : (p k r : List ℕ) (n : ℕ) → stripped (take n p) k ≡ Some r → stripped (drop n p) r ≡ None → stripped p k ≡ None
 stripped_apart p k r zero e f = let same : k ≡ r = cc in ap (stripped p) same ∙ f
 stripped_apart [] k r (suc n) e f = let same : k ≡ r = cc in ap (stripped []) same ∙ f
 stripped_apart (x ∷ p) [] r (suc n) e f = refl

@@ -26,3 +26,7 @@ pub mod Sliding
 pub mod Relinks
 pub mod Own
 pub mod Youngs
+pub mod Counts
+pub mod Plugs
+pub mod Moves
+pub mod Merged

@@ -10,5 +10,8 @@ pub mod Naming
 pub mod Packing
 pub mod NodeBytes
 pub mod SharedBytes
+pub mod WideBytes
 pub mod Bodies
 pub mod Own
+pub mod Merging
+pub mod Opened

@@ -2,12 +2,13 @@
 use Rattle.std.specs.Prelude.{◌≤◌, ℕ, List, take}
 use Rattle.std.specs.Arc.{arc_value}
 use Rattle.nr_trienodes.specs.declared.node_bytes.Form.{Form}
-use Rattle.nr_trienodes.specs.declared.node_bytes.Form.TheVariants.{Short, Long}
+use Rattle.nr_trienodes.specs.declared.node_bytes.Form.TheVariants.{Short, Wide, Long}
 use Rattle.nr_trienodes.specs.declared.node_bytes.NodeBytes.TheInside.{Inside}
 
 -- the bytes of either form
 abbrev pub node_bytes_in : Form → List ℕ
 node_bytes_in (Short count bytes) = take count bytes
+node_bytes_in (Wide bytes) = arc_value bytes
 node_bytes_in (Long bytes) = arc_value bytes
 
 -- what contracts see: the bytes
@@ -17,6 +18,7 @@ node_bytes_view p = node_bytes_in p.form
 -- of the bytes in place no more count than there is room for
 abbrev pub IsForm : Form → Type 0
 IsForm (Short count bytes) = count ≤ 14
+IsForm (Wide bytes) = Unit {0}
 IsForm (Long bytes) = Unit {0}
 
 -- it has such a form

@@ -9,7 +9,8 @@ use thiserror::Error;
 /// Why a change of a trie was refused.
 #[derive(Clone, Copy, Debug, PartialEq, Eq, Error)]
 pub enum NodesFault {
-    /// The arena has no room for the nodes of the key. `nodes` is the number of nodes held.
+    /// The arena has no room for the nodes of the call's key or keys. `nodes` is the number of nodes
+    /// held.
     #[error("{nodes} nodes are held, and there is no room for more")]
     Full { nodes: u32 },
     /// Memory ran out.

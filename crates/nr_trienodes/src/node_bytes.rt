@@ -3,6 +3,7 @@
 ghost use Rattle.std.specs.Prelude.{◌≡◌, ◌≤◌, length, IfOk};
 
 use crate::shared_bytes::SharedBytes;
+use crate::wide_bytes::WideBytes;
 use std::alloc::{AllocError, Global};
 use std::marker::Model;
 use std::sync::Arc;
@@ -10,9 +11,16 @@ use std::sync::Arc;
 // Up to so many bytes take no memory of their own.
 const SHORT: usize = 14;
 
+// Bytes that are shared take one piece of memory where they are up to so many,
+const FEW: usize = 30;
+
+// or up to so many, and else two.
+const WIDE: usize = 94;
+
 #[derive(Drop)]
 enum Form {
     Short { count: u8, bytes: [u8; 14] },
+    Wide(Arc<WideBytes>),
     Long(Arc<SharedBytes>),
 }
 
@@ -60,6 +68,12 @@ impl NodeBytes {
         if bytes.len() <= SHORT {
             return Ok(short(bytes));
         }
+        if bytes.len() > FEW && bytes.len() <= WIDE {
+            let wide = Arc::new(alloc, WideBytes::of(bytes))?;
+            return Ok(NodeBytes {
+                form: Form::Wide(wide),
+            });
+        }
         let held = SharedBytes::of(alloc, bytes)?;
         let long = Arc::new(alloc, held)?;
         Ok(NodeBytes {
@@ -78,6 +92,12 @@ impl NodeBytes {
                     bytes: *bytes,
                 },
             }),
+            Form::Wide(bytes) => {
+                let other = Arc::try_clone(bytes)?;
+                Ok(NodeBytes {
+                    form: Form::Wide(other),
+                })
+            }
             Form::Long(bytes) => {
                 let other = Arc::try_clone(bytes)?;
                 Ok(NodeBytes {
@@ -93,6 +113,7 @@ impl NodeBytes {
     {
         match &self.form {
             Form::Short { count, bytes } => &bytes[..*count as usize],
+            Form::Wide(bytes) => bytes.as_slice(),
             Form::Long(bytes) => bytes.as_slice(),
         }
     }

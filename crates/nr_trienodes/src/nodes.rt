@@ -212,6 +212,15 @@ impl Nodes {
         self.node(id).part.as_slice()
     }
 
+    /// The part once more, for another node.
+    pub(crate) fn part_again(&self, id: u32) -> Result<NodeBytes, AllocError>
+        requires { id < length self.now }
+        ensures { IfOk result (λ part. part ≡ (shape_at self.now id).part) }
+    {
+        let part = self.node(id).part.try_clone()?;
+        Ok(part)
+    }
+
     /// The value whose key ends behind the part.
     pub(crate) fn value(&self, id: u32) -> Option<&[u8]>
         requires { id < length self.now }
@@ -317,6 +326,38 @@ impl Nodes {
 
     /// Adds a node. Besides memory, the refusal is for a part of 2^32 nibbles or a value of 2^32 bytes
     /// or more, for a usage that passes u64, and for 2^32 nodes.
+    pub(crate) fn push_held(
+        &mut self,
+        part: NodeBytes,
+        value: Option<NodeBytes>,
+        row: Row,
+    ) -> Result<u32, AllocError>
+        requires small { IsNibbles part }
+        requires linked { IsLinked value row }
+        requires back { (x c : ℕ) → child row x ≡ Some c → c < length self.old }
+        ensures ok { IfOk result (λ id. Adds self.old self.new id part value row) }
+        ensures err { OnErr result (self.new ≡ self.old) }
+    {
+        let id = self.count();
+        if id == u32::MAX {
+            return Err(AllocError);
+        }
+        let below = self.usage_below(&row)?;
+        let alone = is_alone(&row);
+        let front = part.as_slice();
+        let usage = usage_of(front, &value, alone, below)?;
+        let body = Body::of(self.alloc, &mut self.spare, value, &row)?;
+        let node = Node {
+            part,
+            body,
+            usage,
+            hash: None,
+        };
+        self.nodes.push(node)?;
+        Ok(id)
+    }
+
+    /// Adds a node whose part isn't held yet. The refusals are those of `push_held`.
     pub(crate) fn push(
         &mut self,
         part: Vec<u8>,
@@ -329,22 +370,8 @@ impl Nodes {
         ensures ok { IfOk result (λ id. Adds self.old self.new id part.items value row) }
         ensures err { OnErr result (self.new ≡ self.old) }
     {
-        let id = self.count();
-        if id == u32::MAX {
-            return Err(AllocError);
-        }
-        let below = self.usage_below(&row)?;
-        let alone = is_alone(&row);
-        let usage = usage_of(&part, &value, alone, below)?;
-        let body = Body::of(self.alloc, &mut self.spare, value, &row)?;
         let front = NodeBytes::of(self.alloc, &part)?;
-        let node = Node {
-            part: front,
-            body,
-            usage,
-            hash: None,
-        };
-        self.nodes.push(node)?;
+        let id = self.push_held(front, value, row)?;
         Ok(id)
     }
 

@@ -23,7 +23,7 @@ pub(crate) enum Links {
 }
 
 #[tactic(auto, using(crate::proofs::Settled::links_more, crate::proofs::Settled::links_first, crate::proofs::Settled::links_second, crate::proofs::Settled::links_all))]
-fn links_of(row: &Row) -> Links
+pub(crate) fn links_of(row: &Row) -> Links
     ensures { LinksSo row.now result }
 {
     let mut links = Links::Bare;
@@ -57,8 +57,13 @@ fn place(
     Ok(id)
 }
 
-// The node with a front before its part.
-fn join(nodes: &mut Nodes, front: Vec<u8>, nibble: u8, child: u32) -> Result<u32, AllocError>
+/// The node with a front before its part.
+pub(crate) fn join(
+    nodes: &mut Nodes,
+    front: Vec<u8>,
+    nibble: u8,
+    child: u32,
+) -> Result<u32, AllocError>
     requires front { IsNibbles front.items }
     requires nibble { nibble < 16 }
     requires child { child < length nodes.old }

@@ -31,7 +31,7 @@ pub(crate) fn rest_of(alloc: Global, key: &[u8], at: usize) -> Result<Vec<u8>, A
     ensures value { IfOk result (λ rest. rest.items ≡ left key.now at) }
     ensures small { IfOk result (λ rest. IsNibbles rest.items) }
 {
-    let mut rest = Vec::new(alloc);
+    let mut rest = Vec::with_capacity(alloc, key.len().saturating_mul(2).saturating_sub(at))?;
     let mut at = at;
     'on: while let Some(nibble) = nibble_at(key, at) {
         rest.push(nibble)?;
@@ -40,9 +40,9 @@ pub(crate) fn rest_of(alloc: Global, key: &[u8], at: usize) -> Result<Vec<u8>, A
     Ok(rest)
 }
 
-// How many nibbles of a part are those of the key from a place on.
+/// How many nibbles of a part are those of the key from a place on.
 #[tactic(auto, using(crate::proofs::Keys::matches_none, crate::proofs::Keys::matches_off, crate::proofs::Keys::matches_all))]
-fn matched(part: &[u8], key: &[u8], at: usize) -> usize
+pub(crate) fn matched(part: &[u8], key: &[u8], at: usize) -> usize
     ensures { Matches part.now key.now at result }
 {
     let mut place = at;

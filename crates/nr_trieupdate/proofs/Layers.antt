@@ -5,8 +5,8 @@ use Rattle.std.specs.Option.{is_some}
 use Rattle.std.specs.List.{AllByRecursion}
 use Rattle.std.specs.FinMap.{insert, get, entries}
 use Rattle.nr_triedef.specs.Root.{Contents}
+use Rattle.nr_trienodes.proofs.Counts.{count_insert}
 use Rattle.nr_trieupdate.specs.Overlays.{over, joined, IsLayer}
-use Rattle.nr_trieupdate.proofs.Counting.{count_insert}
 use Rattle.nr_trieupdate.proofs.Overlays.{joined_put}
 
 pub layers_more : (b : Contents) (many more : ℕ) (ms : List Contents) → many ≤ more → AllByRecursion (IsLayer b many) ms → AllByRecursion (IsLayer b more) ms

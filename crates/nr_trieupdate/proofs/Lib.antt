@@ -5,3 +5,4 @@ pub mod Overlays
 pub mod Layers
 pub mod Stored
 pub mod Moved
+pub mod Drafts

@@ -1,9 +1,9 @@
 -- What is held once waiting changes are made, and what the changes cost.
-use Rattle.std.proofs.Common.{◌≡◌, ℕ, zero, suc, ◌+◌, ◌-◌, ◌<◌, ◌≤◌, Bool, true, false, cond, List, [], ◌∷◌, ◌++◌, length, drop, get_or, Option, Some, None, Ordering, refl, sym, ap, subst, ◌∙◌, arith}
+use Rattle.std.proofs.Common.{◌≡◌, ℕ, zero, suc, ◌+◌, ◌-◌, ◌*◌, ◌<◌, ◌≤◌, Bool, true, false, cond, List, [], ◌∷◌, ◌++◌, length, drop, get_or, Option, Some, None, Ordering, refl, sym, ap, subst, ◌∙◌, arith}
 use mathlib.Core.Bool.{false≢true}
 use Rattle.std.specs.Prelude.{sum_by, ◌||◌, ◌&&◌, ◌==◌, map, T}
 use Rattle.std.specs.Option.{is_some}
-use Rattle.std.specs.List.{list_any, filter, starts_with}
+use Rattle.std.specs.List.{list_any, filter, starts_with, AllByRecursion}
 use Rattle.std.specs.Ordering.{is_eq, is_lt, nat_cmp, eq_by_cmp}
 use Rattle.std.specs.declared.cmp.Ordering.TheVariants.{Less, Equal, Greater}
 use Rattle.std.specs.Cmp.{tied_itself}
@@ -12,13 +12,17 @@ use Rattle.std.specs.FinMap.{empty, insert, remove, from_sorted, get, entries, k
 use Rattle.std.specs.FinMap.Entries.{find, put, by_order, where_key, below_all, is_sorted, is_sorted-where_key, find-where_key}
 use Rattle.std.proofs.lemmas.Map.Lookups.{exact_bytes}
 use Rattle.std.proofs.lemmas.Map.Views.{any-filter_same}
-use Rattle.std.proofs.lemmas.List.{nil_from_length, drop_more}
+use Rattle.std.proofs.lemmas.List.{nil_from_length, drop_more, length-map}
 use Rattle.std.proofs.lemmas.List.Folds.{list_any-append}
 use Rattle.std.proofs.lemmas.List.Sums.{sum_by-cons}
+use Rattle.nr_triedef.specs.Node.{nibbles}
 use Rattle.nr_triedef.specs.Root.{Contents}
 use Rattle.nr_triedef.specs.Stores.{most_entries, keys_below, IsSizedEntry, IsSized}
-use Rattle.nr_trieupdate.proofs.Counting.{count_remove, some_entry, remove_absent, length_none}
-use Rattle.nr_trieupdate.specs.Overlays.{kept, with_value, changed, laid, over, placed, joined, weight, debt, most_debt, IsGathered}
+use Rattle.nr_trienodes.specs.Merging.{Changing, with_value, merged, merge_weight}
+use Rattle.nr_trienodes.proofs.Counts.{count_remove, length_none}
+use Rattle.nr_trieupdate.proofs.Counting.{some_entry}
+use Rattle.nr_trieupdate.specs.Room.{IsShort, AreShort}
+use Rattle.nr_trieupdate.specs.Overlays.{kept, change_of, changes_in, over, placed, joined, weight, debt, most_debt, IsGathered}
 
 abbrev R : List ℕ → List ℕ → Ordering
 R = slice_cmp nat_cmp
@@ -44,12 +48,39 @@ pushed : (b : Bool) (held : List ℕ) (o n : Option (List ℕ)) → cond b (kept
 pushed true held o n = refl
 pushed false held o n = refl
 
-get-laid : (es : List (List ℕ × List ℕ)) (m : Contents) (q : List ℕ) → get (laid es m) q ≡ picked (find R q es) (get m q)
-get-laid [] m q = refl
-get-laid (e ∷ es) m q = get-with_value (laid es m) e.0 (kept e.1) q ∙ ap (cond (eq_by_cmp R q e.0) (kept e.1)) (get-laid es m q) ∙ pushed (eq_by_cmp R q e.0) e.1 (find R q es) (get m q)
+no_later : (q : List ℕ) (es : List (List ℕ × List ℕ)) → T (below_all R q es) → is_some (find R q es) ≡ false
+no_later q [] h = refl
+no_later q (e ∷ es) h =
+    elim (R q e.0) as (λ r. T (is_lt r && below_all R q es) → is_some (cond (is_eq r) (Some e.1) (find R q es)) ≡ false) [
+      | Less ↦ λ i. no_later q es i
+      | Equal ↦ λ i. absurd i
+      | Greater ↦ λ i. absurd i
+    ] h
+
+left_of : (a b : Bool) → T (a && b) → T a
+left_of true b h = tt
+left_of false b h = h
+
+right_of : (a b : Bool) → T (a && b) → T b
+right_of true b h = h
+right_of false b h = absurd h
+
+get-merged : (es : List (List ℕ × List ℕ)) (m : Contents) (q : List ℕ) → T (is_sorted R es) → get (merged (map change_of es) m) q ≡ picked (find R q es) (get m q)
+get-merged [] m q s = refl
+get-merged (e ∷ es) m q s =
+    get-merged es (with_value m e.0 (kept e.1)) q (right_of (below_all R e.0 es) (is_sorted R es) s)
+    ∙ ap (picked (find R q es)) (get-with_value m e.0 (kept e.1) q)
+    ∙ elim (eq_by_cmp R q e.0) as (λ b. eq_by_cmp R q e.0 ≡ b → picked (find R q es) (cond b (kept e.1) (get m q)) ≡ picked (cond b (Some e.1) (find R q es)) (get m q)) [
+      | true ↦ λ same. alone (find R q es) (ap (λ k. is_some (find R k es)) (equal q e.0 same) ∙ no_later e.0 es (left_of (below_all R e.0 es) (is_sorted R es) s))
+      | false ↦ λ other. refl
+    ] refl
+  where
+    alone : (o : Option (List ℕ)) → is_some o ≡ false → picked o (kept e.1) ≡ kept e.1
+    alone None h = refl
+    alone (Some held) h = absurd (false≢true (sym h))
 
 pub get-over : (p m : Contents) (q : List ℕ) → get (over p m) q ≡ picked (get p q) (get m q)
-get-over p m q = get-laid (entries p) m q ∙ ap (λ o. picked o (get m q)) (sym (get-entries p q))
+get-over p m q = get-merged (entries p) m q (entries_sorted p) ∙ ap (λ o. picked o (get m q)) (sym (get-entries p q))
 
 same : (m n : Contents) → ((q : List ℕ) → get m q ≡ get n q) → m ≡ n
 same m n h = same_map nat_list_cmp_total exact_bytes m n h
@@ -102,46 +133,18 @@ debt_in k v (e ∷ es) =
 pub debt_put : (p : Contents) (k held : List ℕ) → debt (insert p k held) ≤ debt p + weight k
 debt_put p k held = subst (λ (es : List (List ℕ × List ℕ)). sum_by weight (map (λ e. e.0) es) ≤ debt p + weight k) (sym (entries-insert nat_list_cmp_total p k held)) (debt_in k held (entries p))
 
--- a change less
-debt_new : (k v : List ℕ) (es : List (List ℕ × List ℕ)) → is_some (find R k es) ≡ false → sum_by weight (map (λ e. e.0) (put R k v es)) ≡ sum_by weight (map (λ e. e.0) es) + weight k
-debt_new k v [] none = omega (arith, sum_by-cons weight k [])
-debt_new k v (e ∷ es) none =
-    elim (R k e.0) as (λ r. is_some (cond (is_eq r) (Some e.1) (find R k es)) ≡ false → sum_by weight (map (λ e. e.0) (by_order r ((k, v) ∷ e ∷ es) ((e.0, v) ∷ es) (e ∷ put R k v es))) ≡ sum_by weight (map (λ e. e.0) (e ∷ es)) + weight k) [
-      | Less ↦ λ _. omega (arith, sum_by-cons weight k (map (λ e. e.0) (e ∷ es)))
-      | Equal ↦ λ there. absurd (false≢true (sym there))
-      | Greater ↦ λ later.
-          let rest : sum_by weight (map (λ e. e.0) (put R k v es)) ≡ sum_by weight (map (λ e. e.0) es) + weight k = debt_new k v es later in
-          omega (arith, rest, sum_by-cons weight e.0 (map (λ e. e.0) (put R k v es)), sum_by-cons weight e.0 (map (λ e. e.0) es))
-    ] none
-
-debt_more : (p : Contents) (k held : List ℕ) → get p k ≡ None → debt (insert p k held) ≡ debt p + weight k
-debt_more p k held none =
-    ap (λ (es : List (List ℕ × List ℕ)). sum_by weight (map (λ e. e.0) es)) (entries-insert nat_list_cmp_total p k held)
-    ∙ debt_new k held (entries p) (ap is_some (sym (get-entries p k) ∙ none))
-
-itself : (k : List ℕ) → eq_by_cmp R k k ≡ true
-itself k = ap is_eq (tied_itself nat_list_cmp_total k)
-
-gone : (p : Contents) (k : List ℕ) → get (remove p k) k ≡ None
-gone p k = get-remove nat_list_cmp_total p k k ∙ ap (λ b. cond b None (get p k)) (itself k)
-
-put_again : (p : Contents) (k held : List ℕ) → get p k ≡ Some held → insert (remove p k) k held ≡ p
-put_again p k held is = same (insert (remove p k) k held) p (λ q.
-    get-insert nat_list_cmp_total (remove p k) k held q
-    ∙ ap (cond (eq_by_cmp R q k) (Some held)) (get-remove nat_list_cmp_total p k q)
-    ∙ elim (eq_by_cmp R q k) as (λ b. eq_by_cmp R q k ≡ b → cond b (Some held) (cond b None (get p q)) ≡ get p q) [
-      | true ↦ λ e. sym (ap (get p) (equal q k e) ∙ is)
-      | false ↦ λ e. refl
-    ] refl)
-
-pub debt_taken : (p : Contents) (k held : List ℕ) → get p k ≡ Some held → debt (remove p k) + weight k ≡ debt p
-debt_taken p k held is = sym (debt_more (remove p k) k held (gone p k)) ∙ ap debt (put_again p k held is)
-
-pub debt_absent : (p : Contents) (k : List ℕ) → get p k ≡ None → debt (remove p k) ≡ debt p
-debt_absent p k none = ap debt (sym (remove_absent p k (ap is_some none)))
-
 pub debt_empty : debt empty ≡ 0
 debt_empty = ap (λ (es : List (List ℕ × List ℕ)). sum_by weight (map (λ e. e.0) es)) (nil_from_length (entries empty) length_none)
+
+-- the changes of the trie weigh what those that wait do
+weights : (es : List (List ℕ × List ℕ)) → merge_weight (map change_of es) ≡ sum_by weight (map (λ e. e.0) es)
+weights [] = refl
+weights (e ∷ es) =
+    let here : weight e.0 ≡ 2 * length (nibbles e.0) + 3 = refl in
+    omega (arith, here, sum_by-cons (λ (c : Changing). 2 * length (nibbles c.0) + 3) (change_of e) (map change_of es), sum_by-cons weight e.0 (map (λ e. e.0) es), weights es)
+
+pub debt_is : (p : Contents) → merge_weight (changes_in p) ≡ debt p
+debt_is p = weights (entries p)
 
 pub most_put : (p : Contents) (ms : List Contents) (k held : List ℕ) → most_debt (insert p k held ∷ ms) ≤ most_debt (p ∷ ms) + weight k
 most_put p ms k held = omega (arith, debt_put p k held)
@@ -149,55 +152,6 @@ most_put p ms k held = omega (arith, debt_put p k held)
 pub most_keep : (p : Contents) (ms : List Contents) → most_debt (p ∷ drop 1 ms) ≤ most_debt (p ∷ ms)
 most_keep p [] = omega arith
 most_keep p (m ∷ ms) = omega arith
-
--- a change worked in, that waits no more
-pub over_moved : (p m : Contents) (k : List ℕ) (o : Option (List ℕ)) → get p k ≡ o → over (remove p k) (changed m k o) ≡ over p m
-over_moved p m k o is = same (over (remove p k) (changed m k o)) (over p m) (λ q.
-    get-over (remove p k) (changed m k o) q
-    ∙ ap (λ w. picked w (get (changed m k o) q)) (get-remove nat_list_cmp_total p k q)
-    ∙ at q o is
-    ∙ sym (get-over p m q))
-  where
-    at : (q : List ℕ) (o : Option (List ℕ)) → get p k ≡ o → picked (cond (eq_by_cmp R q k) None (get p q)) (get (changed m k o) q) ≡ picked (get p q) (get m q)
-    at q None is =
-        elim (eq_by_cmp R q k) as (λ b. eq_by_cmp R q k ≡ b → picked (cond b None (get p q)) (get m q) ≡ picked (get p q) (get m q)) [
-          | true ↦ λ e. sym (ap (λ w. picked w (get m q)) (ap (get p) (equal q k e) ∙ is))
-          | false ↦ λ e. refl
-        ] refl
-    at q (Some held) is =
-        ap (picked (cond (eq_by_cmp R q k) None (get p q))) (get-with_value m k (kept held) q) ∙
-        elim (eq_by_cmp R q k) as (λ b. eq_by_cmp R q k ≡ b → picked (cond b None (get p q)) (cond b (kept held) (get m q)) ≡ picked (get p q) (get m q)) [
-          | true ↦ λ e. sym (ap (λ w. picked w (get m q)) (ap (get p) (equal q k e) ∙ is))
-          | false ↦ λ e. refl
-        ] refl
-
--- ---- changes worked in
--- what the changes at these keys make of the trie
-abbrev pub Worked : (p m n : Contents) → List (List ℕ) → Type 0
-Worked p m n ks = (q : List ℕ) → get n q ≡ cond (list_any (eq_by_cmp R q) ks) (picked (get p q) (get m q)) (get m q)
-
-worked_one : (p m n : Contents) (k : List ℕ) (ks : List (List ℕ)) (o : Option (List ℕ)) → get p k ≡ o → Worked p m n ks → Worked p m (changed n k o) (k ∷ ks)
-worked_one p m n k ks None is h q =
-    elim (eq_by_cmp R q k) as (λ b. eq_by_cmp R q k ≡ b → get n q ≡ cond (b || list_any (eq_by_cmp R q) ks) (picked (get p q) (get m q)) (get m q)) [
-      | true ↦ λ e. h q ∙ alike (list_any (eq_by_cmp R q) ks) (picked (get p q) (get m q)) (get m q) (ap (λ o. picked o (get m q)) (ap (get p) (equal q k e) ∙ is))
-      | false ↦ λ e. h q
-    ] refl
-  where
-    alike : (b : Bool) (x y : Option (List ℕ)) → x ≡ y → cond b x y ≡ x
-    alike true x y e = refl
-    alike false x y e = sym e
-worked_one p m n k ks (Some held) is h q =
-    get-with_value n k (kept held) q ∙
-    elim (eq_by_cmp R q k) as (λ b. eq_by_cmp R q k ≡ b → cond b (kept held) (get n q) ≡ cond (b || list_any (eq_by_cmp R q) ks) (picked (get p q) (get m q)) (get m q)) [
-      | true ↦ λ e. ap (λ o. picked o (get m q)) (sym (ap (get p) (equal q k e) ∙ is))
-      | false ↦ λ e. h q
-    ] refl
-
-pub worked_more : (p m n next : Contents) (k : List ℕ) (ks : List (List ℕ)) → next ≡ changed n k (get p k) → Worked p m n ks → Worked p m next (k ∷ ks)
-worked_more p m n next k ks e h = subst (λ (n : Contents). Worked p m n (k ∷ ks)) (sym e) (worked_one p m n k ks (get p k) refl h)
-
-pub worked_none : (p m n : Contents) → n ≡ m → Worked p m n []
-worked_none p m n e q = ap (λ (m : Contents). get m q) e
 
 -- ---- keys below a prefix
 abbrev begins : List ℕ → List ℕ → Bool
@@ -207,28 +161,6 @@ any_below : (prefix : List ℕ) (p : Contents) (q : List ℕ) → list_any (eq_b
 any_below prefix p q =
     any-filter_same (eq_by_cmp R q) (begins prefix) (begins prefix q) (λ k e. ap (begins prefix) (sym (equal q k e))) (keys p)
     ∙ ap (λ b. begins prefix q && b) (sym (contains_key-keys p q))
-
-begins_all : (q : List ℕ) → begins [] q ≡ true
-begins_all [] = refl
-begins_all (x ∷ q) = refl
-
-filter_all : (f : List ℕ → Bool) → ((k : List ℕ) → f k ≡ true) → (ks : List (List ℕ)) → filter f ks ≡ ks
-filter_all f h [] = refl
-filter_all f h (k ∷ ks) = ap (λ b. cond b (k ∷ filter f ks) (filter f ks)) (h k) ∙ ap (λ t. k ∷ t) (filter_all f h ks)
-
-pub all_keys : (p : Contents) → keys_below [] p ≡ keys p
-all_keys p = filter_all (begins []) begins_all (keys p)
-
-pub worked_all : (p m n : Contents) (ks : List (List ℕ)) → ks ≡ keys_below [] p → Worked p m n ks → n ≡ over p m
-worked_all p m n ks e h = same n (over p m) (λ q.
-    h q
-    ∙ ap (λ b. cond b (picked (get p q) (get m q)) (get m q)) (ap (list_any (eq_by_cmp R q)) e ∙ any_below [] p q ∙ ap (λ b. b && is_some (get p q)) (begins_all q))
-    ∙ whole (get p q) (get m q)
-    ∙ sym (get-over p m q))
-  where
-    whole : (o n : Option (List ℕ)) → cond (is_some o) (picked o n) n ≡ picked o n
-    whole None n = refl
-    whole (Some held) n = refl
 
 filter_where : (f : List ℕ → Bool) (es : List (List ℕ × List ℕ)) → filter f (map (λ e. e.0) (where_key R f es)) ≡ filter f (map (λ e. e.0) es)
 filter_where f [] = refl
@@ -260,32 +192,6 @@ below_alike prefix m n h =
     sym (below_part prefix m)
     ∙ ap (keys_below prefix) (same (part prefix m) (part prefix n) (λ q. get-part prefix m q ∙ h q ∙ sym (get-part prefix n q)))
     ∙ below_part prefix n
-
--- ---- changes moved out
--- a change waits at these keys alone
-abbrev pub WaitsAt : Contents → List (List ℕ) → Type 0
-WaitsAt p ks = (q : List ℕ) → list_any (eq_by_cmp R q) ks ≡ false → is_some (get p q) ≡ false
-
-pub waits_first : (p : Contents) (ks : List (List ℕ)) → ks ≡ keys_below [] p → WaitsAt p ks
-waits_first p ks e q none = contains_key-keys p q ∙ sym (ap (list_any (eq_by_cmp R q)) (e ∙ all_keys p)) ∙ none
-
-pub waits_less : (p next : Contents) (all rest : List (List ℕ)) (k : List ℕ) → all ≡ rest ++ k ∷ [] → next ≡ remove p k → WaitsAt p all → WaitsAt next rest
-waits_less p next all rest k e is h q none =
-    ap is_some (ap (λ (m : Contents). get m q) is ∙ get-remove nat_list_cmp_total p k q)
-    ∙ elim (eq_by_cmp R q k) as (λ b. eq_by_cmp R q k ≡ b → is_some (cond b None (get p q)) ≡ false) [
-      | true ↦ λ _. refl
-      | false ↦ λ other. h q (ap (list_any (eq_by_cmp R q)) e ∙ list_any-append (eq_by_cmp R q) rest (k ∷ []) ∙ neither (list_any (eq_by_cmp R q) rest) (eq_by_cmp R q k) none other)
-    ] refl
-  where
-    neither : (a b : Bool) → a ≡ false → b ≡ false → (a || (b || false)) ≡ false
-    neither a b e f = ap (λ c. c || (b || false)) e ∙ ap (λ c. c || false) f
-
-pub none_waits : (p : Contents) (ks : List (List ℕ)) → ks ≡ [] → WaitsAt p ks → p ≡ empty
-none_waits p ks e h = same p empty (λ q. nothing (get p q) (h q (ap (list_any (eq_by_cmp R q)) e)) ∙ sym (get-empty R q))
-  where
-    nothing : (o : Option (List ℕ)) → is_some o ≡ false → o ≡ None
-    nothing None h = refl
-    nothing (Some v) h = absurd (false≢true (sym h))
 
 -- ---- how many keys there are
 abbrev first_of : Option (List ℕ) → Option (List ℕ) → Option (List ℕ)
@@ -340,23 +246,6 @@ joined_over p m k is = ap is_some (get-joined p m k) ∙ there (get p k) (get m 
     there (Some held) n h = refl
 
 -- no more keys, where each is among the others
-no_later : (q : List ℕ) (es : List (List ℕ × List ℕ)) → T (below_all R q es) → is_some (find R q es) ≡ false
-no_later q [] h = refl
-no_later q (e ∷ es) h =
-    elim (R q e.0) as (λ r. T (is_lt r && below_all R q es) → is_some (cond (is_eq r) (Some e.1) (find R q es)) ≡ false) [
-      | Less ↦ λ i. no_later q es i
-      | Equal ↦ λ i. absurd i
-      | Greater ↦ λ i. absurd i
-    ] h
-
-left_of : (a b : Bool) → T (a && b) → T a
-left_of true b h = tt
-left_of false b h = h
-
-right_of : (a b : Bool) → T (a && b) → T b
-right_of true b h = h
-right_of false b h = absurd h
-
 kept_apart : (e : List ℕ × List ℕ) (es : List (List ℕ × List ℕ)) (n : Contents) → T (below_all R e.0 es) → ((q : List ℕ) → is_some (find R q (e ∷ es)) ≡ true → is_some (get n q) ≡ true) → (q : List ℕ) → is_some (find R q es) ≡ true → is_some (get (remove n e.0) q) ≡ true
 kept_apart e es n apart h q i =
     ap is_some (get-remove nat_list_cmp_total n e.0 q)
@@ -365,13 +254,16 @@ kept_apart e es n apart h q i =
       | false ↦ λ other. h q (ap (λ b. is_some (cond b (Some e.1) (find R q es))) other ∙ i)
     ] refl
 
+itself : (k : List ℕ) → eq_by_cmp R k k ≡ true
+itself k = ap is_eq (tied_itself nat_list_cmp_total k)
+
 fewer : (es : List (List ℕ × List ℕ)) (n : Contents) → T (is_sorted R es) → ((q : List ℕ) → is_some (find R q es) ≡ true → is_some (get n q) ≡ true) → length es ≤ length (entries n)
 fewer [] n s h = omega arith
 fewer (e ∷ es) n s h =
     let here : is_some (get n e.0) ≡ true = h e.0 (ap (λ b. is_some (cond b (Some e.1) (find R e.0 es))) (itself e.0)) in
     let rest : length es ≤ length (entries (remove n e.0)) =
     fewer es (remove n e.0) (right_of (below_all R e.0 es) (is_sorted R es) s) (kept_apart e es n (left_of (below_all R e.0 es) (is_sorted R es) s) h) in
-    let less : length (entries (remove n e.0)) ≡ length (entries n) - 1 = count_remove n e.0 here in
+    let less : length (entries (remove n e.0)) ≡ length (entries n) - 1 = count_remove n e.0 true (sym here) in
     let some : 0 < length (entries n) = some_entry n e.0 here in
     omega (arith, rest, less, some)
 
@@ -380,22 +272,6 @@ fewer_keys m n h = fewer (entries m) n (entries_sorted m) (λ q i. h q (ap is_so
 
 pub few_over : (p m : Contents) → length (entries (over p m)) ≤ length (entries (joined p m))
 few_over p m = fewer_keys (over p m) (joined p m) (λ q i. joined_over p m q i)
-
-pub few_moved : (p m : Contents) (k : List ℕ) (o : Option (List ℕ)) → get p k ≡ o → length (entries (joined (remove p k) (changed m k o))) ≤ length (entries (joined p m))
-few_moved p m k o is = fewer_keys (joined (remove p k) (changed m k o)) (joined p m) (λ q i.
-    ap is_some (get-joined p m q) ∙ at q o is (ap is_some (sym (ap (λ w. first_of w (get (changed m k o) q)) (get-remove nat_list_cmp_total p k q)) ∙ sym (get-joined (remove p k) (changed m k o) q)) ∙ i))
-  where
-    at : (q : List ℕ) (o : Option (List ℕ)) → get p k ≡ o → is_some (first_of (cond (eq_by_cmp R q k) None (get p q)) (get (changed m k o) q)) ≡ true → is_some (first_of (get p q) (get m q)) ≡ true
-    at q None is i =
-        elim (eq_by_cmp R q k) as (λ b. eq_by_cmp R q k ≡ b → is_some (first_of (cond b None (get p q)) (get m q)) ≡ true → is_some (first_of (get p q) (get m q)) ≡ true) [
-          | true ↦ λ e i. ap (λ w. is_some (first_of w (get m q))) (ap (get p) (equal q k e) ∙ is) ∙ i
-          | false ↦ λ e i. i
-        ] refl i
-    at q (Some held) is i =
-        elim (eq_by_cmp R q k) as (λ b. eq_by_cmp R q k ≡ b → is_some (first_of (cond b None (get p q)) (cond b (kept held) (get m q))) ≡ true → is_some (first_of (get p q) (get m q)) ≡ true) [
-          | true ↦ λ e i. ap (λ w. is_some (first_of w (get m q))) (ap (get p) (equal q k e) ∙ is)
-          | false ↦ λ e i. i
-        ] refl (ap (λ w. is_some (first_of (cond (eq_by_cmp R q k) None (get p q)) w)) (sym (get-with_value m k (kept held) q)) ∙ i)
 
 -- ---- keys of both
 -- where no change begins so, the keys are the trie's
@@ -465,5 +341,20 @@ drop_at ks i x y some within is alike =
     let top : get_or ks (i - 1) x ≡ y = sym is ∙ sym alike in
     drop_more ks (i - 1) x (omega arith) ∙ ap (λ k. k ∷ drop (i - 1 + 1) ks) top ∙ ap (λ n. y ∷ drop n ks) next
 
-pub drop_none : (ks : List (List ℕ)) (i : ℕ) → i ≤ 0 → drop i ks ≡ ks
-drop_none ks i l = let e : i ≡ 0 = omega arith in ap (λ n. drop n ks) e
+-- ---- the sizes of the changes
+short_each : (es : List (List ℕ × List ℕ)) → T (is_sorted R es) → ((q w : List ℕ) → find R q es ≡ Some w → length q ≤ 70000000) → AllByRecursion IsShort (map change_of es)
+short_each [] s h = tt
+short_each (e ∷ es) s h =
+    (h e.0 e.1 (ap (λ b. cond b (Some e.1) (find R e.0 es)) (itself e.0)), short_each es (right_of (below_all R e.0 es) (is_sorted R es) s) (λ q w i. h q w (later q w i)))
+  where
+    later : (q w : List ℕ) → find R q es ≡ Some w → find R q (e ∷ es) ≡ Some w
+    later q w i = elim (eq_by_cmp R q e.0) as (λ b. eq_by_cmp R q e.0 ≡ b → cond b (Some e.1) (find R q es) ≡ Some w) [
+      | true ↦ λ alike. absurd (false≢true (sym (no_later e.0 es (left_of (below_all R e.0 es) (is_sorted R es) s)) ∙ ap (λ k. is_some (find R k es)) (sym (equal q e.0 alike)) ∙ ap is_some i))
+      | false ↦ λ other. i
+    ] refl
+
+pub short_changes : (p : Contents) → IsSized p → AreShort (changes_in p)
+short_changes p h = record {
+  few = omega (arith, h.few, length-map (entries p) change_of);
+  each = short_each (entries p) (entries_sorted p) (λ q w i. (h.each q w (get-entries p q ∙ i)).0);
+}

@@ -5,7 +5,8 @@ use Rattle.std.specs.List.{AllByRecursion}
 use Rattle.std.specs.FinMap.{empty, insert, get, entries}
 use Rattle.std.proofs.lemmas.List.{nil_from_length}
 use Rattle.nr_triedef.specs.Root.{Contents}
-use Rattle.nr_trieupdate.specs.Overlays.{kept, with_value, over, joined, weight, most_debt, IsLayer}
+use Rattle.nr_trienodes.specs.Merging.{with_value}
+use Rattle.nr_trieupdate.specs.Overlays.{kept, over, joined, weight, most_debt, IsLayer}
 use Rattle.nr_trieupdate.proofs.Overlays.{picked, get-over, over_put, over_empty, joined_none, most_put, debt_empty}
 use Rattle.nr_trieupdate.proofs.Layers.{layers_more, layers_as, listed, layer_put}
 
@@ -56,12 +57,6 @@ pub nothing_stands : (standing : ℕ) (ms : List Contents) → standing ≡ leng
 nothing_stands standing ms e l = nil_from_length ms (omega arith)
 
 -- ---- the trie under another name
-pub same_over : (p q b c : Contents) → q ≡ p → c ≡ b → over q c ≡ over p b
-same_over p q b c e f i = over (e i) (f i)
-
-pub same_joined : (p q b c : Contents) → q ≡ p → c ≡ b → joined q c ≡ joined p b
-same_joined p q b c e f i = joined (e i) (f i)
-
 pub same_layers : (p q b c : Contents) (ms ns : List Contents) (count : ℕ) → q ≡ p → ns ≡ ms → c ≡ b → AllByRecursion (IsLayer b count) (p ∷ ms) → AllByRecursion (IsLayer c count) (q ∷ ns)
 same_layers p q b c ms ns count e f g h =
     subst (λ (m : Contents). AllByRecursion (IsLayer m count) (q ∷ ns)) (sym g) (layers_as (IsLayer b count) (p ∷ ms) (q ∷ ns) (listed p q ms ns e f) h)

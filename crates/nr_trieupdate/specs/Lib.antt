@@ -1,8 +1,8 @@
 -- Definitions that the contracts cite.
 pub mod BaseView
 pub mod Bases
-pub mod Levels
 pub mod Moving
 pub mod Overlays
+pub mod Room
 pub mod Tries
 pub mod View

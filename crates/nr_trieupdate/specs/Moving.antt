@@ -10,6 +10,5 @@ pub record Moves (b c : BaseView) (p q : StoreView) : Type 0 where
   pub held : over q.contents c.contents ≡ over p.contents b.contents
   pub few : length (entries (joined q.contents c.contents)) ≤ length (entries (joined p.contents b.contents))
   pub cost : c.unhashed + debt q.contents ≤ b.unhashed + debt p.contents
-  pub base : c.marks ≡ b.marks
   pub marks : q.marks ≡ p.marks
   pub spare : q.spare ≡ p.spare

@@ -1,12 +1,13 @@
 -- Changes that wait until they are worked into a trie. This project's own.
-use Rattle.std.specs.Prelude.{◌≡◌, ℕ, zero, suc, ◌+◌, ◌*◌, ◌≤◌, cond, max, List, [], ◌∷◌, length, sum_by, Option, Some}
-use Rattle.std.specs.Prelude.{None}
+use Rattle.std.specs.Prelude.{◌≡◌, ℕ, zero, suc, ◌+◌, ◌*◌, ◌≤◌, cond, max, List, [], ◌∷◌, length, map, sum_by}
+use Rattle.std.specs.Prelude.{Option, Some, None}
 use Rattle.std.specs.List.{list_any}
 use Rattle.std.specs.Ordering.{nat_cmp, eq_by_cmp}
 use Rattle.std.specs.Cmp.Lexicographic.{slice_cmp}
-use Rattle.std.specs.FinMap.{insert, remove, get, entries, keys}
+use Rattle.std.specs.FinMap.{insert, get, entries, keys}
 use Rattle.nr_triedef.specs.Node.{nibbles}
 use Rattle.nr_triedef.specs.Root.{Contents}
+use Rattle.nr_trienodes.specs.Merging.{Changing, merged}
 
 -- what a waiting change gives its key: a value behind a first byte other than 0, and else none
 abbrev pub kept : List ℕ → Option (List ℕ)
@@ -14,23 +15,17 @@ kept [] = None
 kept (zero ∷ value) = None
 kept (suc n ∷ value) = Some value
 
--- with this value at the key, or with none
-abbrev pub with_value : Contents → List ℕ → Option (List ℕ) → Contents
-with_value m k None = remove m k
-with_value m k (Some v) = insert m k v
+-- a waiting change as one of the trie
+abbrev pub change_of : List ℕ × List ℕ → Changing
+change_of e = (e.0, kept e.1)
 
--- after the change at a key, where one waits
-abbrev pub changed : Contents → List ℕ → Option (List ℕ) → Contents
-changed m k None = m
-changed m k (Some held) = with_value m k (kept held)
-
-abbrev pub laid : List (List ℕ × List ℕ) → Contents → Contents
-laid [] m = m
-laid (e ∷ es) m = with_value (laid es m) e.0 (kept e.1)
+-- all of them, in the order of their keys
+abbrev pub changes_in : Contents → List Changing
+changes_in waiting = map change_of (entries waiting)
 
 -- what is held once the changes are made
 abbrev pub over : Contents → Contents → Contents
-over changes m = laid (entries changes) m
+over waiting m = merged (changes_in waiting) m
 
 -- the most nodes that a change at a key gives the next root to hash
 abbrev pub weight : List ℕ → ℕ

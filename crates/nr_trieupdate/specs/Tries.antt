@@ -1,5 +1,5 @@
 -- What a store over nodes stands for. This project's own.
-use Rattle.std.specs.Prelude.{◌≡◌, ◌+◌, ◌≤◌, ◌∷◌, [], length, map}
+use Rattle.std.specs.Prelude.{◌≡◌, ◌+◌, ◌≤◌, ◌∷◌, length, map}
 use Rattle.std.specs.List.{AllByRecursion}
 use Rattle.nr_triedef.specs.Stores.{most_entries}
 use Rattle.nr_trieupdate.specs.View.{TrieView}
@@ -18,7 +18,6 @@ trie_view s =
 -- all checkpoints are those of the waiting changes, at most eight with those that are spare, and no more entries come
 -- to be at any than the count
 pub record IsTrie (s : Inside) : Type 0 where
-  pub base : s.base.marks ≡ []
   pub standing : s.standing ≡ length s.changes.marks
   pub few : s.standing + s.changes.spare ≤ 8
   pub most : s.count ≤ most_entries

@@ -1,31 +1,29 @@
-//! A store whose changes go straight into a trie of nodes.
+//! The trie of nodes under the changes that wait.
 
-ghost use Rattle.std.specs.Prelude.{◌≡◌, ◌+◌, ◌*◌, ◌∷◌, ◌<◌, ◌≤◌, [], length, drop, is_some, max, IfOk, OnOk, OnErr};
+ghost use Rattle.std.specs.Prelude.{◌≡◌, ◌+◌, ◌≤◌, length, IfOk, OnOk, OnErr};
+ghost use Rattle.std.specs.Option.{option_copied};
 ghost use Rattle.std.specs.FinMap as map;
 ghost use Rattle.nr_triedef.specs.Root.{root_of};
-ghost use Rattle.nr_triedef.specs.Node.{nibbles};
-ghost use Rattle.nr_triedef.specs.Stores.{most_entries, IsSizedEntry};
+ghost use Rattle.nr_triedef.specs.Stores.{keys_below, IsSized};
+ghost use Rattle.nr_trienodes.specs.Merging.{merged, merge_weight};
+ghost use Rattle.nr_trieupdate.specs.Room.{AreShort};
 
-use crate::levels::{Limits, cut, first_limits, grown, make_room, put};
+use crate::drafting::draft_of;
+use crate::room::{Limits, first_limits};
 use nr_bytes::{Blob, List};
-use nr_triedef::{NodeHash, Steps, Store};
-use nr_trienodes::{NodeId, Nodes};
+use nr_triedef::{NodeHash, Steps};
+use nr_trienodes::{Change, CountedRoot, Nodes};
 use std::alloc::{AllocError, Global};
 use std::marker::Model;
 use std::sync::ledger::Ledger;
 
-/// A store that keeps the nodes of its trie, with the hashes of those that were hashed. Each change
-/// makes the nodes of its key's way anew.
+/// A finite map that keeps the nodes of its trie, with the hashes of those that were hashed. Changes
+/// make the nodes of their keys' ways anew, each one once.
 #[derive(Drop)]
 pub(crate) struct Base {
-    alloc: Global,
     nodes: Nodes,
-    // The root that each standing checkpoint saw, the oldest first; behind them the current one.
-    roots: [Option<NodeId>; 9],
-    // How many entries there are under each root.
-    counts: [usize; 9],
-    standing: usize,
-    spare: usize,
+    // The root, and how many entries there are.
+    top: CountedRoot,
     // When the arena is trimmed before a change.
     limits: Limits,
 }
@@ -45,21 +43,14 @@ impl Model for Base {
 }
 
 impl Base {
-    /// A store that holds nothing and has no checkpoint, standing or spare. It takes no memory.
-    #[tactic(auto, unfolding(nr_trienodes::specs::Roots::contents, nr_trienodes::specs::Roots::cost))]
+    /// The empty map. It takes no memory.
     pub(crate) fn new(alloc: Global) -> Base
         ensures contents { result.contents ≡ map.empty }
-        ensures marks { result.marks ≡ [] }
-        ensures spare { result.spare ≡ 0 }
         ensures unhashed { result.unhashed ≡ 0 }
     {
         Base {
-            alloc,
             nodes: Nodes::new(alloc),
-            roots: [None; 9],
-            counts: [0; 9],
-            standing: 0,
-            spare: 0,
+            top: CountedRoot::none(),
             limits: first_limits(),
         }
     }
@@ -68,136 +59,91 @@ impl Base {
     pub(crate) fn count(&self) -> usize
         ensures { result ≡ length (map.entries self.now.contents) }
     {
-        self.counts[self.standing]
-    }
-}
-
-impl Store for Base {
-    ghost contents = { λ s. s.contents };
-
-    ghost marks = { λ s. s.marks };
-
-    ghost spare = { λ s. s.spare };
-
-    fn get(&self, key: &[u8]) -> Option<&[u8]> {
-        self.nodes.find(self.roots[self.standing], key)
+        self.top.count
     }
 
-    fn sizes(&self) {
+    /// Does nothing. It tells that what is held keeps within the sizes of a store.
+    pub(crate) fn sizes(&self)
+        ensures { IsSized self.now.contents }
+    {
         // The field is named so that the proof sees the type's own promise.
-        let _spare = self.spare;
+        let _top = self.top;
     }
 
-    fn set(&mut self, key: &[u8], value: &[u8]) -> Result<(), AllocError>
-        ensures ok { OnOk result (self.new.contents ≡ map.insert self.old.contents key.now value.now) }
-        ensures sizes { OnOk result (IsSizedEntry key.now value.now
-            × (length (map.entries self.new.contents) ≤ most_entries)) }
-        ensures err { OnErr result (self.new.contents ≡ self.old.contents) }
-        ensures marks { self.new.marks ≡ self.old.marks }
-        ensures spare { self.new.spare ≡ self.old.spare }
-        ensures unhashed { self.new.unhashed ≤ self.old.unhashed + (2 * length (nibbles key.now) + 3) }
-        ensures saved { self.new.saved ≤ self.old.saved }
+    /// The value at a key; `None` exactly where there is none.
+    pub(crate) fn get(&self, key: &[u8]) -> Option<&[u8]>
+        ensures { option_copied result ≡ map.get self.now.contents key.now }
     {
-        let found = self.get(key).is_some();
-        let Some(count) = grown(found, self.counts[self.standing], key, value) else {
-            return Err(AllocError);
-        };
-        self.limits = make_room(&mut self.nodes, &mut self.roots, self.limits)?;
-        let root = put(&mut self.nodes, self.roots[self.standing], key, value)?;
-        self.roots[self.standing] = Some(root);
-        self.counts[self.standing] = count;
+        self.nodes.find(self.top.root, key)
+    }
+
+    /// The keys that begin with a prefix, in the order of their bytes.
+    ///
+    /// # Errors
+    ///
+    /// Where memory ran out.
+    pub(crate) fn below(&self, prefix: &[u8]) -> Result<List<Blob>, AllocError>
+        ensures { IfOk result (λ keys. keys ≡ keys_below prefix.now self.now.contents) }
+    {
+        self.nodes.below(self.top.root, prefix)
+    }
+
+    /// Works changes in, the first one first.
+    ///
+    /// # Errors
+    ///
+    /// Where memory ran out. What is held is then the same.
+    #[tactic(auto, using(crate::proofs::Standing::level_moved))]
+    pub(crate) fn merge(&mut self, changes: &[Change<'_>]) -> Result<(), AllocError>
+        requires sized { IsSized (merged changes.now self.old.contents) }
+        requires short { AreShort changes.now }
+        ensures ok { OnOk result (self.new.contents ≡ merged changes.now self.old.contents) }
+        ensures err { OnErr result (self.new.contents ≡ self.old.contents) }
+        ensures unhashed { OnOk result (self.new.unhashed ≤ self.old.unhashed + merge_weight changes.now) }
+        ensures less { OnErr result (self.new.unhashed ≤ self.old.unhashed) }
+    {
+        let draft = draft_of(&mut self.nodes, &mut self.top, &mut self.limits, changes)?;
+        self.top = draft;
         Ok(())
     }
 
-    fn remove(&mut self, key: &[u8]) -> Result<bool, AllocError>
-        ensures found { IfOk result (λ found. found ≡ is_some (map.get self.old.contents key.now)) }
-        ensures ok { OnOk result (self.new.contents ≡ map.remove self.old.contents key.now) }
-        ensures err { OnErr result (self.new.contents ≡ self.old.contents) }
-        ensures marks { self.new.marks ≡ self.old.marks }
-        ensures spare { self.new.spare ≡ self.old.spare }
-        ensures unhashed { self.new.unhashed ≤ self.old.unhashed + (2 * length (nibbles key.now) + 3) }
-        ensures saved { self.new.saved ≤ self.old.saved }
-    {
-        if self.get(key).is_none() {
-            return Ok(false);
-        }
-        self.limits = make_room(&mut self.nodes, &mut self.roots, self.limits)?;
-        let root = cut(&mut self.nodes, self.roots[self.standing], key)?;
-        self.roots[self.standing] = root;
-        self.counts[self.standing] -= 1;
-        Ok(true)
-    }
-
-    fn reserve_marks(&mut self, n: usize) -> Result<(), AllocError>
-        requires { length self.old.marks + n ≤ 8 }
-        ensures spare { OnOk result (self.new.spare ≡ max self.old.spare n) }
-        ensures err { OnErr result (self.new.spare ≡ self.old.spare) }
-        ensures contents { self.new.contents ≡ self.old.contents }
-        ensures marks { self.new.marks ≡ self.old.marks }
-        ensures unhashed { self.new.unhashed ≡ self.old.unhashed }
-    {
-        self.spare = self.spare.max(n);
-        Ok(())
-    }
-
-    fn mark(&mut self)
-        requires { 0 < self.old.spare }
-        ensures contents { self.new.contents ≡ self.old.contents }
-        ensures marks { self.new.marks ≡ self.old.contents ∷ self.old.marks }
-        ensures spare { self.new.spare + 1 ≡ self.old.spare }
-        ensures unhashed { self.new.unhashed ≤ self.old.unhashed }
-        ensures saved { self.new.saved ≤ self.old.unhashed }
-    {
-        let saw = self.standing;
-        self.standing += 1;
-        self.spare -= 1;
-        self.roots[self.standing] = self.roots[saw];
-        self.counts[self.standing] = self.counts[saw];
-    }
-
-    fn keep(&mut self)
-        requires { 0 < length self.old.marks }
-        ensures contents { self.new.contents ≡ self.old.contents }
-        ensures marks { self.new.marks ≡ drop 1 self.old.marks }
-        ensures spare { self.new.spare ≡ self.old.spare + 1 }
-        ensures unhashed { self.new.unhashed ≤ self.old.unhashed }
-    {
-        let top = self.standing;
-        self.standing -= 1;
-        self.spare += 1;
-        self.roots[self.standing] = self.roots[top];
-        self.counts[self.standing] = self.counts[top];
-        self.roots[top] = None;
-        self.counts[top] = 0;
-    }
-
-    fn back(&mut self)
-        requires { 0 < length self.old.marks }
-        ensures marks { self.old.marks ≡ self.new.contents ∷ self.new.marks }
-        ensures spare { self.new.spare ≡ self.old.spare + 1 }
-        ensures unhashed { self.new.unhashed ≤ self.old.saved }
-    {
-        self.roots[self.standing] = None;
-        self.counts[self.standing] = 0;
-        self.standing -= 1;
-        self.spare += 1;
-    }
-
-    fn below(&self, prefix: &[u8]) -> Result<List<Blob>, AllocError> {
-        self.nodes.below(self.roots[self.standing], prefix)
-    }
-
-    fn root<L: Ledger>(&mut self, steps: &mut Steps<L>) -> Result<NodeHash, AllocError>
+    /// The Merkle root of what is held. Each node that is hashed is one of the `steps`.
+    ///
+    /// # Errors
+    ///
+    /// Where memory ran out.
+    #[tactic(auto, using(crate::proofs::Standing::level_moved, crate::proofs::Standing::moved_same))]
+    pub(crate) fn root<L: Ledger>(&mut self, steps: &mut Steps<L>) -> Result<NodeHash, AllocError>
         ensures root { IfOk result (λ root. root ≡ (root_of self.old.contents).hash) }
         ensures contents { self.new.contents ≡ self.old.contents }
-        ensures marks { self.new.marks ≡ self.old.marks }
-        ensures spare { self.new.spare ≡ self.old.spare }
         ensures steps { steps.new ≤ steps.old + self.old.unhashed }
         ensures unhashed { self.new.unhashed ≤ self.old.unhashed }
-        ensures saved { self.new.saved ≤ self.old.saved }
-        ensures hashed { OnOk result (self.old.marks ≡ [] → self.new.unhashed ≡ 0) }
+        ensures hashed { OnOk result (self.new.unhashed ≡ 0) }
     {
-        let hash = self.nodes.hash(self.roots[self.standing], steps)?;
+        let hash = self.nodes.hash(self.top.root, steps)?;
+        Ok(hash)
+    }
+
+    /// The Merkle root of what would be held once changes are worked in, the first one first. What is
+    /// held stays.
+    ///
+    /// # Errors
+    ///
+    /// Where memory ran out.
+    #[tactic(auto, using(crate::proofs::Standing::level_moved, crate::proofs::Standing::moved_kept))]
+    pub(crate) fn root_with<L: Ledger>(
+        &mut self,
+        changes: &[Change<'_>],
+        steps: &mut Steps<L>,
+    ) -> Result<NodeHash, AllocError>
+        requires { AreShort changes.now }
+        ensures root { IfOk result (λ root. root ≡ (root_of (merged changes.now self.old.contents)).hash) }
+        ensures contents { self.new.contents ≡ self.old.contents }
+        ensures steps { steps.new ≤ steps.old + (self.old.unhashed + merge_weight changes.now) }
+        ensures unhashed { self.new.unhashed ≤ self.old.unhashed }
+    {
+        let draft = draft_of(&mut self.nodes, &mut self.top, &mut self.limits, changes)?;
+        let hash = self.nodes.hash(draft.root, steps)?;
         Ok(hash)
     }
 }

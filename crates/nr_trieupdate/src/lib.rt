@@ -2,8 +2,9 @@
 #![tactic(auto)]
 
 mod base;
-mod levels;
+mod drafting;
 mod listing;
+mod room;
 mod threads;
 mod trie_store;
 mod working;

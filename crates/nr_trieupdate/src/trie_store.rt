@@ -7,8 +7,8 @@ ghost use Rattle.nr_triedef.specs.Node.{nibbles};
 ghost use Rattle.nr_triedef.specs.Stores.{most_entries, IsSizedEntry};
 
 use crate::base::Base;
-use crate::levels::{MOST_ENTRIES, grown};
 use crate::listing::{keys_over, value_at};
+use crate::room::{MOST_ENTRIES, grown};
 use crate::working::{held_of, is_counted, root_over, settle};
 use nr_bytes::{Blob, List};
 use nr_store::PlainStore;
@@ -30,8 +30,9 @@ const MOST_WAITING: usize = 1 << 16;
 ///
 /// `set`, `mark`, `keep` and `back` cost what they cost a plain store of the keys that wait, and
 /// `get` and `remove` a look-up in the trie beside that; a call that moves the changes works them
-/// into the trie besides, at the nodes of each key's way. `root` does so too, and hashes the nodes
-/// made anew; while a checkpoint stands the changes wait on, so the next root works them in again.
+/// into the trie besides, in the order of their keys, so that each node on their ways is made once.
+/// `root` does so too, and hashes the nodes made anew; while a checkpoint stands the changes wait on,
+/// so the next root works them in again.
 /// `below` costs what it costs the trie and the plain store, and copies the entries that it finds
 /// where a change waits among them.
 ///
@@ -83,17 +84,19 @@ impl TrieStore {
     }
 
     // Moves the changes into the trie where many were counted and no checkpoint stands. Where memory
-    // ran out, a part of them waits on.
+    // ran out, they wait on.
     fn move_many(&mut self) -> Result<(), AllocError>
         ensures contents { self.new.contents ≡ self.old.contents }
         ensures marks { self.new.marks ≡ self.old.marks }
         ensures spare { self.new.spare ≡ self.old.spare }
         ensures unhashed { self.new.unhashed ≤ self.old.unhashed }
     {
+        // It tells that what is held keeps within the sizes.
+        self.sizes();
         if self.standing > 0 || self.count.saturating_sub(self.base.count()) < MOST_WAITING {
             return Ok(());
         }
-        settle(&mut self.base, &mut self.changes)?;
+        settle(self.alloc, &mut self.base, &mut self.changes)?;
         self.count = self.base.count();
         Ok(())
     }
@@ -155,7 +158,7 @@ impl Store for TrieStore {
     }
 
     /// Where no checkpoint stands and 65,536 changes came since they were last moved into the trie, it
-    /// moves them first. Where memory ran out, a part of them may be there, and what is held is the same.
+    /// moves them first. Where memory ran out, they wait on, and what is held is the same.
     fn set(&mut self, key: &[u8], value: &[u8]) -> Result<(), AllocError>
         ensures ok { OnOk result (self.new.contents ≡ map.insert self.old.contents key.now value.now) }
         ensures sizes { OnOk result (IsSizedEntry key.now value.now
@@ -239,11 +242,13 @@ impl Store for TrieStore {
         ensures unhashed { self.new.unhashed ≤ self.old.unhashed }
         ensures hashed { OnOk result (self.old.marks ≡ [] → self.new.unhashed ≡ 0) }
     {
+        // It tells that what is held keeps within the sizes.
+        self.sizes();
         if self.standing > 0 {
-            let root = root_over(&mut self.base, &self.changes, steps)?;
+            let root = root_over(self.alloc, &mut self.base, &self.changes, steps)?;
             return Ok(root);
         }
-        settle(&mut self.base, &mut self.changes)?;
+        settle(self.alloc, &mut self.base, &mut self.changes)?;
         self.count = self.base.count();
         let root = self.base.root(steps)?;
         Ok(root)

@@ -1,17 +1,19 @@
 //! Waiting changes, worked into the trie.
 
-ghost use Rattle.std.specs.Prelude.{◌≡◌, ◌+◌, ◌≤◌, ◌∷◌, [], true, is_some, IfOk, OnOk, OnErr};
+ghost use Rattle.std.specs.Prelude.{◌≡◌, ◌+◌, ◌≤◌, ◌∷◌, [], map as map_of, true, is_some, IfOk, OnOk, OnErr};
 ghost use Rattle.std.specs.FinMap as map;
 ghost use Rattle.nr_triedef.specs.Root.{root_of};
-ghost use Rattle.nr_trieupdate.specs.Overlays.{changed, over, joined, weight, debt};
+ghost use Rattle.nr_triedef.specs.Stores.{IsSized};
+ghost use Rattle.nr_trieupdate.specs.Overlays.{change_of, changes_in, over, joined, debt};
 ghost use Rattle.nr_trieupdate.specs.Moving.{Moves};
+ghost use Rattle.nr_trieupdate.specs.Room.{AreShort};
 
 use crate::base::Base;
-use crate::levels::MOST_ENTRIES;
 use crate::listing::value_in;
-use nr_bytes::Blob;
-use nr_store::PlainStore;
+use crate::room::MOST_ENTRIES;
+use nr_store::{Lent, PlainStore};
 use nr_triedef::{NodeHash, Steps, Store};
+use nr_trienodes::Change;
 use std::alloc::{AllocError, Global};
 use std::sync::ledger::Ledger;
 
@@ -44,147 +46,87 @@ pub(crate) fn is_counted(base: &Base, changes: &PlainStore, count: usize, key: &
     found.is_some()
 }
 
-// Works the change at a key in, where one waits.
-fn work_in_one(base: &mut Base, changes: &PlainStore, key: &[u8]) -> Result<(), AllocError>
-    ensures ok { OnOk result (base.new.contents
-        ≡ changed base.old.contents key.now (map.get changes.now.contents key.now)) }
-    ensures marks { base.new.marks ≡ base.old.marks }
-    ensures saved { base.new.saved ≤ base.old.saved }
-    ensures unhashed { base.new.unhashed ≤ base.old.unhashed + weight key.now }
-    ensures moved { base.new.unhashed + debt (map.remove changes.now.contents key.now)
-        ≤ base.old.unhashed + debt changes.now.contents }
+// A waiting change as one of the trie.
+fn change_of<'a>(waiting: &Lent<'a>) -> Change<'a>
+    ensures { result ≡ change_of waiting.now }
 {
-    match changes.get(key) {
-        None => Ok(()),
-        Some(held) => match value_in(held) {
-            None => {
-                base.remove(key)?;
-                Ok(())
-            }
-            Some(value) => {
-                base.set(key, value)?;
-                Ok(())
-            }
-        },
-    }
+    Change::of(waiting.key(), value_in(waiting.value()))
 }
 
-// Works all changes in, the greatest key first: so keys that nest don't meet one another's ways.
-fn work_in(base: &mut Base, changes: &PlainStore) -> Result<(), AllocError>
-    ensures ok { OnOk result (base.new.contents ≡ over changes.now.contents base.old.contents) }
-    ensures marks { base.new.marks ≡ base.old.marks }
-    ensures saved { base.new.saved ≤ base.old.saved }
-    ensures unhashed { OnOk result (base.new.unhashed ≤ base.old.unhashed + debt changes.now.contents) }
+// Waiting changes as changes of the trie.
+fn changes_of<'a>(alloc: Global, waiting: &[Lent<'a>]) -> Result<Vec<Change<'a>>, AllocError>
+    ensures { IfOk result (λ changes. changes.items ≡ map_of change_of waiting.now) }
 {
-    let found = changes.below(&[])?;
-    let keys = found.inner();
-    let mut left = keys.len();
-    while left > 0 {
-        left -= 1;
-        work_in_one(base, changes, keys[left].inner())?;
+    let mut changes = Vec::with_capacity(alloc, waiting.len())?;
+    for waits in waiting {
+        changes.push(change_of(waits))?;
     }
+    Ok(changes)
+}
+
+// All waiting changes as changes of the trie, in the order of their keys.
+#[tactic(auto, using(crate::proofs::Overlays::short_changes))]
+fn changes_in(alloc: Global, waiting: &PlainStore) -> Result<Vec<Change<'_>>, AllocError>
+    ensures changes { IfOk result (λ changes. changes.items ≡ changes_in waiting.now.contents) }
+    ensures short { AreShort (changes_in waiting.now.contents) }
+{
+    // It tells that what waits keeps within the sizes.
+    waiting.sizes();
+    let entries = waiting.entries()?;
+    let changes = changes_of(alloc, &entries)?;
+    Ok(changes)
+}
+
+// Works all waiting changes into the trie.
+fn work_in(alloc: Global, base: &mut Base, waiting: &PlainStore) -> Result<(), AllocError>
+    requires { IsSized (over waiting.now.contents base.old.contents) }
+    ensures ok { OnOk result (base.new.contents ≡ over waiting.now.contents base.old.contents) }
+    ensures err { OnErr result (base.new.contents ≡ base.old.contents) }
+    ensures unhashed { OnOk result (base.new.unhashed ≤ base.old.unhashed + debt waiting.now.contents) }
+    ensures less { OnErr result (base.new.unhashed ≤ base.old.unhashed) }
+{
+    let changes = changes_in(alloc, waiting)?;
+    base.merge(&changes)?;
     Ok(())
 }
 
-// Works the change at a key in, and takes it from those that wait.
-fn take_in(base: &mut Base, changes: &mut PlainStore, key: &[u8]) -> Result<(), AllocError>
-    ensures moves { OnOk result (Moves base.old base.new changes.old changes.new) }
-    ensures gone { OnOk result (changes.new.contents ≡ map.remove changes.old.contents key.now) }
-    ensures err { OnErr result (changes.new.contents ≡ changes.old.contents) }
-    ensures base_marks { base.new.marks ≡ base.old.marks }
-    ensures saved { base.new.saved ≤ base.old.saved }
-    ensures marks { changes.new.marks ≡ changes.old.marks }
-    ensures spare { changes.new.spare ≡ changes.old.spare }
-{
-    work_in_one(base, changes, key)?;
-    changes.remove(key)?;
-    Ok(())
-}
-
-// Moves the change at a key into the trie. Where that is refused, it waits on.
-fn move_one(base: &mut Base, changes: &mut PlainStore, key: &[u8]) -> Result<(), AllocError>
-    requires { base.old.marks ≡ [] }
-    ensures moves { Moves base.old base.new changes.old changes.new }
-    ensures gone { OnOk result (changes.new.contents ≡ map.remove changes.old.contents key.now) }
-{
-    base.reserve_marks(1)?;
-    base.mark();
-    match take_in(base, changes, key) {
-        Err(e) => {
-            base.back();
-            Err(e)
-        }
-        Ok(()) => {
-            base.keep();
-            Ok(())
-        }
-    }
-}
-
-// Gives back the memory of a list that is at most half full.
-fn shrink(keys: &mut Vec<Blob>)
-    ensures { keys.new.items ≡ keys.old.items }
-{
-    if keys.len() <= keys.capacity() / 2 {
-        keys.shrink_to_fit();
-    }
-}
-
-/// Moves all changes into the trie, where no checkpoint stands: the greatest key first, so that keys
-/// that nest don't meet one another's ways.
+/// Moves all waiting changes into the trie, where no checkpoint of theirs stands.
 ///
 /// # Errors
 ///
-/// Where memory ran out. A part of the changes then waits on, and what is held is the same.
-pub(crate) fn settle(base: &mut Base, changes: &mut PlainStore) -> Result<(), AllocError>
-    requires { base.old.marks ≡ [] }
-    ensures moves { Moves base.old base.new changes.old changes.new }
-    ensures none { OnOk result (changes.new.contents ≡ map.empty) }
+/// Where memory ran out. All of them wait on then, and what is held is the same.
+pub(crate) fn settle(
+    alloc: Global,
+    base: &mut Base,
+    waiting: &mut PlainStore,
+) -> Result<(), AllocError>
+    requires marks { waiting.old.marks ≡ [] }
+    requires sized { IsSized (over waiting.old.contents base.old.contents) }
+    ensures moves { Moves base.old base.new waiting.old waiting.new }
+    ensures none { OnOk result (waiting.new.contents ≡ map.empty) }
 {
-    let mut keys = changes.below(&[])?.into_inner();
-    while let Some(key) = keys.pop() {
-        move_one(base, changes, key.inner())?;
-        shrink(&mut keys);
-    }
+    work_in(alloc, base, waiting)?;
+    waiting.clear();
     Ok(())
 }
 
-// Works all changes in, and hashes the trie.
-fn draft_root<L: Ledger>(
-    base: &mut Base,
-    changes: &PlainStore,
-    steps: &mut Steps<L>,
-) -> Result<NodeHash, AllocError>
-    ensures root { IfOk result (λ root. root ≡ (root_of (over changes.now.contents base.old.contents)).hash) }
-    ensures marks { base.new.marks ≡ base.old.marks }
-    ensures saved { base.new.saved ≤ base.old.saved }
-    ensures steps { steps.new ≤ steps.old + (base.old.unhashed + debt changes.now.contents) }
-{
-    work_in(base, changes)?;
-    let root = base.root(steps)?;
-    Ok(root)
-}
-
-/// The root of what is held once the changes are made. The changes stay as they are.
+/// The root of what is held once the waiting changes are made. They stay as they are.
 ///
 /// # Errors
 ///
 /// Where memory ran out.
 pub(crate) fn root_over<L: Ledger>(
+    alloc: Global,
     base: &mut Base,
-    changes: &PlainStore,
+    waiting: &PlainStore,
     steps: &mut Steps<L>,
 ) -> Result<NodeHash, AllocError>
-    requires base { base.old.marks ≡ [] }
-    ensures root { IfOk result (λ root. root ≡ (root_of (over changes.now.contents base.old.contents)).hash) }
+    ensures root { IfOk result (λ root. root ≡ (root_of (over waiting.now.contents base.old.contents)).hash) }
     ensures contents { base.new.contents ≡ base.old.contents }
-    ensures marks { base.new.marks ≡ [] }
     ensures unhashed { base.new.unhashed ≤ base.old.unhashed }
-    ensures steps { steps.new ≤ steps.old + (base.old.unhashed + debt changes.now.contents) }
+    ensures steps { steps.new ≤ steps.old + (base.old.unhashed + debt waiting.now.contents) }
 {
-    base.reserve_marks(1)?;
-    base.mark();
-    let root = draft_root(base, changes, steps);
-    base.back();
-    root
+    let changes = changes_in(alloc, waiting)?;
+    let root = base.root_with(&changes, steps)?;
+    Ok(root)
 }

@@ -1,7 +1,7 @@
 -- The goals of `working::is_counted` that no tactic closes.
 use Rattle.std.proofs.Common.{ap, sym, ◌∙◌}
 use Rattle.std.specs.Option.{is_some}
-use Rattle.nr_trieupdate.proofs.Counting.{copied_some}
+use Rattle.nr_trienodes.proofs.Counts.{copied_some}
 use Rattle.nr_trieupdate.proofs.Overlays.{joined_waiting, joined_there}
 use Rattle.nr_trieupdate.proofs.working.is_counted.Goals as goal
 

@@ -1,51 +1,19 @@
 -- The goals of `working::work_in` that no tactic closes.
-use Rattle.std.proofs.Common.{◌≡◌, ◌∷◌, ◌-◌, refl, ap, sym, ◌∙◌, subst, arith, drop}
-use Rattle.std.specs.Prelude.{sum_by}
-use Rattle.std.proofs.Math.Seq.{drop-length}
-use Rattle.std.proofs.lemmas.List.Sums.{sum_by-cons}
-use Rattle.nr_trieupdate.specs.Overlays.{weight}
-use Rattle.nr_trieupdate.proofs.Overlays.{Worked, worked_none, worked_more, worked_all, all_keys, drop_at, drop_none}
+use Rattle.std.proofs.Common.{List, ap, sym, ◌∙◌, subst, arith}
+use Rattle.nr_triedef.specs.Stores.{IsSized}
+use Rattle.nr_trienodes.specs.Merging.{Changing, merged, merge_weight}
+use Rattle.nr_trieupdate.specs.Room.{AreShort}
+use Rattle.nr_trieupdate.proofs.Overlays.{debt_is}
 use Rattle.nr_trieupdate.proofs.working.work_in.Goals as goal
 
-pub loop-left-init : goal.loop-left-init
-loop-left-init c =
-    let changes = c.args.changes.now.contents in
-    let base = c.args.base.now.contents in
-    record {
-      within = omega arith;
-      worked = subst (Worked changes base base) (sym (drop-length c.inner-keys.result.now)) (worked_none changes base base refl);
-      marks = refl;
-      saved = omega arith;
-      unhashed = omega arith;
-    }
+pub merge-requires-clause-sized : goal.merge-requires-clause-sized
+merge-requires-clause-sized c = subst (λ (cs : List Changing). IsSized (merged cs c.args.base.now.contents)) (sym (c.deref.ensures.value ∙ c.in_ok-changes.ensures.changes)) c.requires
 
-pub loop-left-preserved : goal.loop-left-preserved
-loop-left-preserved c =
-    let changes = c.args.changes.now.contents in
-    let base = c.args.base.now.contents in
-    let keys = c.inner-keys.result.now in
-    let left = c.loop-left.left in
-    let key = c.inner.result.now in
-    let more : drop (left - 1) keys ≡ key ∷ drop left keys = drop_at keys left c.index-keys-left.result key (omega arith) c.loop-left.invariant.within c.index-keys-left.is c.inner.ensures in
-    record {
-      within = omega (arith, c.loop-left.invariant.within);
-      worked = subst (Worked changes base c.work_in_one.new.base.contents) (sym more)
-          (worked_more changes base c.loop-left.base.contents c.work_in_one.new.base.contents key (drop left keys) c.in_ok-work_in_one.ensures.ok c.loop-left.invariant.worked);
-      marks = c.work_in_one.ensures.marks ∙ c.loop-left.invariant.marks;
-      saved = omega (arith, c.work_in_one.ensures.saved, c.loop-left.invariant.saved);
-      unhashed = omega (arith, c.work_in_one.ensures.unhashed, c.loop-left.invariant.unhashed, ap (sum_by weight) more, sum_by-cons weight key (drop left keys));
-    }
+pub merge-requires-clause-short : goal.merge-requires-clause-short
+merge-requires-clause-short c = subst (λ (cs : List Changing). AreShort cs) (sym (c.deref.ensures.value ∙ c.in_ok-changes.ensures.changes)) c.in_ok-changes.ensures.short
 
 pub returns-clause-ok : goal.returns-clause-ok
-returns-clause-ok c =
-    let changes = c.args.changes.now.contents in
-    let base = c.args.base.now.contents in
-    let keys = c.inner-keys.result.now in
-    worked_all changes base c.loop-left.base.contents keys (c.inner-keys.ensures ∙ c.in_ok-found.ensures)
-    (subst (Worked changes base c.loop-left.base.contents) (drop_none keys c.loop-left.left (omega arith)) c.loop-left.invariant.worked)
+returns-clause-ok c = c.in_ok-merge.ensures.ok ∙ ap (λ (cs : List Changing). merged cs c.args.base.now.contents) (c.deref.ensures.value ∙ c.in_ok-changes.ensures.changes)
 
 pub returns-clause-unhashed : goal.returns-clause-unhashed
-returns-clause-unhashed c =
-    let changes = c.args.changes.now.contents in
-    let keys = c.inner-keys.result.now in
-    omega (arith, c.loop-left.invariant.unhashed, ap (sum_by weight) (drop_none keys c.loop-left.left (omega arith) ∙ c.inner-keys.ensures ∙ c.in_ok-found.ensures ∙ all_keys changes))
+returns-clause-unhashed c = omega (arith, c.in_ok-merge.ensures.unhashed, ap merge_weight (c.deref.ensures.value ∙ c.in_ok-changes.ensures.changes), debt_is c.args.waiting.now.contents)

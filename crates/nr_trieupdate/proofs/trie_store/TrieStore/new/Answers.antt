@@ -3,8 +3,8 @@ use Rattle.std.proofs.Common.{[], refl, ap, sym, ◌∙◌, arith, length}
 use Rattle.std.specs.Prelude.{map}
 use Rattle.std.specs.FinMap.{entries}
 use Rattle.nr_triedef.specs.Root.{Contents}
+use Rattle.nr_trienodes.proofs.Counts.{length_none}
 use Rattle.nr_trieupdate.specs.Overlays.{over}
-use Rattle.nr_trieupdate.proofs.Counting.{length_none}
 use Rattle.nr_trieupdate.proofs.Stored.{settled_layers, settled_debt}
 use Rattle.nr_trieupdate.proofs.Overlays.{over_empty}
 use Rattle.nr_trieupdate.proofs.trie_store.TrieStore.new.Goals as goal
@@ -12,7 +12,6 @@ use Rattle.nr_trieupdate.proofs.trie_store.TrieStore.new.Goals as goal
 pub invariant_of-result : goal.invariant_of-result
 invariant_of-result c =
     record {
-      base = c.new.ensures.marks;
       standing = sym (ap length c.new-2.ensures.marks);
       few = omega (arith, c.new-2.ensures.spare);
       most = omega arith;

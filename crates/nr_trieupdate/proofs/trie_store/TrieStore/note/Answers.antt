@@ -12,7 +12,6 @@ invariant_of-self-2 c =
     let key = c.args.key.now in
     let put : new.contents ≡ map.insert old.contents key (1 ∷ c.args.value.now) = c.in_ok-set.ensures.ok ∙ ap (map.insert old.contents key) (c.deref.ensures.value ∙ c.in_ok-held.ensures) in
     record {
-      base = c.self.invariant.base;
       standing = c.self.invariant.standing ∙ sym (ap length c.in_ok-set.ensures.marks);
       few = omega (arith, c.self.invariant.few, c.in_ok-set.ensures.spare);
       most = c.in-Some.ensures.few;

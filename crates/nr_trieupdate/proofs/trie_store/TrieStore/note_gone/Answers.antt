@@ -2,8 +2,9 @@
 use Rattle.std.proofs.Common.{◌≡◌, ◌∷◌, [], refl, ap, sym, ◌∙◌, arith, length, true}
 use Rattle.std.specs.Option.{is_some}
 use Rattle.std.specs.FinMap as map
+use Rattle.nr_trienodes.proofs.Counts.{copied_some}
 use Rattle.nr_trieupdate.specs.Overlays.{over}
-use Rattle.nr_trieupdate.proofs.Counting.{copied_some, remove_absent}
+use Rattle.nr_trieupdate.proofs.Counting.{remove_absent}
 use Rattle.nr_trieupdate.proofs.Layers.{layers_more}
 use Rattle.nr_trieupdate.proofs.Overlays.{joined_over}
 use Rattle.nr_trieupdate.proofs.Stored.{noted_contents, noted_debt, set_layers}
@@ -21,7 +22,6 @@ invariant_of-self-2 c =
     let there : is_some (map.get (over old.contents base) key) ≡ true =
     ap (λ v. is_some (map.get v.contents key)) c.self.view_is ∙ ap is_some (sym c.get.ensures) ∙ copied_some c.get.result ∙ c.if-is_none.ensures in
     record {
-      base = c.self.invariant.base;
       standing = c.self.invariant.standing ∙ sym (ap length c.in_ok-set.ensures.marks);
       few = omega (arith, c.self.invariant.few, c.in_ok-set.ensures.spare);
       most = omega arith;

@@ -11,7 +11,6 @@ invariant_of-self c =
     let old = c.self.inside.changes in
     let new = c.back.new.self in
     record {
-      base = c.self.invariant.base;
       standing = omega (arith, c.self.invariant.standing, ap length c.back.ensures.marks);
       few = omega (arith, c.self.invariant.few, c.self.invariant.standing, ap length c.back.ensures.marks, c.back.ensures.spare);
       most = c.self.invariant.most;

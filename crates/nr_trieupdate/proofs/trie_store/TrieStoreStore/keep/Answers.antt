@@ -13,7 +13,6 @@ invariant_of-self c =
     let base = c.self.inside.base.contents in
     let some : 0 < length old.marks = omega (arith, c.requires, ap (λ v. length v.marks) c.self.view_is, length_map base old.marks) in
     record {
-      base = c.self.invariant.base;
       standing = omega (arith, some, c.self.invariant.standing, ap length c.keep.ensures.marks, length-drop 1 old.marks);
       few = omega (arith, some, c.self.invariant.few, c.self.invariant.standing, c.keep.ensures.spare);
       most = c.self.invariant.most;

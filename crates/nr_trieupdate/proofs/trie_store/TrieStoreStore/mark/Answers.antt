@@ -12,7 +12,6 @@ invariant_of-self c =
     let new = c.mark.new.self in
     let base = c.self.inside.base.contents in
     record {
-      base = c.self.invariant.base;
       standing = omega (arith, c.self.invariant.standing, ap length c.mark.ensures.marks);
       few = omega (arith, c.self.invariant.few, c.self.invariant.standing, c.mark.ensures.spare);
       most = c.self.invariant.most;

@@ -13,7 +13,6 @@ invariant_of-self c =
     let new = c.reserve_marks.new.self in
     let base = c.self.inside.base.contents in
     record {
-      base = c.self.invariant.base;
       standing = c.self.invariant.standing ∙ ap length (sym c.reserve_marks.ensures.marks);
       few = omega (arith, c.self.invariant.few, c.in_err-reserve_marks.ensures.err);
       most = c.self.invariant.most;
@@ -26,7 +25,6 @@ invariant_of-self-2 c =
     let new = c.reserve_marks.new.self in
     let base = c.self.inside.base.contents in
     record {
-      base = c.self.invariant.base;
       standing = c.self.invariant.standing ∙ ap length (sym c.reserve_marks.ensures.marks);
       few = omega (arith, c.requires, ap (λ v. length v.marks) c.self.view_is, length_map base old.marks, c.self.invariant.standing, c.self.invariant.few, c.in_ok-reserve_marks.ensures.spare);
       most = c.self.invariant.most;

@@ -1,0 +1,9 @@
+-- What holds at the loops of `merging::shared_of`.
+use Rattle.std.proofs.Common.{◌-◌, ◌≡◌, ◌≤◌, take}
+use Rattle.nr_trienodes.proofs.merging.shared_of.Given as goal
+
+abbrev pub invariant-loop-count : goal.invariant-loop-count
+invariant-loop-count l = record { within : l.count ≤ l.most; same : take l.count l.one ≡ take l.count l.other }
+
+abbrev pub decreases-loop-count : goal.decreases-loop-count
+decreases-loop-count l = l.most - l.count
