@@ -33,11 +33,7 @@ fn unsigned_in(text: &str) -> Option<u64>
 /// The next value. Lists and objects may nest `depth` deep.
 #[cycle(read)]
 #[inline(always)]
-pub(crate) fn read(
-    alloc: Global,
-    reader: &mut Reader<'_>,
-    depth: usize,
-) -> Result<Value, Unread>
+pub(crate) fn read(alloc: Global, reader: &mut Reader<'_>, depth: usize) -> Result<Value, Unread>
     ensures ok { IfOk result (λ v. converted of_json (value depth reader.old) ≡ Some (view v, reader.new)) }
     ensures shorter { OnOk result (length reader.new < length reader.old) }
 {
