@@ -125,23 +125,10 @@ stated_then text d is = rw is refl
 pub state_found : (text front : List ℕ) (g : StatedGenesis) → front ≡ without_feed text → IsUtf8 front × (d : Data) × (read front ≡ Some d) × (genesis_of d ≡ Ok g) → stated_in text ≡ Ok g
 state_found text front g same h = rw (value_found text front h.1 same h.0 h.2, h.3) refl
 
-in_turn : {X Y Z F : Type 0} (r : Result X F) (f : X → Result Y F) (g : Y → Result Z F) → (r >>= λ x. f x >>= g) ≡ ((r >>= f) >>= g)
-in_turn (Ok x) f g = refl
-in_turn (Err e) f g = refl
-
-abbrev judged_of : Config → StatedGenesis → Due
-judged_of c g = judged c (genesis_bytes (filled c g))
-
-stated_first : (c : Config) (text : List ℕ) → made_genesis c text ≡ (stated_in text >>= judged_of c)
-unfolding made_genesis
-stated_first c text = in_turn (value_in text) (λ d. with_fault fault_line (genesis_of d)) (judged_of c)
-
-pub not_stated : (c : Config) (text : List ℕ) (f : Fault) → Refuses f (stated_in text) → Refuses f (made_genesis c text)
-not_stated c text f h = subst (λ (due : Due). Refuses f due) (sym (stated_first c text)) (refuses_on f (stated_in text) (judged_of c) h)
-
 -- what stands before the judging of a genesis
 pub made_up_to : (c : Config) (text : List ℕ) (g : StatedGenesis) (bytes : List ℕ) → stated_in text ≡ Ok g → bytes ≡ genesis_bytes (filled c g) → judged c bytes ≡ made_genesis c text
-made_up_to c text g bytes one is = ap (judged c) is ∙ sym (stated_first c text ∙ ap (λ (state : Result StatedGenesis (List ℕ)). state >>= judged_of c) one)
+unfolding made_genesis
+made_up_to c text g bytes one is = rw one (ap (judged c) is)
 
 pub judged_ok : (c : Config) (bytes held : List ℕ) (g : Genesis) → held ≡ bytes → with_fault (genesis_line true held) (genesis_read c held) ≡ Ok g → judged c bytes ≡ Ok (Bytes bytes)
 judged_ok c bytes held g same is =

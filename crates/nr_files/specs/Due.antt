@@ -106,8 +106,7 @@ stated_in text = do
 
 unfoldable pub made_genesis : Config → List ℕ → Due
 made_genesis c text = do
-  d ← value_in text
-  g ← with_fault fault_line (genesis_of d)
+  g ← stated_in text
   judged c (genesis_bytes (filled c g))
 
 unfoldable pub shown_genesis : Config → List ℕ → Due

@@ -37,7 +37,7 @@ use nr_config::Config;
 use nr_explain::show_report;
 use nr_gathered::{Gathered, read_gathered};
 use nr_json::{Form, StatedBlocks, StatedGenesis};
-use nr_jsonstream::{Unread, genesis_in as genesis_in_text};
+use nr_jsonstream::{Unread, genesis_in_text};
 use nr_outproof::{Proof, read_proof};
 use nr_parts::{Part, read_part};
 use nr_shell::Stop;
@@ -154,17 +154,15 @@ fn if_sound(alloc: Global, config: &Config, bytes: Blob) -> Result<Output, Fault
 }
 
 /// The genesis that a JSON text states, by the tree of the whole text.
-#[tactic(auto, using(crate::proofs::Steps::refuses_on, crate::proofs::Steps::stated_then))]
+#[tactic(auto, using(crate::proofs::Steps::refuses_on))]
 fn stated_by_tree(alloc: Global, text: &[u8]) -> Result<StatedGenesis, Fault>
     ensures { AnswersAs (λ x. x) result (stated_in text.now) }
 {
     let value = value_in(alloc, text)?;
-    let stated = record_in::<StatedGenesis>(alloc, &value)?;
-    Ok(stated)
+    record_in(alloc, &value)
 }
 
 /// The genesis that a JSON text states. A text with nothing wrong is read entry by entry, which takes less memory.
-#[tactic(auto, using(crate::proofs::Steps::state_found))]
 fn stated_in(alloc: Global, text: &[u8]) -> Result<StatedGenesis, Fault>
     ensures { AnswersAs (λ x. x) result (stated_in text.now) }
 {
@@ -186,7 +184,7 @@ fn bytes_of_state(alloc: Global, config: &Config, state: StatedGenesis) -> Resul
     }
 }
 
-#[tactic(auto, using(crate::proofs::Steps::not_stated))]
+#[tactic(auto, using(crate::proofs::Steps::refuses_on), unfolding(crate::specs::Due::made_genesis))]
 fn made_genesis(alloc: Global, config: &Config, text: &[u8]) -> Result<Output, Fault>
     ensures { AnswersAs output_in result (made_genesis config.now text.now) }
 {

@@ -1,14 +1,14 @@
 -- The grammar's loops, a turn at a time, under the conversion to data.
-use Rattle.std.proofs.Common.{◌≡◌, ℕ, suc, ◌-◌, ◌<◌, ◌≤◌, List, [], ◌∷◌, ◌++◌, length, Option, Some, None, refl, ap}
+use Rattle.std.proofs.Common.{◌≡◌, ℕ, suc, ◌-◌, ◌<◌, ◌≤◌, List, [], ◌∷◌, ◌++◌, length, Option, Some, None, refl, sym, ap}
 use Rattle.std.proofs.Common.{option_map, option_and_then, ◌∙◌}
+use Rattle.json.specs.Lex.{tokens}
 use Rattle.json.specs.Token.{Token}
 use Rattle.json.specs.Json as json
 use Rattle.json.specs.Json.{Parse, parse_map, after_end_array, read_key, items, members, if_last}
 use Rattle.json.proofs.Grammar.{items_end, items_more, members_end, members_more}
 use Rattle.serde_json.specs.Data.{Data, array, object, Items, no_items, item, Members, no_members, put}
-use Rattle.serde_json.specs.Read.{of_json, of_items, of_members, converted}
-use Rattle.serde_json.specs.View.{view, items_view, items_of}
-use Rattle.serde_json.specs.declared.value.Value.{Value}
+use Rattle.serde_json.specs.Read.{of_json, of_items, of_members, converted, read}
+use Rattle.serde_json.specs.View.{items_of}
 
 abbrev pick : {A : Type 0} → A → Option A → A
 pick d None = d
@@ -89,5 +89,9 @@ none_before (Some p) = refl
 abbrev whole : Option (json.Json × List Token) → Option Data
 whole o = option_and_then of_json (option_and_then (λ p. if_last p.0 p.1) o)
 
-pub whole_read : (o : Option (json.Json × List Token)) (d : Data) → converted of_json o ≡ Some (d, []) → whole o ≡ Some d
+whole_read : (o : Option (json.Json × List Token)) (d : Data) → converted of_json o ≡ Some (d, []) → whole o ≡ Some d
 whole_read o d e = let j = converted_some of_json o d [] e in ap whole j.1 ∙ j.2
+
+pub text_read : (text : List ℕ) (ts left : List Token) (d : Data) → ts ≡ tokens text → left ≡ [] → converted of_json (json.value 127 ts) ≡ Some (d, left) → read text ≡ Some d
+text_read text ts left d is over e =
+    whole_read (json.value 127 (tokens text)) d (ap (λ (old : List Token). converted of_json (json.value 127 old)) (sym is) ∙ e ∙ ap (λ (rest : List Token). Some (d, rest)) over)

@@ -1,5 +1,5 @@
 -- What the tokens of a JSON text (RFC 8259) are read as, from their front. This project's own.
-use Rattle.std.specs.Prelude.{◌≡◌, ℕ, List, length, map, Some, option_map, Result, Ok, codes}
+use Rattle.std.specs.Prelude.{◌≡◌, ◌≢◌, ℕ, List, length, map, Some, option_map, Ok, codes}
 use Rattle.json.specs.Json.{items, value}
 use Rattle.json.specs.Token.{Token}
 use Rattle.serde_json.specs.Data.{Data, Members}
@@ -11,6 +11,8 @@ use Rattle.nr_json.specs.Genesis.{entry_of}
 use Rattle.nr_json.specs.Keys.{id_of}
 use Rattle.nr_json.specs.Lists.{list_of}
 use Rattle.nr_jsonstream.specs.declared.genesis.Found.{Found}
+use Rattle.nr_jsonstream.specs.declared.genesis.Member.{Member}
+use Rattle.nr_jsonstream.specs.declared.genesis.Member.TheVariants.{Boundaries, Entries, Other}
 
 -- the first value, with what is left behind it, stands for x
 abbrev pub IsRead : {X : Type 0} → (Data → Read X) → ℕ → List Token → List Token → X → Type 0
@@ -23,7 +25,13 @@ AreRead reading depth old left xs =
     (ds : List Data) × (converted of_items (items (value depth) (length old) old) ≡ Some (items_of ds, left))
     × (map reading ds ≡ map Ok xs)
 
--- the members are what was found
+-- what a member of this name is for
+abbrev pub IsNamed : Member → List ℕ → Type 0
+IsNamed Boundaries name = name ≡ codes "boundaries"
+IsNamed Entries name = name ≡ codes "entries"
+IsNamed Other name = (name ≢ codes "boundaries") × (name ≢ codes "entries")
+
+-- of the members of a genesis these have what was found, and no others
 abbrev pub Holds : Found → Members → Type 0
 Holds found ms =
     (option_map (list_of id_of) (get_member (codes "boundaries") ms) ≡ option_map Ok found.boundaries)

@@ -1,11 +1,12 @@
 //! The genesis of a text.
 
-ghost use Rattle.std.specs.Prelude.{◌≡◌, ◌<◌, Some, Ok as Good, length, IfOk, IsUtf8, OnOk};
+ghost use Rattle.std.specs.Prelude.{◌≡◌, ◌<◌, ◌∷◌, Some, Ok as Good, length, IfOk, IsUtf8, OnOk};
 ghost use Rattle.json.specs.Json.{members, value};
+ghost use Rattle.json.specs.Token.{begin_object};
 ghost use Rattle.serde_json.specs.Data.{Data, Members, no_members, put};
 ghost use Rattle.serde_json.specs.Read.{converted, of_json, of_members, read as read_text};
 ghost use Rattle.nr_json.specs.Genesis.{genesis_of};
-ghost use Rattle.nr_jsonstream.specs.Stream.{Holds, IsRead};
+ghost use Rattle.nr_jsonstream.specs.Stream.{Holds, IsNamed, IsRead};
 
 use crate::list::{read_list, read_record};
 use crate::unread::Unread;
@@ -19,6 +20,15 @@ use std::alloc::Global;
 /// How deep the members of a text's object may nest.
 const DEPTH: usize = 126;
 
+/// What a member of a text's object is for.
+#[derive(Clone, Copy)]
+enum Member {
+    Boundaries,
+    Entries,
+    /// Nothing: it is passed over.
+    Other,
+}
+
 /// The members of a genesis, so far as they were read.
 #[derive(Drop)]
 struct Found {
@@ -26,7 +36,20 @@ struct Found {
     entries: Option<List<StatedEntry>>,
 }
 
-/// The same with the member of this name, whose value is next.
+/// What the member of this name is for.
+fn member_named(name: &str) -> Member
+    ensures { IsNamed result name.now }
+{
+    if name == "boundaries" {
+        Member::Boundaries
+    } else if name == "entries" {
+        Member::Entries
+    } else {
+        Member::Other
+    }
+}
+
+/// What was found, with the member of this name, whose value is next.
 fn with_member(
     alloc: Global,
     reader: &mut Reader<'_>,
@@ -38,25 +61,30 @@ fn with_member(
         × ((ms : Members) → Holds found ms → Holds more (put name.now d ms))) }
     ensures shorter { OnOk result (length reader.new < length reader.old) }
 {
-    if name == "boundaries" {
-        let boundaries = read_record(alloc, reader, DEPTH)?;
-        return Ok(Found {
-            boundaries: Some(boundaries),
-            entries: found.entries,
-        });
+    match member_named(name) {
+        Member::Boundaries => {
+            let boundaries = read_record(alloc, reader, DEPTH)?;
+            Ok(Found {
+                boundaries: Some(boundaries),
+                entries: found.entries,
+            })
+        }
+        Member::Entries => {
+            let entries = read_list(alloc, reader, DEPTH)?;
+            Ok(Found {
+                boundaries: found.boundaries,
+                entries: Some(entries),
+            })
+        }
+        Member::Other => {
+            let passed = read(alloc, reader, DEPTH)?;
+            drop(passed);
+            Ok(found)
+        }
     }
-    if name == "entries" {
-        let entries = read_list(alloc, reader, DEPTH)?;
-        return Ok(Found {
-            boundaries: found.boundaries,
-            entries: Some(entries),
-        });
-    }
-    let other = read(alloc, reader, DEPTH)?;
-    drop(other);
-    Ok(found)
 }
 
+/// The members up to the end of the object.
 fn read_members(alloc: Global, reader: &mut Reader<'_>) -> Result<Found, Unread>
     ensures { IfOk result (λ found. (ms : Members)
         × (converted (λ js. of_members js no_members) (members (value 126) (length reader.old) reader.old)
@@ -67,26 +95,35 @@ fn read_members(alloc: Global, reader: &mut Reader<'_>) -> Result<Found, Unread>
         entries: None,
     };
     'members: while let Some(name) = reader.next_key()? {
-        found = with_member(alloc, reader, name, found)?;
+        let more = with_member(alloc, reader, name, found)?;
+        found = more;
     }
     Ok(found)
+}
+
+/// Passes the brace that opens an object.
+fn open_object(reader: &mut Reader<'_>) -> Result<(), Unread>
+    ensures { OnOk result (reader.old ≡ begin_object ∷ reader.new) }
+{
+    let token = reader.next().ok_or(Unread::Other)?;
+    match token {
+        Token::BeginObject => Ok(()),
+        _ => Err(Unread::Other),
+    }
 }
 
 /// The genesis that the next value is.
 fn read_genesis(alloc: Global, reader: &mut Reader<'_>) -> Result<StatedGenesis, Unread>
     ensures { IfOk result (IsRead genesis_of 127 reader.old reader.new) }
 {
-    let Some(Token::BeginObject) = reader.next() else {
-        return Err(Unread::Other);
-    };
+    open_object(reader)?;
     let found = read_members(alloc, reader)?;
-    match (found.boundaries, found.entries) {
-        (Some(boundaries), Some(entries)) => Ok(StatedGenesis {
-            boundaries,
-            entries,
-        }),
-        _ => Err(Unread::Other),
-    }
+    let boundaries = found.boundaries.ok_or(Unread::Other)?;
+    let entries = found.entries.ok_or(Unread::Other)?;
+    Ok(StatedGenesis {
+        boundaries,
+        entries,
+    })
 }
 
 /// The genesis that a JSON text states. Beside the text it holds the entries that were read, the tree of the next one
@@ -96,7 +133,7 @@ fn read_genesis(alloc: Global, reader: &mut Reader<'_>) -> Result<StatedGenesis,
 ///
 /// `Other` where the text is no JSON, its value is faulty, or it has a number that is no whole one from 0 to
 /// 2^64 - 1; `Memory` where memory runs out.
-pub fn genesis_in(alloc: Global, text: &[u8]) -> Result<StatedGenesis, Unread>
+pub fn genesis_in_text(alloc: Global, text: &[u8]) -> Result<StatedGenesis, Unread>
     ensures { IfOk result (λ genesis. IsUtf8 text.now
         × (d : Data) × (read_text text.now ≡ Some d) × (genesis_of d ≡ Good genesis)) }
 {

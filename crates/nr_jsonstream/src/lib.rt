@@ -6,5 +6,5 @@ mod list;
 mod unread;
 mod value;
 
-pub use genesis::genesis_in;
+pub use genesis::genesis_in_text;
 pub use unread::Unread;

@@ -1,6 +1,7 @@
 //! Values that are made into records as they are read.
 
-ghost use Rattle.std.specs.Prelude.{◌<◌, length, IfOk, OnOk};
+ghost use Rattle.std.specs.Prelude.{◌≡◌, ◌<◌, ◌∷◌, length, IfOk, OnOk};
+ghost use Rattle.json.specs.Token.{begin_array};
 ghost use Rattle.nr_json.specs.Lists.{list_of};
 ghost use Rattle.nr_jsonstream.specs.Stream.{AreRead, IsRead};
 
@@ -28,6 +29,7 @@ pub(crate) fn read_record<T: Form>(
     }
 }
 
+/// The records up to the end of the list.
 fn read_items<T: Form>(
     alloc: Global,
     reader: &mut Reader<'_>,
@@ -44,7 +46,18 @@ fn read_items<T: Form>(
     Ok(found)
 }
 
-/// The records of the list that is the next value.
+/// Passes the bracket that opens a list.
+fn open_list(reader: &mut Reader<'_>) -> Result<(), Unread>
+    ensures { OnOk result (reader.old ≡ begin_array ∷ reader.new) }
+{
+    let token = reader.next().ok_or(Unread::Other)?;
+    match token {
+        Token::BeginArray => Ok(()),
+        _ => Err(Unread::Other),
+    }
+}
+
+/// The records of the list that is the next value. Lists and objects may nest `depth` deep, with this list.
 pub(crate) fn read_list<T: Form>(
     alloc: Global,
     reader: &mut Reader<'_>,
@@ -56,8 +69,7 @@ pub(crate) fn read_list<T: Form>(
     if depth == 0 {
         return Err(Unread::Other);
     }
-    match reader.next() {
-        Some(Token::BeginArray) => Ok(List::of(read_items(alloc, reader, depth - 1)?)),
-        _ => Err(Unread::Other),
-    }
+    open_list(reader)?;
+    let items = read_items(alloc, reader, depth - 1)?;
+    Ok(List::of(items))
 }
