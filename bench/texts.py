@@ -4,8 +4,8 @@
 usage: bench/texts.py [--program PATH] [--runs N] [ACCOUNTS ..]
 
 Build the program first: cd crates/near_files && rt run. The text has so many accounts (20,000 and 100,000) with a
-key each. The time is the least of N runs (3) on the clock, and the memory the most that this run held. The aims: 100,000
-accounts within 1 s and 300 MiB.
+key each. The time is the least of N runs (3) on the clock, and the memory the most that this run held. The aims:
+100,000 accounts within 1 s and 300 MiB.
 """
 import argparse
 import json

@@ -1,6 +1,6 @@
 //! The members of a genesis in other orders and spellings, with ample memory. What is expected is written by hand.
 
-use crate::files::{GENESIS_HEX, ended, refuses};
+use crate::files::{GENESIS_HEX, ended, refuses, refuses_bytes};
 use std::alloc::Global;
 use std::test::Fail;
 
@@ -14,7 +14,8 @@ const ENTRIES: &str = "[\
 
 /// The same with escapes, members in another order, doubled ones and further ones.
 const OTHER_ENTRIES: &str = "[\
-    {\"locked\": \"0\", \"amount\": \"7\", \"account_id\": \"\\u0061lice\", \"amount\": \"100\", \"kind\": \"account\"},\
+    {\"locked\": \"0\", \"amount\": \"7\", \"account_id\": \"\\u0061lice\", \"amount\": \"100\",\
+    \"kind\": \"account\"},\
     {\"k\\u0069nd\": \"acc\\u006funt\", \"account_id\": \"bob\", \"amount\": \"20\", \"locked\": \"0\", \"note\": 1},\
     {\"access_key\": {\"permission\": \"Full\\u0041ccess\", \"nonce\": 0}, \"kind\": \"code\",\
     \"public_key\": \"ed25519:0101010101010101010101010101010101010101010101010101010101010101\",\
@@ -121,30 +122,58 @@ fn values_nest_127_deep(rt: HostRuntime) -> Result<(), Fail> {
 }
 
 #[test]
+fn what_is_no_genesis_is_told(rt: HostRuntime) -> Result<(), Fail> {
+    let alloc = rt.alloc();
+    let rows: [(&[u8], &str); 8] = [
+        (b"", "the text is no JSON"),
+        (
+            b"{\"entries\": [7], \"boundaries\": [7]",
+            "the text is no JSON",
+        ),
+        (
+            b"{\"boundaries\": [], \"entries\": [7]} {}",
+            "the text is no JSON",
+        ),
+        (
+            b"{\"boundaries\": [], \"entries\": []},",
+            "the text is no JSON",
+        ),
+        (
+            b"{\"boundaries\": [], \"entries\": [7], \"note\": 1e999}",
+            "the text is no JSON",
+        ),
+        (
+            b"{\"boundaries\": [], \"entries\": [7], \"\\ud800\": 0}",
+            "the text is no JSON",
+        ),
+        (
+            b"{\"boundaries\": [], \"entries\": [7], \"\xff\": 0}",
+            "the text is no JSON",
+        ),
+        (b"[{\"entries\": [7]}]", "the text is no object"),
+    ];
+    for (text, line) in rows {
+        assert!(rt;
+            refuses_bytes(alloc, &["genesis", "free", "F"], text, line)?,
+            "{line}"
+        );
+    }
+    Ok(())
+}
+
+#[test]
 fn the_first_fault_is_told(rt: HostRuntime) -> Result<(), Fail> {
     let alloc = rt.alloc();
-    let rows: [(&str, &str); 9] = [
-        // of the whole text, before that of a member
-        (
-            "{\"entries\": [7], \"boundaries\": [7]",
-            "the text is no JSON",
-        ),
-        (
-            "{\"boundaries\": [], \"entries\": [7]} {}",
-            "the text is no JSON",
-        ),
-        (
-            "{\"boundaries\": [], \"entries\": [], \"note\": 1e999}",
-            "the text is no JSON",
-        ),
-        (
-            "{\"boundaries\": [], \"entries\": []},",
-            "the text is no JSON",
-        ),
+    let rows: [(&str, &str); 7] = [
         // of the boundaries, before that of an entry
         (
             "{\"entries\": [7], \"boundaries\": 7}",
             ".boundaries is no list",
+        ),
+        (
+            "{\"entries\": [7], \"boundaries\": [\"ab\", 7]}",
+            ".boundaries[1] is no account id: 2 to 64 characters, of `a` to `z` and `0` to `9`, and single `-`, `_` \
+            or `.` between these",
         ),
         ("{\"entries\": [7]}", ".boundaries is missing"),
         ("{\"boundaries\": []}", ".entries is missing"),
@@ -159,6 +188,12 @@ fn the_first_fault_is_told(rt: HostRuntime) -> Result<(), Fail> {
             \"account_id\": \"alice\"}, 7]}",
             ".entries[0].amount is no amount: a text of decimal digits, at most \
             340282366920938463463374607431768211455",
+        ),
+        (
+            "{\"boundaries\": [], \"entries\": [{\"kind\": \"key\", \"account_id\": \"alice\",\
+            \"public_key\": \"ed25519:0101010101010101010101010101010101010101010101010101010101010101\",\
+            \"access_key\": {\"nonce\": 1.0, \"permission\": 7}}, 7]}",
+            ".entries[0].access_key.nonce is no whole number from 0 to 18446744073709551615",
         ),
     ];
     for (text, line) in rows {
