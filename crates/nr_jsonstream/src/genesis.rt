@@ -131,8 +131,8 @@ fn read_genesis(alloc: Global, reader: &mut Reader<'_>) -> Result<StatedGenesis,
 ///
 /// # Errors
 ///
-/// `Other` where the text is no JSON, its value is faulty, or it has a number that is no whole one from 0 to
-/// 2^64 - 1; `Memory` where memory runs out.
+/// `Other` where the text is no JSON, its value or one of several members of a name is faulty, or it has a number that
+/// is no whole one from 0 to 2^64 - 1; `Memory` where memory runs out.
 pub fn genesis_in_text(alloc: Global, text: &[u8]) -> Result<StatedGenesis, Unread>
     ensures { IfOk result (λ genesis. IsUtf8 text.now
         × (d : Data) × (read_text text.now ≡ Some d) × (genesis_of d ≡ Good genesis)) }

@@ -9,7 +9,8 @@ use std::alloc::{AllocError, AllocFailed};
 /// Why a text isn't read entry by entry.
 #[derive(Clone, Copy, Debug, Drop, PartialEq, Eq)]
 pub enum Unread {
-    /// It is no JSON, its value is faulty, or it has a number that is no whole one from 0 to 2^64 - 1.
+    /// It is no JSON, its value or one of several members of a name is faulty, or it has a number that is no whole one
+    /// from 0 to 2^64 - 1.
     Other,
     /// Memory ran out.
     Memory,
