@@ -61,25 +61,32 @@ fn with_member(
         × ((ms : Members) → Holds found ms → Holds more (put name.now d ms))) }
     ensures shorter { OnOk result (length reader.new < length reader.old) }
 {
+    let Found {
+        boundaries,
+        entries,
+    } = found;
     match member_named(name) {
         Member::Boundaries => {
-            let boundaries = read_record(alloc, reader, DEPTH)?;
+            let ids = read_record(alloc, reader, DEPTH)?;
             Ok(Found {
-                boundaries: Some(boundaries),
-                entries: found.entries,
+                boundaries: Some(ids),
+                entries,
             })
         }
         Member::Entries => {
-            let entries = read_list(alloc, reader, DEPTH)?;
+            let all = read_list(alloc, reader, DEPTH)?;
             Ok(Found {
-                boundaries: found.boundaries,
-                entries: Some(entries),
+                boundaries,
+                entries: Some(all),
             })
         }
         Member::Other => {
             let passed = read(alloc, reader, DEPTH)?;
             drop(passed);
-            Ok(found)
+            Ok(Found {
+                boundaries,
+                entries,
+            })
         }
     }
 }
@@ -118,11 +125,15 @@ fn read_genesis(alloc: Global, reader: &mut Reader<'_>) -> Result<StatedGenesis,
 {
     open_object(reader)?;
     let found = read_members(alloc, reader)?;
-    let boundaries = found.boundaries.ok_or(Unread::Other)?;
-    let entries = found.entries.ok_or(Unread::Other)?;
-    Ok(StatedGenesis {
+    let Found {
         boundaries,
         entries,
+    } = found;
+    let ids = boundaries.ok_or(Unread::Other)?;
+    let all = entries.ok_or(Unread::Other)?;
+    Ok(StatedGenesis {
+        boundaries: ids,
+        entries: all,
     })
 }
 

@@ -12,12 +12,12 @@ pub returns : goal.returns
 returns c =
     let s = c.open_object.new.reader in
     let read = c.in_ok-found in
-    let ids = c.in_ok-boundaries.boundaries in
-    let es = c.in_ok-entries.entries in
+    let ids = c.in_ok-ids.ids in
+    let all = c.in_ok-all.all in
     let some_ids : read.found.boundaries ≡ Some ids = grind arith in
-    let some_entries : read.found.entries ≡ Some es = grind arith in (
+    let some_entries : read.found.entries ≡ Some all = grind arith in (
       object read.ensures.0,
       ap (converted of_json) (ap (value 127) c.in_ok-open_object.ensures ∙ value-begin_object 127 s (omega arith))
           ∙ converted-object (members (value 126) (length s) s) ∙ ap (parse_map object) read.ensures.1,
-      genesis_is read.found ids es read.ensures.0 some_ids some_entries read.ensures.2,
+      genesis_is read.found ids all read.ensures.0 some_ids some_entries read.ensures.2,
     )
