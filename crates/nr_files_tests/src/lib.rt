@@ -8,6 +8,8 @@ mod files;
 #[cfg(test)]
 mod gathered;
 #[cfg(test)]
+mod members;
+#[cfg(test)]
 mod people;
 #[cfg(test)]
 mod spelled;

@@ -1,0 +1,4 @@
+-- Lemmas behind the answers.
+pub mod Numbers
+pub mod Reading
+pub mod Records
