@@ -2,3 +2,4 @@
 pub mod Numbers
 pub mod Reading
 pub mod Records
+pub mod Trees

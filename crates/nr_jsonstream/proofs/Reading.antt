@@ -1,97 +1,61 @@
--- The grammar's loops, a turn at a time, under the conversion to data.
-use Rattle.std.proofs.Common.{◌≡◌, ℕ, ◌-◌, ◌<◌, ◌≤◌, List, [], ◌∷◌, ◌++◌, length, Option, Some, None, refl, sym, ap}
-use Rattle.std.proofs.Common.{option_map, option_and_then, ◌∙◌}
+-- How reading goes on: what stands before the reader, with whatever is read from it on, is what the whole is.
+use Rattle.std.proofs.Common.{◌≡◌, ℕ, ◌-◌, ◌<◌, ◌≤◌, List, [], ◌∷◌, ◌++◌, length, Option, Some, None, refl, sym, ap, ◌∙◌}
+use Rattle.std.proofs.Common.{option_map, option_and_then, append_assoc}
+use Rattle.std.proofs.lemmas.List.{append-nil}
 use Rattle.json.specs.Lex.{tokens}
 use Rattle.json.specs.Token.{Token}
 use Rattle.json.specs.Json as json
 use Rattle.json.specs.Json.{Parse, parse_map, after_end_array, read_key, items, members, if_last}
 use Rattle.json.proofs.Grammar.{items_end, items_more, members_end, members_more}
-use Rattle.serde_json.specs.Data.{Data, array, object, Items, no_items, item, Members, no_members, put}
-use Rattle.serde_json.specs.Read.{of_json, of_items, of_members, converted, read}
+use Rattle.serde_json.specs.Data.{Data, item, Members, no_members, put}
+use Rattle.serde_json.specs.Read.{of_json, of_items, of_members, read}
 use Rattle.serde_json.specs.View.{items_of}
 
-abbrev pick : {A : Type 0} → A → Option A → A
-pick d None = d
-pick d (Some a) = a
+-- ---- lists
 
-found : {A B : Type 0} (a : A) (r s : List Token) (x : Option B) (b : B) → option_map {U = B × List Token} (λ y. (y, r)) x ≡ Some (b, s) → (r ≡ s) × (x ≡ Some b)
-found a r s None b e = absurd (cc)
-found a r s (Some y) b e = let same = ap (pick (y, r)) e in (ap (λ p. p.1) same, ap (λ p. Some p.0) same)
+-- ds came before ts: any items that are read from there come behind them
+abbrev pub ItemsLead : Parse json.Json → List Token → List Data → ℕ → List Token → Type 0
+ItemsLead p start ds n ts =
+    (more : json.Items) (rest : List Data) (left : List Token) → items p n ts ≡ Some (more, left) → of_items more ≡ Some (items_of rest)
+    → (whole : json.Items) × (items p (length start) start ≡ Some (whole, left)) × (of_items whole ≡ Some (items_of (ds ++ rest)))
 
-pub converted_some : {A B : Type 0} (f : A → Option B) (o : Option (A × List Token)) (b : B) (r : List Token) → converted f o ≡ Some (b, r) → (a : A) × (o ≡ Some (a, r)) × (f a ≡ Some b)
-converted_some f None b r e = absurd (cc)
-converted_some f (Some p) b r e = let both = found p.0 p.1 r (f p.0) b e in (p.0, ap (λ s. Some (p.0, s)) both.0, both.1)
+pub one_more_item : (p : Parse json.Json) (start ts r : List Token) (ds : List Data) (n : ℕ) (j : json.Json) (d : Data) → 0 < n → after_end_array ts ≡ None → p ts ≡ Some (j, r) → of_json j ≡ Some d
+    → ItemsLead p start ds n ts → ItemsLead p start (ds ++ d ∷ []) (n - 1) r
+one_more_item p start ts r ds n j d some going one is lead = λ more rest left e others.
+    let found : of_items (json.item j more) ≡ Some (items_of (d ∷ rest)) =
+    ap (option_and_then (λ (x : Data). option_map (item x) (of_items more))) is ∙ ap (option_map (item d)) others in
+    let last = lead (json.item j more) (d ∷ rest) left (items_more p n ts r j some going one ∙ ap (parse_map (json.item j)) e) found in
+    (last.0, last.1, last.2 ∙ ap (λ (xs : List Data). Some (items_of xs)) (sym (append_assoc ds (d ∷ []) rest)))
 
-twice : {A B : Type 0} (g : A → B) (r : List Token) (x : Option A) → option_map (λ b. (b, r)) (option_map g x) ≡ parse_map g (option_map (λ a. (a, r)) x)
-twice g r None = refl
-twice g r (Some a) = refl
+pub items_over : (p : Parse json.Json) (start ts r : List Token) (ds : List Data) (n : ℕ) → length ts ≤ n → after_end_array ts ≡ Some r → ItemsLead p start ds n ts
+    → (whole : json.Items) × (items p (length start) start ≡ Some (whole, r)) × (of_items whole ≡ Some (items_of ds))
+items_over p start ts r ds n enough over lead =
+    let last = lead json.no_items [] r (items_end p n ts r enough over) refl in
+    (last.0, last.1, last.2 ∙ ap (λ (xs : List Data). Some (items_of xs)) (append-nil ds))
 
-pub converted-array : (o : Option (json.Items × List Token)) → converted of_json (parse_map json.array o) ≡ parse_map array (converted of_items o)
-converted-array None = refl
-converted-array (Some p) = twice array p.1 (of_items p.0)
+-- ---- members
 
-pub converted-object : (o : Option (json.Members × List Token)) → converted of_json (parse_map json.object o) ≡ parse_map object (converted (λ ms. of_members ms no_members) o)
-converted-object None = refl
-converted-object (Some p) = twice object p.1 (of_members p.0 no_members)
+-- these are the members before ts: any that are read from there are put into them
+abbrev pub MembersLead : Parse json.Json → List Token → Members → ℕ → List Token → Type 0
+MembersLead p start old n ts =
+    (more : json.Members) (all : Members) (left : List Token) → members p n ts ≡ Some (more, left) → of_members more old ≡ Some all
+    → (whole : json.Members) × (members p (length start) start ≡ Some (whole, left)) × (of_members whole no_members ≡ Some all)
 
-with_item : (j : json.Json) (d : Data) → of_json j ≡ Some d → (o : Option (json.Items × List Token)) → converted of_items (parse_map (json.item j) o) ≡ parse_map (item d) (converted of_items o)
-with_item j d e None = refl
-with_item j d e (Some p) = rw e (twice (item d) p.1 (of_items p.0))
+pub one_more_member : (p : Parse json.Json) (start ts s r : List Token) (old : Members) (n : ℕ) (k : List ℕ) (j : json.Json) (d : Data) → 0 < n → read_key ts ≡ Some (Some k, s) → p s ≡ Some (j, r) → of_json j ≡ Some d
+    → MembersLead p start old n ts → MembersLead p start (put k d old) (n - 1) r
+one_more_member p start ts s r old n k j d some key one is lead = λ more all left e others.
+    let found : of_members (json.member k j more) old ≡ Some all = ap (option_and_then (λ (x : Data). of_members more (put k x old))) is ∙ others in
+    lead (json.member k j more) all left (members_more p n k ts s r j some key one ∙ ap (parse_map (json.member k j)) e) found
 
-with_member : (k : List ℕ) (j : json.Json) (d : Data) (old : Members) → of_json j ≡ Some d → (o : Option (json.Members × List Token))
-    → converted (λ ms. of_members ms old) (parse_map (json.member k j) o) ≡ converted (λ ms. of_members ms (put k d old)) o
-with_member k j d old e None = refl
-with_member k j d old e (Some p) = rw e
-
-module _ (p : Parse json.Json) where
-  pub item_read : (n : ℕ) (ts r : List Token) (d : Data) → 0 < n → after_end_array ts ≡ None → converted of_json (p ts) ≡ Some (d, r)
-      → converted of_items (items p n ts) ≡ parse_map (item d) (converted of_items (items p (n - 1) r))
-  item_read n ts r d some going e = let j = converted_some of_json (p ts) d r e in ap (converted of_items) (items_more p n ts r j.0 some going j.1) ∙ with_item j.0 d j.2 _
-
-  pub items_over : (n : ℕ) (ts r : List Token) → length ts ≤ n → after_end_array ts ≡ Some r → converted of_items (items p n ts) ≡ Some (no_items, r)
-  items_over n ts r enough e = ap (converted of_items) (items_end p n ts r enough e)
-
-  module _ (old : Members) where
-    pub member_read : (n : ℕ) (k : List ℕ) (ts s r : List Token) (d : Data) → 0 < n → read_key ts ≡ Some (Some k, s) → converted of_json (p s) ≡ Some (d, r)
-        → converted (λ ms. of_members ms old) (members p n ts) ≡ converted (λ ms. of_members ms (put k d old)) (members p (n - 1) r)
-    member_read n k ts s r d some key e =
-        let j = converted_some of_json (p s) d r e in
-        ap (converted (λ ms. of_members ms old)) (members_more p n k ts s r j.0 some key j.1) ∙ with_member k j.0 d old j.2 _
-
-    pub members_over : (n : ℕ) (ts r : List Token) → length ts ≤ n → read_key ts ≡ Some (None, r) → converted (λ ms. of_members ms old) (members p n ts) ≡ Some (old, r)
-    members_over n ts r enough e = ap (converted (λ ms. of_members ms old)) (members_end p n ts r enough e)
-
--- ---- a list that grows at its end
-
--- the items behind these
-abbrev pub items_before : List Data → Items → Items
-items_before [] rest = rest
-items_before (d ∷ ds) rest = item d (items_before ds rest)
-
-pub items_before-no_items : (ds : List Data) → items_before ds no_items ≡ items_of ds
-items_before-no_items [] = refl
-items_before-no_items (d ∷ ds) = ap (item d) (items_before-no_items ds)
-
-items_push : (ds : List Data) (d : Data) (rest : Items) → items_before ds (item d rest) ≡ items_before (ds ++ d ∷ []) rest
-items_push [] d rest = refl
-items_push (e ∷ ds) d rest = ap (item e) (items_push ds d rest)
-
-pub one_more_item : (ds : List Data) (d : Data) (r : Option (Items × List Token)) → parse_map (items_before ds) (parse_map (item d) r) ≡ parse_map (items_before (ds ++ d ∷ [])) r
-one_more_item ds d None = refl
-one_more_item ds d (Some p) = ap (λ is. Some (is, p.1)) (items_push ds d p.0)
-
-pub none_before : (r : Option (Items × List Token)) → r ≡ parse_map (λ a. a) r
-none_before None = refl
-none_before (Some p) = refl
+pub members_over : (p : Parse json.Json) (start ts r : List Token) (old : Members) (n : ℕ) → length ts ≤ n → read_key ts ≡ Some (None, r) → MembersLead p start old n ts
+    → (whole : json.Members) × (members p (length start) start ≡ Some (whole, r)) × (of_members whole no_members ≡ Some old)
+members_over p start ts r old n enough over lead = lead json.no_members old r (members_end p n ts r enough over) refl
 
 -- ---- the whole text
+abbrev value_then : Option (json.Json × List Token) → Option Data
+value_then o = option_and_then of_json (option_and_then (λ q. if_last q.0 q.1) o)
 
-abbrev whole : Option (json.Json × List Token) → Option Data
-whole o = option_and_then of_json (option_and_then (λ p. if_last p.0 p.1) o)
-
-whole_read : (o : Option (json.Json × List Token)) (d : Data) → converted of_json o ≡ Some (d, []) → whole o ≡ Some d
-whole_read o d e = let j = converted_some of_json o d [] e in ap whole j.1 ∙ j.2
-
-pub text_read : (text : List ℕ) (ts left : List Token) (d : Data) → ts ≡ tokens text → left ≡ [] → converted of_json (json.value 127 ts) ≡ Some (d, left) → read text ≡ Some d
-text_read text ts left d is over e =
-    whole_read (json.value 127 (tokens text)) d (ap (λ (old : List Token). converted of_json (json.value 127 old)) (sym is) ∙ e ∙ ap (λ (rest : List Token). Some (d, rest)) over)
+pub text_read : (text : List ℕ) (ts left : List Token) (j : json.Json) (d : Data) → ts ≡ tokens text → left ≡ [] → json.value 127 ts ≡ Some (j, left) → of_json j ≡ Some d → read text ≡ Some d
+text_read text ts left j d is over e one =
+    let whole : json.value 127 (tokens text) ≡ Some (j, []) = ap (json.value 127) (sym is) ∙ e ∙ ap (λ (rest : List Token). Some (j, rest)) over in
+    ap value_then whole ∙ one

@@ -1,10 +1,11 @@
 -- What the tokens of a JSON text (RFC 8259) are read as, from their front. This project's own.
 use Rattle.std.specs.Prelude.{◌≡◌, ◌≢◌, ℕ, List, length, map, Some, option_map, Ok, codes}
+use Rattle.json.specs.Json as json
 use Rattle.json.specs.Json.{items, value}
 use Rattle.json.specs.Token.{Token}
 use Rattle.serde_json.specs.Data.{Data, Members}
 use Rattle.serde_json.specs.Find.{get_member}
-use Rattle.serde_json.specs.Read.{converted, of_items, of_json}
+use Rattle.serde_json.specs.Read.{of_items, of_json}
 use Rattle.serde_json.specs.View.{items_of}
 use Rattle.nr_json.specs.Faults.{Read}
 use Rattle.nr_json.specs.Genesis.{entry_of}
@@ -17,13 +18,13 @@ use Rattle.nr_jsonstream.specs.declared.genesis.Member.TheVariants.{Boundaries, 
 -- the first value, with what is left behind it, stands for x
 abbrev pub IsRead : {X : Type 0} → (Data → Read X) → ℕ → List Token → List Token → X → Type 0
 IsRead reading depth old left x =
-    (d : Data) × (converted of_json (value depth old) ≡ Some (d, left)) × (reading d ≡ Ok x)
+    (j : json.Json) × (d : Data) × (value depth old ≡ Some (j, left)) × (of_json j ≡ Some d) × (reading d ≡ Ok x)
 
 -- the values up to the end of the list stand for xs
 abbrev pub AreRead : {X : Type 0} → (Data → Read X) → ℕ → List Token → List Token → List X → Type 0
 AreRead reading depth old left xs =
-    (ds : List Data) × (converted of_items (items (value depth) (length old) old) ≡ Some (items_of ds, left))
-    × (map reading ds ≡ map Ok xs)
+    (js : json.Items) × (ds : List Data) × (items (value depth) (length old) old ≡ Some (js, left))
+    × (of_items js ≡ Some (items_of ds)) × (map reading ds ≡ map Ok xs)
 
 -- what a member of this name is for
 abbrev pub IsNamed : Member → List ℕ → Type 0

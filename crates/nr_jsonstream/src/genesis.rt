@@ -1,10 +1,10 @@
 //! The genesis of a text.
 
 ghost use Rattle.std.specs.Prelude.{◌≡◌, ◌<◌, ◌∷◌, Some, Ok as Good, length, IfOk, IsUtf8, OnOk};
-ghost use Rattle.json.specs.Json.{members, value};
+ghost use Rattle.json.specs.Json.{Json, Members as Pairs, members, value};
 ghost use Rattle.json.specs.Token.{begin_object};
 ghost use Rattle.serde_json.specs.Data.{Data, Members, no_members, put};
-ghost use Rattle.serde_json.specs.Read.{converted, of_json, of_members, read as read_text};
+ghost use Rattle.serde_json.specs.Read.{of_json, of_members, read as read_text};
 ghost use Rattle.nr_json.specs.Genesis.{genesis_of};
 ghost use Rattle.nr_jsonstream.specs.Stream.{Holds, IsNamed, IsRead};
 
@@ -56,8 +56,8 @@ fn with_member(
     name: &str,
     found: Found,
 ) -> Result<Found, Unread>
-    ensures ok { IfOk result (λ more. (d : Data)
-        × (converted of_json (value 126 reader.old) ≡ Some (d, reader.new))
+    ensures ok { IfOk result (λ more. (j : Json) × (d : Data)
+        × (value 126 reader.old ≡ Some (j, reader.new)) × (of_json j ≡ Some d)
         × ((ms : Members) → Holds found ms → Holds more (put name.now d ms))) }
     ensures shorter { OnOk result (length reader.new < length reader.old) }
 {
@@ -93,9 +93,9 @@ fn with_member(
 
 /// The members up to the end of the object.
 fn read_members(alloc: Global, reader: &mut Reader<'_>) -> Result<Found, Unread>
-    ensures { IfOk result (λ found. (ms : Members)
-        × (converted (λ js. of_members js no_members) (members (value 126) (length reader.old) reader.old)
-        ≡ Some (ms, reader.new)) × Holds found ms) }
+    ensures { IfOk result (λ found. (js : Pairs) × (ms : Members)
+        × (members (value 126) (length reader.old) reader.old ≡ Some (js, reader.new))
+        × (of_members js no_members ≡ Some ms) × Holds found ms) }
 {
     let mut found = Found {
         boundaries: None,
@@ -137,7 +137,7 @@ fn read_genesis(alloc: Global, reader: &mut Reader<'_>) -> Result<StatedGenesis,
     })
 }
 
-/// The genesis that a JSON text states. Beside the text it holds the entries that were read, the tree of the next one
+/// The genesis that a JSON text states. Beside the text it holds the entries that were read, the trees of the next one
 /// and as many bytes as the text has.
 ///
 /// # Errors

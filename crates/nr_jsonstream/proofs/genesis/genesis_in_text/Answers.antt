@@ -10,4 +10,4 @@ returns c =
     let is : c.in_ok-reader.reader ≡ tokens c.args.text.now = c.in_ok-reader.ensures.ok ∙ ap tokens utf8.0 in
     let over : c.read_genesis.new.reader ≡ [] = search rules in
     let read = c.in_ok-genesis.ensures in
-    (utf8.1, read.0, text_read c.args.text.now c.in_ok-reader.reader c.read_genesis.new.reader read.0 is over read.1, read.2)
+    (utf8.1, read.1, text_read c.args.text.now c.in_ok-reader.reader c.read_genesis.new.reader read.0 read.1 is over read.2 read.3, read.4)
