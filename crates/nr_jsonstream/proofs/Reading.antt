@@ -19,9 +19,12 @@ ItemsLead p start ds n ts =
     (more : json.Items) (rest : List Data) (left : List Token) → items p n ts ≡ Some (more, left) → of_items more ≡ Some (items_of rest)
     → (whole : json.Items) × (items p (length start) start ≡ Some (whole, left)) × (of_items whole ≡ Some (items_of (ds ++ rest)))
 
+pub items_begin : (p : Parse json.Json) (start : List Token) → ItemsLead p start [] (length start) start
+items_begin p start more rest left e is = (more, e, is)
+
 pub one_more_item : (p : Parse json.Json) (start ts r : List Token) (ds : List Data) (n : ℕ) (j : json.Json) (d : Data) → 0 < n → after_end_array ts ≡ None → p ts ≡ Some (j, r) → of_json j ≡ Some d
     → ItemsLead p start ds n ts → ItemsLead p start (ds ++ d ∷ []) (n - 1) r
-one_more_item p start ts r ds n j d some going one is lead = λ more rest left e others.
+one_more_item p start ts r ds n j d some going one is lead more rest left e others =
     let found : of_items (json.item j more) ≡ Some (items_of (d ∷ rest)) =
     ap (option_and_then (λ (x : Data). option_map (item x) (of_items more))) is ∙ ap (option_map (item d)) others in
     let last = lead (json.item j more) (d ∷ rest) left (items_more p n ts r j some going one ∙ ap (parse_map (json.item j)) e) found in
@@ -41,9 +44,12 @@ MembersLead p start old n ts =
     (more : json.Members) (all : Members) (left : List Token) → members p n ts ≡ Some (more, left) → of_members more old ≡ Some all
     → (whole : json.Members) × (members p (length start) start ≡ Some (whole, left)) × (of_members whole no_members ≡ Some all)
 
+pub members_begin : (p : Parse json.Json) (start : List Token) → MembersLead p start no_members (length start) start
+members_begin p start more all left e is = (more, e, is)
+
 pub one_more_member : (p : Parse json.Json) (start ts s r : List Token) (old : Members) (n : ℕ) (k : List ℕ) (j : json.Json) (d : Data) → 0 < n → read_key ts ≡ Some (Some k, s) → p s ≡ Some (j, r) → of_json j ≡ Some d
     → MembersLead p start old n ts → MembersLead p start (put k d old) (n - 1) r
-one_more_member p start ts s r old n k j d some key one is lead = λ more all left e others.
+one_more_member p start ts s r old n k j d some key one is lead more all left e others =
     let found : of_members (json.member k j more) old ≡ Some all = ap (option_and_then (λ (x : Data). of_members more (put k x old))) is ∙ others in
     lead (json.member k j more) all left (members_more p n k ts s r j some key one ∙ ap (parse_map (json.member k j)) e) found
 

@@ -83,12 +83,12 @@ ListSoFar xs i found =
     (rest : List Data) → of_items (parsed.items_view (drop i xs)) ≡ Some (items_of rest) → of_items (parsed.items_view xs) ≡ Some (items_of (map view found ++ rest))
 
 pub list_begins : (xs : List (Tree Global)) (found : List Value) → found ≡ [] → ListSoFar xs 0 found
-list_begins xs found none = λ rest e.
+list_begins xs found none rest e =
     subst (λ (vs : List Value). of_items (parsed.items_view xs) ≡ Some (items_of (map view vs ++ rest))) (sym none) e
 
 pub list_goes_on : (xs : List (Tree Global)) (i : ℕ) (x : Tree Global) (found : List Value) (v : Value) → i < length xs → x ≡ get_or xs i x → of_json (value_view x) ≡ Some (view v)
     → ListSoFar xs i found → ListSoFar xs (i + 1) (found ++ v ∷ [])
-list_goes_on xs i x found v within is one so_far = λ rest e.
+list_goes_on xs i x found v within is one so_far rest e =
     let here : drop i xs ≡ x ∷ drop (i + 1) xs = drop_more xs i x within ∙ ap (λ (y : Tree Global). y ∷ drop (i + 1) xs) (sym is) in
     let first : of_items (parsed.items_view (x ∷ drop (i + 1) xs)) ≡ Some (items_of (view v ∷ rest)) =
     ap (option_and_then (λ (d : Data). option_map (item d) (of_items (parsed.items_view (drop (i + 1) xs))))) one ∙ ap (option_map (item (view v))) e in

@@ -85,11 +85,7 @@ fn object_in<'a>(
 }
 
 /// The tree of the next value. Lists and objects may nest `depth` deep.
-fn tree_in<'a>(
-    alloc: Global,
-    reader: &mut Reader<'a>,
-    depth: usize,
-) -> Result<Tree<'a>, Unread>
+fn tree_in<'a>(alloc: Global, reader: &mut Reader<'a>, depth: usize) -> Result<Tree<'a>, Unread>
     ensures ok { IfOk result (λ tree. value depth reader.old ≡ Some (value_view tree, reader.new)) }
     ensures shorter { OnOk result (length reader.new < length reader.old) }
 {

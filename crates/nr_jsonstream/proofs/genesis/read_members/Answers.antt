@@ -3,11 +3,11 @@ use Rattle.std.proofs.Common.{◌≡◌, ◌-◌, ◌<◌, length, Some, refl, a
 use Rattle.json.specs.Json.{read_key, value}
 use Rattle.json.proofs.Grammar.{read_key-shorter}
 use Rattle.serde_json.specs.Data.{no_members, put}
-use Rattle.nr_jsonstream.proofs.Reading.{one_more_member, members_over}
+use Rattle.nr_jsonstream.proofs.Reading.{members_begin, one_more_member, members_over}
 use Rattle.nr_jsonstream.proofs.genesis.read_members.Goals as goal
 
 pub members-init : goal.members-init
-members-init c = (length c.args.reader.now, no_members, omega arith, λ more all left e is. (more, e, is), (refl, refl))
+members-init c = (length c.args.reader.now, no_members, omega arith, members_begin (value 126) c.args.reader.now, (refl, refl))
 
 pub members-preserved : goal.members-preserved
 members-preserved c =

@@ -1,13 +1,13 @@
 -- The goals of `list::read_items` that no tactic closes.
 use Rattle.std.proofs.Common.{◌≡◌, ◌-◌, ◌<◌, [], ◌∷◌, ◌++◌, length, None, sym, ap, ◌∙◌, map, arith}
 use Rattle.json.specs.Json.{after_end_array, value}
-use Rattle.nr_jsonstream.proofs.Reading.{one_more_item, items_over}
+use Rattle.nr_jsonstream.proofs.Reading.{items_begin, one_more_item, items_over}
 use Rattle.nr_jsonstream.proofs.Records.{good, one_more}
 use Rattle.nr_jsonstream.proofs.list.read_items.Goals as goal
 
 pub items-init : goal.items-init
 items-init g c =
-    (length c.args.reader.now, [], omega arith, λ more rest left e is. (more, e, is), ap (map good) (sym c.new-found.ensures.items), omega arith)
+    (length c.args.reader.now, [], omega arith, items_begin (value c.args.depth) c.args.reader.now, ap (map good) (sym c.new-found.ensures.items), omega arith)
 
 pub items-preserved : goal.items-preserved
 items-preserved g c =
