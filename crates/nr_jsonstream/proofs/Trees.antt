@@ -98,7 +98,7 @@ list_goes_on xs i x found v within is one so_far rest e =
 
 pub list_done : (xs : List (Tree Global)) (i : ℕ) (found : List Value) → length xs ≤ i → ListSoFar xs i found → of_items (parsed.items_view xs) ≡ Some (items_view found)
 list_done xs i found past so_far =
-    so_far [] (ap (λ (ys : List (Tree Global)). of_items (parsed.items_view ys)) (drop_all xs i past)) ∙ ap (λ (ds : List Data). Some (items_of ds)) (append-nil (map view found))
+    so_far [] (ap (λ (ys : List (Tree Global)). of_items (parsed.items_view ys)) (drop_all i xs past)) ∙ ap (λ (ds : List Data). Some (items_of ds)) (append-nil (map view found))
 
 -- ---- objects
 
@@ -118,4 +118,4 @@ object_goes_on xs i x old v within is one so_far =
     sym (ap (λ (ys : List Pair). of_members (parsed.members_view ys) old) here ∙ step) ∙ so_far
 
 pub object_done : (xs : List Pair) (i : ℕ) (old : Members) → length xs ≤ i → ObjectSoFar xs i old → of_members (parsed.members_view xs) no_members ≡ Some old
-object_done xs i old past so_far = sym so_far ∙ ap (λ (ys : List Pair). of_members (parsed.members_view ys) old) (drop_all xs i past)
+object_done xs i old past so_far = sym so_far ∙ ap (λ (ys : List Pair). of_members (parsed.members_view ys) old) (drop_all i xs past)

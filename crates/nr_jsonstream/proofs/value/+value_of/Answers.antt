@@ -93,8 +93,7 @@ pub object_in-loop-member-preserved : goal.object_in-loop-member-preserved
 object_in-loop-member-preserved t c =
     let l = c.loop-member in
     let xs = c.deref-member-items.result.now in
-    let at = l.member-index + 1 in
-    ap (λ (old : Members). of_members (parsed.members_view (drop at xs)) old) c.in_ok-put.ensures.ok
+    ap (λ (old : Members). of_members (parsed.members_view (drop (l.member-index + 1) xs)) old) c.in_ok-put.ensures.ok
         ∙ object_goes_on xs l.member-index c.member-item.result (members_view l.found.entries) c.in_ok-owned.owned (omega arith) c.member-item.is c.in_ok-owned.ensures l.invariant
 
 pub object_in-returns : goal.object_in-returns
