@@ -162,7 +162,7 @@ fn stated_by_tree(alloc: Global, text: &[u8]) -> Result<StatedGenesis, Fault>
     record_in(alloc, &value)
 }
 
-/// The genesis that a JSON text states. A text with nothing wrong is read entry by entry, which takes less memory.
+/// The genesis that a JSON text states. It is read entry by entry, which takes less memory, or else by its tree.
 fn stated_in(alloc: Global, text: &[u8]) -> Result<StatedGenesis, Fault>
     ensures { AnswersAs (λ x. x) result (stated_in text.now) }
 {
