@@ -43,21 +43,21 @@ fn number_in(text: &str) -> Result<Value, Unread>
 
 /// The value that a tree is.
 #[cycle(value_of)]
-fn value_of<'a>(alloc: Global, tree: &Tree<'a>) -> Result<Value, Unread>
+fn value_of(alloc: Global, tree: &Tree<'_>) -> Result<Value, Unread>
     ensures { IfOk result (λ v. of_json (value_view tree.now) ≡ Some (view v)) }
 {
     match tree {
         Tree::Null => Ok(Value::Null),
         Tree::Bool(flag) => Ok(Value::Bool(*flag)),
-        Tree::Number(text) => Ok(number_in(*text)?),
-        Tree::String(text) => Ok(Value::try_from_str(alloc, *text)?),
+        Tree::Number(text) => Ok(number_in(text)?),
+        Tree::String(text) => Ok(Value::try_from_str(alloc, text)?),
         Tree::Array(items) => Ok(Value::Array(list_in(alloc, items)?)),
         Tree::Object(members) => Ok(Value::Object(object_in(alloc, members)?)),
     }
 }
 
 #[cycle(value_of)]
-fn list_in<'a>(alloc: Global, items: &Vec<Tree<'a>>) -> Result<Vec<Value>, Unread>
+fn list_in(alloc: Global, items: &Vec<Tree<'_>>) -> Result<Vec<Value>, Unread>
     ensures { IfOk result (λ v. of_items (trees_view items.now.items) ≡ Some (items_view v.items)) }
 {
     let mut found = Vec::new(alloc);
@@ -69,9 +69,9 @@ fn list_in<'a>(alloc: Global, items: &Vec<Tree<'a>>) -> Result<Vec<Value>, Unrea
 }
 
 #[cycle(value_of)]
-fn object_in<'a>(
+fn object_in(
     alloc: Global,
-    members: &Vec<(&'a str, Tree<'a>)>,
+    members: &Vec<(&str, Tree<'_>)>,
 ) -> Result<Map<String, Value>, Unread>
     ensures { IfOk result (λ m. of_members (pairs_view members.now.items) no_members
         ≡ Some (members_view m.entries)) }
