@@ -69,10 +69,7 @@ fn list_in(alloc: Global, items: &Vec<Tree<'_>>) -> Result<Vec<Value>, Unread>
 }
 
 #[cycle(value_of)]
-fn object_in(
-    alloc: Global,
-    members: &Vec<(&str, Tree<'_>)>,
-) -> Result<Map<String, Value>, Unread>
+fn object_in(alloc: Global, members: &Vec<(&str, Tree<'_>)>) -> Result<Map<String, Value>, Unread>
     ensures { IfOk result (λ m. of_members (pairs_view members.now.items) no_members
         ≡ Some (members_view m.entries)) }
 {
