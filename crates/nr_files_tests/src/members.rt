@@ -1,6 +1,7 @@
 //! The members of a genesis in other orders and spellings, with ample memory. What is expected is written by hand.
 
 use crate::files::{GENESIS_HEX, ended, refuses, refuses_bytes};
+use nr_jsonstream::{Unread, genesis_in_text};
 use std::alloc::Global;
 use std::test::Fail;
 
@@ -93,6 +94,28 @@ fn the_last_of_doubled_members_counts(rt: HostRuntime) -> Result<(), Fail> {
         for text in &texts_with(alloc, value)? {
             let bytes = made(alloc, text.as_str())?;
             assert_eq!(rt; bytes.as_str(), GENESIS_HEX, "{text}");
+        }
+    }
+    Ok(())
+}
+
+#[test]
+fn a_genesis_is_read_entry_by_entry(rt: HostRuntime) -> Result<(), Fail> {
+    let alloc = rt.alloc();
+    for entries in [ENTRIES, OTHER_ENTRIES] {
+        let text = format!(in alloc; "{{\"boundaries\": [], \"entries\": {entries}}}")?;
+        let genesis = genesis_in_text(alloc, text.as_bytes()).ok();
+        assert!(rt; genesis.is_some(), "{text}");
+        if let Some(genesis) = genesis {
+            assert_eq!(rt; genesis.boundaries.inner().len(), 0);
+            assert_eq!(rt; genesis.entries.inner().len(), 3);
+        }
+    }
+    // numbers for which the tree of the whole text is read
+    for value in ["-1", "2.5", "1e3", "18446744073709551616"] {
+        for text in &texts_with(alloc, value)? {
+            let unread = genesis_in_text(alloc, text.as_bytes()).err();
+            assert_eq!(rt; unread, Some(Unread::Other), "{text}");
         }
     }
     Ok(())
