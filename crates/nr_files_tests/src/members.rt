@@ -22,6 +22,40 @@ const OTHER_ENTRIES: &str = "[\
     \"public_key\": \"ed25519:0101010101010101010101010101010101010101010101010101010101010101\",\
     \"kind\": \"key\", \"account_id\": \"alice\", \"code\": null}]";
 
+/// Faulty texts, and the line of the fault that is told.
+const FIRST_FAULTS: [(&str, &str); 7] = [
+    // of the boundaries, before that of an entry
+    (
+        "{\"entries\": [7], \"boundaries\": 7}",
+        ".boundaries is no list",
+    ),
+    (
+        "{\"entries\": [7], \"boundaries\": [\"ab\", 7]}",
+        ".boundaries[1] is no account id: 2 to 64 characters, of `a` to `z` and `0` to `9`, and single `-`, `_` \
+        or `.` between these",
+    ),
+    ("{\"entries\": [7]}", ".boundaries is missing"),
+    ("{\"boundaries\": []}", ".entries is missing"),
+    // of the last of doubled members
+    (
+        "{\"boundaries\": [], \"entries\": [], \"entries\": [[]]}",
+        ".entries[0] is no object",
+    ),
+    // of the first faulty entry, by the order of its members
+    (
+        "{\"boundaries\": [], \"entries\": [{\"kind\": \"account\", \"locked\": 1, \"amount\": 1,\
+        \"account_id\": \"alice\"}, 7]}",
+        ".entries[0].amount is no amount: a text of decimal digits, at most \
+        340282366920938463463374607431768211455",
+    ),
+    (
+        "{\"boundaries\": [], \"entries\": [{\"kind\": \"key\", \"account_id\": \"alice\",\
+        \"public_key\": \"ed25519:0101010101010101010101010101010101010101010101010101010101010101\",\
+        \"access_key\": {\"nonce\": 1.0, \"permission\": 7}}, 7]}",
+        ".entries[0].access_key.nonce is no whole number from 0 to 18446744073709551615",
+    ),
+];
+
 /// A text in this many lists.
 fn nested(alloc: Global, depth: usize, text: &str) -> Result<String, Fail> {
     let mut whole = String::new(alloc);
@@ -187,39 +221,7 @@ fn what_is_no_genesis_is_told(rt: HostRuntime) -> Result<(), Fail> {
 #[test]
 fn the_first_fault_is_told(rt: HostRuntime) -> Result<(), Fail> {
     let alloc = rt.alloc();
-    let rows: [(&str, &str); 7] = [
-        // of the boundaries, before that of an entry
-        (
-            "{\"entries\": [7], \"boundaries\": 7}",
-            ".boundaries is no list",
-        ),
-        (
-            "{\"entries\": [7], \"boundaries\": [\"ab\", 7]}",
-            ".boundaries[1] is no account id: 2 to 64 characters, of `a` to `z` and `0` to `9`, and single `-`, `_` \
-            or `.` between these",
-        ),
-        ("{\"entries\": [7]}", ".boundaries is missing"),
-        ("{\"boundaries\": []}", ".entries is missing"),
-        // of the last of doubled members
-        (
-            "{\"boundaries\": [], \"entries\": [], \"entries\": [[]]}",
-            ".entries[0] is no object",
-        ),
-        // of the first faulty entry, by the order of its members
-        (
-            "{\"boundaries\": [], \"entries\": [{\"kind\": \"account\", \"locked\": 1, \"amount\": 1,\
-            \"account_id\": \"alice\"}, 7]}",
-            ".entries[0].amount is no amount: a text of decimal digits, at most \
-            340282366920938463463374607431768211455",
-        ),
-        (
-            "{\"boundaries\": [], \"entries\": [{\"kind\": \"key\", \"account_id\": \"alice\",\
-            \"public_key\": \"ed25519:0101010101010101010101010101010101010101010101010101010101010101\",\
-            \"access_key\": {\"nonce\": 1.0, \"permission\": 7}}, 7]}",
-            ".entries[0].access_key.nonce is no whole number from 0 to 18446744073709551615",
-        ),
-    ];
-    for (text, line) in rows {
+    for (text, line) in FIRST_FAULTS {
         assert!(rt;
             refuses(alloc, &["genesis", "free", "F"], text, line)?,
             "{text}"

@@ -56,9 +56,8 @@ fn with_member(
     name: &str,
     found: Found,
 ) -> Result<Found, Unread>
-    ensures ok { IfOk result (λ more. (j : Json) × (d : Data)
-        × (value 126 reader.old ≡ Some (j, reader.new)) × (of_json j ≡ Some d)
-        × ((ms : Members) → Holds found ms → Holds more (put name.now d ms))) }
+    ensures ok { IfOk result (λ more. (j : Json) × (d : Data) × (value 126 reader.old ≡ Some (j, reader.new))
+        × (of_json j ≡ Some d) × ((ms : Members) → Holds found ms → Holds more (put name.now d ms))) }
     ensures shorter { OnOk result (length reader.new < length reader.old) }
 {
     let Found {
