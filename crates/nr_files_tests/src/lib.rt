@@ -11,6 +11,8 @@ mod gathered;
 #[cfg(test)]
 mod generating;
 #[cfg(test)]
+mod members;
+#[cfg(test)]
 mod people;
 #[cfg(test)]
 mod prices;
