@@ -14,6 +14,13 @@ pub(crate) enum Answer {
     Ended { burnt: u128 },
     /// The run stopped at a trap.
     Trapped { kind: u32, burnt: u128 },
+    /// The same, at the instruction of the function with this number whose opcode has this place in the file.
+    TrappedAt {
+        kind: u32,
+        burnt: u128,
+        func: u32,
+        at: usize,
+    },
     /// The run stopped at a fault of the host.
     Failed { kind: u32, burnt: u128 },
     /// The run stopped because no gas was left for the next instruction.

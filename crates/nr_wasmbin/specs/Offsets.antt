@@ -66,8 +66,8 @@ body_in number s = do
   nth_at number n.1
 
 -- the contents of the code section, where it stands
-unfoldable pub code_at : Input → Read (Option Input)
-code_at s = do
+unfoldable pub code_section : Input → Read (Option Input)
+code_section s = do
   one ← word_at magic s
   two ← word_at version one.1
   front ← front_at two.1
@@ -87,4 +87,4 @@ within_code body number (Some inner, s) = within_body body number inner
 
 -- the same in a module's bytes, or the first fault on the way
 unfoldable pub instruction_at : ℕ → ℕ → List ℕ → Result ℕ DecodeFault
-instruction_at body number bytes = code_at (record { left = bytes; at = 0 }) >>= within_code body number
+instruction_at body number bytes = code_section (record { left = bytes; at = 0 }) >>= within_code body number

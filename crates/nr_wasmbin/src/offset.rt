@@ -4,7 +4,7 @@ ghost use Rattle.std.specs.Prelude.{◌≡◌, ◌≤◌, ◌<◌, OnOk, length}
 ghost use Rattle.nr_bytes.specs.Fields.{mapped};
 ghost use Rattle.nr_wasmbin.specs.Expressions.{block_type_at, plain_at};
 ghost use Rattle.nr_wasmbin.specs.Fields.{Gives, GivesAll};
-ghost use Rattle.nr_wasmbin.specs.Offsets.{body_in, code_at, instruction_at, is_instr, nth_at, opcode_at, opens};
+ghost use Rattle.nr_wasmbin.specs.Offsets.{body_in, code_section, instruction_at, is_instr, nth_at, opcode_at, opens};
 ghost use Rattle.nr_wasmbin.specs.Offsets.{operands_at, passed_at, passed_by, within_body};
 
 use crate::body::read_locals;
@@ -159,12 +159,12 @@ fn enter_body<'a>(cursor: &mut Cursor<'a>, number: usize) -> Result<Cursor<'a>, 
 }
 
 /// The contents of the code section.
-#[tactic(auto, unfolding(crate::specs::Offsets::code_at))]
+#[tactic(auto, unfolding(crate::specs::Offsets::code_section))]
 fn enter_code<'a>(
     alloc: Global,
     cursor: &mut Cursor<'a>,
 ) -> Result<Option<Cursor<'a>>, DecodeFault>
-    ensures { Gives result cursor.new (code_at cursor.old) }
+    ensures { Gives result cursor.new (code_section cursor.old) }
 {
     read_word(cursor, *b"\x00asm")?;
     read_word(cursor, *b"\x01\x00\x00\x00")?;
