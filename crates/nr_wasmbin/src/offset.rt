@@ -55,12 +55,7 @@ fn pass_type(cursor: &mut Cursor<'_>) -> Result<(), DecodeFault>
 }
 
 /// Passes over the operands of an instruction that holds no others.
-fn pass_plain(
-    alloc: Global,
-    cursor: &mut Cursor<'_>,
-    at: usize,
-    op: Op,
-) -> Result<(), DecodeFault>
+fn pass_plain(alloc: Global, cursor: &mut Cursor<'_>, at: usize, op: Op) -> Result<(), DecodeFault>
     ensures gives { Gives result cursor.new (mapped (λ p. tt) (plain_at at op) cursor.old) }
     ensures shorter { OnOk result (length cursor.new.left ≤ length cursor.old.left) }
 {
@@ -105,11 +100,7 @@ fn pass_instr(
 
 /// Passes over one opcode with what belongs to it, unless it is that of the instruction that is sought.
 #[tactic(auto, unfolding(crate::specs::Offsets::passed_at))]
-fn pass_opcode(
-    alloc: Global,
-    cursor: &mut Cursor<'_>,
-    number: u64,
-) -> Result<Sought, DecodeFault>
+fn pass_opcode(alloc: Global, cursor: &mut Cursor<'_>, number: u64) -> Result<Sought, DecodeFault>
     ensures gives { Gives result cursor.new (passed_at number cursor.old) }
     ensures shorter { OnOk result (length cursor.new.left < length cursor.old.left) }
 {
@@ -122,19 +113,15 @@ fn pass_opcode(
 }
 
 /// The place of the instruction behind so many others.
-fn find_opcode(
-    alloc: Global,
-    cursor: &mut Cursor<'_>,
-    number: u64,
-) -> Result<usize, DecodeFault>
+fn find_opcode(alloc: Global, cursor: &mut Cursor<'_>, number: u64) -> Result<usize, DecodeFault>
     ensures { GivesAll result (opcode_at number cursor.old) }
 {
     let mut left = number;
-    loop {
-        let sought = pass_opcode(alloc, cursor, left)?;
-        match sought {
-            Sought::Here(at) => return Ok(at),
-            Sought::Behind(number) => left = number,
+    'opcodes: loop {
+        match pass_opcode(alloc, cursor, left) {
+            Ok(Sought::Here(at)) => return Ok(at),
+            Ok(Sought::Behind(more)) => left = more,
+            Err(fault) => return Err(fault),
         }
     }
 }
@@ -160,10 +147,7 @@ fn enter_body<'a>(cursor: &mut Cursor<'a>, number: usize) -> Result<Cursor<'a>, 
 
 /// The contents of the code section.
 #[tactic(auto, unfolding(crate::specs::Offsets::code_section))]
-fn enter_code<'a>(
-    alloc: Global,
-    cursor: &mut Cursor<'a>,
-) -> Result<Option<Cursor<'a>>, DecodeFault>
+fn enter_code<'a>(alloc: Global, cursor: &mut Cursor<'a>) -> Result<Option<Cursor<'a>>, DecodeFault>
     ensures { Gives result cursor.new (code_section cursor.old) }
 {
     read_word(cursor, *b"\x00asm")?;

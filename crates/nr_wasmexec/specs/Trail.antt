@@ -1,7 +1,7 @@
 -- After WebAssembly Core 1.0, "Execution", "Instructions": where a run stands in the code of its module. The standard's
 -- configurations don't name it, so a trail is left beside the reduction: the function that runs, the blocks that are
 -- open in it, and the calls that it stands in. How instructions are numbered is this project's own.
-use Rattle.std.specs.Prelude.{ℕ, zero, suc, ◌+◌, ◌-◌, ◌==◌, nat_eq, if◌then◌else◌, Bool, true, false, cond, List, [], ◌∷◌}
+use Rattle.std.specs.Prelude.{ℕ, zero, suc, ◌+◌, ◌-◌, ◌==◌, if◌then◌else◌, Bool, true, false, cond, List, [], ◌∷◌}
 use Rattle.std.specs.Prelude.{◌++◌, length, take, drop, replicate, sum_by, Option, Some, None, slice_get}
 use Rattle.nr_wasmtypes.specs.Code.{Code, End, Then, Block, Loop, Choice, after, count_of}
 use Rattle.nr_wasmtypes.specs.declared.instr.Plain.{Plain as Op}
@@ -50,7 +50,7 @@ way_of p guest v End = leads.Out
 way_of p guest v (Then o rest) = plain_way p guest v o
 way_of p guest v (Block ty body rest) = leads.Into false
 way_of p guest v (Loop ty body rest) = leads.Into false
-way_of p guest v (Choice ty one other rest) = leads.Into (nat_eq v 0)
+way_of p guest v (Choice ty one other rest) = leads.Into (v == 0)
 
 -- ---- the trail
 pub record Trail : Type 0 where

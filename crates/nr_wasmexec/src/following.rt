@@ -1,7 +1,6 @@
 //! A trail, step by step.
 
 ghost use Rattle.std.specs.Prelude.{◌≡◌, OnOk};
-ghost use Rattle.nr_wasmtypes.specs.Code.{code_of};
 ghost use Rattle.nr_wasmexec.specs.Trail.{called, cut, first, followed, looked, opened, trail_of};
 
 use crate::program::Program;
@@ -10,18 +9,18 @@ use crate::thread::Thread;
 use crate::trail::{Level, Trail, Way};
 use crate::way::way_of;
 use nr_wasmmem::Guest;
-use nr_wasmtypes::Instr;
+use nr_wasmtypes::FuncBody;
 use std::alloc::{AllocError, Global};
 
 /// The trail of a function before its first step.
-pub fn first<'a>(alloc: Global, func: u32, code: &'a [Instr]) -> Trail<'a>
-    ensures { trail_of result ≡ first func (code_of code.now) }
+pub fn first<'a>(alloc: Global, func: u32, body: &'a FuncBody) -> Trail<'a>
+    ensures { trail_of result ≡ first func body.now.code }
 {
     Trail {
         func,
         base: 0,
         levels: Vec::new(alloc),
-        at: Rest::of(code),
+        at: Rest::of(body.code()),
         way: Way::On,
     }
 }
@@ -80,7 +79,10 @@ fn follow(trail: &mut Trail) -> Result<(), AllocError>
             Ok(())
         }
         Way::Branch { depth } => {
-            cut(trail, count.saturating_sub(depth as usize).saturating_sub(1));
+            cut(
+                trail,
+                count.saturating_sub(depth as usize).saturating_sub(1),
+            );
             Ok(())
         }
         Way::Return => {

@@ -86,6 +86,7 @@ fn count_levels(levels: &[Level], so_far: u64) -> Result<u64, AllocError>
 }
 
 /// The levels of the frame that runs.
+#[tactic(auto, using(std::proofs::lemmas::List::drop_all))]
 fn own_levels<'t, 'a>(trail: &'t Trail<'a>) -> &'t [Level<'a>]
     ensures { result.now ≡ drop trail.now.base trail.now.levels.items }
 {

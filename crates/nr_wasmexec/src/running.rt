@@ -221,7 +221,13 @@ pub fn run<H: Host>(
 
 /// Valid code never comes to what no rule fits: a missing operand, an operand of the wrong type, or a
 /// branch out of its blocks.
-pub fn is_never_stuck<H: Host>(program: &Program, limits: Limits, host: &H, guest: &Guest, func: u32)
+pub fn is_never_stuck<H: Host>(
+    program: &Program,
+    limits: Limits,
+    host: &H,
+    guest: &Guest,
+    func: u32,
+)
     requires hosts { program.now.hosts ≡ links program.now.code.imports }
     requires guest { IsGuest program.now guest.now }
     requires method { IsTrue (is_method (func_at program.now func)) }

@@ -105,6 +105,37 @@ fn start<'a, H: Host>(
     pace(&mut thread, trail, program, limits, host, guest)
 }
 
+/// Runs a body over its locals.
+fn run_body<'a, H: Host>(
+    alloc: Global,
+    trail: &mut Trail<'a>,
+    program: &'a Program,
+    limits: Limits,
+    host: &mut H,
+    guest: &mut Guest,
+    body: &'a FuncBody,
+) -> Result<(), Stop>
+    requires { 1 ≤ limits.cost }
+    ensures tracks { let w = rules_of H.meaning program.now limits in
+        let s = runtime (H.state host.old) guest.old in
+        Tracks result (H.state host.new) guest.new (trail_of trail.new)
+        (run_of w s 0 (replicate (length body.now.locals) 0) body.now.code)
+        (trail_from w s 0 (replicate (length body.now.locals) 0) body.now.code (trail_of trail.old)) }
+    ensures shape { SameShape guest.old guest.new }
+    ensures keeps { H.keeps host.old host.new }
+{
+    start(
+        alloc,
+        trail,
+        program,
+        limits,
+        host,
+        guest,
+        body.locals().len(),
+        body.code(),
+    )
+}
+
 /// Runs the code of the function with this number.
 fn follow_body<'a, H: Host>(
     alloc: Global,
@@ -126,17 +157,8 @@ fn follow_body<'a, H: Host>(
     ensures shape { SameShape guest.old guest.new }
     ensures keeps { H.keeps host.old host.new }
 {
-    let mut trail = first(alloc, func, body.code());
-    match start(
-        alloc,
-        &mut trail,
-        program,
-        limits,
-        host,
-        guest,
-        body.locals().len(),
-        body.code(),
-    ) {
+    let mut trail = first(alloc, func, body);
+    match run_body(alloc, &mut trail, program, limits, host, guest, body) {
         Ok(()) => Ok(()),
         Err(Stop::Trap(kind)) => Err(placed(program, kind, &trail)),
         Err(Stop::GasExceeded) => Err(TraceStop::GasExceeded),
@@ -168,6 +190,7 @@ pub fn trace<'a, H: Host>(
     is_never_stuck(program, limits, host, guest, func);
     match func_at(program, func) {
         Some(Func::Coded(_, body)) => follow_body(alloc, program, limits, host, guest, func, body),
-        _ => unreachable!(),
+        Some(Func::Hosted(_, _)) => unreachable!(),
+        None => unreachable!(),
     }
 }

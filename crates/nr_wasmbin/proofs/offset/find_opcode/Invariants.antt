@@ -3,9 +3,9 @@ use Rattle.std.proofs.Common.{◌≡◌, ℕ, ◌≤◌, length}
 use Rattle.nr_wasmbin.specs.Offsets.{opcode_at, opcode_in}
 use Rattle.nr_wasmbin.proofs.offset.find_opcode.Given as goal
 
-abbrev pub invariant-loop-left : goal.invariant-loop-left
-invariant-loop-left l =
+abbrev pub invariant-opcodes : goal.invariant-opcodes
+invariant-opcodes l =
     (turns : ℕ) × (length l.cursor.left ≤ turns) × (opcode_in turns l.left l.cursor ≡ opcode_at l.number l.fn.cursor)
 
-abbrev pub decreases-loop-left : goal.decreases-loop-left
-decreases-loop-left l = length l.cursor.left
+abbrev pub decreases-opcodes : goal.decreases-opcodes
+decreases-opcodes l = length l.cursor.left
