@@ -103,11 +103,11 @@ pub(crate) fn answer(
     alloc: Global,
     valid: Valid,
     config: &Config,
-    bytes: &[u8],
+    bytes: &Vec<u8>,
     work: Work<'_>,
 ) -> Result<Answer, AllocError>
     requires { IsValid (max_pages config.now) valid }
-    ensures { IfOk result (λ a. IsAnswer config.now bytes.now valid (task_in work.entry) a) }
+    ensures { IfOk result (λ a. IsAnswer config.now bytes.now.items valid (task_in work.entry) a) }
 {
     match work {
         Work::Check => check(alloc, valid, config),

@@ -21,14 +21,14 @@ use std::alloc::{AllocError, Global};
 /// The answer of a trap at an instruction of a function, in a module that imports so many functions.
 fn trap_answer(
     alloc: Global,
-    bytes: &[u8],
+    bytes: &Vec<u8>,
     imported: usize,
     kind: u32,
     func: u32,
     place: u64,
     burnt: u128,
 ) -> Result<Answer, AllocError>
-    ensures { IfOk result (λ a. Some (located bytes.now imported kind burnt (func, place)) ≡ Some a) }
+    ensures { IfOk result (λ a. Some (located bytes.now.items imported kind burnt (func, place)) ≡ Some a) }
 {
     let body = (func as usize).saturating_sub(imported);
     match find_instruction(alloc, bytes, body, place) {
@@ -46,12 +46,12 @@ fn trap_answer(
 /// The answer of a run that left a trail, ended so, and burnt so much gas.
 fn told_at(
     alloc: Global,
-    bytes: &[u8],
+    bytes: &Vec<u8>,
     imported: usize,
     end: Result<(), TraceStop>,
     burnt: u128,
 ) -> Result<Answer, AllocError>
-    ensures { IfOk result (λ a. told_at bytes.now imported end burnt ≡ Some a) }
+    ensures { IfOk result (λ a. told_at bytes.now.items imported end burnt ≡ Some a) }
 {
     match end {
         Ok(()) => Ok(Answer::Ended { burnt }),
@@ -69,13 +69,13 @@ fn told_at(
 fn trace_func(
     alloc: Global,
     machine: &mut Machine,
-    bytes: &[u8],
+    bytes: &Vec<u8>,
     imported: usize,
     func: u32,
     gas: u64,
 ) -> Result<Answer, AllocError>
     requires { IsTrue (is_method (func_at machine.old.program func)) }
-    ensures { IfOk result (λ a. TracesTo bytes.now imported machine.old gas func a) }
+    ensures { IfOk result (λ a. TracesTo bytes.now.items imported machine.old gas func a) }
 {
     let mut host = Counter {
         gas: u128::from(gas),
@@ -90,14 +90,14 @@ fn trace_made(
     alloc: Global,
     valid: Valid,
     config: &Config,
-    bytes: &[u8],
+    bytes: &Vec<u8>,
     imported: usize,
     func: u32,
     gas: u64,
 ) -> Result<Answer, AllocError>
     requires valid { IsValid (max_pages config.now) valid }
     requires runs { IsTrue (is_method (func_at (program_of valid) func)) }
-    ensures { IfOk result (λ a. IsTraceIn bytes.now imported (machine_of config.now valid) gas func a) }
+    ensures { IfOk result (λ a. IsTraceIn bytes.now.items imported (machine_of config.now valid) gas func a) }
 {
     match Machine::new(alloc, valid, config) {
         Ok(mut machine) => trace_func(alloc, &mut machine, bytes, imported, func, gas),
@@ -121,12 +121,12 @@ pub(crate) fn trace_method(
     alloc: Global,
     valid: Valid,
     config: &Config,
-    bytes: &[u8],
+    bytes: &Vec<u8>,
     method: &str,
     gas: u64,
 ) -> Result<Answer, AllocError>
     requires { IsValid (max_pages config.now) valid }
-    ensures { IfOk result (λ a. IsTrace bytes.now (imported_count valid) (method_of (program_of valid) method.now)
+    ensures { IfOk result (λ a. IsTrace bytes.now.items (imported_count valid) (method_of (program_of valid) method.now)
         (machine_of config.now valid) gas a) }
 {
     let imported = imports_of(&valid);
