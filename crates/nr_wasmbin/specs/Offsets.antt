@@ -1,7 +1,8 @@
 -- WebAssembly Core 1.0, "Binary Format", "Instructions" and "Modules": where in the bytes of a module the opcode of an
 -- instruction stands. The instructions of a body stand in a row, whatever blocks they are in. That they are numbered
 -- from 0 without `else` and `end` is this project's own.
-use Rattle.std.specs.Prelude.{ℕ, zero, suc, Bool, true, false, cond, List, length, Option, Some, None, Result, Ok, Err}
+use Rattle.std.specs.Prelude.{ℕ, zero, suc, ◌-◌, ◌==◌, if◌then◌else◌, Bool, true, false, cond, List, length, Option}
+use Rattle.std.specs.Prelude.{Some, None, Result, Ok, Err}
 use Rattle.nr_bytes.specs.Fields.{mapped}
 use Rattle.nr_bytes.specs.Reading.{Input, ◌>>=◌}
 use Rattle.nr_wasmtypes.specs.Opcodes.{op_of}
@@ -34,8 +35,8 @@ operands_at at o s = cond (opens o) (mapped (λ t. tt) block_type_at s) (mapped 
 
 -- an instruction whose opcode stands at this place: the one that is sought, behind so many others, or past it
 abbrev pub passed_by : ℕ → ℕ → Op → Input → Read Sought
-passed_by zero at o s = Ok (sought.Here at, s)
-passed_by (suc number) at o s = mapped (λ u. sought.Behind number) (operands_at at o) s
+passed_by number at o s =
+    if number == 0 then Ok (sought.Here at, s) else mapped (λ u. sought.Behind (number - 1)) (operands_at at o) s
 
 -- one opcode, with what belongs to it
 unfoldable pub passed_at : ℕ → Input → Read Sought

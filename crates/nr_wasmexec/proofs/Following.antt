@@ -47,14 +47,14 @@ module _ {S : Type 0} (w : Rules S) (s : Runtime S) (p : Place) (t : Trail) wher
   here = looked w.program s.guest (p.values, p.code) t
 
   looked_here : looked_in w (config_of s.host s.guest p) t ≡ here
-  looked_here = ap (λ i. looked w.program s.guest i t) (inner_whole p)
+  looked_here = ap (λ (i : List ℕ × Code). looked w.program s.guest i t) (inner_whole p)
 
   pub trail_stays : is_too_large_at w.max_frames w.max_values p ≡ true → trail_at w s p t 0 ≡ t
   trail_stays e = rw e refl
 
   pub trail_goes_on : (k : ℕ) (r : Runtime S) (q : Place) (u : Trail) → is_too_large_at w.max_frames w.max_values p ≡ false → stepped w (config_of s.host s.guest p) ≡ To r (whole_of q).0 (whole_of q).1 → u ≡ here
       → trail_at w s p t (suc k) ≡ trail_at w r q u k
-  trail_goes_on k r q u e step is = rw (e, step) (ap (λ x. trail_at w r q x k) (looked_here ∙ sym is))
+  trail_goes_on k r q u e step is = rw (e, step) (ap (λ (x : Trail). trail_at w r q x k) (looked_here ∙ sym is))
 
   trail_ends : (r : Runtime S) (stop : _) (u : Trail) → is_too_large_at w.max_frames w.max_values p ≡ false → stepped w (config_of s.host s.guest p) ≡ Stopping r stop → u ≡ here → trail_at w s p t 1 ≡ u
   trail_ends r stop u e step is = rw (e, step) (looked_here ∙ sym is)
@@ -81,7 +81,7 @@ looks_any (Err stop.Memory) P p = tt
 pub placed_end : {S : Type 0} (r : TraceStop) (p : Program) (h : S) (m : Guest) (kind : ℕ) (t : Trail) (outcome : ℕ → Outcome S) (trail : ℕ → Trail) → Tracks (Err (stop.Trap kind)) h m t outcome trail → IsPlaced r kind (place_in p t)
     → EndsAt (Err r) p h m outcome trail
 placed_end (trace.Trap k func place) p h m kind t outcome trail tracks is =
-    (tracks.0, tracks.1 ∙ ap (λ n. Halted (runtime h m) (Trap n)) (sym is.0), is.1 ∙ ap (place_in p) (sym tracks.2))
+    (tracks.0, tracks.1 ∙ ap (λ (n : ℕ). Halted (runtime h m) (Trap n)) (sym is.0), is.1 ∙ ap (place_in p) (sym tracks.2))
 placed_end trace.GasExceeded p h m kind t outcome trail tracks is = absurd is
 placed_end (trace.HostFault k) p h m kind t outcome trail tracks is = absurd is
 placed_end trace.Memory p h m kind t outcome trail tracks is = tt
@@ -91,17 +91,17 @@ none_more : (n : ℕ) → n ≡ n + 0
 none_more n = omega arith
 
 pub plain_side : (i : Instr) (p : Op) (n : ℕ) (rest : Code) → i ≡ instr.Plain p → n ≡ n + count_of (second_of (put i rest))
-plain_side i p n rest e = none_more n ∙ ap (λ k. n + count_of (second_of k)) (sym (put_plain i p rest e))
+plain_side i p n rest e = none_more n ∙ ap (λ (k : Code). n + count_of (second_of k)) (sym (put_plain i p rest e))
 
 pub block_side : (i : Instr) (ty : Option ValType) (body : Box (Vec Instr Global) Global) (n : ℕ) (rest : Code) → i ≡ instr.Block ty body → n ≡ n + count_of (second_of (put i rest))
-block_side i ty body n rest e = none_more n ∙ ap (λ k. n + count_of (second_of k)) (sym (put_block i ty body rest e))
+block_side i ty body n rest e = none_more n ∙ ap (λ (k : Code). n + count_of (second_of k)) (sym (put_block i ty body rest e))
 
 pub loop_side : (i : Instr) (ty : Option ValType) (body : Box (Vec Instr Global) Global) (n : ℕ) (rest : Code) → i ≡ instr.Loop ty body → n ≡ n + count_of (second_of (put i rest))
-loop_side i ty body n rest e = none_more n ∙ ap (λ k. n + count_of (second_of k)) (sym (put_loop i ty body rest e))
+loop_side i ty body n rest e = none_more n ∙ ap (λ (k : Code). n + count_of (second_of k)) (sym (put_loop i ty body rest e))
 
 pub choice_side : (i : Instr) (ty : Option ValType) (arms : Box (Vec Instr Global × Vec Instr Global) Global) (both : Vec Instr Global × Vec Instr Global) (n count : ℕ) (rest : Code) → i ≡ instr.If ty arms → both ≡ arms.value
     → count ≡ n + count_of (code_of both.1.items) → count ≡ n + count_of (second_of (put i rest))
-choice_side i ty arms both n count rest e f is = is ∙ ap (λ k. n + count_of (second_of k)) (sym (put_if_at i ty arms both rest e f))
+choice_side i ty arms both n count rest e f is = is ∙ ap (λ (k : Code). n + count_of (second_of k)) (sym (put_if_at i ty arms both rest e f))
 
 pub side_of : {E : Type 0} (r : Result ℕ E) (code : Code) (i : Instr) (n : ℕ) → code ≡ put i (after code) → IfOk r (λ count. (rest : Code) → count ≡ n + count_of (second_of (put i rest))) → IfOk r (λ count. count ≡ n + count_of (second_of code))
-side_of r code i n e is = IfOk-weaker r _ _ (λ count all. all (after code) ∙ ap (λ k. n + count_of (second_of k)) (sym e)) is
+side_of r code i n e is = IfOk-weaker r _ _ (λ count all. all (after code) ∙ ap (λ (k : Code). n + count_of (second_of k)) (sym e)) is
