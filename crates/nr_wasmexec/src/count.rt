@@ -33,7 +33,7 @@ fn count_instr(instr: &Instr, so_far: u64) -> Result<u64, AllocError>
 
 /// What an instruction holds, beside so many.
 #[cycle(code)]
-fn count_body(code: &Vec<Instr>, so_far: u64) -> Result<u64, AllocError>
+pub fn count_body(code: &Vec<Instr>, so_far: u64) -> Result<u64, AllocError>
     ensures { IfOk result (λ count. count ≡ so_far + count_of (code_of code.now.items)) }
 {
     let mut count = so_far;

@@ -43,7 +43,7 @@ fn cut(trail: &mut Trail, count: usize)
 }
 
 /// Goes into the block whose instruction was noted.
-fn open(trail: &mut Trail, second: bool) -> Result<(), AllocError>
+fn open_block(trail: &mut Trail, second: bool) -> Result<(), AllocError>
     ensures { OnOk result (trail_of trail.new ≡ opened second (trail_of trail.old)) }
 {
     let at = Rest::of(trail.at.lent());
@@ -52,7 +52,7 @@ fn open(trail: &mut Trail, second: bool) -> Result<(), AllocError>
 }
 
 /// Goes into the function with this number.
-fn call(trail: &mut Trail, func: u32) -> Result<(), AllocError>
+fn enter_func(trail: &mut Trail, func: u32) -> Result<(), AllocError>
     ensures { OnOk result (trail_of trail.new ≡ called func (trail_of trail.old)) }
 {
     let level = Level::Call {
@@ -72,21 +72,20 @@ fn follow(trail: &mut Trail) -> Result<(), AllocError>
     let count = trail.levels.len();
     match trail.way {
         Way::On => Ok(()),
-        Way::Into { second } => open(trail, second),
-        Way::Call { func } => call(trail, func),
+        Way::Into { second } => open_block(trail, second),
+        Way::Call { func } => enter_func(trail, func),
         Way::Out => {
             cut(trail, count.saturating_sub(1));
             Ok(())
         }
         Way::Branch { depth } => {
-            cut(
-                trail,
-                count.saturating_sub(depth as usize).saturating_sub(1),
-            );
+            let inner = count.saturating_sub(depth as usize);
+            cut(trail, inner.saturating_sub(1));
             Ok(())
         }
         Way::Return => {
-            cut(trail, trail.base.saturating_sub(1));
+            let around = trail.base.saturating_sub(1);
+            cut(trail, around);
             Ok(())
         }
     }
