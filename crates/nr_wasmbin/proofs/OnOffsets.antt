@@ -1,12 +1,26 @@
 -- Opcodes and bodies, one after the other.
-use Rattle.std.proofs.Common.{◌≡◌, ℕ, zero, suc, ◌+◌, ◌-◌, ◌<◌, ◌≤◌, List, [], ◌∷◌, length, Ok, Err, Result, refl, sym, ap, ◌∙◌, arith}
+use Rattle.std.proofs.Common.{◌≡◌, ◌≢◌, true, false, ℕ, zero, suc, ◌+◌, ◌-◌, ◌<◌, ◌≤◌, List, [], ◌∷◌, length, Ok, Err, Result, refl, sym, ap, ◌∙◌, arith}
 use Rattle.nr_bytes.specs.Reading.{Input, ◌>>=◌}
 use Rattle.nr_wasmbin.specs.Fields.{Read, sized_at}
-use Rattle.nr_wasmbin.specs.Offsets.{nth_at, onward, opcode_in, passed_at}
+use Rattle.nr_wasmtypes.specs.declared.opcode.Op.{Op}
+use Rattle.nr_wasmtypes.specs.declared.opcode.Op.TheVariants as op
+use Rattle.nr_wasmbin.specs.Offsets.{is_instr, nth_at, onward, opcode_in, opens, passed_at}
 use Rattle.nr_wasmbin.specs.declared.fault.DecodeFault.{DecodeFault}
 use Rattle.nr_wasmbin.specs.declared.fault.DecodeFault.TheVariants as fault
 use Rattle.nr_wasmbin.specs.declared.offset.Sought.{Sought}
 use Rattle.nr_wasmbin.specs.declared.offset.Sought.TheVariants as sought
+
+-- ---- one opcode
+pub any_instr : (o : Op) → o ≢ op.Else → o ≢ op.End → true ≡ is_instr o
+any_instr op.Else a b = absurd (a refl)
+any_instr op.End a b = absurd (b refl)
+any_instr o a b = refl
+
+pub any_plain : (o : Op) → o ≢ op.Block → o ≢ op.Loop → o ≢ op.If → false ≡ opens o
+any_plain op.Block a b c = absurd (a refl)
+any_plain op.Loop a b c = absurd (b refl)
+any_plain op.If a b c = absurd (c refl)
+any_plain o a b c = refl
 
 -- ---- opcodes
 -- at least one turn is left where a byte is

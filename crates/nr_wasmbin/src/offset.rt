@@ -30,7 +30,8 @@ fn is_instr(op: Op) -> bool
     ensures { result ≡ is_instr op }
 {
     match op {
-        Op::Else | Op::End => false,
+        Op::Else => false,
+        Op::End => false,
         _ => true,
     }
 }
@@ -40,7 +41,9 @@ fn opens(op: Op) -> bool
     ensures { result ≡ opens op }
 {
     match op {
-        Op::Block | Op::Loop | Op::If => true,
+        Op::Block => true,
+        Op::Loop => true,
+        Op::If => true,
         _ => false,
     }
 }
