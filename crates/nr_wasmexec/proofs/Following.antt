@@ -46,7 +46,7 @@ module _ {S : Type 0} (w : Rules S) (s : Runtime S) (p : Place) (t : Trail) wher
   abbrev here : Trail
   here = looked w.program s.guest (p.values, p.code) t
 
-  looked_here : looked_in w (config_of s.host s.guest p) t ≡ here
+  pub looked_here : looked_in w (config_of s.host s.guest p) t ≡ here
   looked_here = ap (λ (i : List ℕ × Code). looked w.program s.guest i t) (inner_whole p)
 
   pub trail_stays : is_too_large_at w.max_frames w.max_values p ≡ true → trail_at w s p t 0 ≡ t
