@@ -34,10 +34,10 @@ fn top(thread: &Thread) -> u64
 }
 
 /// Where a branch leads that is taken unless the operand is zero.
-fn branch_way(top: u64, depth: u32) -> Way
-    ensures { result ≡ branch_way top depth }
+fn branch_way(value: u64, depth: u32) -> Way
+    ensures { result ≡ branch_way value depth }
 {
-    if top == 0 {
+    if value == 0 {
         Way::On
     } else {
         Way::Branch { depth }
@@ -55,28 +55,28 @@ fn call_way(program: &Program, f: u32) -> Way
 }
 
 /// Where a call of a function of the table leads.
-fn table_way(program: &Program, guest: &Guest, top: u64) -> Way
-    ensures { result ≡ table_way program.now (slice_get guest.now.table top) }
+fn table_way(program: &Program, guest: &Guest, value: u64) -> Way
+    ensures { result ≡ table_way program.now (slice_get guest.now.table value) }
 {
-    match entry(&guest.table, top) {
+    match entry(&guest.table, value) {
         Some(Some(f)) => call_way(program, f),
         _ => Way::On,
     }
 }
 
 /// Where an instruction leads that holds no others.
-fn plain_way(program: &Program, guest: &Guest, top: u64, plain: &Plain) -> Way
-    ensures { result ≡ plain_way program.now guest.now top plain.now }
+fn plain_way(program: &Program, guest: &Guest, value: u64, plain: &Plain) -> Way
+    ensures { result ≡ plain_way program.now guest.now value plain.now }
 {
     match plain {
         Plain::Br(depth) => Way::Branch { depth: *depth },
-        Plain::BrIf(depth) => branch_way(top, *depth),
+        Plain::BrIf(depth) => branch_way(value, *depth),
         Plain::BrTable(labels) => Way::Branch {
-            depth: label_of(labels, top),
+            depth: label_of(labels, value),
         },
         Plain::Return => Way::Return,
         Plain::Call(f) => call_way(program, *f),
-        Plain::CallIndirect(_) => table_way(program, guest, top),
+        Plain::CallIndirect(_) => table_way(program, guest, value),
         _ => Way::On,
     }
 }
@@ -85,11 +85,11 @@ fn instr_way(thread: &Thread, program: &Program, guest: &Guest, instr: &Instr) -
     requires { thread.now.code ≡ put instr.now (after thread.now.code) }
     ensures { result ≡ way_of program.now guest.now (top thread.now.values) thread.now.code }
 {
-    let top = top(thread);
+    let value = top(thread);
     match instr {
-        Instr::Plain(plain) => plain_way(program, guest, top, plain),
+        Instr::Plain(plain) => plain_way(program, guest, value, plain),
         Instr::Block(_, _) | Instr::Loop(_, _) => Way::Into { second: false },
-        Instr::If(_, _) => Way::Into { second: top == 0 },
+        Instr::If(_, _) => Way::Into { second: value == 0 },
     }
 }
 
