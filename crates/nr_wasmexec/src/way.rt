@@ -23,7 +23,7 @@ fn first_of(args: &[u64]) -> u64
 }
 
 /// The topmost operand, and zero where there is none.
-#[tactic(auto, using(crate::proofs::Following::topmost, crate::proofs::Following::no_top))]
+#[tactic(auto, using(crate::proofs::OnTrails::topmost, crate::proofs::OnTrails::no_top))]
 fn top(thread: &Thread) -> u64
     ensures { result ≡ top thread.now.values }
 {

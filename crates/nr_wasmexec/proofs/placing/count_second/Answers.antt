@@ -1,6 +1,6 @@
 -- The goals of `placing::count_second` that no tactic closes.
 use Rattle.nr_wasmtypes.specs.Code.{code_of}
-use Rattle.nr_wasmexec.proofs.Following.{side_of}
+use Rattle.nr_wasmexec.proofs.OnTrails.{side_of}
 use Rattle.nr_wasmexec.proofs.placing.count_second.Goals as goal
 
 pub returns-in-Some : goal.returns-in-Some

@@ -1,7 +1,7 @@
 -- The goals of `placing::count_side` that no tactic closes.
 use Rattle.std.proofs.Common.{IfOk}
 use Rattle.std.proofs.lemmas.Result.{IfOk-weaker}
-use Rattle.nr_wasmexec.proofs.Following.{block_side, choice_side, loop_side, plain_side}
+use Rattle.nr_wasmexec.proofs.OnTrails.{block_side, choice_side, loop_side, plain_side}
 use Rattle.nr_wasmexec.proofs.placing.count_side.Goals as goal
 
 pub returns-in-Plain : goal.returns-in-Plain

@@ -4,7 +4,7 @@ use Rattle.nr_wasmexec.specs.Machine.{rules_of, runtime}
 use Rattle.nr_wasmexec.specs.Reduction.{run_of}
 use Rattle.nr_wasmexec.specs.Tracing.{EndsAt}
 use Rattle.nr_wasmexec.specs.Trail.{Trail, trail_from, trail_of}
-use Rattle.nr_wasmexec.proofs.Following.{placed_end}
+use Rattle.nr_wasmexec.proofs.OnTrails.{placed_end}
 use Rattle.nr_wasmexec.proofs.tracing.follow_body.Goals as goal
 
 pub returns-in-Err-Trap-clause-ends : goal.returns-in-Err-Trap-clause-ends

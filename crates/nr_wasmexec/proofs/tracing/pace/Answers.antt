@@ -4,7 +4,7 @@ use Rattle.nr_wasmexec.specs.Reduction.{Done, stepped}
 use Rattle.nr_wasmexec.specs.Machine.{rules_of, runtime, config_of, run_at}
 use Rattle.nr_wasmexec.specs.Tracing.{trail_at}
 use Rattle.nr_wasmexec.specs.Trail.{trail_of}
-use Rattle.nr_wasmexec.proofs.Following.{tracks_err, trail_goes_on, trail_stays}
+use Rattle.nr_wasmexec.proofs.OnTrails.{tracks_err, trail_goes_on, trail_stays}
 use Rattle.nr_wasmexec.proofs.Turning.{too_large, goes_on, over, turns_on, turns_off}
 use Rattle.nr_wasmexec.proofs.tracing.pace.Goals as goal
 

@@ -1,5 +1,5 @@
 -- The goals of `tracing::pass` that no tactic closes.
-use Rattle.nr_wasmexec.proofs.Following.{looks_any}
+use Rattle.nr_wasmexec.proofs.OnTrails.{looks_any}
 use Rattle.nr_wasmexec.proofs.tracing.pass.Goals as goal
 
 pub returns-in-Ok-clause-looks : goal.returns-in-Ok-clause-looks
