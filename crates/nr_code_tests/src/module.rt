@@ -52,6 +52,27 @@ const ELEMENT_LAST: [u8; 47] = [
     103, 111, 0, 0, 9, 7, 1, 0, 65, 0, 11, 1, 0, 10, 4, 1, 2, 0, 11,
 ];
 
+/// Methods that trap, one that ends and one that calls the host; the function 0 is imported, and 5 is called by the table.
+/// A custom section stands before the code, and its locals and numbers take several bytes.
+const TRAPS: [u8; 387] = [
+    0, 97, 115, 109, 1, 0, 0, 0, 1, 12, 3, 96, 0, 0, 96, 1, 126, 0, 96, 0, 1, 127, 2, 13, 1, 3,
+    101, 110, 118, 5, 105, 110, 112, 117, 116, 0, 1, 3, 16, 15, 0, 0, 0, 0, 0, 2, 0, 0, 0, 0, 0, 0,
+    0, 0, 0, 4, 4, 1, 112, 0, 4, 5, 3, 1, 0, 1, 7, 110, 14, 3, 100, 105, 118, 0, 1, 4, 115, 105,
+    100, 101, 0, 2, 5, 105, 110, 110, 101, 114, 0, 3, 5, 101, 113, 117, 97, 108, 0, 4, 8, 105, 110,
+    100, 105, 114, 101, 99, 116, 0, 5, 6, 98, 101, 104, 105, 110, 100, 0, 7, 6, 98, 101, 121, 111,
+    110, 100, 0, 8, 5, 101, 109, 112, 116, 121, 0, 9, 4, 116, 121, 112, 101, 0, 10, 4, 108, 111,
+    97, 100, 0, 11, 4, 99, 97, 108, 108, 0, 12, 5, 118, 97, 108, 117, 101, 0, 13, 4, 104, 111, 115,
+    116, 0, 14, 4, 101, 110, 100, 115, 0, 15, 9, 14, 2, 0, 65, 0, 11, 2, 3, 4, 0, 65, 3, 11, 1, 6,
+    0, 8, 4, 110, 111, 116, 101, 11, 0, 5, 10, 180, 1, 15, 29, 1, 1, 127, 2, 64, 3, 64, 32, 0, 4,
+    64, 65, 7, 65, 0, 109, 26, 5, 1, 11, 65, 1, 33, 0, 12, 0, 11, 11, 11, 10, 0, 65, 0, 4, 64, 0,
+    5, 0, 11, 11, 9, 0, 2, 64, 12, 0, 0, 11, 0, 11, 9, 0, 2, 64, 12, 0, 0, 11, 0, 11, 8, 0, 1, 65,
+    1, 17, 0, 0, 11, 12, 0, 2, 64, 2, 64, 65, 5, 15, 11, 11, 0, 11, 23, 0, 16, 6, 26, 2, 64, 2, 64,
+    2, 64, 65, 1, 14, 2, 0, 1, 2, 11, 0, 11, 0, 11, 11, 7, 0, 65, 9, 17, 0, 0, 11, 7, 0, 65, 2, 17,
+    0, 0, 11, 7, 0, 65, 3, 17, 0, 0, 11, 15, 0, 66, 127, 26, 65, 240, 162, 4, 40, 2, 128, 128, 64,
+    26, 11, 8, 0, 2, 64, 11, 16, 12, 0, 11, 11, 1, 208, 134, 3, 127, 65, 0, 26, 16, 13, 11, 6, 0,
+    66, 0, 16, 0, 11, 3, 0, 1, 11,
+];
+
 /// Whether these words, over a file `M`, are answered so.
 fn answers(
     alloc: Global,
@@ -113,6 +134,47 @@ fn a_check_tells_whether_all_fits(rt: HostRuntime) -> Result<(), Fail> {
     Ok(())
 }
 
+/// The functions and the places are those of the bytes, which were written with them; for all but the last two rows V8
+/// names the same.
+#[test]
+fn a_trap_says_where(rt: HostRuntime) -> Result<(), Fail> {
+    let alloc = rt.alloc();
+    for (method, lines) in [
+        ("div", "trap 3 14\nat 1 224\n"),
+        ("side", "trap 1 3\nat 2 246\n"),
+        ("inner", "trap 1 3\nat 3 257\n"),
+        ("equal", "trap 1 3\nat 4 267\n"),
+        ("indirect", "trap 1 6\nat 4 267\n"),
+        ("behind", "trap 1 12\nat 7 312\n"),
+        ("beyond", "trap 5 2\nat 8 319\n"),
+        ("empty", "trap 6 2\nat 9 327\n"),
+        ("type", "trap 7 2\nat 10 335\n"),
+        ("load", "trap 2 4\nat 11 348\n"),
+        ("call", "trap 8 2000\nat 12 360\n"),
+        ("value", "trap 8 4\nat 13 370\n"),
+    ] {
+        let trap = ["trap", "free", "M", method, "10000"];
+        assert!(rt; answers(alloc, &trap, &TRAPS, Status::Faulty, lines)?);
+    }
+    Ok(())
+}
+
+#[test]
+fn what_does_not_trap_has_no_place(rt: HostRuntime) -> Result<(), Fail> {
+    let alloc = rt.alloc();
+    let ends = ["trap", "free", "M", "ends", "10000"];
+    assert!(rt; answers(alloc, &ends, &TRAPS, Status::Sound, "end 1\n")?);
+    let calls = ["trap", "free", "M", "host", "10000"];
+    assert!(rt; answers(alloc, &calls, &TRAPS, Status::Faulty, "fault 20 2\n")?);
+    let burns = ["trap", "free", "M", "call", "5"];
+    assert!(rt; answers(alloc, &burns, &TRAPS, Status::Faulty, "gas 5\n")?);
+    let absent = ["trap", "free", "M", "five", "10000"];
+    assert!(rt; answers(alloc, &absent, &TRAPS, Status::Faulty, "method\n")?);
+    let run = ["run", "free", "M", "div", "10000"];
+    assert!(rt; answers(alloc, &run, &TRAPS, Status::Faulty, "trap 3 14\n")?);
+    Ok(())
+}
+
 #[test]
 fn gas_has_no_leading_zeros(rt: HostRuntime) -> Result<(), Fail> {
     let alloc = rt.alloc();
@@ -126,6 +188,7 @@ fn help_and_version_load_nothing(rt: HostRuntime) -> Result<(), Fail> {
     let alloc = rt.alloc();
     let help = "near_module check CONFIG FILE\n\
     near_module run CONFIG FILE METHOD GAS\n\
+    near_module trap CONFIG FILE METHOD GAS\n\
     near_module list FILE\n\
     near_module text FILE\n\
     near_module help\n\

@@ -219,6 +219,10 @@ fn lines_of_modules_have_sentences(rt: HostRuntime) -> Result<(), Fail> {
             "trap 3 12",
             "The run stopped at a trap: a division by zero. It burnt 12 gas.",
         ),
+        (
+            "at 3 117",
+            "The instruction that trapped stands in function 3, at byte 117 (from 0) of the file.",
+        ),
     ] {
         assert!(rt; is_told(rt.alloc(), line, sentence)?, "{line}");
     }

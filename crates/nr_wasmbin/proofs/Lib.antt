@@ -11,3 +11,4 @@ pub mod SequenceAgain
 pub mod PlainLaws
 pub mod Chain
 pub mod ModuleLaws
+pub mod OnOffsets

@@ -8,9 +8,11 @@ mod fault;
 mod item;
 mod leb;
 mod module;
+mod offset;
 mod parts;
 mod plain;
 mod section;
 
 pub use fault::DecodeFault;
 pub use module::decode;
+pub use offset::find_instruction;

@@ -108,7 +108,7 @@ pub(crate) fn read_plain(
 }
 
 /// The type of a block.
-fn read_block_type(cursor: &mut Cursor<'_>) -> Result<Option<ValType>, DecodeFault>
+pub(crate) fn read_block_type(cursor: &mut Cursor<'_>) -> Result<Option<ValType>, DecodeFault>
     ensures gives { Gives result cursor.new (block_type_at cursor.old) }
     ensures shorter { OnOk result (length cursor.new.left < length cursor.old.left) }
 {

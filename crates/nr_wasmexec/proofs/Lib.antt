@@ -10,3 +10,4 @@ pub mod Sound
 pub mod Putting
 pub mod Made
 pub mod Named
+pub mod OnTrails

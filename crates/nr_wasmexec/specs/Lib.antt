@@ -8,3 +8,5 @@ pub mod Machine
 pub mod Making
 pub mod Standing
 pub mod Gauge
+pub mod Trail
+pub mod Tracing

@@ -4,20 +4,28 @@
 mod branching;
 mod calling;
 mod control;
+mod count;
 mod execute;
+mod following;
 mod gauge;
 mod machine;
 mod making;
 mod number;
 mod operand;
+mod placing;
 mod program;
+mod rest;
 mod running;
 mod stop;
 mod storing;
 mod thread;
+mod tracing;
+mod trail;
 mod variable;
+mod way;
 
 pub use gauge::Gauge;
 pub use machine::Machine;
 pub use making::MakeFault;
 pub use stop::RunStop;
+pub use trail::TraceStop;
