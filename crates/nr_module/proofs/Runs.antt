@@ -13,9 +13,9 @@ use Rattle.nr_wasmexec.specs.Making.{program_of}
 use Rattle.nr_wasmexec.specs.declared.program.Program.{Program}
 use Rattle.nr_wasmexec.specs.declared.stop.RunStop.{RunStop}
 use Rattle.nr_wasmexec.specs.declared.stop.RunStop.TheVariants as stop
-use Rattle.nr_wasmexec.specs.Tracing.{EndsAt}
-use Rattle.nr_wasmexec.specs.declared.trail.TraceStop.{TraceStop}
-use Rattle.nr_wasmexec.specs.declared.trail.TraceStop.TheVariants as trace
+use Rattle.nr_trace.specs.Tracing.{EndsAt}
+use Rattle.nr_trace.specs.declared.trail.TraceStop.{TraceStop}
+use Rattle.nr_trace.specs.declared.trail.TraceStop.TheVariants as trace
 use Rattle.nr_module.specs.Running.{run_from, over, over_at, RunsTo, told, told_at, TracesTo, trail_from, located}
 use Rattle.nr_module.specs.declared.counter.Counter.{Counter}
 use Rattle.nr_module.specs.declared.verdict.Answer.{Answer}

@@ -2,7 +2,7 @@
 -- Core 1.0; the host, which only counts the gas of instructions (loading the code costs none), the order of a run's
 -- steps and the answers are this project's own.
 use Rattle.std.specs.Prelude.{◌≡◌, ℕ, ◌-◌, List, Option, Some, None, Result, Ok, Err}
-use Rattle.nr_wasmbin.specs.Offsets.{instruction_at}
+use Rattle.nr_trace.specs.Offsets.{instruction_at}
 use Rattle.nr_wasmbin.specs.declared.fault.DecodeFault.{DecodeFault}
 use Rattle.nr_wasmexec.specs.Reduction.{Stop, Trap, GasExceeded, HostFault, Outcome, Done, Halted, NeverFits}
 use Rattle.nr_wasmexec.specs.Reduction.{Unfinished, run_by}
@@ -10,12 +10,12 @@ use Rattle.nr_wasmexec.specs.Machine.{rules_of, runtime}
 use Rattle.nr_wasmexec.specs.Making.{MachineView}
 use Rattle.nr_wasmexec.specs.declared.making.MakeFault.{MakeFault}
 use Rattle.nr_wasmexec.specs.declared.making.MakeFault.TheVariants as make
-use Rattle.nr_wasmexec.specs.Trail.{Trail, place_in, trail_by}
+use Rattle.nr_trace.specs.Trail.{Trail, place_in, trail_by}
 use Rattle.nr_wasmexec.specs.declared.program.Program.{Program}
 use Rattle.nr_wasmexec.specs.declared.stop.RunStop.{RunStop}
 use Rattle.nr_wasmexec.specs.declared.stop.RunStop.TheVariants as stop
-use Rattle.nr_wasmexec.specs.declared.trail.TraceStop.{TraceStop}
-use Rattle.nr_wasmexec.specs.declared.trail.TraceStop.TheVariants as trace
+use Rattle.nr_trace.specs.declared.trail.TraceStop.{TraceStop}
+use Rattle.nr_trace.specs.declared.trail.TraceStop.TheVariants as trace
 use Rattle.nr_module.specs.Counter.{counter}
 use Rattle.nr_module.specs.declared.counter.Counter.{Counter}
 use Rattle.nr_module.specs.declared.verdict.Answer.{Answer}

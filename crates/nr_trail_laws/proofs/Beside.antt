@@ -10,12 +10,12 @@ use Rattle.nr_wasmmem.specs.declared.guest.Guest.{Guest}
 use Rattle.nr_wasmexec.specs.Functions.{Coded, func_at}
 use Rattle.nr_wasmexec.specs.Place.{Context, InLabel, InFrame, Place, onward, branched, returned, left, arrived, Led, Leads, Halts, Nowhere, with_store, given, asked, led}
 use Rattle.nr_wasmexec.specs.Reduction.{Effect, Goes, Writes, Opens, Invokes, Asks, Branches, Returns, Traps, Stuck, Runtime, behind_call, call_of, effect}
-use Rattle.nr_wasmexec.specs.Trail.{Trail, behind, called, cut, cut_by, followed, followed_by, looked, noted, number_in, opened, top, way_of}
+use Rattle.nr_trace.specs.Trail.{Trail, behind, called, cut, cut_by, followed, followed_by, looked, noted, number_in, opened, top, way_of}
 use Rattle.nr_wasmexec.specs.declared.program.Program.{Program}
-use Rattle.nr_wasmexec.specs.declared.trail.Level.{Level}
-use Rattle.nr_wasmexec.specs.declared.trail.Level.TheVariants as level
-use Rattle.nr_wasmexec.specs.declared.trail.Way.{Way}
-use Rattle.nr_wasmexec.specs.declared.trail.Way.TheVariants as leads
+use Rattle.nr_trace.specs.declared.trail.Level.{Level}
+use Rattle.nr_trace.specs.declared.trail.Level.TheVariants as level
+use Rattle.nr_trace.specs.declared.trail.Way.{Way}
+use Rattle.nr_trace.specs.declared.trail.Way.TheVariants as leads
 use Rattle.nr_wasmexec.proofs.Branches.{some_is}
 use Rattle.nr_trail_laws.specs.Placed.{IsAt, StandsAt}
 use Rattle.nr_trail_laws.proofs.Fits.{Fits, IsCode, plain_fits}

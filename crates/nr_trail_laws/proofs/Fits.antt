@@ -17,10 +17,10 @@ use Rattle.nr_wasmmem.specs.Bytes.{MemoryView}
 use Rattle.nr_wasmexec.specs.Functions.{Func, Hosted, Coded, sig_of, func_at}
 use Rattle.nr_wasmexec.specs.Reduction.{Effect, Goes, Writes, Opens, Invokes, Asks, Branches, Returns, Traps, Stuck}
 use Rattle.nr_wasmexec.specs.Reduction.{on_top, on_two, on_three, with_value, computed, read, written, grows, chosen, asks, invoked, called, called_as, called_at, plain_effect}
-use Rattle.nr_wasmexec.specs.Trail.{call_way, plain_way, table_way, top}
+use Rattle.nr_trace.specs.Trail.{call_way, plain_way, table_way, top}
 use Rattle.nr_wasmexec.specs.declared.program.Program.{Program}
-use Rattle.nr_wasmexec.specs.declared.trail.Way.{Way}
-use Rattle.nr_wasmexec.specs.declared.trail.Way.TheVariants as leads
+use Rattle.nr_trace.specs.declared.trail.Way.{Way}
+use Rattle.nr_trace.specs.declared.trail.Way.TheVariants as leads
 
 -- the function has this code
 abbrev pub IsCode : Program → ℕ → Code → Type 0

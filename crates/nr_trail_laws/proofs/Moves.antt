@@ -12,14 +12,14 @@ use Rattle.nr_wasmexec.specs.Functions.{Func, Hosted, Coded, func_at}
 use Rattle.nr_wasmexec.specs.Machine.{config_of, runtime}
 use Rattle.nr_wasmexec.specs.Place.{Context, InLabel, InFrame, Place, whole_of, branched, returned, left, arrived, Led, Leads, Halts, Nowhere, with_store, given, asked, led}
 use Rattle.nr_wasmexec.specs.Reduction.{Effect, Goes, Writes, Opens, Invokes, Asks, Branches, Returns, Traps, Stuck, Runtime, Rules, Step, To, Over, Branching, Returning, Stopping, NoRule, Seq, Plain, Frame, GasExceeded, IsDead, behind_call, call_of, effect, has_instr, is_too_large, paid, plain_effect, reduce, stepped}
-use Rattle.nr_wasmexec.specs.Trail.{Trail, cut, first, followed, followed_by, left_by, looked, looked_in, noted, plain_way, top, trail_by, trail_in, trails, way_of}
+use Rattle.nr_trace.specs.Trail.{Trail, cut, first, followed, followed_by, left_by, looked, looked_in, noted, plain_way, top, trail_by, trail_in, trails, way_of}
 use Rattle.nr_wasmexec.specs.declared.program.Program.{Program}
-use Rattle.nr_wasmexec.specs.declared.trail.Level.{Level}
-use Rattle.nr_wasmexec.specs.declared.trail.Level.TheVariants as level
-use Rattle.nr_wasmexec.specs.declared.trail.Way.{Way}
-use Rattle.nr_wasmexec.specs.declared.trail.Way.TheVariants as leads
+use Rattle.nr_trace.specs.declared.trail.Level.{Level}
+use Rattle.nr_trace.specs.declared.trail.Level.TheVariants as level
+use Rattle.nr_trace.specs.declared.trail.Way.{Way}
+use Rattle.nr_trace.specs.declared.trail.Way.TheVariants as leads
 use Rattle.nr_wasmexec.proofs.Branches.{some_is}
-use Rattle.nr_wasmexec.proofs.Following.{looked_here}
+use Rattle.nr_trace.proofs.OnTrails.{looked_here}
 use Rattle.nr_wasmexec.proofs.Plugged.{IsStep, end_is, has_instr_inside, instr_is}
 use Rattle.nr_trail_laws.specs.Placed.{StandsAt}
 use Rattle.nr_trail_laws.proofs.Beside.{Along, Beside, Gone, Inside, branch_lands, lands, return_lands, stands_along}

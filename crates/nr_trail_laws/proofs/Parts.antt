@@ -4,9 +4,9 @@ use Rattle.std.specs.Prelude.{sum_by}
 use Rattle.std.proofs.lemmas.List.Sums.{sum_by-cons}
 use mathlib.Core.Logic.{inl, inr}
 use Rattle.nr_wasmtypes.specs.Code.{Code, End, Then, Block, Loop, Choice, after, count_of}
-use Rattle.nr_wasmexec.specs.Trail.{behind, second_of}
-use Rattle.nr_wasmexec.specs.declared.trail.Level.{Level}
-use Rattle.nr_wasmexec.specs.declared.trail.Level.TheVariants as level
+use Rattle.nr_trace.specs.Trail.{behind, second_of}
+use Rattle.nr_trace.specs.declared.trail.Level.{Level}
+use Rattle.nr_trace.specs.declared.trail.Level.TheVariants as level
 use Rattle.nr_trail_laws.specs.Placed.{IsAt}
 
 pub at_here : (whole : Code) → IsAt whole 0 whole

@@ -5,7 +5,7 @@ use Rattle.nr_wasmtypes.specs.declared.module.FuncType.{FuncType}
 use Rattle.nr_wasmtypes.specs.Body.{Body}
 use Rattle.nr_wasmtypes.specs.Code.{Code, End, Then, Block, Loop, Choice, count_of}
 use Rattle.nr_wasmexec.specs.Functions.{Coded, func_at}
-use Rattle.nr_wasmexec.specs.Trail.{Trail, number_in}
+use Rattle.nr_trace.specs.Trail.{Trail, number_in}
 use Rattle.nr_wasmexec.specs.declared.program.Program.{Program}
 
 -- behind so many instructions the rest of a sequence is this: it begins here, inside the first instruction, or after it

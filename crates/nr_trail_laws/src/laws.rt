@@ -4,7 +4,7 @@ ghost use Rattle.std.specs.Prelude.{◌≡◌, ℕ, Some};
 ghost use Rattle.nr_trail_laws.specs.Placed.{StandsAt};
 ghost use Rattle.nr_wasmexec.specs.Functions.{Coded, func_at};
 ghost use Rattle.nr_wasmexec.specs.Machine.{rules_of, runtime};
-ghost use Rattle.nr_wasmexec.specs.Trail.{trail_by};
+ghost use Rattle.nr_trace.specs.Trail.{trail_by};
 ghost use Rattle.nr_wasmexec.specs.declared.program.Limits.{Limits};
 ghost use Rattle.nr_wasmexec.specs.declared.program.Program.{Program};
 ghost use Rattle.nr_wasmmem.specs.declared.guest.Guest.{Guest};

@@ -11,4 +11,3 @@ pub mod SequenceAgain
 pub mod PlainLaws
 pub mod Chain
 pub mod ModuleLaws
-pub mod OnOffsets

@@ -5,4 +5,3 @@ pub mod Parts
 pub mod Expressions
 pub mod Modules
 pub mod Grammar
-pub mod Offsets

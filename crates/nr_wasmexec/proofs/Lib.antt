@@ -10,4 +10,3 @@ pub mod Sound
 pub mod Putting
 pub mod Made
 pub mod Named
-pub mod OnTrails

@@ -8,5 +8,3 @@ pub mod Machine
 pub mod Making
 pub mod Standing
 pub mod Gauge
-pub mod Trail
-pub mod Tracing

@@ -13,15 +13,11 @@ ghost use Rattle.nr_wasmexec.specs.Machine.{rules_of, runtime, Ends};
 ghost use Rattle.nr_wasmexec.specs.Making.{MachineView, IsMachine, FitsFirst, most_of, memory_of, guest_answer};
 ghost use Rattle.nr_wasmexec.specs.Making.{first_guest, limits_of, machine_of, is_method, method_as, method_in};
 ghost use Rattle.nr_wasmexec.specs.Making.{method_of};
-ghost use Rattle.nr_wasmexec.specs.Tracing.{EndsAt};
-ghost use Rattle.nr_wasmexec.specs.Trail.{trail_by};
 
 use crate::making::{MakeFault, globals_of, links, put_elements, put_segments, table_of};
 use crate::program::{Func, Limits, Program, func_at};
 use crate::running::run;
 use crate::stop::RunStop;
-use crate::tracing::trace;
-use crate::trail::TraceStop;
 use nr_bytes::List;
 use nr_config::Config;
 use nr_config::entries::{MAX_CALL_DEPTH, MAX_PAGES, MAX_STACK_VALUES, REGULAR_OP_COST};
@@ -38,6 +34,14 @@ pub struct Machine {
     program: Program,
     limits: Limits,
     guest: Guest,
+}
+
+/// What a machine is made of.
+#[derive(Drop)]
+pub struct Parts {
+    pub program: Program,
+    pub limits: Limits,
+    pub guest: Guest,
 }
 
 impl Model for Machine {
@@ -102,6 +106,24 @@ impl Machine {
         self.program.code
     }
 
+    /// Takes the machine apart.
+    pub fn into_parts(self) -> Parts
+        ensures program { result.program ≡ self.program }
+        ensures limits { result.limits ≡ self.limits }
+        ensures guest { result.guest ≡ self.guest }
+        ensures sound { IsMachine (record {
+          program = result.program;
+          limits = result.limits;
+          guest = result.guest;
+        }) }
+    {
+        Parts {
+            program: self.program,
+            limits: self.limits,
+            guest: self.guest,
+        }
+    }
+
     /// Runs a method to its end over a host. What it did to memory and globals stays.
     ///
     /// # Errors
@@ -118,31 +140,6 @@ impl Machine {
         ensures keeps { H.keeps host.old host.new }
     {
         run(
-            self.alloc,
-            &self.program,
-            self.limits,
-            host,
-            &mut self.guest,
-            func,
-        )
-    }
-
-    /// Runs a method to its end over a host, as `run` does, and tells where a trap came. A step takes longer than one
-    /// of `run`.
-    ///
-    /// # Errors
-    ///
-    /// As of `run`, `Trap` with the place of the instruction. `Memory` also where none was left for the trail.
-    #[tactic(auto, using(crate::proofs::Made::machine_stays))]
-    pub fn trace<H: Host>(&mut self, host: &mut H, func: u32) -> Result<(), TraceStop>
-        requires { IsTrue (is_method (func_at self.old.program func)) }
-        ensures ends { let w = rules_of H.meaning self.old.program self.old.limits in
-            let s = runtime (H.state host.old) self.old.guest in
-            EndsAt result self.old.program (H.state host.new) self.new.guest (run_by w s func) (trail_by w s func) }
-        ensures rest { self.new ≡ record self.old { guest = self.new.guest } }
-        ensures keeps { H.keeps host.old host.new }
-    {
-        trace(
             self.alloc,
             &self.program,
             self.limits,
