@@ -13,7 +13,7 @@ use Rattle.nr_wasmexec.specs.Making.{program_of}
 use Rattle.nr_wasmexec.specs.declared.program.Program.{Program}
 use Rattle.nr_wasmexec.specs.declared.stop.RunStop.{RunStop}
 use Rattle.nr_wasmexec.specs.declared.stop.RunStop.TheVariants as stop
-use Rattle.nr_trace.specs.Tracing.{EndsAt}
+use Rattle.nr_trace.specs.Tracing.{EndsAt, Traces}
 use Rattle.nr_trace.specs.declared.trail.TraceStop.{TraceStop}
 use Rattle.nr_trace.specs.declared.trail.TraceStop.TheVariants as trace
 use Rattle.nr_module.specs.Running.{run_from, over, over_at, RunsTo, told, told_at, TracesTo, trail_from, located}
@@ -45,10 +45,10 @@ module _ (bytes : List ℕ) (imported : ℕ) (m : MachineView) (gas f : ℕ) whe
   told_there (Err (trace.HostFault kind)) host guest a e is = (e.0, ap (over_here e.0) e.1 ∙ is)
   told_there (Err trace.Memory) host guest a e is = let wrong : ⊥ = cc in absurd wrong
 
-pub came_at : (bytes : List ℕ) (imported : ℕ) (m : MachineView) (gas f : ℕ) (r : Result (Unit {0}) TraceStop) (host : Counter) (guest : Guest) (answer : Result Answer AllocError) → EndsAt r m.program host guest (run_from m gas f) (trail_from m gas f) → IfOk answer (λ a. told_at bytes imported r (gas - host.gas) ≡ Some a)
+pub came_at : (bytes : List ℕ) (imported : ℕ) (m : MachineView) (gas f : ℕ) (r : Result (Unit {0}) TraceStop) (host : Counter) (answer : Result Answer AllocError) → Traces r m.program host (run_from m gas f) (trail_from m gas f) → IfOk answer (λ a. told_at bytes imported r (gas - host.gas) ≡ Some a)
     → IfOk answer (λ a. TracesTo bytes imported m gas f a)
-came_at bytes imported m gas f r host guest (Ok a) e is = told_there bytes imported m gas f r host guest a e is
-came_at bytes imported m gas f r host guest (Err fault) e is = tt
+came_at bytes imported m gas f r host (Ok a) e is = told_there bytes imported m gas f r host e.0 a e.1 is
+came_at bytes imported m gas f r host (Err fault) e is = tt
 
 -- a machine that is made runs what its module runs
 made_with : (c : Config) (m : Module) (o : Option Guest) (v : MachineView) → machine_with c m o ≡ Ok v

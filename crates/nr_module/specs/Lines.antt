@@ -45,10 +45,12 @@ burnt_line word burnt = word ++ 32 ∷ decimal burnt ++ 10 ∷ []
 abbrev pub stop_line : List ℕ → ℕ → ℕ → List ℕ
 stop_line word kind burnt = word ++ 32 ∷ decimal kind ++ 32 ∷ decimal burnt ++ 10 ∷ []
 
--- the line of a trap, and one with the number of a function and a place of the file
+-- the number of a function, and a place of the file
+abbrev pub place_line : ℕ → ℕ → List ℕ
+place_line func at = codes "at" ++ 32 ∷ decimal func ++ 32 ∷ decimal at ++ 10 ∷ []
+
 abbrev pub trap_lines : ℕ → ℕ → ℕ → ℕ → List ℕ
-trap_lines kind burnt func at =
-    stop_line (codes "trap") kind burnt ++ codes "at" ++ 32 ∷ decimal func ++ 32 ∷ decimal at ++ 10 ∷ []
+trap_lines kind burnt func at = stop_line (codes "trap") kind burnt ++ place_line func at
 
 abbrev pub answer_text : Answer → List ℕ
 answer_text Good = codes "ok" ++ 10 ∷ []

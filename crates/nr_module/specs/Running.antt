@@ -76,7 +76,8 @@ placed kind burnt func (Ok at) = TrappedAt kind burnt func at
 placed kind burnt func (Err fault) = Trapped kind burnt
 
 -- a trap in a function at the instruction with this number: where its opcode stands in the bytes of a module that
--- imports so many functions, if one is found there
+-- imports so many functions, if one is found there. None is where the frame of a method without instructions is too
+-- large.
 abbrev pub located : List ℕ → ℕ → ℕ → ℕ → ℕ × ℕ → Answer
 located bytes imported kind burnt place =
     placed kind burnt place.0 (instruction_at (place.0 - imported) place.1 bytes)

@@ -1,8 +1,8 @@
 //! The line of a verdict.
 
-ghost use Rattle.std.specs.Prelude.{◌≡◌, IfOk, string_bytes};
-ghost use Rattle.nr_module.specs.Lines.{answer_text, burnt_line, decode_line, decode_text, stop_line, trap_lines};
-ghost use Rattle.nr_module.specs.Lines.{valid_line, valid_text, verdict_text};
+ghost use Rattle.std.specs.Prelude.{◌≡◌, ◌++◌, IfOk, OnOk, string_bytes};
+ghost use Rattle.nr_module.specs.Lines.{answer_text, burnt_line, decode_line, decode_text, place_line, stop_line};
+ghost use Rattle.nr_module.specs.Lines.{trap_lines, valid_line, valid_text, verdict_text};
 
 use crate::verdict::{Answer, Verdict};
 use nr_wasmbin::DecodeFault;
@@ -70,6 +70,12 @@ fn stop_line(alloc: Global, word: &str, kind: u32, burnt: u128) -> Result<String
     Ok(text)
 }
 
+fn print_place(func: u32, at: usize, text: &mut String) -> Result<(), AllocError>
+    ensures { OnOk result (string_bytes text.new ≡ string_bytes text.old ++ place_line func at) }
+{
+    writeln!(text, "at {func} {at}")
+}
+
 fn trap_lines(
     alloc: Global,
     kind: u32,
@@ -80,7 +86,7 @@ fn trap_lines(
     ensures { IfOk result (λ text. string_bytes text ≡ trap_lines kind burnt func at) }
 {
     let mut text = stop_line(alloc, "trap", kind, burnt)?;
-    writeln!(text, "at {func} {at}")?;
+    print_place(func, at, &mut text)?;
     Ok(text)
 }
 

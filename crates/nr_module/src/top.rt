@@ -132,7 +132,7 @@ fn serve_command<S: Shelf, K: Sink>(
 /// `trap` writes the line of `run`, and behind `trap KIND BURNT` the line `at FUNC BYTE`: the number of the function,
 /// imported ones first, and the place in the file of the opcode of the instruction that trapped. Of more frames or
 /// values than there may be it is the instruction that made them so many, and the method's first where the method's own
-/// frame does.
+/// frame does; there is no such line where it has none.
 ///
 /// `call` writes the lines of `nr_onecall::try_call`, or `long`.
 ///

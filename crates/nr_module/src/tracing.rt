@@ -13,8 +13,9 @@ use crate::listing::imported_count;
 use crate::lookup::method_named;
 use crate::verdict::Answer;
 use nr_config::Config;
-use nr_wasmbin::{DecodeFault, find_instruction};
-use nr_wasmexec::{Machine, MakeFault, TraceStop};
+use nr_trace::{TraceStop, find_instruction, trace};
+use nr_wasmbin::DecodeFault;
+use nr_wasmexec::{Machine, MakeFault};
 use nr_wasmvalid::Valid;
 use std::alloc::{AllocError, Global};
 
@@ -68,19 +69,19 @@ fn told_at(
 #[tactic(auto, using(crate::proofs::Runs::came_at))]
 fn trace_func(
     alloc: Global,
-    machine: &mut Machine,
+    machine: Machine,
     bytes: &Vec<u8>,
     imported: usize,
     func: u32,
     gas: u64,
 ) -> Result<Answer, AllocError>
-    requires { IsTrue (is_method (func_at machine.old.program func)) }
-    ensures { IfOk result (λ a. TracesTo bytes.now.items imported machine.old gas func a) }
+    requires { IsTrue (is_method (func_at machine.program func)) }
+    ensures { IfOk result (λ a. TracesTo bytes.now.items imported machine gas func a) }
 {
     let mut host = Counter {
         gas: u128::from(gas),
     };
-    let end = machine.trace(&mut host, func);
+    let end = trace(alloc, machine, &mut host, func);
     let burnt = u128::from(gas).saturating_sub(host.gas);
     told_at(alloc, bytes, imported, end, burnt)
 }
@@ -100,7 +101,7 @@ fn trace_made(
     ensures { IfOk result (λ a. IsTraceIn bytes.now.items imported (machine_of config.now valid) gas func a) }
 {
     match Machine::new(alloc, valid, config) {
-        Ok(mut machine) => trace_func(alloc, &mut machine, bytes, imported, func, gas),
+        Ok(machine) => trace_func(alloc, machine, bytes, imported, func, gas),
         Err(MakeFault::Segment) => Ok(Answer::Unmade),
         Err(MakeFault::Memory) => Err(AllocError),
     }

@@ -39,15 +39,15 @@ opcodes_end (suc k) number at s t total h is shorter so_far =
     sym so_far ∙ ap (λ (r : Read Sought). r >>= onward (opcode_in k)) is
 
 -- without a byte the fault is the same
-fault_of : Read Sought → DecodeFault → DecodeFault
+abbrev fault_of : Read Sought → DecodeFault → DecodeFault
 fault_of (Ok x) other = other
 fault_of (Err e) other = e
 
-refused : DecodeFault → Result ℕ DecodeFault
+abbrev refused : DecodeFault → Result ℕ DecodeFault
 refused e = Err e
 
 no_byte : (number : ℕ) (left : List ℕ) (at : ℕ) (e : DecodeFault) → length left ≤ 0 → passed_at number (record { left = left; at = at }) ≡ Err e → opcode_in zero number (record { left = left; at = at }) ≡ Err e
-unfolding opcode_in passed_at refused fault_of
+unfolding opcode_in passed_at
 no_byte number [] at e none is = let same : fault.Short at ≡ e = ap (λ (r : Read Sought). fault_of r e) is in ap refused same
 no_byte number (b ∷ bs) at e none is = absurd (omega arith)
 

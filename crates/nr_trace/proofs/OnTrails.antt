@@ -89,12 +89,12 @@ placed_end trace.Memory p h m kind t outcome trail tracks is = tt
 pub of_parts : {S : Type 0} (m : HostMeaning S) (host ended : S) (f : ℕ) (r : Result (Unit {0}) TraceStop) (left : Guest) (p q : Program) (k l : Limits) (x y : Guest) → p ≡ q → k ≡ l → x ≡ y
     → EndsAt r p ended left (run_by (rules_of m p k) (runtime host x) f) (trail_by (rules_of m p k) (runtime host x) f)
     → Traces r q ended (run_by (rules_of m q l) (runtime host y) f) (trail_by (rules_of m q l) (runtime host y) f)
-of_parts m host ended f r left p q k l x y same_program same_limits same_guest ends = (
-    left,
-    subst (λ (g : Guest). EndsAt r q ended left (run_by (rules_of m q l) (runtime host g) f) (trail_by (rules_of m q l) (runtime host g) f)) same_guest
-        (subst (λ (n : Limits). EndsAt r q ended left (run_by (rules_of m q n) (runtime host x) f) (trail_by (rules_of m q n) (runtime host x) f)) same_limits
-            (subst (λ (a : Program). EndsAt r a ended left (run_by (rules_of m a k) (runtime host x) f) (trail_by (rules_of m a k) (runtime host x) f)) same_program ends)),
-  )
+of_parts m host ended f r left p q k l x y same_program same_limits same_guest ends =
+    let by_program : EndsAt r q ended left (run_by (rules_of m q k) (runtime host x) f) (trail_by (rules_of m q k) (runtime host x) f) =
+    subst (λ (a : Program). EndsAt r a ended left (run_by (rules_of m a k) (runtime host x) f) (trail_by (rules_of m a k) (runtime host x) f)) same_program ends in
+    let by_limits : EndsAt r q ended left (run_by (rules_of m q l) (runtime host x) f) (trail_by (rules_of m q l) (runtime host x) f) =
+    subst (λ (n : Limits). EndsAt r q ended left (run_by (rules_of m q n) (runtime host x) f) (trail_by (rules_of m q n) (runtime host x) f)) same_limits by_program in
+    (left, subst (λ (g : Guest). EndsAt r q ended left (run_by (rules_of m q l) (runtime host g) f) (trail_by (rules_of m q l) (runtime host g) f)) same_guest by_limits)
 
 -- ---- the second side of an instruction
 none_more : (n : ℕ) → n ≡ n + 0

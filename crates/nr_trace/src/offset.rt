@@ -1,11 +1,13 @@
 //! Where the opcode of an instruction stands.
 
 ghost use Rattle.std.specs.Prelude.{◌≡◌, ◌≤◌, ◌<◌, OnOk, length};
+ghost use Rattle.nr_bytes.specs.Answers.{GivesAs};
 ghost use Rattle.nr_bytes.specs.Fields.{mapped};
 ghost use Rattle.nr_wasmbin.specs.Expressions.{block_type_at, plain_at};
 ghost use Rattle.nr_wasmbin.specs.Fields.{Gives, GivesAll};
+ghost use Rattle.nr_wasmbin.specs.declared.fault.DecodeFault.TheVariants.{Memory};
 ghost use Rattle.nr_trace.specs.Offsets.{body_in, code_section, instruction_at, is_instr, nth_at, opcode_at, opens};
-ghost use Rattle.nr_trace.specs.Offsets.{operands_at, passed_at, passed_by, within_body};
+ghost use Rattle.nr_trace.specs.Offsets.{operands_at, passed_at, passed_by, past_body, within_body};
 
 use nr_wasmbin::{
     Cursor, DecodeFault, enter, read_block_type, read_front, read_locals, read_middle, read_plain,
