@@ -6,7 +6,7 @@ use Rattle.nr_wasmtypes.specs.declared.instr.Instr.{Instr}
 use Rattle.nr_wasmtypes.specs.declared.instr.Instr.TheVariants as instr
 use Rattle.nr_wasmtypes.specs.declared.instr.Plain.{Plain as Op}
 use Rattle.nr_wasmtypes.specs.declared.instr.ValType.{ValType}
-use Rattle.nr_wasmtypes.specs.Code.{Code, End, after, code_of, count_of, put}
+use Rattle.nr_wasmtypes.specs.Code.{Code, after, code_of, count_of, put}
 use Rattle.nr_wasmtypes.proofs.Levels.{put_plain, put_block, put_loop, put_if_at}
 use Rattle.nr_wasmmem.specs.Meaning.{HostMeaning}
 use Rattle.nr_wasmmem.specs.declared.guest.Guest.{Guest}
@@ -18,7 +18,7 @@ use Rattle.nr_wasmexec.specs.declared.program.Limits.{Limits}
 use Rattle.nr_wasmexec.specs.declared.program.Program.{Program}
 use Rattle.nr_wasmexec.specs.Machine.{Turns, config_of, is_too_large_at, rules_of, run_at, runtime}
 use Rattle.nr_wasmexec.specs.Place.{Context, InLabel, InFrame, Place, plugged, whole_of}
-use Rattle.nr_wasmexec.specs.Reduction.{Seq, Plain, Label, Frame, Trap, To, Stopping, Runtime, Rules, Outcome, Done, Halted, run_by, stepped}
+use Rattle.nr_wasmexec.specs.Reduction.{Seq, Plain, Label, Frame, Trap, To, Stopping, Runtime, Rules, Outcome, Halted, run_by, stepped}
 use Rattle.nr_trace.specs.Tracing.{EndsAt, IsPlaced, Looks, Traces, Tracks, trail_at}
 use Rattle.nr_trace.specs.Trail.{Trail, inner_of, looked, looked_in, place_in, second_of, top, trail_by}
 use Rattle.nr_wasmexec.proofs.Turning.{dead, stops}

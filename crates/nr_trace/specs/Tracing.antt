@@ -1,5 +1,5 @@
 -- Of this project's own: what the calls of a run answer that leaves a trail.
-use Rattle.std.specs.Prelude.{◌≡◌, ℕ, Bool, true, false, Result, Ok, Err}
+use Rattle.std.specs.Prelude.{◌≡◌, ℕ, Bool, Result, Ok, Err}
 use Rattle.nr_wasmmem.specs.declared.guest.Guest.{Guest}
 use Rattle.nr_wasmexec.specs.declared.program.Program.{Program}
 use Rattle.nr_wasmexec.specs.declared.stop.Stop.{Stop}

@@ -1,7 +1,7 @@
 -- After WebAssembly Core 1.0, "Execution", "Instructions": where a run stands in the code of its module. The standard's
 -- configurations don't name it, so a trail is left beside the reduction: the function that runs, the blocks that are
 -- open in it, and the calls that it stands in. How instructions are numbered is this project's own.
-use Rattle.std.specs.Prelude.{ℕ, zero, suc, ◌+◌, ◌-◌, ◌==◌, if◌then◌else◌, Bool, true, false, cond, List, [], ◌∷◌}
+use Rattle.std.specs.Prelude.{ℕ, zero, suc, ◌+◌, ◌-◌, ◌==◌, if◌then◌else◌, Bool, false, cond, List, [], ◌∷◌}
 use Rattle.std.specs.Prelude.{◌++◌, length, take, drop, replicate, sum_by, Option, Some, None, option_and_then}
 use Rattle.std.specs.Prelude.{slice_get}
 use Rattle.nr_wasmtypes.specs.Code.{Code, End, Then, Block, Loop, Choice, after, count_of}
@@ -72,9 +72,9 @@ abbrev pub first : ℕ → Code → Trail
 first f code = record { func = f; base = 0; levels = []; at = code; way = leads.On }
 
 -- the function that a call came out of, and how many levels stand round its frame
-abbrev pub call_of : Level → Option (ℕ × ℕ)
-call_of (level.Block at second) = None
-call_of (level.Call func base) = Some (func, base)
+abbrev pub caller_of : Level → Option (ℕ × ℕ)
+caller_of (level.Block at second) = None
+caller_of (level.Call func base) = Some (func, base)
 
 abbrev pub back_to : Option (ℕ × ℕ) → Trail → Trail
 back_to None t = t
@@ -85,7 +85,7 @@ cut_off n t = record t { levels = take n t.levels }
 
 -- out of all levels but the first so many; where the first that is gone is a call, back to its function
 abbrev pub cut : ℕ → Trail → Trail
-cut n t = back_to (option_and_then call_of (slice_get t.levels n)) (cut_off n t)
+cut n t = back_to (option_and_then caller_of (slice_get t.levels n)) (cut_off n t)
 
 abbrev pub opened : Bool → Trail → Trail
 opened second t = record t { levels = t.levels ++ level.Block t.at second ∷ [] }

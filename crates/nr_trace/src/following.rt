@@ -1,7 +1,7 @@
 //! A trail, step by step.
 
 ghost use Rattle.std.specs.Prelude.{◌≡◌, OnOk, Some, option_and_then, slice_get};
-ghost use Rattle.nr_trace.specs.Trail.{back_to, call_of, called, cut, cut_off, first, followed, followed_by, looked};
+ghost use Rattle.nr_trace.specs.Trail.{back_to, caller_of, called, cut, cut_off, first, followed, followed_by, looked};
 ghost use Rattle.nr_trace.specs.Trail.{opened, trail_of};
 
 use crate::rest::Rest;
@@ -26,8 +26,8 @@ pub fn first<'a>(alloc: Global, func: u32, body: &'a FuncBody) -> Trail<'a>
 }
 
 /// The function that a call came out of, and how many levels stand round its frame.
-fn call_of(level: &Level) -> Option<(u32, usize)>
-    ensures { result ≡ call_of level.now }
+fn caller_of(level: &Level) -> Option<(u32, usize)>
+    ensures { result ≡ caller_of level.now }
 {
     match level {
         Level::Block { .. } => None,
@@ -36,12 +36,12 @@ fn call_of(level: &Level) -> Option<(u32, usize)>
 }
 
 /// The same of the level behind so many others, where there is one.
-fn call_at(levels: &[Level], count: usize) -> Option<(u32, usize)>
-    ensures { result ≡ option_and_then call_of (slice_get levels.now count) }
+fn caller_at(levels: &[Level], count: usize) -> Option<(u32, usize)>
+    ensures { result ≡ option_and_then caller_of (slice_get levels.now count) }
 {
     match levels.get(count) {
         None => None,
-        Some(level) => call_of(level),
+        Some(level) => caller_of(level),
     }
 }
 
@@ -58,7 +58,7 @@ fn leave_call(trail: &mut Trail, count: usize, func: u32, base: usize)
 fn cut(trail: &mut Trail, count: usize)
     ensures { trail_of trail.new ≡ cut count (trail_of trail.old) }
 {
-    match call_at(&trail.levels, count) {
+    match caller_at(&trail.levels, count) {
         None => trail.levels.truncate(count),
         Some((func, base)) => leave_call(trail, count, func, base),
     }

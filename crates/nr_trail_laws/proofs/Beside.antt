@@ -1,25 +1,19 @@
 -- The levels of a trail beside what stands round a place, and what a step does to both.
-use Rattle.std.proofs.Common.{◌≡◌, ℕ, zero, suc, ◌+◌, ◌-◌, ◌==◌, Bool, true, false, cond, List, [], ◌∷◌, ◌++◌, length, take, drop, reverse, Option, Some, None, nat_lt, refl, sym, ap, ◌∙◌, subst, arith, ◌⊎◌, append_assoc, length-append}
-use Rattle.std.specs.Prelude.{slice_get, sum_by}
+use Rattle.std.proofs.Common.{◌≡◌, ℕ, zero, suc, ◌+◌, ◌-◌, Bool, true, false, cond, List, [], ◌∷◌, ◌++◌, length, take, drop, reverse, Option, Some, None, nat_lt, refl, sym, ap, ◌∙◌, subst, arith, ◌⊎◌, append_assoc, length-append}
+use Rattle.std.specs.Prelude.{option_and_then, slice_get, sum_by}
 use Rattle.std.proofs.lemmas.List.{append-nil, length-reverse}
 use mathlib.Core.Logic.{inl, inr}
 use Rattle.nr_wasmtypes.specs.Code.{Code, End, Then, Block, Loop, Choice, after, count_of}
-use Rattle.nr_wasmtypes.specs.Tables.{arity_of}
-use Rattle.nr_wasmmem.specs.Meaning.{Answer, Gives, OutOfGas, Fails, HostMeaning}
-use Rattle.nr_wasmmem.specs.declared.guest.Guest.{Guest}
-use Rattle.nr_wasmexec.specs.Functions.{Coded, func_at}
-use Rattle.nr_wasmexec.specs.Place.{Context, InLabel, InFrame, Place, onward, branched, returned, left, arrived, Led, Leads, Halts, Nowhere, with_store, given, asked, led}
-use Rattle.nr_wasmexec.specs.Reduction.{Effect, Goes, Writes, Opens, Invokes, Asks, Branches, Returns, Traps, Stuck, Runtime, behind_call, call_of, effect}
-use Rattle.nr_trace.specs.Trail.{Trail, behind, called, cut, cut_by, followed, followed_by, looked, noted, number_in, opened, top, way_of}
+use Rattle.nr_wasmexec.specs.Place.{Context, InLabel, InFrame, Place, onward, branched, returned}
+use Rattle.nr_trace.specs.Trail.{Trail, behind, back_to, caller_of, cut, cut_off, noted}
 use Rattle.nr_wasmexec.specs.declared.program.Program.{Program}
 use Rattle.nr_trace.specs.declared.trail.Level.{Level}
 use Rattle.nr_trace.specs.declared.trail.Level.TheVariants as level
 use Rattle.nr_trace.specs.declared.trail.Way.{Way}
-use Rattle.nr_trace.specs.declared.trail.Way.TheVariants as leads
 use Rattle.nr_wasmexec.proofs.Branches.{some_is}
 use Rattle.nr_trail_laws.specs.Placed.{IsAt, StandsAt}
-use Rattle.nr_trail_laws.proofs.Fits.{Fits, IsCode, plain_fits}
-use Rattle.nr_trail_laws.proofs.Parts.{Own, Part, at_here, holds, own_at, part_after, part_here, side}
+use Rattle.nr_trail_laws.proofs.Fits.{IsCode}
+use Rattle.nr_trail_laws.proofs.Parts.{Own, Part, holds, own_at, part_after, side}
 
 -- from the inside out: a block that is open is the instruction that was left, and a call leads back behind its own
 abbrev pub Beside : Program → ℕ → ℕ → Code → List Context → List Level → Type 0
@@ -146,9 +140,9 @@ abbrev Next : Context → Code → Type 0
 Next (InLabel values n target code) q = (q ≡ target) ⊎ (q ≡ code)
 Next (InFrame values n locals code) q = q ≡ code
 
-cut_there : (t : Trail) (xs ys : List Level) (l : Level) (n : ℕ) → t.levels ≡ xs ++ l ∷ ys → n ≡ length xs → cut n t ≡ cut_by (Some l) n t
+cut_there : (t : Trail) (xs ys : List Level) (l : Level) (n : ℕ) → t.levels ≡ xs ++ l ∷ ys → n ≡ length xs → cut n t ≡ back_to (option_and_then caller_of (Some l)) (cut_off n t)
 cut_there t xs ys l n e f =
-    ap (λ (o : Option Level). cut_by o n t) (ap (λ (ls : List Level). slice_get ls n) e ∙ ap (slice_get (xs ++ l ∷ ys)) f ∙ get_front xs ys l)
+    ap (λ (o : Option Level). back_to (option_and_then caller_of o) (cut_off n t)) (ap (λ (ls : List Level). slice_get ls n) e ∙ ap (slice_get (xs ++ l ∷ ys)) f ∙ get_front xs ys l)
 
 taken : (t : Trail) (xs ys : List Level) (l : Level) (n : ℕ) → t.levels ≡ xs ++ l ∷ ys → n ≡ length xs → take n t.levels ≡ xs
 taken t xs ys l n e f = ap (take n) e ∙ ap (λ (k : ℕ). take k (xs ++ l ∷ ys)) f ∙ take_front xs (l ∷ ys)
@@ -186,8 +180,10 @@ lands p whole (InFrame values m locals code) around [] ys t q n (has, none, out,
   where
     gone : (ys : List Level) → t.levels ≡ ys → AreBlocks ys → n ≡ 0 → Gone p q (cut n t)
     gone [] e blocks z =
-        let stays : cut n t ≡ t = ap (λ (o : Option Level). cut_by o n t) (ap (λ (ls : List Level). slice_get ls n) e ∙ ap (slice_get ([] : List Level)) z) in
-        subst (Gone p q) (sym stays) (record { contexts = same ∙ out; code = next ∙ end; levels = e; whole = whole; has = has })
+        let stays : cut n t ≡ cut_off n t =
+        ap (λ (o : Option Level). back_to (option_and_then caller_of o) (cut_off n t)) (ap (λ (ls : List Level). slice_get ls n) e ∙ ap (slice_get ([] : List Level)) z) in
+        let none : take n t.levels ≡ [] = ap (λ (k : ℕ). take k t.levels) z in
+        subst (Gone p q) (sym stays) (record { contexts = same ∙ out; code = next ∙ end; levels = none; whole = whole; has = has })
     gone (level.Block c second ∷ ls) e blocks z =
         subst (Gone p q) (sym (cut_there t [] ls (level.Block c second) n e z))
         (record { contexts = same ∙ out; code = next ∙ end; levels = taken t [] ls (level.Block c second) n e z; whole = whole; has = has })

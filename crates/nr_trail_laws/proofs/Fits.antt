@@ -1,9 +1,8 @@
 -- Where an instruction leads in the code is what its effect does.
-use Rattle.std.proofs.Common.{◌≡◌, ℕ, ◌==◌, Bool, true, false, cond, List, [], ◌∷◌, ◌++◌, length, replicate, Option, Some, None, Result, Ok, Err, nat_lt, refl, sym, ap, ◌∙◌}
+use Rattle.std.proofs.Common.{◌≡◌, ℕ, ◌==◌, Bool, true, false, cond, List, [], ◌∷◌, ◌++◌, length, replicate, Option, Some, None, Result, Ok, Err, nat_lt, refl}
 use Rattle.std.specs.Prelude.{reverse, take, drop, slice_get}
 use Rattle.nr_wasmtypes.specs.declared.instr.Plain.{Plain as Op}
 use Rattle.nr_wasmtypes.specs.declared.instr.Plain.TheVariants as op
-use Rattle.nr_wasmtypes.specs.declared.host.HostFn.{HostFn}
 use Rattle.nr_wasmtypes.specs.declared.module.FuncType.{FuncType}
 use Rattle.nr_wasmtypes.specs.Body.{Body}
 use Rattle.nr_wasmtypes.specs.Code.{Code}
@@ -16,7 +15,7 @@ use Rattle.nr_wasmmem.specs.declared.guest.Guest.{Guest}
 use Rattle.nr_wasmmem.specs.Bytes.{MemoryView}
 use Rattle.nr_wasmexec.specs.Functions.{Func, Hosted, Coded, sig_of, func_at}
 use Rattle.nr_wasmexec.specs.Reduction.{Effect, Goes, Writes, Opens, Invokes, Asks, Branches, Returns, Traps, Stuck}
-use Rattle.nr_wasmexec.specs.Reduction.{on_top, on_two, on_three, with_value, computed, read, written, grows, chosen, asks, invoked, called, called_as, called_at, plain_effect}
+use Rattle.nr_wasmexec.specs.Reduction.{on_top, on_two, on_three, with_value, computed, read, written, grows, called, called_as, called_at, plain_effect}
 use Rattle.nr_trace.specs.Trail.{call_way, plain_way, table_way, top}
 use Rattle.nr_wasmexec.specs.declared.program.Program.{Program}
 use Rattle.nr_trace.specs.declared.trail.Way.{Way}

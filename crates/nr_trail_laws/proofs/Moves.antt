@@ -8,11 +8,11 @@ use Rattle.nr_wasmtypes.specs.Code.{Code, End, Then, Block, Loop, Choice, after,
 use Rattle.nr_wasmtypes.specs.Tables.{arity_of}
 use Rattle.nr_wasmmem.specs.Meaning.{Answer, Gives, OutOfGas, Fails, HostMeaning}
 use Rattle.nr_wasmmem.specs.declared.guest.Guest.{Guest}
-use Rattle.nr_wasmexec.specs.Functions.{Func, Hosted, Coded, func_at}
-use Rattle.nr_wasmexec.specs.Machine.{config_of, runtime}
-use Rattle.nr_wasmexec.specs.Place.{Context, InLabel, InFrame, Place, whole_of, branched, returned, left, arrived, Led, Leads, Halts, Nowhere, with_store, given, asked, led}
-use Rattle.nr_wasmexec.specs.Reduction.{Effect, Goes, Writes, Opens, Invokes, Asks, Branches, Returns, Traps, Stuck, Runtime, Rules, Step, To, Over, Branching, Returning, Stopping, NoRule, Seq, Plain, Frame, GasExceeded, IsDead, behind_call, call_of, effect, has_instr, is_too_large, paid, plain_effect, reduce, stepped}
-use Rattle.nr_trace.specs.Trail.{Trail, cut, first, followed, followed_by, left_by, looked, looked_in, noted, plain_way, top, trail_by, trail_in, trails, way_of}
+use Rattle.nr_wasmexec.specs.Functions.{Func, Coded, func_at}
+use Rattle.nr_wasmexec.specs.Machine.{config_of}
+use Rattle.nr_wasmexec.specs.Place.{Context, InLabel, InFrame, Place, whole_of, left, arrived, Led, Leads, Halts, Nowhere, with_store, given, asked, led}
+use Rattle.nr_wasmexec.specs.Reduction.{Effect, Goes, Writes, Opens, Invokes, Asks, Branches, Returns, Traps, Stuck, Runtime, Rules, Step, To, Over, Branching, Returning, Stopping, NoRule, Plain, Frame, GasExceeded, behind_call, call_of, effect, has_instr, is_too_large, paid, plain_effect, reduce, stepped}
+use Rattle.nr_trace.specs.Trail.{Trail, cut, first, followed, followed_by, left_by, noted, plain_way, top, trail_by, trail_in, trails, way_of}
 use Rattle.nr_wasmexec.specs.declared.program.Program.{Program}
 use Rattle.nr_trace.specs.declared.trail.Level.{Level}
 use Rattle.nr_trace.specs.declared.trail.Level.TheVariants as level
@@ -22,9 +22,9 @@ use Rattle.nr_wasmexec.proofs.Branches.{some_is}
 use Rattle.nr_trace.proofs.OnTrails.{looked_here}
 use Rattle.nr_wasmexec.proofs.Plugged.{IsStep, end_is, has_instr_inside, instr_is}
 use Rattle.nr_trail_laws.specs.Placed.{StandsAt}
-use Rattle.nr_trail_laws.proofs.Beside.{Along, Beside, Gone, Inside, branch_lands, lands, return_lands, stands_along}
+use Rattle.nr_trail_laws.proofs.Beside.{Along, Beside, Inside, branch_lands, lands, return_lands, stands_along}
 use Rattle.nr_trail_laws.proofs.Fits.{Fits, IsCode, plain_fits}
-use Rattle.nr_trail_laws.proofs.Parts.{Part, holds, part_after, part_here, side}
+use Rattle.nr_trail_laws.proofs.Parts.{holds, part_after, part_here, side}
 
 -- ---- one instruction
 module _ {S : Type 0} (m : HostMeaning S) (s : Runtime S) (p : Program) (q : Place) (t : Trail) (i : Inside p q t) where

@@ -1,5 +1,4 @@
 -- The goals of `placing::count_side` that no tactic closes.
-use Rattle.std.proofs.Common.{IfOk}
 use Rattle.std.proofs.lemmas.Result.{IfOk-weaker}
 use Rattle.nr_trace.proofs.OnTrails.{block_side, choice_side, loop_side, plain_side}
 use Rattle.nr_trace.proofs.placing.count_side.Goals as goal
