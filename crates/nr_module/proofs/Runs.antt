@@ -47,7 +47,7 @@ module _ (bytes : List ℕ) (imported : ℕ) (m : MachineView) (gas f : ℕ) whe
 
 pub came_at : (bytes : List ℕ) (imported : ℕ) (m : MachineView) (gas f : ℕ) (r : Result (Unit {0}) TraceStop) (host : Counter) (answer : Result Answer AllocError) → Traces r m.program host (run_from m gas f) (trail_from m gas f) → IfOk answer (λ a. told_at bytes imported r (gas - host.gas) ≡ Some a)
     → IfOk answer (λ a. TracesTo bytes imported m gas f a)
-came_at bytes imported m gas f r host (Ok a) e is = told_there bytes imported m gas f r host e.0 a e.1 is
+came_at bytes imported m gas f r host (Ok a) e is = told_there bytes imported m gas f r host e.guest a e.ends is
 came_at bytes imported m gas f r host (Err fault) e is = tt
 
 -- a machine that is made runs what its module runs

@@ -82,8 +82,13 @@ fn trace_func(
         gas: u128::from(gas),
     };
     let end = trace(alloc, machine, &mut host, func);
-    let burnt = u128::from(gas).saturating_sub(host.gas);
-    told_at(alloc, bytes, imported, end, burnt)
+    told_at(
+        alloc,
+        bytes,
+        imported,
+        end,
+        u128::from(gas).saturating_sub(host.gas),
+    )
 }
 
 /// Makes the machine of a module, and runs a function of it so.

@@ -94,7 +94,10 @@ of_parts m host ended f r left p q k l x y same_program same_limits same_guest e
     subst (λ (a : Program). EndsAt r a ended left (run_by (rules_of m a k) (runtime host x) f) (trail_by (rules_of m a k) (runtime host x) f)) same_program ends in
     let by_limits : EndsAt r q ended left (run_by (rules_of m q l) (runtime host x) f) (trail_by (rules_of m q l) (runtime host x) f) =
     subst (λ (n : Limits). EndsAt r q ended left (run_by (rules_of m q n) (runtime host x) f) (trail_by (rules_of m q n) (runtime host x) f)) same_limits by_program in
-    (left, subst (λ (g : Guest). EndsAt r q ended left (run_by (rules_of m q l) (runtime host g) f) (trail_by (rules_of m q l) (runtime host g) f)) same_guest by_limits)
+    record {
+      guest = left;
+      ends = subst (λ (g : Guest). EndsAt r q ended left (run_by (rules_of m q l) (runtime host g) f) (trail_by (rules_of m q l) (runtime host g) f)) same_guest by_limits;
+    }
 
 -- ---- the second side of an instruction
 none_more : (n : ℕ) → n ≡ n + 0

@@ -55,5 +55,6 @@ EndsAt (Err (trace.HostFault kind)) p host guest outcome trail =
 EndsAt (Err trace.Memory) p host guest outcome trail = Unit {0}
 
 -- The same where no one sees the guest any more.
-abbrev pub Traces : {S : Type 0} → Result (Unit {0}) TraceStop → Program → S → (ℕ → Outcome S) → (ℕ → Trail) → Type 0
-Traces result p host outcome trail = (guest : Guest) × EndsAt result p host guest outcome trail
+pub record Traces {S : Type 0} (result : Result (Unit {0}) TraceStop) (p : Program) (host : S) (outcome : ℕ → Outcome S) (trail : ℕ → Trail) : Type 0 where
+  pub guest : Guest
+  pub ends : EndsAt result p host guest outcome trail

@@ -46,10 +46,10 @@ pub struct Trail<'a> {
 /// Why a run that left a trail stopped before its end.
 #[derive(Clone, Copy, Debug, PartialEq, Eq)]
 pub enum TraceStop {
-    /// The kinds of `RunStop::Trap`. `func` is the number of the function whose instruction trapped, imported ones first,
-    /// and `place` counts the instructions before it in the function's code, in the order of their opcodes, `else` and
-    /// `end` left out. A run that holds more than it may stands at the instruction that made it so; where the method's
-    /// own frame does, at the method's first.
+    /// The kinds of `RunStop::Trap`. `func` is the number of the function whose instruction trapped, imported ones
+    /// first, and `place` counts the instructions before it in the function's code, in the order of their opcodes,
+    /// `else` and `end` left out. A run that holds more than it may stands at the instruction that made it so; where
+    /// the method's own frame does, at the method's first.
     Trap { kind: u32, func: u32, place: u64 },
     /// The gas that is left isn't enough.
     GasExceeded,

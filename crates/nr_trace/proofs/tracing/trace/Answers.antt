@@ -7,6 +7,15 @@ use Rattle.nr_wasmexec.specs.declared.program.Program.{Program}
 use Rattle.nr_trace.proofs.OnTrails.{of_parts}
 use Rattle.nr_trace.proofs.tracing.trace.Goals as goal
 
+pub trace_func-requires-clause-cost : goal.trace_func-requires-clause-cost
+trace_func-requires-clause-cost g c = c.into_parts-program.ensures.sound.cost
+
+pub trace_func-requires-clause-hosts : goal.trace_func-requires-clause-hosts
+trace_func-requires-clause-hosts g c = c.into_parts-program.ensures.sound.hosts
+
+pub trace_func-requires-clause-guest : goal.trace_func-requires-clause-guest
+trace_func-requires-clause-guest g c = c.into_parts-program.ensures.sound.guest
+
 pub trace_func-requires-clause-method : goal.trace_func-requires-clause-method
 trace_func-requires-clause-method g c =
     subst (λ (p : Program). IsTrue (is_method (func_at p c.args.func))) (sym c.into_parts-program.ensures.program) c.requires
