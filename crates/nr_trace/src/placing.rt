@@ -96,10 +96,11 @@ fn own_levels<'t, 'a>(trail: &'t Trail<'a>) -> &'t [Level<'a>]
     ensures { result.now ≡ drop trail.now.base trail.now.levels.items }
 {
     let levels = trail.levels.as_slice();
-    if trail.base <= levels.len() {
+    let end = levels.len();
+    if trail.base <= end {
         &levels[trail.base..]
     } else {
-        &[]
+        &levels[end..]
     }
 }
 

@@ -234,8 +234,7 @@ pub fn trace<H: Host>(
     let Parts {
         program,
         limits,
-        guest: before,
+        mut guest,
     } = machine.into_parts();
-    let mut guest = before;
     trace_func(alloc, &program, limits, host, &mut guest, func)
 }

@@ -117,10 +117,16 @@ impl Machine {
           guest = result.guest;
         }) }
     {
+        let Machine {
+            alloc: _,
+            program,
+            limits,
+            guest,
+        } = self;
         Parts {
-            program: self.program,
-            limits: self.limits,
-            guest: self.guest,
+            program,
+            limits,
+            guest,
         }
     }
 
