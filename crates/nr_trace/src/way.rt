@@ -74,26 +74,26 @@ fn plain_way(program: &Program, guest: &Guest, value: u64, plain: &Plain) -> Way
         Plain::Return => Way::Return,
         Plain::Call(f) => call_way(program, *f),
         Plain::CallIndirect(_) => table_way(program, guest, value),
-        Plain::Unreachable
-        | Plain::Nop
-        | Plain::Drop
-        | Plain::Select
-        | Plain::LocalGet(_)
-        | Plain::LocalSet(_)
-        | Plain::LocalTee(_)
-        | Plain::GlobalGet(_)
-        | Plain::GlobalSet(_)
-        | Plain::Load(_, _, _)
-        | Plain::Store(_, _, _)
-        | Plain::MemorySize
-        | Plain::MemoryGrow
-        | Plain::Const32(_)
-        | Plain::Const64(_)
-        | Plain::IsZero(_)
-        | Plain::Count(_, _)
-        | Plain::Compare(_, _)
-        | Plain::Arith(_, _)
-        | Plain::Convert(_) => Way::On,
+        Plain::Unreachable => Way::On,
+        Plain::Nop => Way::On,
+        Plain::Drop => Way::On,
+        Plain::Select => Way::On,
+        Plain::LocalGet(_) => Way::On,
+        Plain::LocalSet(_) => Way::On,
+        Plain::LocalTee(_) => Way::On,
+        Plain::GlobalGet(_) => Way::On,
+        Plain::GlobalSet(_) => Way::On,
+        Plain::Load(_, _, _) => Way::On,
+        Plain::Store(_, _, _) => Way::On,
+        Plain::MemorySize => Way::On,
+        Plain::MemoryGrow => Way::On,
+        Plain::Const32(_) => Way::On,
+        Plain::Const64(_) => Way::On,
+        Plain::IsZero(_) => Way::On,
+        Plain::Count(_, _) => Way::On,
+        Plain::Compare(_, _) => Way::On,
+        Plain::Arith(_, _) => Way::On,
+        Plain::Convert(_) => Way::On,
     }
 }
 
