@@ -1,7 +1,7 @@
 -- The levels of a trail beside what stands round a place, and what a step does to both.
-use Rattle.std.proofs.Common.{◌≡◌, ℕ, zero, suc, ◌+◌, ◌-◌, Bool, true, false, cond, List, [], ◌∷◌, ◌++◌, length, take, drop, reverse, Option, Some, None, nat_lt, refl, sym, ap, ◌∙◌, subst, arith, ◌⊎◌, append_assoc, length-append}
+use Rattle.std.proofs.Common.{◌≡◌, ℕ, zero, suc, ◌+◌, ◌-◌, Bool, true, false, cond, List, [], ◌∷◌, ◌++◌, length, take, drop, reverse, Option, Some, None, nat_lt, refl, sym, ap, ◌∙◌, subst, arith, ◌⊎◌, append_assoc}
 use Rattle.std.specs.Prelude.{option_and_then, slice_get, sum_by}
-use Rattle.std.proofs.lemmas.List.{append-nil, length-reverse}
+use Rattle.std.proofs.lemmas.List.{append-nil, length-reverse, reverse-append}
 use mathlib.Core.Logic.{inl, inr}
 use Rattle.nr_wasmtypes.specs.Code.{Code, End, Then, Block, Loop, Choice, after, count_of}
 use Rattle.nr_wasmexec.specs.Place.{Context, InLabel, InFrame, Place, onward, branched, returned}
@@ -50,8 +50,11 @@ abbrev pub Along : Program → Place → Trail → Type 0
 Along p q t = Inside p q t ⊎ Gone p q t
 
 -- ---- lists
+pub first_last : {X : Type 0} (R : List X) (l : X) → reverse (l ∷ R) ≡ reverse R ++ l ∷ []
+first_last R l = reverse-append (l ∷ []) R
+
 front_back : {X : Type 0} (R acc : List X) (l : X) → reverse (l ∷ R) ++ acc ≡ reverse R ++ l ∷ acc
-front_back R acc l = append_assoc (reverse R) (l ∷ []) acc
+front_back {X} R acc l = ap (λ (xs : List X). xs ++ acc) (first_last R l) ∙ append_assoc (reverse R) (l ∷ []) acc
 
 drop_front : {X : Type 0} (xs ys : List X) → drop (length xs) (xs ++ ys) ≡ ys
 drop_front [] ys = refl
@@ -86,7 +89,7 @@ own_of p f base whole (InFrame values n locals code ∷ around) [] acc at (has, 
     (whole, has, subst (λ (k : ℕ). Own whole (drop k acc) at) (sym none) own)
 own_of p f base whole (InFrame values n locals code ∷ around) (level.Block c second ∷ R) acc at b own = absurd b
 own_of p f base whole (InFrame values n locals code ∷ around) (level.Call g h ∷ R) acc at (has, many, rest) own =
-    let long : base ≡ length (reverse (level.Call g h ∷ R)) = omega (arith, many, length-append (reverse R) (level.Call g h ∷ []), length-reverse R) in
+    let long : base ≡ length (reverse (level.Call g h ∷ R)) = omega (arith, many, length-reverse (level.Call g h ∷ R)) in
     let is : drop base (reverse (level.Call g h ∷ R) ++ acc) ≡ acc = ap (λ (k : ℕ). drop k (reverse (level.Call g h ∷ R) ++ acc)) long ∙ drop_front (reverse (level.Call g h ∷ R)) acc in
     (whole, has, subst (λ (ls : List Level). Own whole ls at) (sym is) own)
 

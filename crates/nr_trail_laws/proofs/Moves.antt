@@ -22,7 +22,7 @@ use Rattle.nr_wasmexec.proofs.Branches.{some_is}
 use Rattle.nr_trace.proofs.OnTrails.{looked_here}
 use Rattle.nr_wasmexec.proofs.Plugged.{IsStep, end_is, has_instr_inside, instr_is}
 use Rattle.nr_trail_laws.specs.Placed.{StandsAt}
-use Rattle.nr_trail_laws.proofs.Beside.{Along, Beside, Inside, branch_lands, lands, return_lands, stands_along}
+use Rattle.nr_trail_laws.proofs.Beside.{Along, Beside, Inside, branch_lands, first_last, lands, return_lands, stands_along}
 use Rattle.nr_trail_laws.proofs.Fits.{Fits, IsCode, plain_fits}
 use Rattle.nr_trail_laws.proofs.Parts.{holds, part_after, part_here, side}
 
@@ -52,7 +52,7 @@ module _ {S : Type 0} (m : HostMeaning S) (s : Runtime S) (p : Program) (q : Pla
         whole = body;
         part = part_here body;
         inner = level.Call t.func t.base ∷ i.inner;
-        is = ap (λ (ls : List Level). ls ++ level.Call t.func t.base ∷ []) i.is;
+        is = ap (λ (ls : List Level). ls ++ level.Call t.func t.base ∷ []) i.is ∙ sym (first_last i.inner (level.Call t.func t.base));
         beside = (has, many (level.Call t.func t.base), (q.code, refl, (i.whole, i.part, i.beside)));
       }))
 
@@ -106,7 +106,7 @@ module _ {S : Type 0} (m : HostMeaning S) (s : Runtime S) (p : Program) (q : Pla
         whole = body;
         part = part_here body;
         inner = level.Block q.code second ∷ i.inner;
-        is = ap (λ (ls : List Level). ls ++ level.Block q.code second ∷ []) i.is;
+        is = ap (λ (ls : List Level). ls ++ level.Block q.code second ∷ []) i.is ∙ sym (first_last i.inner (level.Block q.code second));
         beside = (is, hold, goes, refl, (i.whole, i.part, i.beside));
       })
 
