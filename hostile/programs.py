@@ -271,6 +271,7 @@ def file_cases(at):
         ("files help", "near_files", ["help"]),
         ("module check", "near_module", ["check", priced, module]),
         ("module run", "near_module", ["run", priced, module, "run", "100000"]),
+        ("module trap", "near_module", ["trap", priced, module, "run", "100000"]),
         ("module call", "near_module", ["call", priced, module, "run", "hex:", "100000", "5"]),
         ("module list", "near_module", ["list", module]),
         ("module help", "near_module", ["help"]),

@@ -1,13 +1,13 @@
 //! Checks a module, runs a method of it or calls it as a contract, and writes what it is or how that ended.
 //!
-//! The words are `check CONFIG FILE`, `run CONFIG FILE METHOD GAS`, `call CONFIG FILE METHOD ARGS GAS` or the same with
-//! DEPOSIT behind it, `list FILE`, `text FILE`, `help` or `version`, where CONFIG is `free` or the name of a file. The
-//! exit status is 0 after `ok`, `end BURNT`, the lines of a call that came to its end, the lines or the text of a
-//! module and what `help` and `version` write, and 20 after each other line; 1 where the words are no command, 2
-//! where CONFIG is no configuration, 5 where a file could not be read, 6 where the line could not be written, and 7
-//! where memory ran out. For those a line on standard error has the status, with its numbers. Beside `ok` the line
-//! `make 21` stands there where the module is valid, but an element or a segment doesn't fit, so that no method can
-//! run.
+//! The words are `check CONFIG FILE`, `run CONFIG FILE METHOD GAS`, `trap CONFIG FILE METHOD GAS`, `call CONFIG FILE
+//! METHOD ARGS GAS` or the same with DEPOSIT behind it, `list FILE`, `text FILE`, `help` or `version`, where CONFIG is
+//! `free` or the name of a file. The exit status is 0 after `ok`, `end BURNT`, the lines of a call that came to its
+//! end, the lines or the text of a module and what `help` and `version` write, and 20 after each other line; 1 where
+//! the words are no command, 2 where CONFIG is no configuration, 5 where a file could not be read, 6 where the line
+//! could not be written, and 7 where memory ran out. For those a line on standard error has the status, with its
+//! numbers. Beside `ok` the line `make 21` stands there where the module is valid, but an element or a segment doesn't
+//! fit, so that no method can run.
 #![tactic(auto)]
 
 use nr_bytes::{FileShelf, StdoutSink};

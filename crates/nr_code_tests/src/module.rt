@@ -52,9 +52,31 @@ const ELEMENT_LAST: [u8; 47] = [
     103, 111, 0, 0, 9, 7, 1, 0, 65, 0, 11, 1, 0, 10, 4, 1, 2, 0, 11,
 ];
 
+/// Methods that trap, one that ends and one that calls the host; the function 0 is imported, and 5 is called by the table.
+/// A custom section stands before the code, and its locals and numbers take several bytes.
+const TRAPS: [u8; 387] = [
+    0, 97, 115, 109, 1, 0, 0, 0, 1, 12, 3, 96, 0, 0, 96, 1, 126, 0, 96, 0, 1, 127, 2, 13, 1, 3,
+    101, 110, 118, 5, 105, 110, 112, 117, 116, 0, 1, 3, 16, 15, 0, 0, 0, 0, 0, 2, 0, 0, 0, 0, 0, 0,
+    0, 0, 0, 4, 4, 1, 112, 0, 4, 5, 3, 1, 0, 1, 7, 110, 14, 3, 100, 105, 118, 0, 1, 4, 115, 105,
+    100, 101, 0, 2, 5, 105, 110, 110, 101, 114, 0, 3, 5, 101, 113, 117, 97, 108, 0, 4, 8, 105, 110,
+    100, 105, 114, 101, 99, 116, 0, 5, 6, 98, 101, 104, 105, 110, 100, 0, 7, 6, 98, 101, 121, 111,
+    110, 100, 0, 8, 5, 101, 109, 112, 116, 121, 0, 9, 4, 116, 121, 112, 101, 0, 10, 4, 108, 111,
+    97, 100, 0, 11, 4, 99, 97, 108, 108, 0, 12, 5, 118, 97, 108, 117, 101, 0, 13, 4, 104, 111, 115,
+    116, 0, 14, 4, 101, 110, 100, 115, 0, 15, 9, 14, 2, 0, 65, 0, 11, 2, 3, 4, 0, 65, 3, 11, 1, 6,
+    0, 8, 4, 110, 111, 116, 101, 11, 0, 5, 10, 180, 1, 15, 29, 1, 1, 127, 2, 64, 3, 64, 32, 0, 4,
+    64, 65, 7, 65, 0, 109, 26, 5, 1, 11, 65, 1, 33, 0, 12, 0, 11, 11, 11, 10, 0, 65, 0, 4, 64, 0,
+    5, 0, 11, 11, 9, 0, 2, 64, 12, 0, 0, 11, 0, 11, 9, 0, 2, 64, 12, 0, 0, 11, 0, 11, 8, 0, 1, 65,
+    1, 17, 0, 0, 11, 12, 0, 2, 64, 2, 64, 65, 5, 15, 11, 11, 0, 11, 23, 0, 16, 6, 26, 2, 64, 2, 64,
+    2, 64, 65, 1, 14, 2, 0, 1, 2, 11, 0, 11, 0, 11, 11, 7, 0, 65, 9, 17, 0, 0, 11, 7, 0, 65, 2, 17,
+    0, 0, 11, 7, 0, 65, 3, 17, 0, 0, 11, 15, 0, 66, 127, 26, 65, 240, 162, 4, 40, 2, 128, 128, 64,
+    26, 11, 8, 0, 2, 64, 11, 16, 12, 0, 11, 11, 1, 208, 134, 3, 127, 65, 0, 26, 16, 13, 11, 6, 0,
+    66, 0, 16, 0, 11, 3, 0, 1, 11,
+];
+
 /// What `help` writes.
 const HELP: &str = "near_module check CONFIG FILE\n\
     near_module run CONFIG FILE METHOD GAS\n\
+    near_module trap CONFIG FILE METHOD GAS\n\
     near_module list FILE\n\
     near_module text FILE\n\
     near_module help\n\
@@ -290,6 +312,57 @@ const RUNS: [Row; 7] = [
     },
 ];
 
+/// Methods that trap, and what is written. The functions and the places are those of the bytes, which were written with
+/// them; for all but the last two V8 names the same.
+const TRAPPING: [(&str, &str); 12] = [
+    ("div", "trap 3 14\nat 1 224\n"),
+    ("side", "trap 1 3\nat 2 246\n"),
+    ("inner", "trap 1 3\nat 3 257\n"),
+    ("equal", "trap 1 3\nat 4 267\n"),
+    ("indirect", "trap 1 6\nat 4 267\n"),
+    ("behind", "trap 1 12\nat 7 312\n"),
+    ("beyond", "trap 5 2\nat 8 319\n"),
+    ("empty", "trap 6 2\nat 9 327\n"),
+    ("type", "trap 7 2\nat 10 335\n"),
+    ("load", "trap 2 4\nat 11 348\n"),
+    ("call", "trap 8 2000\nat 12 360\n"),
+    ("value", "trap 8 4\nat 13 370\n"),
+];
+
+/// What ends, calls the host, burns too much, isn't there, or is run without a place.
+const NO_PLACES: [Row; 5] = [
+    Row {
+        words: &["trap", "free", "M", "ends", "10000"],
+        module: &TRAPS,
+        status: Status::Sound,
+        lines: "end 1\n",
+    },
+    Row {
+        words: &["trap", "free", "M", "host", "10000"],
+        module: &TRAPS,
+        status: Status::Faulty,
+        lines: "fault 20 2\n",
+    },
+    Row {
+        words: &["trap", "free", "M", "call", "5"],
+        module: &TRAPS,
+        status: Status::Faulty,
+        lines: "gas 5\n",
+    },
+    Row {
+        words: &["trap", "free", "M", "five", "10000"],
+        module: &TRAPS,
+        status: Status::Faulty,
+        lines: "method\n",
+    },
+    Row {
+        words: &["run", "free", "M", "div", "10000"],
+        module: &TRAPS,
+        status: Status::Faulty,
+        lines: "trap 3 14\n",
+    },
+];
+
 fn is_answered(alloc: Global, row: &Row) -> Result<bool, Fail> {
     answers(
         alloc,
@@ -311,6 +384,23 @@ fn words_over_a_module_are_answered(rt: HostRuntime) -> Result<(), Fail> {
 #[test]
 fn a_method_is_looked_up_before_anything_is_put_in(rt: HostRuntime) -> Result<(), Fail> {
     for (place, row) in RUNS.iter().enumerate() {
+        assert!(rt; is_answered(rt.alloc(), row)?, "row {place}");
+    }
+    Ok(())
+}
+
+#[test]
+fn a_trap_says_where(rt: HostRuntime) -> Result<(), Fail> {
+    for (method, lines) in TRAPPING {
+        let words = ["trap", "free", "M", method, "10000"];
+        assert!(rt; answers(rt.alloc(), &words, &[("M", &TRAPS)], Status::Faulty, lines)?, "{method}");
+    }
+    Ok(())
+}
+
+#[test]
+fn what_does_not_trap_has_no_place(rt: HostRuntime) -> Result<(), Fail> {
+    for (place, row) in NO_PLACES.iter().enumerate() {
         assert!(rt; is_answered(rt.alloc(), row)?, "row {place}");
     }
     Ok(())

@@ -129,7 +129,7 @@ pub(crate) const REFUSALS: [(&str, &str); 16] = [
 ];
 
 /// Lines of modules.
-pub(crate) const MODULES: [(&str, &str); 8] = [
+pub(crate) const MODULES: [(&str, &str); 9] = [
     ("near_module ok", "The module decodes and is valid."),
     (
         "near_module decode 3 8",
@@ -166,6 +166,10 @@ pub(crate) const MODULES: [(&str, &str); 8] = [
     (
         "trap 3 12",
         "The run stopped at a trap: a division by zero. It burnt 12 gas.",
+    ),
+    (
+        "at 3 117",
+        "The instruction that trapped stands in function 3, at byte 117 (from 0) of the file.",
     ),
 ];
 

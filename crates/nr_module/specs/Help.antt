@@ -10,6 +10,8 @@ forms =
     form (codes "check") (file (codes "CONFIG") ∷ file (codes "FILE") ∷ [])
     ∷ form (codes "run") (file (codes "CONFIG") ∷ file (codes "FILE") ∷ file (codes "METHOD")
     ∷ number (codes "GAS") 0 18446744073709551615 ∷ [])
+    ∷ form (codes "trap") (file (codes "CONFIG") ∷ file (codes "FILE") ∷ file (codes "METHOD")
+    ∷ number (codes "GAS") 0 18446744073709551615 ∷ [])
     ∷ form (codes "list") (file (codes "FILE") ∷ []) ∷ form (codes "text") (file (codes "FILE") ∷ [])
     ∷ form (codes "help") [] ∷ form (codes "version") []
     ∷ form (codes "call") (file (codes "CONFIG") ∷ file (codes "FILE") ∷ file (codes "METHOD") ∷ file (codes "ARGS")

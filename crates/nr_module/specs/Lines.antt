@@ -6,7 +6,7 @@ use Rattle.nr_wasmvalid.specs.declared.fault.ValidFault.{ValidFault}
 use Rattle.nr_wasmvalid.specs.declared.fault.ValidFault.TheVariants as valid
 use Rattle.nr_module.specs.declared.verdict.Answer.{Answer}
 use Rattle.nr_module.specs.declared.verdict.Answer.TheVariants.{Good, Unfit, NoMethod, Unmade, Ended, Trapped, Failed}
-use Rattle.nr_module.specs.declared.verdict.Answer.TheVariants.{OutOfGas}
+use Rattle.nr_module.specs.declared.verdict.Answer.TheVariants.{OutOfGas, TrappedAt}
 use Rattle.nr_module.specs.declared.verdict.Rating.{Rating}
 use Rattle.nr_module.specs.declared.verdict.Rating.TheVariants as rating
 use Rattle.nr_module.specs.declared.verdict.Verdict.{Verdict}
@@ -45,11 +45,19 @@ burnt_line word burnt = word ++ 32 ∷ decimal burnt ++ 10 ∷ []
 abbrev pub stop_line : List ℕ → ℕ → ℕ → List ℕ
 stop_line word kind burnt = word ++ 32 ∷ decimal kind ++ 32 ∷ decimal burnt ++ 10 ∷ []
 
+-- the number of a function, and a place of the file
+abbrev pub place_line : ℕ → ℕ → List ℕ
+place_line func at = codes "at" ++ 32 ∷ decimal func ++ 32 ∷ decimal at ++ 10 ∷ []
+
+abbrev pub trap_lines : ℕ → ℕ → ℕ → ℕ → List ℕ
+trap_lines kind burnt func at = stop_line (codes "trap") kind burnt ++ place_line func at
+
 abbrev pub answer_text : Answer → List ℕ
 answer_text Good = codes "ok" ++ 10 ∷ []
 answer_text Unfit = codes "ok" ++ 10 ∷ []
 answer_text (Ended burnt) = burnt_line (codes "end") burnt
 answer_text (Trapped kind burnt) = stop_line (codes "trap") kind burnt
+answer_text (TrappedAt kind burnt func at) = trap_lines kind burnt func at
 answer_text (Failed kind burnt) = stop_line (codes "fault") kind burnt
 answer_text (OutOfGas burnt) = burnt_line (codes "gas") burnt
 answer_text Unmade = codes "make 21" ++ 10 ∷ []
@@ -67,6 +75,7 @@ rated_answer Good = rating.Sound
 rated_answer Unfit = rating.Unfit
 rated_answer (Ended burnt) = rating.Sound
 rated_answer (Trapped kind burnt) = rating.Faulty
+rated_answer (TrappedAt kind burnt func at) = rating.Faulty
 rated_answer (Failed kind burnt) = rating.Faulty
 rated_answer (OutOfGas burnt) = rating.Faulty
 rated_answer Unmade = rating.Faulty

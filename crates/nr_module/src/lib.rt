@@ -18,6 +18,7 @@ mod running;
 mod status;
 mod telling;
 mod top;
+mod tracing;
 mod verdict;
 
 pub use laws::{asked_law, listing_law};

@@ -1,8 +1,8 @@
 //! The line of a verdict.
 
-ghost use Rattle.std.specs.Prelude.{◌≡◌, IfOk, string_bytes};
-ghost use Rattle.nr_module.specs.Lines.{answer_text, burnt_line, decode_line, decode_text, stop_line, valid_line};
-ghost use Rattle.nr_module.specs.Lines.{valid_text, verdict_text};
+ghost use Rattle.std.specs.Prelude.{◌≡◌, ◌++◌, IfOk, OnOk, string_bytes};
+ghost use Rattle.nr_module.specs.Lines.{answer_text, burnt_line, decode_line, decode_text, place_line, stop_line};
+ghost use Rattle.nr_module.specs.Lines.{trap_lines, valid_line, valid_text, verdict_text};
 
 use crate::verdict::{Answer, Verdict};
 use nr_wasmbin::DecodeFault;
@@ -70,6 +70,26 @@ fn stop_line(alloc: Global, word: &str, kind: u32, burnt: u128) -> Result<String
     Ok(text)
 }
 
+fn print_place(func: u32, at: usize, text: &mut String) -> Result<(), AllocError>
+    ensures { OnOk result (string_bytes text.new ≡ string_bytes text.old ++ place_line func at) }
+{
+    writeln!(text, "at {func} {at}")
+}
+
+fn trap_lines(
+    alloc: Global,
+    kind: u32,
+    burnt: u128,
+    func: u32,
+    at: usize,
+) -> Result<String, AllocError>
+    ensures { IfOk result (λ text. string_bytes text ≡ trap_lines kind burnt func at) }
+{
+    let mut text = stop_line(alloc, "trap", kind, burnt)?;
+    print_place(func, at, &mut text)?;
+    Ok(text)
+}
+
 fn answer_text(alloc: Global, answer: Answer) -> Result<String, AllocError>
     ensures { IfOk result (λ text. string_bytes text ≡ answer_text answer) }
 {
@@ -77,6 +97,12 @@ fn answer_text(alloc: Global, answer: Answer) -> Result<String, AllocError>
         Answer::Good | Answer::Unfit => String::from_str(alloc, "ok\n"),
         Answer::Ended { burnt } => burnt_line(alloc, "end", burnt),
         Answer::Trapped { kind, burnt } => stop_line(alloc, "trap", kind, burnt),
+        Answer::TrappedAt {
+            kind,
+            burnt,
+            func,
+            at,
+        } => trap_lines(alloc, kind, burnt, func, at),
         Answer::Failed { kind, burnt } => stop_line(alloc, "fault", kind, burnt),
         Answer::OutOfGas { burnt } => burnt_line(alloc, "gas", burnt),
         Answer::Unmade => String::from_str(alloc, "make 21\n"),
@@ -84,7 +110,8 @@ fn answer_text(alloc: Global, answer: Answer) -> Result<String, AllocError>
     }
 }
 
-/// The line of a verdict: `ok`, `decode KIND AT`, `valid KIND FUNC PLACE`, or that of a run.
+/// The line of a verdict: `ok`, `decode KIND AT`, `valid KIND FUNC PLACE`, or that of a run, behind which that of a
+/// trap's place may stand.
 pub(crate) fn verdict_text(alloc: Global, verdict: Verdict) -> Result<String, AllocError>
     ensures { IfOk result (λ text. string_bytes text ≡ verdict_text verdict) }
 {

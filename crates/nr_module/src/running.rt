@@ -12,6 +12,7 @@ ghost use Rattle.nr_module.specs.Running.{IsCheck, IsRun, IsRunIn, RunsTo, told}
 use crate::command::Work;
 use crate::counter::Counter;
 use crate::lookup::method_named;
+use crate::tracing::trace_method;
 use crate::verdict::Answer;
 use nr_config::Config;
 use nr_wasmexec::{Machine, MakeFault, RunStop};
@@ -93,7 +94,7 @@ fn check(alloc: Global, valid: Valid, config: &Config) -> Result<Answer, AllocEr
     }
 }
 
-/// Does the work with a valid module.
+/// Does the work with a valid module, whose file has these bytes.
 ///
 /// # Errors
 ///
@@ -102,13 +103,15 @@ pub(crate) fn answer(
     alloc: Global,
     valid: Valid,
     config: &Config,
+    bytes: &Vec<u8>,
     work: Work<'_>,
 ) -> Result<Answer, AllocError>
     requires { IsValid (max_pages config.now) valid }
-    ensures { IfOk result (λ a. IsAnswer config.now valid (task_in work.entry) a) }
+    ensures { IfOk result (λ a. IsAnswer config.now bytes.now.items valid (task_in work.entry) a) }
 {
     match work {
         Work::Check => check(alloc, valid, config),
         Work::Run { method, gas } => run_method(alloc, valid, config, method, gas),
+        Work::Trap { method, gas } => trace_method(alloc, valid, config, bytes, method, gas),
     }
 }

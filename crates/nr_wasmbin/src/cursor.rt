@@ -19,7 +19,7 @@ const MOST_ITEMS: u32 = 50_000;
 
 /// Reads fields from the front of some bytes. Places count from the front of the module.
 #[derive(Drop)]
-pub(crate) struct Cursor<'a> {
+pub struct Cursor<'a> {
     bytes: &'a [u8],
     at: usize,
 }
@@ -56,20 +56,22 @@ fn utf8(bytes: &[u8]) -> Option<&str>
 }
 
 impl<'a> Cursor<'a> {
-    pub(crate) fn new(bytes: &'a [u8]) -> Cursor<'a>
+    /// Before the first of these bytes.
+    pub fn new(bytes: &'a [u8]) -> Cursor<'a>
         ensures { result ≡ record { left = bytes.now; at = 0 } }
     {
         Cursor { bytes, at: 0 }
     }
 
     /// The place of the next byte.
-    pub(crate) fn at(&self) -> usize
+    pub fn at(&self) -> usize
         ensures { result ≡ self.now.at }
     {
         self.at
     }
 
-    pub(crate) fn byte(&mut self) -> Result<u8, DecodeFault>
+    /// The next byte.
+    pub fn byte(&mut self) -> Result<u8, DecodeFault>
         ensures gives { Gives result self.new (byte_at self.old) }
         ensures shorter { OnOk result (length self.new.left < length self.old.left) }
     {
@@ -142,7 +144,7 @@ impl<'a> Cursor<'a> {
     }
 
     /// How many items a list has.
-    pub(crate) fn count(&mut self) -> Result<u32, DecodeFault>
+    pub fn count(&mut self) -> Result<u32, DecodeFault>
         ensures gives { Gives result self.new (count_at self.old) }
         ensures shorter { OnOk result (length self.new.left < length self.old.left) }
     {
@@ -240,7 +242,7 @@ impl<'a> Cursor<'a> {
     }
 
     /// A size, and that many bytes, to be read on their own.
-    pub(crate) fn sized(&mut self) -> Result<Cursor<'a>, DecodeFault>
+    pub fn sized(&mut self) -> Result<Cursor<'a>, DecodeFault>
         ensures gives { Gives result self.new (sized_at self.old) }
         ensures shorter { OnOk result (length self.new.left ≤ length self.old.left) }
     {

@@ -17,7 +17,12 @@ mod storing;
 mod thread;
 mod variable;
 
+pub use branching::label_of;
+pub use calling::entry;
 pub use gauge::Gauge;
-pub use machine::Machine;
+pub use machine::{Machine, Parts};
 pub use making::MakeFault;
-pub use stop::RunStop;
+pub use program::{Func, HostLink, Limits, Program, func_at};
+pub use running::{is_never_stuck, is_too_large, turn};
+pub use stop::{RunStop, Stop};
+pub use thread::{Thread, after_first};

@@ -36,6 +36,14 @@ pub struct Machine {
     guest: Guest,
 }
 
+/// What a machine is made of.
+#[derive(Drop)]
+pub struct Parts {
+    pub program: Program,
+    pub limits: Limits,
+    pub guest: Guest,
+}
+
 impl Model for Machine {
     ghost use Rattle.nr_wasmexec.specs.Making.{MachineView, IsMachine};
     ghost use Rattle.std.specs.Coded.{codes};
@@ -96,6 +104,30 @@ impl Machine {
         ensures { result ≡ self.program.code }
     {
         self.program.code
+    }
+
+    /// Takes the machine apart.
+    pub fn into_parts(self) -> Parts
+        ensures program { result.program ≡ self.program }
+        ensures limits { result.limits ≡ self.limits }
+        ensures guest { result.guest ≡ self.guest }
+        ensures sound { IsMachine (record {
+          program = result.program;
+          limits = result.limits;
+          guest = result.guest;
+        }) }
+    {
+        let Machine {
+            alloc: _,
+            program,
+            limits,
+            guest,
+        } = self;
+        Parts {
+            program,
+            limits,
+            guest,
+        }
     }
 
     /// Runs a method to its end over a host. What it did to memory and globals stays.
