@@ -12,7 +12,8 @@ use nr_actions::laws::action_laws;
 use nr_actions::{ActionFault, Failure, Frame, apply};
 use nr_config::Config;
 use nr_config::entries::STORAGE_PRICE;
-use nr_records::{Account, Action};
+use nr_fees::attached_to;
+use nr_records::Account;
 use nr_state::{Caller, ShardState};
 use nr_triedef::Store;
 use std::alloc::{AllocError, Global};
@@ -30,16 +31,6 @@ impl From<AllocError> for Stop {
 
     fn from(_fault: AllocError) -> Stop {
         Stop::Memory
-    }
-}
-
-/// The gas attached to an action.
-fn attached_to(action: &Action) -> u64
-    ensures { result ≡ attached action.now }
-{
-    match action {
-        Action::FunctionCall { gas, .. } => *gas,
-        _ => 0,
     }
 }
 
