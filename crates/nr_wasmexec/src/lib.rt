@@ -5,6 +5,7 @@ mod branching;
 mod calling;
 mod control;
 mod execute;
+mod exports;
 mod gauge;
 mod machine;
 mod making;
@@ -17,6 +18,7 @@ mod storing;
 mod thread;
 mod variable;
 
+pub use exports::{export_named, takes_and_leaves_nothing};
 pub use gauge::Gauge;
 pub use machine::Machine;
 pub use making::MakeFault;
