@@ -10,7 +10,7 @@ mod words;
 
 pub use forms::{Form, Found, Place, Value, is_hex_digit};
 pub use kind::ProofKind;
-pub use numbers::number_in;
+pub use numbers::{is_numeral, large_number, number_in};
 pub use reading::read_words;
 pub use words::{
     ChunkItem, ChunkPlace, FileNames, StatePart, Words, is_free, replay_command, serial_command,
