@@ -80,3 +80,10 @@ no_text least most bs fails = by (is_numeral bs) refl
     by : (t : Bool) → is_numeral bs ≡ t → None ≡ cond (t && (leb least (digits_value 10 bs) && leb (digits_value 10 bs) most)) (Some (digits_value 10 bs)) None
     by true e = absurd (fails (IsUtf8-from_ascii bs (digits_ascii bs (both_right (has_no_leading_zero bs) (list_all is_digit bs) e))))
     by false e = refl
+
+pub no_text_below : (limit : ℕ) (bs : List ℕ) → ¬ (IsUtf8 bs) → None ≡ number_below limit bs
+no_text_below limit bs fails = by (is_numeral bs) refl
+  where
+    by : (t : Bool) → is_numeral bs ≡ t → None ≡ cond (t && ltb (digits_value 10 bs) limit) (Some (digits_value 10 bs)) None
+    by true e = absurd (fails (IsUtf8-from_ascii bs (digits_ascii bs (both_right (has_no_leading_zero bs) (list_all is_digit bs) e))))
+    by false e = refl

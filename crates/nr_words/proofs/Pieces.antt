@@ -2,29 +2,23 @@
 use Rattle.std.proofs.Common.{◌≡◌, ℕ, ◌+◌, ◌<◌, ◌≤◌, ◌==◌, Bool, true, false, cond, List, [], ◌∷◌, length, take, drop, Option, Some, None, refl, ap, ◌∙◌, arith}
 use Rattle.std.specs.Prelude.{nat_lt, position}
 use Rattle.std.specs.List.{onto_first, position_or_len}
-use Rattle.std.proofs.lemmas.Bool.Decides.{nat_tests}
+use Rattle.std.proofs.lemmas.Bool.{ltb-true, ltb-false}
 use Rattle.std.proofs.lemmas.List.Splits.{slice_split_none, slice_split_first}
 use Rattle.std.proofs.lemmas.List.Sums.{fails_before_first}
-use Rattle.nr_explain.specs.Words.{pieces}
+use Rattle.nr_words.specs.Pieces.{pieces}
 
-pub lt_of : (m n : ℕ) → nat_lt m n ≡ true → m < n
-lt_of m n h = grind (arith, nat_tests)
-
-pub ge_of : (m n : ℕ) → nat_lt m n ≡ false → n ≤ m
-ge_of m n h = grind (arith, nat_tests)
-
-no_place : {A : Type 0} (p : A → Bool) (bytes : List A) → position p bytes ≡ None → length bytes ≤ position_or_len p bytes
+no_place : (p : ℕ → Bool) (bytes : List ℕ) → position p bytes ≡ None → length bytes ≤ position_or_len p bytes
 no_place p bytes = by (nat_lt (position_or_len p bytes) (length bytes)) refl
   where
     by : (b : Bool) → nat_lt (position_or_len p bytes) (length bytes) ≡ b → ◌≡◌ {A = Option ℕ} (cond b (Some (position_or_len p bytes)) None) None → length bytes ≤ position_or_len p bytes
     by true e f = absurd cc
-    by false e f = ge_of (position_or_len p bytes) (length bytes) e
+    by false e f = ltb-false (position_or_len p bytes) (length bytes) e
 
 a_place : (p : ℕ → Bool) (bytes : List ℕ) (i : ℕ) → position p bytes ≡ Some i → (position_or_len p bytes ≡ i) × (position_or_len p bytes < length bytes)
 a_place p bytes i = by (nat_lt (position_or_len p bytes) (length bytes)) refl
   where
     by : (b : Bool) → nat_lt (position_or_len p bytes) (length bytes) ≡ b → cond b (Some (position_or_len p bytes)) None ≡ Some i → (position_or_len p bytes ≡ i) × (position_or_len p bytes < length bytes)
-    by true e f = (cc, lt_of (position_or_len p bytes) (length bytes) e)
+    by true e f = (cc, ltb-true (position_or_len p bytes) (length bytes) e)
     by false e f = absurd cc
 
 pub one_piece : (separator : ℕ) (bytes : List ℕ) → position (λ b. b == separator) bytes ≡ None → pieces separator bytes ≡ bytes ∷ []
@@ -38,11 +32,6 @@ first_piece separator bytes i e =
     let p : ℕ → Bool = λ b. b == separator in
     let at = a_place p bytes i e in
     slice_split_first p bytes 0 at.1 ∙ ap (λ n. take n bytes ∷ pieces separator (drop (n + 1) bytes)) at.0
-
-pub within_bytes : (separator : ℕ) (bytes : List ℕ) (i : ℕ) → position (λ b. b == separator) bytes ≡ Some i → i < length bytes
-within_bytes separator bytes i e =
-    let at = a_place (λ b. b == separator) bytes i e in
-    omega (arith, at.0, at.1)
 
 some_onto : (b : ℕ) (parts : List (List ℕ)) → (first : List ℕ) × (more : List (List ℕ)) × (onto_first b parts ≡ first ∷ more)
 some_onto b [] = (b ∷ [], [], refl)

@@ -1,9 +1,9 @@
--- The goals of `cut::cut` that no tactic closes.
+-- The goals of `cutting::cut` that no tactic closes.
 use Rattle.std.proofs.Common.{◌+◌, ◌∷◌, take, sym, ap, ◌∙◌}
 use Rattle.std.proofs.lemmas.List.{take_rest}
-use Rattle.nr_explain.specs.Words.{pieces}
-use Rattle.nr_explain.proofs.Pieces.{first_piece, one_piece}
-use Rattle.nr_explain.proofs.cut.cut.Goals as goal
+use Rattle.nr_words.specs.Pieces.{pieces}
+use Rattle.nr_words.proofs.Pieces.{first_piece, one_piece}
+use Rattle.nr_words.proofs.cutting.cut.Goals as goal
 
 pub returns-in-Some-clause-pieces : goal.returns-in-Some-clause-pieces
 returns-in-Some-clause-pieces c =

@@ -1,7 +1,7 @@
 //! Pieces between separators.
 
 ghost use Rattle.std.specs.Prelude.{◌≡◌, ◌∷◌, [], ◌<◌, ◌==◌, IfSome, MatchOption, length, position};
-ghost use Rattle.nr_explain.specs.Words.{pieces};
+ghost use Rattle.nr_words.specs.Pieces.{pieces};
 
 fn place_of(bytes: &[u8], separator: u8) -> Option<usize>
     ensures { result ≡ position (λ b. b == separator) bytes.now }
@@ -10,7 +10,7 @@ fn place_of(bytes: &[u8], separator: u8) -> Option<usize>
 }
 
 /// What stands before the first separator and behind it, where there is one.
-pub(crate) fn cut(bytes: &[u8], separator: u8) -> Option<(&[u8], &[u8])>
+pub fn cut(bytes: &[u8], separator: u8) -> Option<(&[u8], &[u8])>
     ensures pieces { MatchOption result (pieces separator bytes.now ≡ bytes.now ∷ [])
         (λ parts. pieces separator bytes.now ≡ parts.0.now ∷ pieces separator parts.1.now) }
     ensures shorter { IfSome result (λ parts. length parts.1.now < length bytes.now) }
