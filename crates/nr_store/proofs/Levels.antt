@@ -122,12 +122,3 @@ root_is m keys found e f = ap summary_of (f ∙ ap whole e)
 pub made_more : (rest : Paths) (k : ℕ) (new old : List (Option Summary)) (child : Option Summary) → old ≡ map (λ nibble. whole (under nibble rest)) (range_with_len 0 k) → child ≡ whole (under k rest) → new ≡ old ++ child ∷ [] → new ≡ map (λ nibble. whole (under nibble rest)) (range_with_len 0 (k + 1))
 made_more rest k new old child before is e =
     e ∙ ap (λ (l : List (Option Summary)). l ++ child ∷ []) before ∙ ap (λ c. map (λ nibble. whole (under nibble rest)) (range_with_len 0 k) ++ c ∷ []) is ∙ sym (map-range_with_len_more (λ nibble. whole (under nibble rest)) 0 k k (omega arith))
-
-pub hashes_all : (children : List (Option Hash32)) (below : List (Option Summary)) → length children ≡ length below → ((k : ℕ) → k < length below → get_or children k None ≡ hash_below (get_or below k None)) → children ≡ map hash_below below
-hashes_all [] [] len h = refl
-hashes_all [] (s ∷ below) len h = absurd (omega arith)
-hashes_all (c ∷ children) [] len h = absurd (omega arith)
-hashes_all (c ∷ children) (s ∷ below) len h =
-    let first : c ≡ hash_below s = h 0 (omega arith) in
-    let others : children ≡ map hash_below below = hashes_all children below (omega arith) (λ k lt. h (suc k) (omega arith)) in
-    cc
