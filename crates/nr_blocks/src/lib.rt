@@ -35,5 +35,6 @@ pub use genesis_file::GenesisFile;
 pub use laws::first_world_laws;
 pub use making::make_blocks;
 pub use outline::{Outline, read_outlines};
+pub use owners::{add_code, add_usage};
 pub use reading::{read_blocks, read_genesis};
 pub use version::Version;
