@@ -12,7 +12,7 @@ ghost use Rattle.nr_trielist.specs.Growing.{all_nodes};
 ghost use Rattle.nr_columns.specs.Entries.{pairs_of};
 ghost use Rattle.nr_parts.specs.Cutting.{InOrder, once, part_cut};
 ghost use Rattle.nr_parts.specs.Agreeing.{IsAcceptedOf};
-ghost use Rattle.nr_parts.specs.Sweeping.{has_value, swept_entries, passed_by, swept_nodes, owns};
+ghost use Rattle.nr_parts.specs.Sweeping.{swept_entries, passed_by, swept_nodes, owns};
 
 use crate::joining::copy_of;
 use crate::part::Part;
@@ -21,9 +21,9 @@ use nr_bytes::{Blob, List};
 use nr_columns::Entry;
 use nr_ids::Hash32;
 use nr_store::{Entry as Keyed, PlainStore, Span};
-use nr_triedef::{Node, Store, node_text, value_hash};
+use nr_triedef::{Node, Store, node_text, usage_of, value_hash};
 use nr_trielist::{Hashes, Top, list_nodes};
-use nr_walk::{own_usage, usage_of};
+use nr_walk::{has_value, own_usage};
 use std::alloc::{AllocError, Global};
 
 // The entries as keys and values, in their order.
@@ -57,16 +57,6 @@ fn nodes_of(alloc: Global, entries: &[Entry]) -> Result<(Option<Top>, List<Node>
     let keys = keyed_of(alloc, entries)?;
     let mut hashes = Hashes::new(alloc);
     list_nodes(alloc, Span::of(&keys), &mut hashes)
-}
-
-fn has_value(node: &Node) -> bool
-    ensures { result ≡ has_value node.now }
-{
-    match node {
-        Node::Leaf { .. } => true,
-        Node::Extension { .. } => false,
-        Node::Branch { value, .. } => value.is_some(),
-    }
 }
 
 // Adds the entry of an index, where there is one.

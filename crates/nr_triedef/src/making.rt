@@ -116,7 +116,7 @@ pub fn with_front<L: Ledger>(
     }
 }
 
-fn usage_of(below: &Option<Summary>) -> u64
+fn usage_in(below: &Option<Summary>) -> u64
     ensures { result ≡ usage_below below.now }
 {
     match below {
@@ -135,7 +135,7 @@ pub fn usage_below(below: &[Option<Summary>]) -> Result<u64, AllocError>
 {
     let mut usage = 0;
     for child in below {
-        usage = sum_of(usage, usage_of(child))?;
+        usage = sum_of(usage, usage_in(child))?;
     }
     Ok(usage)
 }

@@ -1,7 +1,7 @@
 //! Nodes of the trie of entries, and what each tells the node above it.
 
 ghost use Rattle.std.specs.Prelude.{◌≡◌, ◌<◌, false, length, map, sum_by, IfOk};
-ghost use Rattle.nr_triedef.specs.Node.{IsNibbles, IsNode, key_part, summary, usage_of};
+ghost use Rattle.nr_triedef.specs.Node.{IsNibbles, IsNode, key_part, summary};
 ghost use Rattle.nr_triedef.specs.Root.{value_here, value_usage, usage_below, leaf, extension, value_field, hash_below};
 ghost use Rattle.nr_triedef.specs.Root.{branch};
 ghost use Rattle.nr_store.specs.Tries.{first_path};
@@ -9,7 +9,7 @@ ghost use Rattle.nr_store.specs.Tries.{first_path};
 use crate::hashes::Hashes;
 use nr_ids::Hash32;
 use nr_store::Span;
-use nr_triedef::{Node, key_part, length_of, node_text, part_usage, sum_of, value_hash};
+use nr_triedef::{Node, key_part, length_of, node_text, part_usage, sum_of, usage_of, value_hash};
 use std::alloc::{AllocError, Global};
 use std::marker::Model;
 
@@ -44,17 +44,6 @@ impl Top {
         ensures { result ≡ self.usage }
     {
         self.usage
-    }
-}
-
-// The memory usage that a node tells.
-fn usage_of(node: &Node) -> u64
-    ensures { result ≡ usage_of node.now }
-{
-    match node {
-        Node::Leaf { usage, .. } => *usage,
-        Node::Extension { usage, .. } => *usage,
-        Node::Branch { usage, .. } => *usage,
     }
 }
 

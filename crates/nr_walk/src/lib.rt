@@ -22,8 +22,8 @@ pub use searched::{Searched, finds, looks};
 pub use sought::Sought;
 pub use texts::Texts;
 pub use told::{
-    Ending, Spot, children_of, ending_of, further, is_branch, is_extension, own_usage,
-    part_nibbles, spots_of, usage_of,
+    Ending, Spot, children_of, ending_of, further, has_value, is_branch, is_extension, own_usage,
+    part_nibbles, spots_of,
 };
 pub use walking::{Gain, Kept, Known, Visit, packed};
 pub use whole::walk;
