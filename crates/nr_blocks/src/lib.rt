@@ -25,7 +25,7 @@ mod threads;
 mod version;
 
 pub use block::Block;
-pub use block_checks::MOST_BLOCKS;
+pub use block_checks::{MOST_BLOCKS, check_all_heights};
 pub use blocks_file::{BlocksFile, bytes_law};
 pub use fault::{BlocksFault, GenesisFault};
 pub use first_state::fill;

@@ -1,6 +1,5 @@
 -- Lemmas behind the answers.
 pub mod Runs
-pub mod Counts
 pub mod Listed
 pub mod Methods
 pub mod Asking
