@@ -8,7 +8,7 @@ use Rattle.nr_store.specs.Tries.{CanWalk}
 use Rattle.nr_store.proofs.Held.{R}
 use Rattle.nr_store.proofs.Listed.{walk_whole}
 use Rattle.nr_columns.specs.declared.entry.Entry.{Entry}
-use Rattle.nr_gather.specs.Entries.{pairs_of, InOrder}
+use Rattle.nr_columns.specs.Entries.{pairs_of, InOrder}
 
 pub walk_pairs : (es : List Entry) (keys : Paths) → keys ≡ paths (pairs_of es) → InOrder es → AllByRecursion (λ (p : List ℕ × List ℕ). IsNibbles p.0) keys → CanWalk keys
 walk_pairs es keys e order small =

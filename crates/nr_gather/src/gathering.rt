@@ -8,7 +8,7 @@ ghost use Rattle.nr_trielist.specs.Growing.{all_nodes};
 ghost use Rattle.nr_walk.specs.declared.walking.Gain.{Gain};
 ghost use Rattle.nr_walk.specs.Shown.{IsOf, walk_of};
 ghost use Rattle.nr_walk.specs.Texts.{texts_of};
-ghost use Rattle.nr_gather.specs.Entries.{pairs_of, InOrder};
+ghost use Rattle.nr_columns.specs.Entries.{pairs_of, InOrder};
 ghost use Rattle.nr_gather.specs.Gathered.{once, gathered, root_in};
 
 use crate::keys::keys_of;

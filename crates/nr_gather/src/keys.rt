@@ -4,7 +4,7 @@ ghost use Rattle.std.specs.Prelude.{◌≡◌, ◌++◌, ◌∷◌, [], IfOk, On
 ghost use Rattle.nr_triedef.specs.Node.{nibbles, IsNibbles};
 ghost use Rattle.nr_triedef.specs.Root.{paths};
 ghost use Rattle.nr_store.specs.Tries.{CanWalk};
-ghost use Rattle.nr_gather.specs.Entries.{pairs_of, InOrder};
+ghost use Rattle.nr_columns.specs.Entries.{pairs_of, InOrder};
 
 use nr_store::Entry as Key;
 use nr_walk::Entry;

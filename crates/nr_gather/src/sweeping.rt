@@ -5,7 +5,7 @@ ghost use Rattle.std.specs.List.{AllByRecursion};
 ghost use Rattle.nr_triedef.specs.Node.{IsNode};
 ghost use Rattle.nr_triedef.specs.Root.{paths};
 ghost use Rattle.nr_triedef.specs.declared.node.Node.{Node as Nodes};
-ghost use Rattle.nr_gather.specs.Entries.{pairs_of};
+ghost use Rattle.nr_columns.specs.Entries.{pairs_of};
 ghost use Rattle.nr_gather.specs.Sweeping.{count_of, value_text, paths_behind, swept};
 
 use crate::waiting::Waiting;

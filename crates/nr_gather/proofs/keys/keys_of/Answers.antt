@@ -3,7 +3,7 @@ use Rattle.std.proofs.Common.{List, ap, ◌∙◌, arith}
 use Rattle.std.proofs.lemmas.List.{take_all}
 use Rattle.nr_triedef.specs.Root.{paths}
 use Rattle.nr_columns.specs.declared.entry.Entry.{Entry}
-use Rattle.nr_gather.specs.Entries.{pairs_of}
+use Rattle.nr_columns.specs.Entries.{pairs_of}
 use Rattle.nr_gather.proofs.Orders.{walk_pairs}
 use Rattle.nr_gather.proofs.keys.keys_of.Goals as goal
 
