@@ -11,9 +11,9 @@ ghost use Rattle.nr_receipt.specs.declared.running.Stop.TheVariants.{Memory};
 use nr_actions::laws::action_laws;
 use nr_actions::{ActionFault, Failure, Frame, apply};
 use nr_config::Config;
-use nr_config::entries::STORAGE_PRICE;
 use nr_fees::attached_to;
 use nr_records::Account;
+use nr_state::usage::storage_stake;
 use nr_state::{Caller, ShardState};
 use nr_triedef::Store;
 use std::alloc::{AllocError, Global};
@@ -102,7 +102,7 @@ fn run_all<S: Store, C: Caller<S>>(
 fn lacks_balance(config: &Config, account: &Account) -> bool
     ensures { result ≡ lacks_balance config.now account.now }
 {
-    let needs = u128::from(account.storage_usage) * u128::from(config.entry(STORAGE_PRICE));
+    let needs = storage_stake(config, account);
     match account.amount.checked_add(account.locked) {
         Some(has) => has < needs,
         None => false,
