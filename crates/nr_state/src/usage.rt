@@ -14,8 +14,8 @@ use nr_records::{AccessKey, Account, encode};
 use nr_triedef::Store;
 use std::alloc::{AllocError, Global};
 
-/// The tokens that an account's storage asks it to keep, in the smallest unit of the ledger: for each byte
-/// that it is counted as, the entry `storage_price` of the configuration.
+/// The tokens that an account's storage asks it to keep, in the smallest unit of the ledger: for each
+/// byte that it is counted as, the entry `storage_price` of the configuration.
 pub fn storage_stake(config: &Config, account: &Account) -> u128
     ensures { result ≡ storage_stake config.now account.now }
 {
