@@ -25,7 +25,7 @@ pub use file_shelf::FileShelf;
 pub use list::List;
 pub use memory_shelf::MemoryShelf;
 pub use memory_sink::MemorySink;
-pub use reader::Reader;
+pub use reader::{Reader, counted_slice, utf8};
 pub use shelf::{LoadFault, Shelf};
 pub use sink::{Sink, WriteFailed};
 pub use stdout_sink::StdoutSink;
