@@ -3,6 +3,7 @@
 #![tactic(auto)]
 
 mod blob;
+mod called;
 mod compare;
 mod fault;
 mod file_shelf;
@@ -20,6 +21,7 @@ mod threads;
 mod writer;
 
 pub use blob::Blob;
+pub use called::words_of;
 pub use fault::BytesFault;
 pub use file_shelf::FileShelf;
 pub use list::List;

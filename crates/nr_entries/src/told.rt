@@ -1,6 +1,6 @@
 //! Entries that are those of a column.
 
-ghost use Rattle.std.specs.Prelude.{◌≡◌, ◌&&◌, IfOk, IfSome, OnOk, is_none, is_some};
+ghost use Rattle.std.specs.Prelude.{◌≡◌, ◌&&◌, IfOk, OnOk, is_none, is_some};
 ghost use Rattle.std.specs.List.{AllByRecursion};
 ghost use Rattle.nr_bytes.specs.Numbers.{IsBytes};
 ghost use Rattle.nr_records.specs.Reading.{all_of};
