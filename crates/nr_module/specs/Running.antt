@@ -10,15 +10,15 @@ use Rattle.nr_wasmexec.specs.declared.making.MakeFault.{MakeFault}
 use Rattle.nr_wasmexec.specs.declared.making.MakeFault.TheVariants as make
 use Rattle.nr_wasmexec.specs.declared.stop.RunStop.{RunStop}
 use Rattle.nr_wasmexec.specs.declared.stop.RunStop.TheVariants as stop
-use Rattle.nr_module.specs.Counter.{counter}
-use Rattle.nr_module.specs.declared.counter.Counter.{Counter}
+use Rattle.nr_wasmexec.specs.Gauge.{gauge}
+use Rattle.nr_wasmexec.specs.declared.gauge.Gauge.{Gauge}
 use Rattle.nr_module.specs.declared.verdict.Answer.{Answer}
 use Rattle.nr_module.specs.declared.verdict.Answer.TheVariants.{Good, Unfit, NoMethod, Unmade, Ended, Trapped, Failed}
 use Rattle.nr_module.specs.declared.verdict.Answer.TheVariants.{OutOfGas}
 
 -- a function's run from the machine's first state, with so much gas
-abbrev pub run_from : MachineView → ℕ → ℕ → ℕ → Outcome Counter
-run_from m gas f n = run_by (rules_of counter m.program m.limits) (runtime (record { gas = gas }) m.guest) f n
+abbrev pub run_from : MachineView → ℕ → ℕ → ℕ → Outcome Gauge
+run_from m gas f n = run_by (rules_of gauge m.program m.limits) (runtime (record { gas = gas }) m.guest) f n
 
 abbrev pub stopped : ℕ → Stop → Answer
 stopped burnt (Trap kind) = Trapped kind burnt
@@ -26,7 +26,7 @@ stopped burnt GasExceeded = OutOfGas burnt
 stopped burnt (HostFault kind) = Failed kind burnt
 
 -- the answer of a run that had so much gas, where it is over
-abbrev pub over : ℕ → Outcome Counter → Option Answer
+abbrev pub over : ℕ → Outcome Gauge → Option Answer
 over gas (Done s) = Some (Ended (gas - s.host.gas))
 over gas (Halted s stop) = Some (stopped (gas - s.host.gas) stop)
 over gas NeverFits = None
