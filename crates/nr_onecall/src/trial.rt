@@ -2,11 +2,11 @@
 
 ghost use Rattle.std.specs.Prelude.{◌≡◌, ◌≤◌, IfOk, length, true};
 ghost use Rattle.nr_state.specs.Calls.{CanCall, Ended, Stopped};
-ghost use Rattle.nr_onecall.specs.Setting.{called_of, request_in};
+ghost use Rattle.nr_onecall.specs.Setting.{called_of, call_request_in};
 ghost use Rattle.nr_onecall.specs.Texts.{Tells};
 
 use crate::lines::{ended_text, failure_text};
-use crate::request::Request;
+use crate::request::CallRequest;
 use crate::setting::{first_context, first_state};
 use nr_config::Config;
 use nr_contract::ContractCaller;
@@ -85,9 +85,9 @@ pub fn try_call(
     alloc: Global,
     config: &Config,
     code: &[u8],
-    request: &Request<'_>,
+    request: &CallRequest<'_>,
 ) -> Result<Trial, AllocError>
-    ensures { IfOk result (λ trial. Tells trial (called_of config.now code.now (request_in request.now))) }
+    ensures { IfOk result (λ trial. Tells trial (called_of config.now code.now (call_request_in request.now))) }
 {
     let context = first_context(alloc, config, request)?;
     let mut state = first_state(alloc, config, code, request.deposit)?;
