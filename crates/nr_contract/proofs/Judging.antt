@@ -6,7 +6,7 @@ use Rattle.nr_bytes.specs.Reading.{◌>>=◌}
 use Rattle.nr_wasmtypes.specs.Body.{Body}
 use Rattle.nr_wasmtypes.specs.declared.module.FuncType.{FuncType}
 use Rattle.nr_wasmtypes.specs.declared.module.Module.{Module}
-use Rattle.nr_wasmvalid.proofs.Once.{Tells, judged_tells}
+use Rattle.nr_wasmvalid.proofs.Once.{TellsTyping, judged_tells}
 use Rattle.nr_wasmvalid.proofs.Whole.{has_type, judges}
 use Rattle.nr_wasmvalid.specs.Modules.{in_func, func_context, IsTypedFunc, IsBreachIn, FirstIn, IsValid, IsFirstBreach}
 use Rattle.nr_wasmvalid.specs.Parts.{parts_outcome, imported_types}
@@ -24,7 +24,7 @@ FuncTells m n sig b (Ok x) = IsTyped (func_context m sig b) b.code
 FuncTells m n sig b (Err e) = IsBreachIn m n sig b e
 
 of_tells : (m : Module) (n : ℕ) (sig : FuncType) (b : Body) (r : Result Shape BodyFault)
-    → Tells (func_context m sig b) b.code r → FuncTells m n sig b (of_func n r)
+    → TellsTyping (func_context m sig b) b.code r → FuncTells m n sig b (of_func n r)
 of_tells m n sig b (Ok s) t = t
 of_tells m n sig b (Err e) t = (t.0, t.1, t.3, ap (in_func n) t.2)
 

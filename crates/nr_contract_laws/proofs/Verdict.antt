@@ -7,7 +7,7 @@ use Rattle.nr_contract.specs.Verdicts.{of_func, func_verdict, funcs_verdict, mod
 use Rattle.nr_wasmtypes.specs.Body.{Body}
 use Rattle.nr_wasmtypes.specs.declared.module.FuncType.{FuncType}
 use Rattle.nr_wasmtypes.specs.declared.module.Module.{Module}
-use Rattle.nr_wasmvalid.proofs.Once.{Tells, breach_judged, judged_tells, typed_judged}
+use Rattle.nr_wasmvalid.proofs.Once.{TellsTyping, breach_judged, judged_tells, typed_judged}
 use Rattle.nr_wasmvalid.proofs.Whole.{gives_breach, has_type}
 use Rattle.nr_wasmvalid.specs.Modules.{in_func, func_context, FirstIn, IsFirstBreach, IsValid}
 use Rattle.nr_wasmvalid.specs.Parts.{imported_types, parts_outcome}
@@ -22,7 +22,7 @@ Breaks m n ts bs (Ok x) = Unit {0}
 Breaks m n ts bs (Err e) = FirstIn m n ts bs e
 
 on_one : (m : Module) (n t : ℕ) (b : Body) (ts : List ℕ) (bs : List Body) (sig : FuncType)
-    → slice_get m.types t ≡ Some sig → (r : Result Shape BodyFault) → Tells (func_context m sig b) b.code r
+    → slice_get m.types t ≡ Some sig → (r : Result Shape BodyFault) → TellsTyping (func_context m sig b) b.code r
     → (rest : Result (Unit {0}) ValidFault) → Breaks m (n + 1) ts bs rest
     → Breaks m n (t ∷ ts) (b ∷ bs) (of_func n r >>= λ typed. rest)
 on_one m n t b ts bs sig is (Ok s) typed (Ok x) k = tt

@@ -4,7 +4,7 @@ ghost use Rattle.std.specs.Prelude.{◌≡◌, ◌≢◌, IfOk, string_bytes};
 ghost use Rattle.nr_bytes.specs.Outside.{Rose};
 ghost use Rattle.nr_shell.specs.Plans.{Refuse};
 ghost use Rattle.nr_onecall.specs.Setting.{called_of, call_request_in};
-ghost use Rattle.nr_module.specs.Answers.{Tells, TellsCall, TellsShown, TellsText, TellsVerdict, Told, rated_end};
+ghost use Rattle.nr_module.specs.Answers.{TellsEnd, TellsCall, TellsShown, TellsText, TellsVerdict, Told, rated_end};
 ghost use Rattle.nr_module.specs.Answers.{view_text};
 ghost use Rattle.nr_module.specs.Command.{named_request};
 ghost use Rattle.nr_module.specs.Lines.{rated, rated_answer};
@@ -160,7 +160,7 @@ pub(crate) fn shown_line(alloc: Global, shown: &Shown) -> Result<Line, AllocErro
 ///
 /// Where memory runs out.
 pub(crate) fn long_line(alloc: Global) -> Result<Line, AllocError>
-    ensures { IfOk result (λ line. Tells (Refuse Faulty) (string_bytes line.text) line.rating) }
+    ensures { IfOk result (λ line. TellsEnd (Refuse Faulty) (string_bytes line.text) line.rating) }
 {
     let text = String::from_str(alloc, "long\n")?;
     Ok(Line {

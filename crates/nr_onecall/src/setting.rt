@@ -2,7 +2,8 @@
 
 ghost use Rattle.std.specs.Prelude.{◌≡◌, [], true, IfOk, None};
 ghost use Rattle.nr_ids.specs.Grammar.{id_fault};
-ghost use Rattle.nr_onecall.specs.Setting.{caller, contract, first_account, first_context, first_world, call_request_in};
+ghost use Rattle.nr_onecall.specs.Setting.{call_request_in, caller, contract, first_account, first_context};
+ghost use Rattle.nr_onecall.specs.Setting.{first_world};
 
 use crate::request::CallRequest;
 use nr_bytes::{Blob, List, Text};

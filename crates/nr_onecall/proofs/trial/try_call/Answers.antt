@@ -2,7 +2,7 @@
 use Rattle.std.proofs.Common.{IfOk, subst}
 use Rattle.nr_state.specs.Calls.{Called}
 use Rattle.nr_onecall.specs.Setting.{call_request_in}
-use Rattle.nr_onecall.specs.Texts.{Tells}
+use Rattle.nr_onecall.specs.Texts.{TellsTrial}
 use Rattle.nr_onecall.proofs.Standing.{came, can_call}
 use Rattle.nr_onecall.proofs.trial.try_call.Goals as goal
 
@@ -12,6 +12,6 @@ told_call-requires-clause-callable c =
 
 pub returns : goal.returns
 returns c =
-    subst (λ (called : Called). IfOk c.told_call.result (λ t. Tells t called))
+    subst (λ (called : Called). IfOk c.told_call.result (λ t. TellsTrial t called))
     (came c.args.config.now c.args.code.now (call_request_in c.args.request.now) c.new-caller.result c.in_ok-state.state.world c.in_ok-context.context
     c.new-caller.ensures c.in_ok-state.ensures.world c.in_ok-context.ensures) c.told_call.ensures

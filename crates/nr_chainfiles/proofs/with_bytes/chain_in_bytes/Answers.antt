@@ -1,6 +1,6 @@
--- The goals of `with_bytes::chain_of` that no tactic closes.
+-- The goals of `with_bytes::chain_in_bytes` that no tactic closes.
 use Rattle.nr_chainfiles.proofs.WithBytes.{over, stopped}
-use Rattle.nr_chainfiles.proofs.with_bytes.chain_of.Goals as goal
+use Rattle.nr_chainfiles.proofs.with_bytes.chain_in_bytes.Goals as goal
 
 pub returns-in-Ok-clause-judges : goal.returns-in-Ok-clause-judges
 returns-in-Ok-clause-judges g c = λ names.
