@@ -5,7 +5,7 @@ ghost use Rattle.std.specs.Prelude.{◌≡◌, ◌++◌, ◌∷◌, [], T, map, 
 ghost use Rattle.std.specs.FinMap.Entries.{is_sorted};
 ghost use Rattle.std.specs.Ordering.{nat_cmp};
 ghost use Rattle.std.specs.Cmp.Lexicographic.{slice_cmp};
-ghost use Rattle.nr_gather.specs.Entries.{pairs_of};
+ghost use Rattle.nr_columns.specs.Entries.{pairs_of};
 
 use nr_bytes::{Blob, List};
 use nr_gather::gather;

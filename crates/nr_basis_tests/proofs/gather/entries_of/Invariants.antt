@@ -1,6 +1,6 @@
 -- What holds at the loops of `tests::entries_of`.
 use Rattle.std.proofs.Common.{◌≡◌, map, take}
-use Rattle.nr_gather.specs.Entries.{pairs_of}
+use Rattle.nr_columns.specs.Entries.{pairs_of}
 use Rattle.nr_basis_tests.proofs.gather.entries_of.Given as goal
 
 abbrev pub invariant-loop-row : goal.invariant-loop-row
