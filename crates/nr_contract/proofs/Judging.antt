@@ -43,13 +43,13 @@ on_one : (m : Module) (n t : ℕ) (b : Body) (ts : List ℕ) (bs : List Body) (s
 on_one m n t b ts bs sig is (Ok x) rest f r = on_typed m n t b ts bs (sig, is, f) rest r
 on_one m n t b ts bs sig is (Err e) rest f r = inl (sig, is, f)
 
-is_there : (types : List FuncType) (t : ℕ) → t < length types → slice_get types t ≢ None
+pub is_there : (types : List FuncType) (t : ℕ) → t < length types → slice_get types t ≢ None
 is_there [] t lt = absurd (omega (arith, lt))
 is_there (x ∷ xs) zero lt = λ e. cc
 is_there (x ∷ xs) (suc t) lt = is_there xs t (omega (arith, lt))
 
 -- each function has a type that is there
-abbrev HaveTypes : Module → List ℕ → Type 0
+abbrev pub HaveTypes : Module → List ℕ → Type 0
 HaveTypes m ts = (k d : ℕ) → k < length ts → get_or ts k d < length m.types
 
 funcs_tell : (m : Module) (n : ℕ) (ts : List ℕ) (bs : List Body) → HaveTypes m ts
