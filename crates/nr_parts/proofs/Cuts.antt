@@ -26,7 +26,7 @@ use Rattle.nr_parts.specs.Cutting.{InOrder, looked_from_root, once, part_texts, 
 use Rattle.nr_parts.specs.Sweeping.{swept_entries, swept_nodes, owns}
 use Rattle.nr_parts.specs.declared.share.Share.{Share}
 use Rattle.nr_ids.specs.declared.key.Hash32.{Hash32}
-use Rattle.nr_store.proofs.Levels.{whole_one, whole_several}
+use Rattle.nr_store.proofs.Levels.{whole_one, whole_several, stands, short_below}
 use Rattle.nr_walk.proofs.Placing.{all-append}
 use Rattle.nr_parts.proofs.Grown.{IsGrown, usage_forest, grown_forest}
 use Rattle.nr_trielist.proofs.Branches.{nodes_in, nodes_tree, nodes_forest}
@@ -58,13 +58,6 @@ rise_paths (e ∷ es) h = (before_paths e.0 es (left_true (below_all R e.0 es) (
 
 pub walk_pairs : (es : List Entry) (keys : Paths) → keys ≡ paths (pairs_of es) → InOrder es → AllByRecursion (λ (p : List ℕ × List ℕ). IsNibbles p.0) keys → CanWalk keys
 walk_pairs es keys e order small = record { order = subst Rise (sym e) (rise_paths (pairs_of es) order); small = small }
-
-short_below : (ps : Paths) (n : ℕ) → depth ps ≤ n → AllByRecursion (λ (p : List ℕ × List ℕ). length p.0 < n) ps
-short_below [] n h = tt
-short_below (p ∷ ps) n h = (omega (arith, h), short_below ps n (omega (arith, h)))
-
-stands : (ps : Paths) → CanWalk ps → CanStand (depth ps) ps
-stands ps h = record { short = short_below ps (depth ps) (omega arith); small = h.small; differ = differ_rising ps h.order }
 
 -- ---- the forest of entries
 pub nodes_pairs : (es : List (List ℕ × List ℕ)) → nodes_in (forest_of es) ≡ all_nodes (paths es)
