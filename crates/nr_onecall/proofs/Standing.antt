@@ -12,12 +12,9 @@ use Rattle.nr_state.specs.Changes.{set_code}
 use Rattle.nr_state.specs.Owners.{with_code_of}
 use Rattle.nr_state.specs.World.{World, no_world, with_account}
 use Rattle.nr_state.specs.declared.calls.CallContext.{CallContext}
-use Rattle.nr_state.proofs.CodeWrites.{code_set}
+use Rattle.nr_state.proofs.CodeWrites.{code_set, get_inserted as inserted}
 use Rattle.nr_contract.specs.Contract.{call}
 use Rattle.nr_onecall.specs.Setting.{CallRequest, called_of, contract, first_account, first_context, first_world}
-
-inserted : {X : Type 0} (m : FinMap bytes_cmp X) (k : List ℕ) (v : X) → get (insert m k v) k ≡ Some v
-inserted m k v = get-insert nat_list_cmp_total m k v k ∙ ap (λ b. cond b (Some v) (get m k)) ((eq_by_cmp_equiv nat_list_cmp_total).refl k)
 
 pub stands : (w : World) (id : List ℕ) (account : Account) → IsSome (get (with_account w id account).accounts id)
 stands w id account = ap is_some (inserted w.accounts id account)
