@@ -4,6 +4,5 @@
 mod gathering;
 mod keys;
 mod sweeping;
-mod waiting;
 
 pub use gathering::{gather, root_of_gathered};

@@ -8,10 +8,9 @@ ghost use Rattle.nr_triedef.specs.declared.node.Node.{Node as Nodes};
 ghost use Rattle.nr_columns.specs.Entries.{pairs_of};
 ghost use Rattle.nr_gather.specs.Sweeping.{count_of, value_text, paths_behind, swept};
 
-use crate::waiting::Waiting;
 use nr_bytes::{Blob, List};
 use nr_triedef::{Node, nibbles, node_text};
-use nr_walk::{Entry, Searched, Sought, Spot, has_value, spots_of};
+use nr_walk::{Entry, Searched, Sought, Spot, Waiting, has_value, spots_of};
 use std::alloc::{AllocError, Global};
 
 // How many children a node has.

@@ -10,6 +10,7 @@ mod searched;
 mod sought;
 mod texts;
 mod told;
+mod waiting;
 mod walking;
 mod whole;
 
@@ -25,5 +26,6 @@ pub use told::{
     Ending, Spot, children_of, ending_of, further, has_value, is_branch, is_extension, own_usage,
     part_nibbles, spots_of,
 };
+pub use waiting::Waiting;
 pub use walking::{Gain, Kept, Known, Visit, packed};
 pub use whole::walk;

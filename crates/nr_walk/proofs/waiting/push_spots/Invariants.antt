@@ -1,7 +1,7 @@
 -- What holds at the loops of `waiting::push_spots`.
 use Rattle.std.proofs.Common.{◌≡◌, ◌++◌, length}
 use Rattle.std.specs.Prelude.{reverse}
-use Rattle.nr_gather.proofs.waiting.push_spots.Given as goal
+use Rattle.nr_walk.proofs.waiting.push_spots.Given as goal
 
 abbrev pub invariant-loop-spot : goal.invariant-loop-spot
 invariant-loop-spot l = l.spots.items ++ reverse l.left.items ≡ l.initial.spots.items ++ reverse l.initial.left.items

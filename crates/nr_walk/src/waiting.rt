@@ -1,15 +1,15 @@
 //! Nodes that wait to be looked at.
 
-ghost use Rattle.std.specs.Prelude.{◌≡◌, ◌∷◌, ◌++◌, [], reverse, OnOk, MatchOption};
+ghost use Rattle.std.specs.Prelude.{◌≡◌, ◌∷◌, ◌++◌, [], reverse, IfOk, OnOk, MatchOption};
 
+use crate::told::Spot;
 use nr_bytes::List;
-use nr_walk::Spot;
 use std::alloc::{AllocError, Global};
 use std::marker::Model;
 
 /// Nodes that wait to be looked at. Contracts see the next one first.
 #[derive(Drop)]
-pub(crate) struct Waiting {
+pub struct Waiting {
     spots: Vec<Spot>,
 }
 
@@ -34,7 +34,8 @@ fn push_spots(spots: &mut Vec<Spot>, next: List<Spot>) -> Result<(), AllocError>
 }
 
 impl Waiting {
-    pub(crate) fn new(alloc: Global) -> Waiting
+    /// None that wait.
+    pub fn new(alloc: Global) -> Waiting
         ensures { result ≡ [] }
     {
         Waiting {
@@ -42,15 +43,32 @@ impl Waiting {
         }
     }
 
+    /// One that waits.
+    ///
+    /// # Errors
+    ///
+    /// Where memory ran out.
+    pub fn of(alloc: Global, spot: Spot) -> Result<Waiting, AllocError>
+        ensures { IfOk result (λ waiting. waiting ≡ spot ∷ []) }
+    {
+        let mut spots = Vec::new(alloc);
+        spots.push(spot)?;
+        Ok(Waiting { spots })
+    }
+
     /// Puts these before the others.
-    pub(crate) fn put(&mut self, next: List<Spot>) -> Result<(), AllocError>
+    ///
+    /// # Errors
+    ///
+    /// Where memory ran out.
+    pub fn put(&mut self, next: List<Spot>) -> Result<(), AllocError>
         ensures { OnOk result (self.new ≡ next ++ self.old) }
     {
         push_spots(&mut self.spots, next)
     }
 
     /// Takes the next one.
-    pub(crate) fn pop(&mut self) -> Option<Spot>
+    pub fn pop(&mut self) -> Option<Spot>
         ensures { MatchOption result (self.old ≡ []) (λ spot. self.old ≡ spot ∷ self.new) }
     {
         self.spots.pop()
