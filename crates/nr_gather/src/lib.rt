@@ -2,7 +2,6 @@
 #![tactic(auto)]
 
 mod gathering;
-mod keys;
 mod sweeping;
 
 pub use gathering::{gather, root_of_gathered};

@@ -3,6 +3,7 @@
 #![tactic(auto)]
 
 mod fault;
+mod keys;
 mod laws;
 mod looking;
 mod room;
@@ -15,6 +16,7 @@ mod walking;
 mod whole;
 
 pub use fault::WalkFault;
+pub use keys::keys_of;
 pub use laws::{completing_law, passing_law};
 pub use looking::{look_at, value_text};
 pub use nr_columns::Entry;

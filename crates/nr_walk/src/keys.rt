@@ -6,12 +6,16 @@ ghost use Rattle.nr_triedef.specs.Root.{paths};
 ghost use Rattle.nr_store.specs.Tries.{CanWalk};
 ghost use Rattle.nr_columns.specs.Entries.{pairs_of, InOrder};
 
+use nr_columns::Entry;
 use nr_store::Entry as Key;
-use nr_walk::Entry;
 use std::alloc::{AllocError, Global};
 
 /// The keys of entries, with their values, in their order.
-pub(crate) fn keys_of(alloc: Global, entries: &[Entry]) -> Result<Vec<Key<'_>>, AllocError>
+///
+/// # Errors
+///
+/// Where memory ran out.
+pub fn keys_of(alloc: Global, entries: &[Entry]) -> Result<Vec<Key<'_>>, AllocError>
     requires { InOrder entries.now }
     ensures value { IfOk result (λ keys. keys.items ≡ paths (pairs_of entries.now)) }
     ensures order { IfOk result (λ keys. CanWalk keys.items) }

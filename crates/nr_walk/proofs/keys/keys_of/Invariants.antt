@@ -4,7 +4,7 @@ use Rattle.std.specs.List.{AllByRecursion}
 use Rattle.nr_triedef.specs.Node.{IsNibbles}
 use Rattle.nr_triedef.specs.Root.{paths}
 use Rattle.nr_columns.specs.Entries.{pairs_of}
-use Rattle.nr_gather.proofs.keys.keys_of.Given as goal
+use Rattle.nr_walk.proofs.keys.keys_of.Given as goal
 
 abbrev pub invariant-loop-entry : goal.invariant-loop-entry
 invariant-loop-entry l = record {
