@@ -6,6 +6,7 @@ mod cursor;
 mod expression;
 mod fault;
 mod item;
+mod kinds;
 mod leb;
 mod module;
 mod parts;
@@ -13,4 +14,5 @@ mod plain;
 mod section;
 
 pub use fault::DecodeFault;
+pub use kinds::{decode_kind, decode_place};
 pub use module::decode;
