@@ -21,7 +21,7 @@ use Rattle.nr_parts.specs.Cutting.{InOrder, looked_from_root, once, part_texts, 
 use Rattle.nr_parts.specs.Sweeping.{swept_entries, swept_nodes, owns}
 use Rattle.nr_parts.specs.declared.share.Share.{Share}
 use Rattle.nr_ids.specs.declared.key.Hash32.{Hash32}
-use Rattle.nr_store.proofs.Levels.{whole_one, whole_several, stands, short_below}
+use Rattle.nr_store.proofs.Levels.{whole_one, whole_several, stands}
 use Rattle.nr_walk.proofs.Placing.{all-append}
 use Rattle.nr_parts.proofs.Grown.{IsGrown, usage_forest, grown_forest}
 use Rattle.nr_trielist.proofs.Branches.{nodes_in, nodes_tree, nodes_forest}

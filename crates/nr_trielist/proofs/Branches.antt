@@ -8,7 +8,7 @@ use Rattle.nr_triedef.specs.Root.{Paths, front, value_here, under, leaf, branch,
 use Rattle.nr_store.specs.Tries.{CanWalk, first_path, cut, whole}
 use Rattle.nr_store.proofs.Links.{CanStand, stands_behind, stands_under, stands_above}
 use Rattle.nr_store.proofs.Orders.{differ_rising}
-use Rattle.nr_store.proofs.Levels.{trie_empty, trie_one, children, children_stand, short_below, stands, levels, enough}
+use Rattle.nr_store.proofs.Levels.{trie_empty, trie_one, children, children_stand, stands, levels, enough}
 use Rattle.nr_trielist.specs.Forest.{Stood, Forest, bare, tree, stood, fronted, rows, forest, listed}
 use Rattle.nr_trielist.specs.Growing.{head_nodes, nodes_at, all_nodes, heads}
 

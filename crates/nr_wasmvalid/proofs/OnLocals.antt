@@ -2,7 +2,6 @@
 use Rattle.std.proofs.Common.{◌≡◌, ℕ, zero, suc, ◌-◌, ◌<◌, ◌≤◌, List, [], ◌∷◌, ◌++◌, length, get_or, Some, sym, ap, ◌∙◌, arith}
 use Rattle.std.specs.Prelude.{slice_get}
 use Rattle.nr_wasmtypes.specs.declared.instr.ValType.{ValType}
-use Rattle.nr_wasmtypes.proofs.OnRuns.{behind}
 
 pub in_front : (xs ys : List ValType) (n : ℕ) (x : ValType) → n < length xs → x ≡ get_or xs n x → slice_get (xs ++ ys) n ≡ Some x
 in_front [] ys n x h is = absurd (omega arith)
