@@ -1,15 +1,13 @@
 //! Names that are lent as they are spelled.
 
-ghost use Rattle.std.specs.Prelude.{◌≡◌, ◌==◌, ◌+◌, ◌≤◌, ℕ, List as Items, length, Some, IsSome, IfSome};
-ghost use Rattle.std.specs.Option.{option_copied};
+ghost use Rattle.std.specs.Prelude.{◌≡◌, ◌==◌, ℕ, List as Items, length, Some, IsSome};
 ghost use Rattle.std.specs.List.{list_any, flat_map, AllByRecursion};
 ghost use Rattle.std.specs.Str.{bytes_eq};
-ghost use Rattle.nr_bytes.specs.Reading.{counted};
 ghost use Rattle.nr_bytes.specs.Spelling.{IsString};
 ghost use Rattle.nr_bytes.specs.Writing.{counted_bytes};
 ghost use Rattle.nr_keys.specs.Names.{names_read};
 
-use byteorder::{ByteOrder, LittleEndian};
+use nr_bytes::counted_slice;
 use std::marker::Model;
 
 /// Names, lent as the bytes that spell their list. Contracts see the names.
@@ -29,23 +27,6 @@ impl<'a> Model for Names<'a> {
     ghost invariant = { λ n. SpellNames n.bytes.now };
 }
 
-/// The bytes behind the count at the front, as many as it says.
-#[tactic(auto, using(nr_bytes::proofs::Numbers::number_4), unfolding(nr_bytes::specs::Reading::counted))]
-fn first_of(bytes: &[u8]) -> Option<&[u8]>
-    ensures value { option_copied result ≡ counted bytes.now }
-    ensures within { IfSome result (λ name. 4 + length name.now ≤ length bytes.now) }
-{
-    if bytes.len() < 4 {
-        return None;
-    }
-    let (front, rest) = bytes.split_at(4);
-    let count = LittleEndian::read_u32(front) as usize;
-    if rest.len() < count {
-        return None;
-    }
-    Some(&rest[..count])
-}
-
 fn is_same(name: &[u8], other: &[u8]) -> bool
     ensures { result ≡ bytes_eq name.now other.now }
 {
@@ -58,7 +39,7 @@ fn stands_in(bytes: &[u8], name: &[u8]) -> bool
         → result ≡ list_any (bytes_eq name.now) names }
 {
     let mut rest = bytes;
-    'names: while let Some(first) = first_of(rest) {
+    'names: while let Some(first) = counted_slice(rest) {
         if is_same(name, first) {
             return true;
         }

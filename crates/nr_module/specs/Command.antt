@@ -4,7 +4,7 @@
 use Rattle.std.specs.Prelude.{ℕ, List, [], ◌∷◌, cond, Option, Some, None, codes, option_and_then}
 use Rattle.std.specs.Str.{bytes_eq}
 use Rattle.nr_words.specs.Forms.{Value, Text, Number, read}
-use Rattle.nr_onecall.specs.Setting.{Request}
+use Rattle.nr_onecall.specs.Setting.{CallRequest}
 use Rattle.nr_module.specs.Arguments.{args_in, deposit_in}
 use Rattle.nr_module.specs.Help.{forms, paid_forms, help_text, version_text}
 use Rattle.nr_module.specs.declared.command.CallNames.{CallNames}
@@ -33,7 +33,7 @@ pub record Names : Type 0 where
 pub record Call : Type 0 where
   pub config : List ℕ
   pub file : List ℕ
-  pub request : Request
+  pub request : CallRequest
 
 -- something is done with a module, a contract is called, the module of a file is shown, or a text is written
 pub data Command : Type 0 where
@@ -60,7 +60,7 @@ trap_of values = None
 abbrev pub to_call : List ℕ → List ℕ → List ℕ → Option (List ℕ) → ℕ → ℕ → Option Command
 to_call config name method None gas deposit = None
 to_call config name method (Some args) gas deposit =
-    let asked : Request = record { method = method; args = args; gas = gas; deposit = deposit } in
+    let asked : CallRequest = record { method = method; args = args; gas = gas; deposit = deposit } in
     Some (OfCall (record { config = config; file = name; request = asked }))
 
 -- no tokens come with it
@@ -116,11 +116,11 @@ task_in (work.Trap method gas) = Trace method.now gas
 abbrev pub names_in : FileNames → Names
 names_in n = record { config = n.config.now; file = n.file.now; task = task_in n.work }
 
-abbrev pub request_in : CallNames → Request
-request_in n = record { method = n.method.now; args = n.args; gas = n.gas; deposit = n.deposit }
+abbrev pub named_request : CallNames → CallRequest
+named_request n = record { method = n.method.now; args = n.args; gas = n.gas; deposit = n.deposit }
 
 abbrev pub call_in : CallNames → Call
-call_in n = record { config = n.config.now; file = n.file.now; request = request_in n }
+call_in n = record { config = n.config.now; file = n.file.now; request = named_request n }
 
 abbrev pub command_in : Words → Command
 command_in (lent.Module names) = OfModule (names_in names)

@@ -1,9 +1,9 @@
 -- The line that tells what a file is or how a run of a method ended, and whether that is well. This project's own.
 use Rattle.std.specs.Prelude.{ℕ, List, [], ◌∷◌, ◌++◌, codes, decimal}
+use Rattle.nr_wasmbin.specs.Kinds.{decode_kind, decode_place}
 use Rattle.nr_wasmbin.specs.declared.fault.DecodeFault.{DecodeFault}
-use Rattle.nr_wasmbin.specs.declared.fault.DecodeFault.TheVariants as decode
+use Rattle.nr_wasmvalid.specs.Kinds.{valid_func, valid_kind, valid_place}
 use Rattle.nr_wasmvalid.specs.declared.fault.ValidFault.{ValidFault}
-use Rattle.nr_wasmvalid.specs.declared.fault.ValidFault.TheVariants as valid
 use Rattle.nr_module.specs.declared.verdict.Answer.{Answer}
 use Rattle.nr_module.specs.declared.verdict.Answer.TheVariants.{Good, Unfit, NoMethod, Unmade, Ended, Trapped, Failed}
 use Rattle.nr_module.specs.declared.verdict.Answer.TheVariants.{OutOfGas, TrappedAt}
@@ -21,22 +21,10 @@ valid_line kind func place = codes "valid" ++ 32 ∷ decimal kind ++ 32 ∷ deci
 
 -- a fault's kind, and its place
 abbrev pub decode_text : DecodeFault → List ℕ
-decode_text (decode.Short at) = decode_line 1 at
-decode_text (decode.Leb at) = decode_line 2 at
-decode_text (decode.Section at) = decode_line 3 at
-decode_text (decode.Opcode at) = decode_line 4 at
-decode_text (decode.Float at) = decode_line 5 at
-decode_text (decode.Utf8 at) = decode_line 6 at
-decode_text (decode.TooMany at) = decode_line 7 at
-decode_text decode.Memory = []
+decode_text fault = decode_line (decode_kind fault) (decode_place fault)
 
 abbrev pub valid_text : ValidFault → List ℕ
-valid_text (valid.Types func place) = valid_line 11 func place
-valid_text (valid.Index func place) = valid_line 12 func place
-valid_text (valid.Label func place) = valid_line 13 func place
-valid_text (valid.Limit func place) = valid_line 14 func place
-valid_text (valid.Import func place) = valid_line 15 func place
-valid_text valid.Memory = []
+valid_text fault = valid_line (valid_kind fault) (valid_func fault) (valid_place fault)
 
 -- a word and the gas that was burnt, and the same with a kind between them
 abbrev pub burnt_line : List ℕ → ℕ → List ℕ

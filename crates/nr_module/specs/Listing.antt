@@ -20,6 +20,7 @@ use Rattle.nr_wasmtypes.specs.declared.module.ImportKind.TheVariants as imported
 use Rattle.nr_wasmtypes.specs.declared.module.Limits.{Limits}
 use Rattle.nr_wasmtypes.specs.declared.module.Module.{Module}
 use Rattle.nr_wasmvalid.specs.Parts.{has_sig}
+pub use Rattle.nr_wat.specs.Fields.{is_function}
 use Rattle.nr_module.specs.declared.offer.Offer.{Offer}
 use Rattle.nr_module.specs.declared.offer.Offer.TheVariants as offer
 
@@ -66,12 +67,6 @@ import_line types i =
 abbrev pub is_bare : Option FuncType → Bool
 is_bare None = false
 is_bare (Some sig) = nat_eq (length sig.params) 0 && not (is_some sig.result)
-
-abbrev pub is_function : ImportKind → Bool
-is_function (imported.Func t) = true
-is_function imported.Table = false
-is_function imported.Memory = false
-is_function imported.Global = false
 
 -- how many functions are imported: they have the first numbers
 abbrev pub imported_count : Module → ℕ

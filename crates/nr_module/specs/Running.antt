@@ -14,17 +14,17 @@ use Rattle.nr_trace.specs.Trail.{Trail, place_in, trail_by}
 use Rattle.nr_wasmexec.specs.declared.program.Program.{Program}
 use Rattle.nr_wasmexec.specs.declared.stop.RunStop.{RunStop}
 use Rattle.nr_wasmexec.specs.declared.stop.RunStop.TheVariants as stop
+use Rattle.nr_wasmexec.specs.Gauge.{gauge}
+use Rattle.nr_wasmexec.specs.declared.gauge.Gauge.{Gauge}
 use Rattle.nr_trace.specs.declared.trail.TraceStop.{TraceStop}
 use Rattle.nr_trace.specs.declared.trail.TraceStop.TheVariants as trace
-use Rattle.nr_module.specs.Counter.{counter}
-use Rattle.nr_module.specs.declared.counter.Counter.{Counter}
 use Rattle.nr_module.specs.declared.verdict.Answer.{Answer}
 use Rattle.nr_module.specs.declared.verdict.Answer.TheVariants.{Good, Unfit, NoMethod, Unmade, Ended, Trapped, Failed}
 use Rattle.nr_module.specs.declared.verdict.Answer.TheVariants.{OutOfGas, TrappedAt}
 
 -- a function's run from the machine's first state, with so much gas
-abbrev pub run_from : MachineView → ℕ → ℕ → ℕ → Outcome Counter
-run_from m gas f n = run_by (rules_of counter m.program m.limits) (runtime (record { gas = gas }) m.guest) f n
+abbrev pub run_from : MachineView → ℕ → ℕ → ℕ → Outcome Gauge
+run_from m gas f n = run_by (rules_of gauge m.program m.limits) (runtime (record { gas = gas }) m.guest) f n
 
 abbrev pub stopped : ℕ → Stop → Answer
 stopped burnt (Trap kind) = Trapped kind burnt
@@ -32,7 +32,7 @@ stopped burnt GasExceeded = OutOfGas burnt
 stopped burnt (HostFault kind) = Failed kind burnt
 
 -- the answer of a run that had so much gas, where it is over
-abbrev pub over : ℕ → Outcome Counter → Option Answer
+abbrev pub over : ℕ → Outcome Gauge → Option Answer
 over gas (Done s) = Some (Ended (gas - s.host.gas))
 over gas (Halted s stop) = Some (stopped (gas - s.host.gas) stop)
 over gas NeverFits = None
@@ -69,7 +69,7 @@ told (Err stop.Memory) burnt = None
 
 -- ---- the same with the place of a trap
 abbrev pub trail_from : MachineView → ℕ → ℕ → ℕ → Trail
-trail_from m gas f n = trail_by (rules_of counter m.program m.limits) (runtime (record { gas = gas }) m.guest) f n
+trail_from m gas f n = trail_by (rules_of gauge m.program m.limits) (runtime (record { gas = gas }) m.guest) f n
 
 abbrev pub placed : ℕ → ℕ → ℕ → Result ℕ DecodeFault → Answer
 placed kind burnt func (Ok at) = TrappedAt kind burnt func at
@@ -87,7 +87,7 @@ stopped_at bytes imported p burnt (Trap kind) t = located bytes imported kind bu
 stopped_at bytes imported p burnt GasExceeded t = OutOfGas burnt
 stopped_at bytes imported p burnt (HostFault kind) t = Failed kind burnt
 
-abbrev pub over_at : List ℕ → ℕ → Program → ℕ → Outcome Counter → Trail → Option Answer
+abbrev pub over_at : List ℕ → ℕ → Program → ℕ → Outcome Gauge → Trail → Option Answer
 over_at bytes imported p gas (Done s) t = Some (Ended (gas - s.host.gas))
 over_at bytes imported p gas (Halted s stop) t = Some (stopped_at bytes imported p (gas - s.host.gas) stop t)
 over_at bytes imported p gas NeverFits t = None

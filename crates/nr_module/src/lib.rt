@@ -4,7 +4,6 @@
 
 mod arguments;
 mod command;
-mod counter;
 mod exit;
 mod help;
 mod judging;

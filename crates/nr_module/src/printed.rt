@@ -5,8 +5,8 @@ ghost use Rattle.nr_module.specs.Lines.{answer_text, burnt_line, decode_line, de
 ghost use Rattle.nr_module.specs.Lines.{trap_lines, valid_line, valid_text, verdict_text};
 
 use crate::verdict::{Answer, Verdict};
-use nr_wasmbin::DecodeFault;
-use nr_wasmvalid::ValidFault;
+use nr_wasmbin::{DecodeFault, decode_kind, decode_place};
+use nr_wasmvalid::{ValidFault, valid_func, valid_kind, valid_place};
 use std::alloc::{AllocError, Global};
 use std::fmt::Write;
 
@@ -21,16 +21,7 @@ fn decode_line(alloc: Global, kind: u32, at: usize) -> Result<String, AllocError
 pub(crate) fn decode_text(alloc: Global, fault: DecodeFault) -> Result<String, AllocError>
     ensures { IfOk result (λ text. string_bytes text ≡ decode_text fault) }
 {
-    match fault {
-        DecodeFault::Short { at } => decode_line(alloc, 1, at),
-        DecodeFault::Leb { at } => decode_line(alloc, 2, at),
-        DecodeFault::Section { at } => decode_line(alloc, 3, at),
-        DecodeFault::Opcode { at } => decode_line(alloc, 4, at),
-        DecodeFault::Float { at } => decode_line(alloc, 5, at),
-        DecodeFault::Utf8 { at } => decode_line(alloc, 6, at),
-        DecodeFault::TooMany { at } => decode_line(alloc, 7, at),
-        DecodeFault::Memory => Ok(String::new(alloc)),
-    }
+    decode_line(alloc, decode_kind(fault), decode_place(fault))
 }
 
 fn valid_line(alloc: Global, kind: u32, func: u32, place: u32) -> Result<String, AllocError>
@@ -44,14 +35,9 @@ fn valid_line(alloc: Global, kind: u32, func: u32, place: u32) -> Result<String,
 fn valid_text(alloc: Global, fault: ValidFault) -> Result<String, AllocError>
     ensures { IfOk result (λ text. string_bytes text ≡ valid_text fault) }
 {
-    match fault {
-        ValidFault::Types { func, place } => valid_line(alloc, 11, func, place),
-        ValidFault::Index { func, place } => valid_line(alloc, 12, func, place),
-        ValidFault::Label { func, place } => valid_line(alloc, 13, func, place),
-        ValidFault::Limit { func, place } => valid_line(alloc, 14, func, place),
-        ValidFault::Import { func, place } => valid_line(alloc, 15, func, place),
-        ValidFault::Memory => Ok(String::new(alloc)),
-    }
+    let func = valid_func(fault);
+    let place = valid_place(fault);
+    valid_line(alloc, valid_kind(fault), func, place)
 }
 
 fn burnt_line(alloc: Global, word: &str, burnt: u128) -> Result<String, AllocError>

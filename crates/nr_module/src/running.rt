@@ -10,12 +10,11 @@ ghost use Rattle.nr_module.specs.Verdicts.{IsAnswer};
 ghost use Rattle.nr_module.specs.Running.{IsCheck, IsRun, IsRunIn, RunsTo, told};
 
 use crate::command::Work;
-use crate::counter::Counter;
 use crate::lookup::method_named;
 use crate::tracing::trace_method;
 use crate::verdict::Answer;
 use nr_config::Config;
-use nr_wasmexec::{Machine, MakeFault, RunStop};
+use nr_wasmexec::{Gauge, Machine, MakeFault, RunStop};
 use nr_wasmvalid::Valid;
 use std::alloc::{AllocError, Global};
 
@@ -38,7 +37,7 @@ fn run_func(machine: &mut Machine, func: u32, gas: u64) -> Result<Answer, AllocE
     requires { IsTrue (is_method (func_at machine.old.program func)) }
     ensures { IfOk result (λ a. RunsTo machine.old gas func a) }
 {
-    let mut host = Counter {
+    let mut host = Gauge {
         gas: u128::from(gas),
     };
     let end = machine.run(&mut host, func);

@@ -8,14 +8,13 @@ ghost use Rattle.nr_wasmexec.specs.Making.{is_method, machine_of, method_of, pro
 ghost use Rattle.nr_module.specs.Listing.{imported_count};
 ghost use Rattle.nr_module.specs.Running.{IsTrace, IsTraceIn, TracesTo, located, told_at};
 
-use crate::counter::Counter;
 use crate::listing::imported_count;
 use crate::lookup::method_named;
 use crate::verdict::Answer;
 use nr_config::Config;
 use nr_trace::{TraceStop, find_instruction, trace};
 use nr_wasmbin::DecodeFault;
-use nr_wasmexec::{Machine, MakeFault};
+use nr_wasmexec::{Gauge, Machine, MakeFault};
 use nr_wasmvalid::Valid;
 use std::alloc::{AllocError, Global};
 
@@ -78,7 +77,7 @@ fn trace_func(
     requires { IsTrue (is_method (func_at machine.program func)) }
     ensures { IfOk result (λ a. TracesTo bytes.now.items imported machine gas func a) }
 {
-    let mut host = Counter {
+    let mut host = Gauge {
         gas: u128::from(gas),
     };
     let end = trace(alloc, machine, &mut host, func);

@@ -11,10 +11,7 @@ use Rattle.nr_store.proofs.Listed.{walk_whole}
 use Rattle.nr_store.proofs.Orders.{differ_rising}
 use Rattle.nr_trielist.specs.Forest.{bare, forest_of}
 use Rattle.nr_parts.proofs.Grown.{IsGrown, grown_forest}
-
-short_below : (ps : Paths) (n : ℕ) → depth ps ≤ n → AllByRecursion (λ (p : List ℕ × List ℕ). length p.0 < n) ps
-short_below [] n h = tt
-short_below (p ∷ ps) n h = (omega (arith, h), short_below ps n (omega (arith, h)))
+use Rattle.nr_store.proofs.Levels.{short_below}
 
 small_paths : (es : List (List ℕ × List ℕ)) → AllByRecursion (λ (e : List ℕ × List ℕ). IsBytes e.0) es → AllByRecursion (λ (p : List ℕ × List ℕ). IsNibbles p.0) (paths es)
 small_paths [] h = tt

@@ -22,7 +22,7 @@ use Rattle.nr_layout.specs.Layout.{shard_of}
 use Rattle.nr_records.specs.declared.receipt.Receipt.{Receipt}
 use Rattle.nr_split.proofs.Found.{firsts, none_of}
 use Rattle.nr_split.specs.Owned.{is_queued}
-use Rattle.nr_state.proofs.OverEntries.{entries_of_part, entries_over, read_over}
+use Rattle.nr_state.proofs.OverEntries.{entries_of_part, entries_over, read_over, no_world_columns as none_columns}
 use Rattle.nr_state.proofs.OverMaps.{get-over}
 use Rattle.nr_state.proofs.ValidOwned.{exact_data, exact_keys, key_total, pair_total}
 use Rattle.nr_state.specs.Entries.{IsReadBack, has_owner, is_of}
@@ -43,12 +43,6 @@ Key = List ℕ × List ℕ
 as_laid : (w : World) → flat w ≡ laid_columns (columns_of w)
 unfolding flat
 as_laid w = refl
-
-none_columns : columns_of no_world ≡ no_columns
-none_columns = λ i. record no_columns {
-  awaited = from_entries (flat_map awaits (map (λ e. e.1) (entries_empty {X = Receipt} pair_cmp i)));
-  missing = from_entries (map (λ (e : Key × Receipt). (e.0, missing_inputs no_world e.1)) (entries_empty pair_cmp i));
-}
 
 none_flat : flat no_world ≡ empty
 none_flat = as_laid no_world ∙ ap laid_columns (none_columns ∙ sym no_columns_in) ∙ is_laid_empty

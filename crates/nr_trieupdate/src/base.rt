@@ -66,7 +66,6 @@ impl Base {
     pub(crate) fn sizes(&self)
         ensures { IsSized self.now.contents }
     {
-        // The field is named so that the proof sees the type's own promise.
         let _top = self.top;
     }
 

@@ -1,7 +1,6 @@
 //! Reading of fields, one after the other.
 
-ghost use Rattle.std.specs.Prelude.{◌≡◌, ◌+◌, ◌<◌, ◌≤◌, ◌==◌, OnOk, Some, None, length, option_copied, if◌then◌else◌};
-ghost use Rattle.std.specs.Str.{is_utf8};
+ghost use Rattle.std.specs.Prelude.{◌≡◌, ◌+◌, ◌<◌, ◌≤◌, ◌==◌, OnOk, Some, None, length};
 ghost use Rattle.nr_bytes.specs.Answers.{GivesAs};
 ghost use Rattle.nr_bytes.specs.Reading.{past};
 ghost use Rattle.nr_wasmbin.specs.Fields.{Gives, begins, byte_at, u32_at, s32_at, s64_at, count_at, bytes_at, name_at};
@@ -10,7 +9,7 @@ ghost use Rattle.nr_wasmbin.specs.declared.fault.DecodeFault.TheVariants.{Memory
 
 use crate::fault::DecodeFault;
 use crate::leb::{LebFault, read_signed, read_unsigned};
-use nr_bytes::{Blob, Text};
+use nr_bytes::{Blob, Text, utf8};
 use std::alloc::Global;
 use std::marker::Model;
 
@@ -43,15 +42,6 @@ impl LebFault {
             LebFault::Short => DecodeFault::Short { at },
             LebFault::Leb => DecodeFault::Leb { at },
         }
-    }
-}
-
-fn utf8(bytes: &[u8]) -> Option<&str>
-    ensures { option_copied result ≡ (if is_utf8 bytes.now then Some bytes.now else None) }
-{
-    match str::from_utf8(bytes) {
-        Ok(text) => Some(text),
-        Err(_) => None,
     }
 }
 

@@ -22,14 +22,11 @@ use Rattle.nr_wasmexec.specs.Functions.{Func, Hosted, Coded, sig_of, link_as, li
 use Rattle.nr_wasmexec.specs.Standing.{FuncFits, IsSound}
 use Rattle.nr_wasmexec.proofs.Branches.{some_is}
 use Rattle.nr_wasmexec.proofs.Signatures.{same_sig_is}
+pub use Rattle.nr_wasmvalid.proofs.Whole.{holds_first}
 
 pub both_ok : (r s : Result (Unit {0}) ValidFault) → (r >>= λ x. s) ≡ Ok tt → (r ≡ Ok tt) × (s ≡ Ok tt)
 both_ok (Ok x) s e = (refl, e)
 both_ok (Err f) s e = absurd cc
-
-pub holds_first : (b : Bool) (r : Result (Unit {0}) ValidFault) (f : ValidFault) → (if b then r else Err f) ≡ Ok tt → (b ≡ true) × (r ≡ Ok tt)
-holds_first true r f e = (refl, e)
-holds_first false r f e = absurd cc
 
 both_true : (a b : Bool) → (a && b) ≡ true → (a ≡ true) × (b ≡ true)
 both_true true b e = (refl, e)

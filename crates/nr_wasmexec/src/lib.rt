@@ -5,6 +5,7 @@ mod branching;
 mod calling;
 mod control;
 mod execute;
+mod exports;
 mod gauge;
 mod machine;
 mod making;
@@ -19,6 +20,7 @@ mod variable;
 
 pub use branching::label_of;
 pub use calling::entry;
+pub use exports::{export_named, takes_and_leaves_nothing};
 pub use gauge::Gauge;
 pub use machine::{Machine, Parts};
 pub use making::MakeFault;
