@@ -157,7 +157,7 @@ part_goes outer c target q part (inr e) f = subst (Part outer) (sym (f ∙ e)) (
 part_next : (outer c code q : Code) → Part outer c → code ≡ after c → q ≡ code → Part outer q
 part_next outer c code q part e f = subst (Part outer) (sym (f ∙ e)) (part_after outer c part)
 
-lands : (p : Program) (whole : Code) (context : Context) (around : List Context) (R ys : List Level) (t : Trail) (q : Place) (n : ℕ) → Beside p t.func t.base whole (context ∷ around) R → t.levels ≡ reverse R ++ ys → AreBlocks ys
+pub lands : (p : Program) (whole : Code) (context : Context) (around : List Context) (R ys : List Level) (t : Trail) (q : Place) (n : ℕ) → Beside p t.func t.base whole (context ∷ around) R → t.levels ≡ reverse R ++ ys → AreBlocks ys
     → q.contexts ≡ around → Next context q.code → n ≡ length R - 1 → Along p q (cut n t)
 lands p whole (InLabel values m target code) around [] ys t q n b e blocks same next is = absurd b
 lands p whole (InLabel values m target code) around (level.Call g h ∷ R) ys t q n b e blocks same next is = absurd b
