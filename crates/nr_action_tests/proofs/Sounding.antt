@@ -1,9 +1,7 @@
 -- States of the tests are sound.
-use Rattle.std.proofs.Common.{◌≡◌, ℕ, ◌+◌, ◌^◌, ◌<◌, ◌≤◌, false, List, [], map, None, sum_by, refl, sym, ap, subst, ◌∙◌, arith}
+use Rattle.std.proofs.Common.{◌≡◌, ℕ, ◌+◌, ◌^◌, ◌<◌, ◌≤◌, false, List, None, refl, sym, ap, subst, ◌∙◌, arith}
 use Rattle.std.specs.Prelude.{IsSome, is_some}
-use Rattle.std.specs.FinMap.{empty, entries, get, get-empty, len-empty, len-entries, values}
-use Rattle.std.specs.declared.cmp.Ordering.{Ordering}
-use Rattle.std.proofs.lemmas.List.{nil_from_length}
+use Rattle.std.specs.FinMap.{get, get-empty}
 use Rattle.nr_actions.specs.Accounts.{new_account}
 use Rattle.nr_actions.proofs.Standing.{stands_with_account}
 use Rattle.nr_config.specs.Config.{Config}
@@ -16,12 +14,8 @@ use Rattle.nr_state.specs.Keeping.{IsKept, MovesTokens}
 use Rattle.nr_state.specs.Tokens.{world_tokens}
 use Rattle.nr_state.specs.Valid.{IsValidWorld}
 use Rattle.nr_state.specs.View.{StateView, with_world}
+use Rattle.nr_state.proofs.ValidQueues.{no_sum}
 use Rattle.nr_state.specs.World.{World, account_tokens, bytes_cmp, no_world, pair_cmp, with_account}
-
-no_sum : {K X : Type 0} (R : K → K → Ordering) (f : X → ℕ) → sum_by f (values (empty {X = X} {R = R})) ≡ 0
-no_sum {K} {X} R f =
-    let none : entries (empty {X = X} {R = R}) ≡ [] = nil_from_length _ (sym (len-entries (empty {X = X} {R = R})) ∙ len-empty R X) in
-    ap (λ (es : List (K × X)). sum_by f (map (λ e. e.1) es)) none
 
 pub nothing_held : (c : Config) → world_tokens c no_world ≡ 0
 nothing_held c = omega (arith, no_sum bytes_cmp account_tokens, no_sum pair_cmp (receipt_tokens c))

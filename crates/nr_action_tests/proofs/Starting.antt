@@ -20,7 +20,7 @@ use Rattle.nr_records.specs.declared.receipt.Receipt.{Receipt}
 use Rattle.nr_state.specs.FromEntries.{AreWholeEntries, world_from}
 use Rattle.nr_state.specs.Tokens.{list_tokens, world_tokens}
 use Rattle.nr_state.specs.Valid.{IsValidWorld}
-use Rattle.nr_state.specs.World.{World, no_world}
+use Rattle.nr_state.specs.World.{no_world}
 
 module _ (c : Config) where
   -- ---- a world without accounts is that of a genesis without entries

@@ -1,9 +1,8 @@
 -- Calls that burn so much gas, or all that they have: one that fails, one that makes a receipt without actions and
 -- gives its result, and one that only returns. This project's own.
-use Rattle.std.specs.Prelude.{◌≡◌, ℕ, ◌+◌, ◌-◌, ◌≤◌, min, Bool, true, false, cond, List, [], ◌∷◌, Option, Some, None}
+use Rattle.std.specs.Prelude.{◌≡◌, ℕ, ◌+◌, ◌-◌, ◌≤◌, min, Bool, true, false, cond, [], ◌∷◌}
 use Rattle.std.specs.Prelude.{◌||◌, codes, nat_le, refl, Result, Ok, Err}
 use Rattle.std.specs.Str.{bytes_eq}
-use Rattle.std.specs.FinMap.{get}
 use Rattle.std.proofs.Common.{ap, arith, subst}
 use Rattle.std.proofs.lemmas.Bool.Decides.{nat_tests}
 use Rattle.std.proofs.lemmas.Slice.Eq.{bytes_eq-Decides}
@@ -11,13 +10,13 @@ use Rattle.nr_config.specs.Config.{Config}
 use Rattle.nr_fees.specs.Fees.{prepaid_gas}
 use Rattle.nr_ids.specs.Derive.{derived}
 use Rattle.nr_ids.specs.declared.key.Hash32.{Hash32}
-use Rattle.nr_records.specs.declared.account.Account.{Account}
 use Rattle.nr_records.specs.declared.receipt.Body.TheVariants.{Act}
 use Rattle.nr_records.specs.declared.receipt.Receipt.{Receipt}
-use Rattle.nr_state.specs.Calls.{Called, ChangesOnly, Ended, GoesOn, IsCaller, IsEnd, Stopped}
+use Rattle.nr_state.specs.Calls.{Called, Ended, IsCaller, IsEnd, Stopped}
 use Rattle.nr_state.specs.Local.{IsLocal}
 use Rattle.nr_state.specs.Scopes.{one_account, over, over_called}
 use Rattle.nr_state.specs.World.{World}
+use Rattle.nr_state.proofs.ValidCalls.{changes_nothing}
 use Rattle.nr_state.specs.declared.calls.CallContext.{CallContext}
 use Rattle.nr_state.specs.declared.calls.CallEnd.{CallEnd}
 use Rattle.nr_state.specs.declared.calls.CallStop.{CallStop}
@@ -80,15 +79,7 @@ burns c burnt w x =
     (cond (bytes_eq x.method (codes "ask")) (asks c burnt w x) (Ended (returning burnt x) w))
 
 -- ---- they keep what every caller promises
-stays : (o : Option Account) → GoesOn o o
-stays None = tt
-stays (Some account) = refl
-
-changes_nothing : (id : List ℕ) (w : World) → ChangesOnly id w w
-changes_nothing id w =
-    record { rest = refl; others = λ q h. refl; account = stays (get w.accounts id); data_of = λ k h. refl }
-
-at_most : (m n : ℕ) → min m n ≤ n
+pub at_most : (m n : ℕ) → min m n ≤ n
 at_most m n = omega arith
 
 module _ (c : Config) (burnt : ℕ) (w : World) (x : CallContext) where

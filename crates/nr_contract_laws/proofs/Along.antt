@@ -5,12 +5,11 @@ use Rattle.std.proofs.Common.{refl, sym, ap, ◌∙◌, subst, arith}
 use Rattle.nr_contract_laws.specs.Moments.{Leads}
 use Rattle.nr_machine_laws.specs.Steps.{AnswersNext, GivesOf, IsAnswered, LeadsTo, first_step}
 use Rattle.nr_wasmexec.specs.Functions.{Coded, Func, Hosted, func_at}
-use Rattle.nr_wasmexec.specs.Reduction.{Asks, Branches, Branching, Config, Effect, Frame, GasExceeded, Goes, Halted}
-use Rattle.nr_wasmexec.specs.Reduction.{Invokes, Label, NoRule, Opens, Outcome, Over, Plain, Returning, Returns, Rules}
-use Rattle.nr_wasmexec.specs.Reduction.{Runtime, Seq, Step, Stopping, Stuck, To, Trap, Traps, Unfinished, Writes}
+use Rattle.nr_wasmexec.specs.Reduction.{Asks, Branches, Branching, Config, Effect, Frame, GasExceeded, Goes}
+use Rattle.nr_wasmexec.specs.Reduction.{Invokes, Label, NoRule, Opens, Over, Plain, Returning, Returns, Rules}
+use Rattle.nr_wasmexec.specs.Reduction.{Runtime, Seq, Step, Stopping, Stuck, To, Traps, Unfinished, Writes}
 use Rattle.nr_wasmexec.specs.Reduction.{answered, behind_call, call_of, effect, has_instr, in_frame, in_label}
-use Rattle.nr_wasmexec.specs.Reduction.{is_too_large, left_over, paid, reduce, rewritten, run_by, run_in, runs, stepped}
-use Rattle.nr_wasmexec.specs.Reduction.{turn}
+use Rattle.nr_wasmexec.specs.Reduction.{left_over, paid, reduce, rewritten, run_by, run_in, runs, stepped}
 use Rattle.nr_wasmmem.specs.Meaning.{Answer, Fails, Gives, HostMeaning, OutOfGas}
 use Rattle.nr_wasmtypes.specs.Code.{Code, after, begins}
 use Rattle.nr_wasmtypes.specs.Host.{host_type}

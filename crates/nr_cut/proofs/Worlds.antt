@@ -3,7 +3,7 @@
 use Rattle.std.proofs.Common.{◌≡◌, ℕ, ◌+◌, ◌^◌, ◌≤◌, Bool, true, false, cond, List, [], ◌∷◌, ◌++◌, length, Option}
 use Rattle.std.proofs.Common.{Some, None, Ordering, inl, inr, ◌⊎◌, refl, sym, ap, subst, ◌∙◌, arith}
 use Rattle.std.specs.Prelude.{sum_by, filter, not, is_some, is_none, IsSome, option_map}
-use Rattle.std.specs.FinMap.{FinMap, IsAntisymmetric, empty, get, get-empty, entries, values, retain_keys}
+use Rattle.std.specs.FinMap.{FinMap, IsAntisymmetric, get, entries, values, retain_keys}
 use Rattle.std.specs.List.{AllByRecursion, list_any}
 use Rattle.std.specs.Str.{bytes_eq}
 use Rattle.std.specs.Cmp.{IsTotalOrder}

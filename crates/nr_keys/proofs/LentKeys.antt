@@ -23,7 +23,8 @@ use Rattle.nr_records.specs.declared.access_key.Permission.TheVariants.{Call, Fu
 use Rattle.nr_columns.specs.Tables.{read_of}
 use Rattle.nr_keys.specs.Lent.{calls_read}
 use Rattle.nr_keys.specs.Names.{names_read}
-use Rattle.nr_keys.proofs.SpelledNames.{read_ok, is_read, names_again}
+use Rattle.nr_columns.proofs.SpelledKeys.{is_read, read_ok}
+use Rattle.nr_keys.proofs.SpelledNames.{names_again}
 
 -- ---- the calls of a key
 

@@ -1,6 +1,6 @@
 -- Names as they are spelled: one is told apart from those behind it.
-use Rattle.std.proofs.Common.{◌≡◌, ℕ, ◌+◌, ◌≤◌, Bool, true, false, List, [], ◌∷◌, ◌++◌, length, drop, Option, Some, None, Result, Ok, Err, refl, sym, ap, subst, ◌∙◌, arith}
-use Rattle.std.specs.Prelude.{◌==◌, ◌||◌, IsSome, unwrap_or}
+use Rattle.std.proofs.Common.{◌≡◌, ℕ, ◌+◌, ◌≤◌, Bool, true, false, List, [], ◌∷◌, ◌++◌, length, drop, Option, Some, None, Ok, refl, sym, ap, subst, ◌∙◌, arith}
+use Rattle.std.specs.Prelude.{◌==◌, ◌||◌, IsSome}
 use Rattle.std.specs.List.{list_any, flat_map, AllByRecursion}
 use Rattle.std.specs.Str.{bytes_eq}
 use Rattle.std.proofs.lemmas.Bool.{eq-eqb, ne_eqb}
@@ -10,28 +10,20 @@ use Rattle.nr_bytes.specs.Reading.{Input, past, counted, counted_of}
 use Rattle.nr_bytes.specs.Spelling.{IsRead, IsCounted, IsString, FitsList, list, before}
 use Rattle.nr_bytes.specs.Writing.{counted_bytes}
 use Rattle.nr_bytes.proofs.Combined.{list_law}
-use Rattle.nr_bytes.proofs.Fields.{blob_law, string_law}
+use Rattle.nr_bytes.proofs.Fields.{blob_law, length-counted, string_law}
 use Rattle.nr_bytes.proofs.Numbers.{length-little}
 use Rattle.nr_bytes.proofs.Steps.{lifted_ok, ok_is}
 use Rattle.nr_bytes.proofs.Whole.{whole_taken, whole_again}
 use Rattle.nr_records.specs.Fault.{record_fault}
 use Rattle.nr_records.specs.Reading.{all_of, list_at, string_at}
-use Rattle.nr_records.specs.declared.fault.RecordFault.{RecordFault}
 use Rattle.nr_columns.specs.Tables.{read_of}
+use Rattle.nr_columns.proofs.SpelledKeys.{is_read, read_ok}
 use Rattle.nr_keys.specs.Names.{names_read, names_in, SpellNames, IsLeft}
 
 -- ---- all names
 
 pub names_law : IsRead (list_at string_at) (list counted_bytes) (FitsList IsString)
 names_law = list_law record_fault string_at counted_bytes IsString (string_law record_fault)
-
-pub read_ok : {X : Type 0} (r : Result X RecordFault) (x : X) → read_of r ≡ Some x → r ≡ Ok x
-read_ok (Ok y) x e = cc
-read_ok (Err f) x e = absurd cc
-
-pub is_read : {X : Type 0} (o : Option X) (x : X) → IsSome o → o ≡ Some (unwrap_or o x)
-is_read None x there = absurd cc
-is_read (Some y) x there = refl
 
 pub names_so : (bytes : List ℕ) (names : List (List ℕ)) → IsBytes bytes → names_read bytes ≡ Some names → FitsList IsString names × (bytes ≡ list counted_bytes names)
 names_so bytes names fits e =
@@ -49,9 +41,6 @@ from_field s (Some bytes) name t e = ap (λ (p : List ℕ × Input). Some p.0) (
 counted_front : (name rest : List ℕ) → IsCounted name → counted (counted_bytes name ++ rest) ≡ Some name
 counted_front name rest few =
     from_field (before (counted_bytes name) 0 rest) (counted (counted_bytes name ++ rest)) name _ (lifted_ok record_fault _ _ ((blob_law record_fault).again name 0 rest few))
-
-length-counted : (name : List ℕ) → length (counted_bytes name) ≡ 4 + length name
-length-counted name = omega (arith, length-append (little 4 (length name)) name, length-little 4 (length name))
 
 nothing : (rest name : List ℕ) → rest ≡ [] → counted rest ≡ Some name → Some name ≡ None
 unfolding counted

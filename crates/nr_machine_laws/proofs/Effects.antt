@@ -11,12 +11,11 @@ use Rattle.nr_machine_laws.proofs.Lists.{three}
 use Rattle.nr_machine_laws.proofs.Numbers.{OkIs, arith_fits, compare_fits, zero_test_fits, bit_count_fits}
 use Rattle.nr_machine_laws.proofs.Numbers.{convert_fits, load_fits}
 use Rattle.nr_machine_laws.specs.Typed.{AreOf, IsConstant, IsCode, kind_of, IsTypedGuest}
-use Rattle.nr_wasmexec.proofs.Branches.{some_is}
 use Rattle.nr_wasmexec.proofs.Signatures.{same_types_are, same_sig_is}
 use Rattle.nr_wasmexec.specs.Functions.{Func, Hosted, Coded, sig_of, func_at}
 use Rattle.nr_wasmexec.specs.Reduction.{Effect, Goes, Writes, Opens, Invokes, Asks, Branches, Returns, Traps, Stuck}
-use Rattle.nr_wasmexec.specs.Reduction.{with_value, computed, place_at, with_memory, read, written, grows, chosen}
-use Rattle.nr_wasmexec.specs.Reduction.{asks, called}
+use Rattle.nr_wasmexec.specs.Reduction.{with_value, computed, place_at, with_memory, read, written, grows}
+use Rattle.nr_wasmexec.specs.Reduction.{called}
 use Rattle.nr_wasmexec.specs.Reduction.{called_as, called_at, plain_effect, effect}
 use Rattle.nr_wasmexec.specs.Standing.{IsSound}
 use Rattle.nr_wasmexec.specs.declared.program.Program.{Program}
@@ -38,7 +37,7 @@ use Rattle.nr_wasmtypes.specs.declared.instr.ValType.TheVariants.{I32, I64}
 use Rattle.nr_wasmtypes.specs.declared.module.FuncType.{FuncType}
 use Rattle.nr_wasmtypes.specs.declared.module.Global.{Global}
 use Rattle.nr_wasmvalid.specs.Parts.{same_sig, func_indices}
-use Rattle.nr_wasmvalid.specs.Rules.{Types?, types, Context, within, Ask, Take, Give, Leave, Must, named, func_type}
+use Rattle.nr_wasmvalid.specs.Rules.{Types?, types, Context, within, Take, Give, Leave, Must, func_type}
 use Rattle.nr_wasmvalid.specs.Rules.{is_label, are_labels, rule}
 use Rattle.nr_wasmvalid.specs.Typing.{Obey}
 use Rattle.nr_wasmvalid.specs.declared.refusal.Refusal.TheVariants as kind

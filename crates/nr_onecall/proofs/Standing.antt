@@ -1,12 +1,9 @@
 -- The world in which a call begins: its account stands, and has its code.
-use Rattle.std.proofs.Common.{◌≡◌, ℕ, cond, List, Some, refl, sym, ap, subst, ◌∙◌}
+use Rattle.std.proofs.Common.{◌≡◌, ℕ, List, refl, sym, ap, subst, ◌∙◌}
 use Rattle.std.specs.Prelude.{IsSome, is_some, option_map}
-use Rattle.std.specs.FinMap.{FinMap, get, insert, get-insert}
-use Rattle.std.specs.Cmp.{eq_by_cmp_equiv}
-use Rattle.std.specs.Cmp.Lexicographic.{nat_list_cmp_total}
+use Rattle.std.specs.FinMap.{get, insert}
 use Rattle.nr_config.specs.Config.{Config}
 use Rattle.nr_records.specs.declared.account.Account.{Account}
-use Rattle.nr_columns.specs.Orders.{bytes_cmp}
 use Rattle.nr_state.specs.Calls.{CanCall}
 use Rattle.nr_state.specs.Changes.{set_code}
 use Rattle.nr_state.specs.Owners.{with_code_of}

@@ -1,5 +1,5 @@
 -- The part that is cut out of entries, by the list of all nodes.
-use Rattle.std.proofs.Common.{◌≡◌, ◌<◌, ◌≤◌, ◌+◌, ℕ, zero, suc, Bool, true, false, List, [], ◌∷◌, ◌++◌, length, map, Some, None, refl, ap, sym, subst, ◌∙◌, arith, append-nil}
+use Rattle.std.proofs.Common.{◌≡◌, ◌+◌, ℕ, zero, suc, List, [], ◌∷◌, ◌++◌, map, Some, None, refl, ap, sym, subst, ◌∙◌, arith, append-nil}
 use Rattle.std.specs.List.{AllByRecursion}
 use Rattle.std.specs.FinMap.{empty}
 use Rattle.nr_bytes.specs.Numbers.{IsBytes}
@@ -8,16 +8,13 @@ use Rattle.nr_triedef.specs.Root.{Paths, paths, depth, trie, usage_below, summar
 use Rattle.nr_triedef.specs.declared.node.Node.{Node}
 use Rattle.nr_triedef.specs.declared.hash.Summary.{Summary}
 use Rattle.nr_store.specs.Tries.{CanWalk, whole}
-use Rattle.nr_store.proofs.Held.{R}
-use Rattle.nr_store.proofs.Links.{CanStand}
-use Rattle.nr_store.proofs.Orders.{differ_rising}
 use Rattle.nr_columns.specs.declared.entry.Entry.{Entry}
 use Rattle.nr_trielist.specs.Forest.{Stood, Forest, bare, tree, forest, forest_of}
 use Rattle.nr_trielist.specs.Growing.{nodes_at, all_nodes}
 use Rattle.nr_walk.specs.Walking.{entry}
 use Rattle.nr_parts.specs.Offsets.{tops_usage, entries_in, share_of, part_of_entries}
 use Rattle.nr_columns.specs.Entries.{pairs_of}
-use Rattle.nr_parts.specs.Cutting.{InOrder, looked_from_root, once, part_texts, part_cut}
+use Rattle.nr_parts.specs.Cutting.{looked_from_root, once, part_texts, part_cut}
 use Rattle.nr_parts.specs.Sweeping.{swept_entries, swept_nodes, owns}
 use Rattle.nr_parts.specs.declared.share.Share.{Share}
 use Rattle.nr_ids.specs.declared.key.Hash32.{Hash32}

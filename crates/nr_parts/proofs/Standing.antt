@@ -1,10 +1,10 @@
 -- The trie of a map with keys of bytes: its keys stand, and its nodes are grown.
-use Rattle.std.proofs.Common.{◌<◌, ◌≤◌, ℕ, List, [], ◌∷◌, length, refl, arith}
+use Rattle.std.proofs.Common.{ℕ, List, [], ◌∷◌, refl, arith}
 use Rattle.std.specs.List.{AllByRecursion}
 use Rattle.std.specs.FinMap.{entries}
 use Rattle.nr_bytes.specs.Numbers.{IsBytes}
 use Rattle.nr_triedef.specs.Node.{nibbles, IsNibbles}
-use Rattle.nr_triedef.specs.Root.{Contents, Paths, paths, depth}
+use Rattle.nr_triedef.specs.Root.{Contents, paths, depth}
 use Rattle.nr_triedef.proofs.Parts.{nibbles_small}
 use Rattle.nr_store.proofs.Links.{CanStand}
 use Rattle.nr_store.proofs.Listed.{walk_whole}

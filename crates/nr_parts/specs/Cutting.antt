@@ -4,9 +4,7 @@ use Rattle.std.specs.FinMap.{empty, get, insert}
 use Rattle.sha2.specs.Sha256.{sha256}
 use Rattle.nr_triedef.specs.Node.{node_text, usage_of}
 use Rattle.nr_triedef.specs.Root.{Contents, root_of_entries}
-use Rattle.nr_columns.specs.Entries.{pairs_of}
 pub use Rattle.nr_columns.specs.Entries.{InOrder}
-use Rattle.nr_columns.specs.declared.entry.Entry.{Entry}
 use Rattle.nr_trielist.specs.Forest.{Stood, Forest, bare, tree, forest_of}
 use Rattle.nr_parts.specs.Offsets.{tops_usage, meets, share_of, part_of_entries}
 use Rattle.nr_parts.specs.declared.part.Part.{Part}

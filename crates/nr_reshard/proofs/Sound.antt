@@ -2,7 +2,7 @@
 -- no chunk is missing.
 use Rattle.std.proofs.Common.{◌≡◌, ℕ, zero, suc, ◌+◌, ◌-◌, ◌^◌, ◌<◌, ◌≤◌, Bool, true, false, inl, inr, List, [], ◌∷◌}
 use Rattle.std.proofs.Common.{length, Option, Some, None, Result, Ok, Err, refl, sym, ap, subst, ◌∙◌, arith}
-use Rattle.std.specs.Prelude.{◌&&◌, ◌==◌, IfOk, if◌then◌else◌, is_some, nat_le, slice_get}
+use Rattle.std.specs.Prelude.{◌&&◌, ◌==◌, IfOk, is_some, nat_le, slice_get}
 use Rattle.std.specs.List.{AllByRecursion, list_all, starts_with}
 use Rattle.std.proofs.lemmas.Bool.{and_parts, eqb-true, le-ltb, leb-true, lt-ltb}
 use Rattle.nr_blocks.specs.BlocksFiles.{FitsPrice, IsBlock, IsPrice}

@@ -1,9 +1,9 @@
 -- Sums of tallies: one part more, and in the other order.
-use Rattle.std.proofs.Common.{◌≡◌, ℕ, ◌+◌, sym, ap, ◌∙◌, add-one, arith}
+use Rattle.std.proofs.Common.{◌≡◌, ℕ, ◌+◌, arith}
 use Rattle.std.specs.Prelude.{slice_index}
 use Rattle.nr_chunk.specs.Tallies.{five}
 use Rattle.nr_chunk.specs.declared.tally.Tally.{Tally}
-use Rattle.nr_places.specs.Totals.{plus, tally_below}
+use Rattle.nr_places.specs.Totals.{plus}
 pub use Rattle.nr_outcome.proofs.Steps.{tally_next}
 
 turned_sum : (m n : ℕ) → m + n ≡ n + m

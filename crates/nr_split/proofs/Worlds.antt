@@ -15,7 +15,7 @@ use Rattle.nr_records.specs.declared.receipt.Receipt.{Receipt}
 use Rattle.nr_split.proofs.Joined.{unqueued}
 use Rattle.nr_state.proofs.ValidOwned.{exact_data, exact_keys, key_total, pair_total}
 use Rattle.nr_state.specs.Scopes.{part_of}
-use Rattle.nr_state.specs.World.{World, no_world}
+use Rattle.nr_state.specs.World.{World}
 use Rattle.nr_state.specs.Worlds.{IsWorld}
 use Rattle.nr_state.proofs.Worlds.{none_fits as fits_none}
 

@@ -4,7 +4,6 @@ use Rattle.std.specs.List.{range_with_len}
 use Rattle.std.proofs.lemmas.List.FromFn.{map-range_with_len_more}
 use Rattle.nr_triedef.specs.declared.hash.Summary.{Summary}
 use Rattle.nr_triedef.specs.Node.{summary, links}
-use Rattle.nr_ids.specs.declared.key.Hash32.{Hash32}
 use Rattle.std.specs.List.{AllByRecursion}
 use Rattle.nr_triedef.specs.Root.{Paths, front, behind, value_here, value_field, hash_below, under, leaf, branch, with_front, sixteen, depth, trie, Contents, paths, summary_of, root_of, root_of_entries}
 use Rattle.std.specs.FinMap.{entries}

@@ -1,6 +1,6 @@
 -- Which chunks the run to the end has results of.
 use Rattle.std.proofs.Common.{◌≡◌, ℕ, zero, suc, ◌+◌, ◌<◌, ◌≤◌, Bool, true, false, cond, length, Option, Some, None, inl, inr, refl, sym, ap, subst, ◌∙◌, arith, add-one}
-use Rattle.std.specs.Prelude.{IsSome, is_some, nat_le, nat_lt, ◌&&◌, replicate, option_map, slice_get}
+use Rattle.std.specs.Prelude.{IsSome, is_some, nat_le, nat_lt, ◌&&◌, option_map, slice_get}
 use Rattle.std.specs.Option.{option_and_then}
 use Rattle.std.proofs.lemmas.Bool.{and_parts, cases_lt}
 use Rattle.std.proofs.lemmas.List.{get_or-replicate}

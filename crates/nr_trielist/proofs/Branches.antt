@@ -1,13 +1,12 @@
 -- The list of a trie's nodes: of no key, of one, and of several; that any depth above the keys gives the same; and that they are the nodes of the forest.
-use Rattle.std.proofs.Common.{◌≡◌, ◌≤◌, ◌<◌, ◌-◌, ℕ, zero, suc, false, List, [], ◌∷◌, ◌++◌, length, map, Option, Some, None, refl, ap, sym, subst, ◌∙◌, arith, add-one, append-nil}
-use Rattle.std.specs.List.{AllByRecursion, flat_map}
+use Rattle.std.proofs.Common.{◌≡◌, ◌≤◌, ◌-◌, ℕ, zero, suc, false, List, [], ◌∷◌, ◌++◌, length, map, Option, Some, None, refl, ap, sym, subst, ◌∙◌, arith, append-nil}
+use Rattle.std.specs.List.{flat_map}
 use Rattle.nr_triedef.specs.Node.{key_part, summary}
 use Rattle.nr_triedef.specs.declared.node.Node.{Node}
 use Rattle.nr_triedef.specs.declared.hash.Summary.{Summary}
 use Rattle.nr_triedef.specs.Root.{Paths, front, value_here, under, leaf, branch, extension, with_front, sixteen, depth, trie}
 use Rattle.nr_store.specs.Tries.{CanWalk, first_path, cut, whole}
-use Rattle.nr_store.proofs.Links.{CanStand, stands_behind, stands_under, stands_above}
-use Rattle.nr_store.proofs.Orders.{differ_rising}
+use Rattle.nr_store.proofs.Links.{CanStand}
 use Rattle.nr_store.proofs.Levels.{trie_empty, trie_one, children, children_stand, stands, levels, enough}
 use Rattle.nr_trielist.specs.Forest.{Stood, Forest, bare, tree, stood, fronted, rows, forest, listed}
 use Rattle.nr_trielist.specs.Growing.{head_nodes, nodes_at, all_nodes, heads}

@@ -1,6 +1,6 @@
 -- The functions of a program that was linked to a valid module.
 use Rattle.std.proofs.Common.{◌≡◌, ℕ, zero, suc, ◌+◌, ◌-◌, ◌<◌, ◌≤◌, Bool, true, false, cond, ◌&&◌, List, [], ◌∷◌, ◌++◌, length, Option, Some, None, Result, Ok, Err, nat_lt, refl, sym, ap, ◌∙◌, subst, arith, inl, inr, ⊎_elim}
-use Rattle.std.specs.Prelude.{slice_get, is_some, if◌then◌else◌, option_and_then, codes, ◌⊎◌}
+use Rattle.std.specs.Prelude.{slice_get, is_some, option_and_then, codes, ◌⊎◌}
 use Rattle.std.specs.List.{cons_option}
 use Rattle.std.specs.Str.{bytes_eq}
 use Rattle.nr_bytes.specs.Reading.{◌>>=◌}
