@@ -56,7 +56,7 @@ def swept(task):
 
 def here(case, name, status, calls, most):
     """Sweeps over all allocations of a command, as (part of all, key, sweep)."""
-    step = -(-calls // most) if most else 1
+    step = max(1, -(-calls // most)) if most else 1
     slices = min(SLICES, max(1, calls // step // SLICE))
     for number in range(slices):
         sweep = tries.Sweep(case, name, status, "memory", ("ENOMEM",), "here", 1 + step * number, 0, step * slices)

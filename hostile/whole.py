@@ -3,11 +3,11 @@
 
 usage: hostile/whole.py [--programs FOLDER] [--folder FOLDER] [--minutes M] [--jobs N] [--only WORD] [--small]
 
-Build the programs first. Each script first gets a part of the minutes (without --minutes as long as it takes), in the
-order of the table in README.md; then those that have tasks left get what remains. What is done stands in --folder (hostile-runs in the
-folder for temporary files): NAME.state of each script, which a later call goes on from as long as programs and scripts
-are the same, and NAME.log. With --small each script does a hundredth or so, to see that all is there. At the end a
-line for each script has its counts, and whether it is whole. The exit status is 0 where every run was right.
+Build the programs first. Each script gets a part of the minutes (without --minutes as long as it takes), and then those
+that have tasks left get what remains. What is done stands in --folder (hostile-runs in the folder for temporary files):
+NAME.state of each script, which a later call goes on from as long as programs and scripts are the same, and NAME.log.
+With --small each script does a hundredth or so, to see that all is there. At the end a line for each script has its
+counts, and whether it is whole. The exit status is 0 where every run was right.
 """
 import argparse
 import os
