@@ -6,13 +6,13 @@ usage: hostile/damage.py [--programs FOLDER] [--only KIND] [--files N] [--seed N
        hostile/damage.py --show KIND NUMBER FILE [--seed N]
 
 Build the programs first. Of each kind (genesis, blocks, contract, configuration, schedule, module, genesis text,
-blocks text, report, words, proof, part, gathered) N files (100,000) are made from a few good ones, which of the last
+blocks text, report, words, proof, part, gathered) N files (8,000) are made from a few good ones, which of the last
 three near_serial makes: bits flipped, bytes set, counts turned into 2^32 - 1 or nearly kept, pieces cut out, doubled,
 moved and added, the end cut off, and in texts numbers out of range, quotes, and brackets in one another. A contract is
 damaged code in a genesis that is otherwise whole; words are what stands behind a program's name, and each program is
 given them. A file is made by its kind, its number and the seed (1), and --show writes it again. The first 8,000 of each
-kind come first, and then some of each kind in turn. A run on a file is a copy (fork) of the program, which was loaded
-once and stands before its first instruction (faults.c); on words it is loaded each time.
+kind come first, and of more then some of each kind in turn. A run on a file is a copy (fork) of the program, which was
+loaded once and stands before its first instruction (faults.c); on words it is loaded each time.
 
 What is right: the program ends by itself, with a status that it has for this kind. Where the status is above 0 there
 is nothing on standard output and one line on standard error (of near_module one line on standard output; of near_files,
@@ -551,7 +551,7 @@ class Sums:
 
 
 def main():
-    arguments = shared.arguments_of(__doc__, ("--files", {"type": int, "default": 100_000}),
+    arguments = shared.arguments_of(__doc__, ("--files", {"type": int, "default": FIRST}),
                                     ("--seed", {"type": int, "default": 1}), ("--show", {"nargs": 3}))
     found, begin = shared.programs_in(arguments.programs), time.monotonic()
     good = seeds(found)

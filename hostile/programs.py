@@ -220,15 +220,6 @@ def made_cases(folder, program):
     ]
 
 
-def spread(count, most):
-    """The numbers from 1 to the count; of more than `most` the first half of `most`, and the others evenly."""
-    if count <= most:
-        return range(1, count + 1)
-    front = most // 2
-    rest = most - front
-    return [*range(1, front + 1), *(front + (count - front) * (step + 1) // rest for step in range(rest))]
-
-
 def write(path, data):
     with open(path, "wb") as out:
         out.write(data)
@@ -256,7 +247,7 @@ def chain_cases(at, config, people):
     yield "check changing boundaries", "near_serial", ["check", *changing, steps]
     yield "roots changing boundaries", "near_serial", ["roots", *changing]
     yield "gen", "near_serial", ["gen", "7", "3", "8"]
-    yield "replay gen", "near_replay", ["gen", "7", "3", "8"]
+    yield "replay gen", "near_replay", ["gen", "7", "3", "2"]
     yield "run refused", "near_serial", ["run", priced, blocks, blocks]
     yield "archive refused", "near_audit", ["gather", priced, genesis, genesis]
     yield "replay refused", "near_replay", ["replay", priced, genesis, genesis]

@@ -132,7 +132,8 @@ class State:
     """What a script has done: a line of JSON for each task. Lines of other programs or another script don't count."""
 
     def __init__(self, path, found):
-        own = [sys.argv[0], *(os.path.join(shared.HERE, name) for name in ("chains.py", "faults.c", "programs.py"))]
+        names = ("chains.py", "faults.c", "programs.py", "tries.py", "wasm.py")
+        own = [sys.argv[0], *(os.path.join(shared.HERE, name) for name in names)]
         self.mark = hashlib.sha256(b"".join(shared.read(file) for file in [*sorted(found.values()), *own])).hexdigest()
         self.path, self.values = path, {}
         if path and os.path.exists(path):

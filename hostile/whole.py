@@ -7,7 +7,8 @@ Build the programs first. Each script gets a part of the minutes (without --minu
 that have tasks left get what remains. What is done stands in --folder (hostile-runs in the folder for temporary files):
 NAME.state of each script, which a later call goes on from as long as programs and scripts are the same, and NAME.log.
 With --small each script does a hundredth or so, to see that all is there. At the end a line for each script has its
-counts, and whether it is whole. The exit status is 0 where every run was right.
+counts, and whether it is whole. Time that then is left goes to more damaged files, up to 100,000 of each kind. The exit
+status is 0 where every run was right.
 """
 import argparse
 import os
@@ -18,10 +19,13 @@ import time
 
 import programs as shared
 
-# The scripts, the part of the time that each gets at first, and what it is given with --small.
-SCRIPTS = [("stack", 0.10, ["--keys", "300"]), ("repeated", 0.05, ["--levels", "3"]),
-           ("reads_writes", 0.13, ["--most", "10", "--only", "run"]), ("alloc", 0.22, ["--most", "40", "--rooms", "4"]),
-           ("threads", 0.17, ["--runs", "10"]), ("damage", 0.33, ["--files", "50"])]
+# The scripts, the part of the time that each gets at first, what it is given always, and what with --small.
+SCRIPTS = [("stack", 0.08, [], ["--keys", "300"]), ("repeated", 0.04, [], ["--levels", "3"]),
+           ("reads_writes", 0.15, ["--limit", "20"], ["--most", "10", "--only", "run"]),
+           ("alloc", 0.28, ["--limit", "20"], ["--most", "40", "--rooms", "4"]),
+           ("threads", 0.17, [], ["--runs", "10"]),
+           ("damage", 0.28, ["--limit", "20"], ["--files", "50"])]
+MORE = ("damage", ["--limit", "20", "--files", "100000"])
 
 
 def arguments_of():
@@ -35,11 +39,11 @@ def arguments_of():
     return parser.parse_args()
 
 
-def run(name, small, minutes, arguments):
+def run(name, given, minutes, arguments):
     """A script, within its minutes: its last line, and whether it ended as it should."""
     log = os.path.join(arguments.folder, f"{name}.log")
     words = [sys.executable, os.path.join(shared.HERE, f"{name}.py"), "--programs", arguments.programs,
-             "--jobs", str(arguments.jobs), *(small if arguments.small else [])]
+             "--jobs", str(arguments.jobs), *given]
     if not arguments.small:
         words += ["--state", os.path.join(arguments.folder, f"{name}.state")]
     words += ["--minutes", f"{minutes:.2f}"] if minutes else []
@@ -47,32 +51,35 @@ def run(name, small, minutes, arguments):
         status = subprocess.run(words, stdout=out, stderr=subprocess.STDOUT).returncode
     with open(log, errors="replace") as lines:
         rows = lines.read().splitlines() or [""]
-    wrong = [row.strip() for row in rows if row.lstrip().startswith("WRONG")]
-    for row in wrong[:20]:
+    for row in [row.strip() for row in rows if row.lstrip().startswith("WRONG")][:20]:
         print(f"  {name}: {row[:400]}", flush=True)
     is_closed = rows[-1].startswith(f"{name}: ")
-    if not is_closed:
-        print(f"  {name} broke off: {rows[-1][:400]}", flush=True)
-    print(rows[-1] if is_closed else f"{name}: status {status}", flush=True)
-    return rows[-1], status == 0 and is_closed
+    line = rows[-1] if is_closed else f"{name} broke off with status {status}: {rows[-1][:400]}"
+    print(line, flush=True)
+    return line, status == 0 and is_closed
+
+
+def is_whole(line):
+    return line.endswith(", whole")
 
 
 def main():
     arguments = arguments_of()
     os.makedirs(arguments.folder, exist_ok=True)
     end = time.monotonic() + 60 * arguments.minutes if arguments.minutes else 0
-    rest = lambda: (end - time.monotonic()) / 60 if end else 0
-    scripts = [script for script in SCRIPTS if not arguments.only or arguments.only in script[0]]
+    rest = lambda: (end - time.monotonic()) / 60
+    scripts = {name: (part, [*given, *(small if arguments.small else [])]) for name, part, given, small in SCRIPTS
+               if not arguments.only or arguments.only in name}
     lines, right = {}, {}
-    for name, part, small in scripts:
-        lines[name], right[name] = run(name, small, part * arguments.minutes if end else 0, arguments)
-    for name, part, small in scripts:
-        if end and not lines[name].endswith("whole") and rest() > 0.3:
-            shares = sum(one for other, one, _ in scripts if not lines[other].endswith("whole"))
-            lines[name], right[name] = run(name, small, rest() * part / shares, arguments)
-    print("\nAll of it:")
-    for name, line in lines.items():
-        print(line if line.startswith(f"{name}: ") else f"{name}: broke off")
+    for name, (part, given) in scripts.items():
+        lines[name], right[name] = run(name, given, part * arguments.minutes if end else 0, arguments)
+    for name, (part, given) in scripts.items():
+        if end and not is_whole(lines[name]) and rest() > 0.3:
+            parts = sum(part for other, (part, _) in scripts.items() if not is_whole(lines[other]))
+            lines[name], right[name] = run(name, given, rest() * part / parts, arguments)
+    if end and rest() > 1 and MORE[0] in scripts and all(map(is_whole, lines.values())):
+        lines["more"], right["more"] = run(*MORE, rest(), arguments)
+    print("\nAll of it:", *lines.values(), sep="\n")
     sys.exit(0 if all(right.values()) else 1)
 
 
