@@ -1,8 +1,8 @@
 #!/usr/bin/env python3
 """Damages files of each kind in many ways, and runs the programs on them.
 
-usage: hostile/damage.py [--programs FOLDER] [--only KIND] [--files N] [--seed N] [--jobs N] [--limit SECONDS]
-                         [--minutes M] [--state FILE]
+usage: hostile/damage.py [--programs FOLDER] [--only KIND] [--files N] [--seed N] [--fronts 0] [--jobs N]
+                         [--limit SECONDS] [--minutes M] [--state FILE]
        hostile/damage.py --show KIND NUMBER FILE [--seed N]
 
 Build the programs first. Of each kind (genesis, blocks, contract, configuration, schedule, module, genesis text,
@@ -11,8 +11,9 @@ three near_serial makes: bits flipped, bytes set, counts turned into 2^32 - 1 or
 moved and added, the end cut off, and in texts numbers out of range, quotes, and brackets in one another. A contract is
 damaged code in a genesis that is otherwise whole; words are what stands behind a program's name, and each program is
 given them. A file is made by its kind, its number and the seed (1), and --show writes it again. The first 8,000 of each
-kind come first, and of more then some of each kind in turn. A run on a file is a copy (fork) of the program, which was
-loaded once and stands before its first instruction (faults.c); on words it is loaded each time.
+kind come first, and of more then some of each kind in turn. Before them each good file but words is cut at each of its
+bytes, and once has a zero byte more. A run on a file is a copy (fork) of the program, which was loaded once and stands
+before its first instruction (faults.c); on words it is loaded each time.
 
 What is right: the program ends by itself, with a status that it has for this kind. Where the status is above 0 there
 is nothing on standard output and one line on standard error (of near_module one line on standard output; of near_files,
@@ -22,6 +23,7 @@ byte of the file, and holds at most 64 MiB and 64 times the file's length. And
 
   genesis, blocks, contract,    near_serial and near_replay end alike, with the same texts, and near_audit refuses what
   configuration                 they refuse, with the same line; else its archive has the chunks' lines of their report
+  a file that is cut            genesis and blocks are refused with kind 1, and no proof, part or gathered chunk is read
   genesis, blocks               what `near_files show` (each other time with --compact) makes of one that it reads is
                                 made into the same bytes
   genesis text, blocks text     what `near_files` makes of it near_serial doesn't refuse as such a file; `near_files
@@ -498,14 +500,26 @@ def ready(found, folder, limit, library, until):
     judge, good, late = Judge(found, folder, limit, library), seeds(found), until
 
 
+# What a file that is cut is answered with, of the kinds that have no front of a file as another file.
+CUT = {"genesis": b"3 1 ", "blocks": b"4 1 ", "proof": b"10 1 ", "part": b"13 1 ", "gathered": b"12 1 "}
+
+
+def file_of(kind, source, number):
+    """A file of a kind: that of a number under a seed, or a good one up to so many bytes, at its end with one more."""
+    if isinstance(source, int):
+        return damaged(kind, number, source, good[kind])
+    whole = good[kind][source[0]]
+    return whole[:number] if number < len(whole) else whole + b"\0"
+
+
 def tried(task):
     """The files of some numbers: how the first run on each ended, what was wrong, and how many runs there were."""
-    key, (kind, seed, first, last) = task
+    key, (kind, source, first, last) = task
     if tries.is_late(late):
         return key, None
     ends, wrong, runs = collections.Counter(), [], 0
     for number in range(first, last + 1):
-        data = damaged(kind, number, seed, good[kind])
+        data = file_of(kind, source, number)
         judge.begin(number, len(data))
         try:
             ran = judge.judge(kind, data)
@@ -516,13 +530,26 @@ def tried(task):
         if ran is None:
             continue
         ends[str(ran.status)] += 1
+        if not isinstance(source, int) and not ran.err.startswith(CUT.get(kind, b"")):
+            judge.wrong.append(f"a file that is cut: status {ran.status}, {ran.err[-200:]!r}")
         wrong += [(number, what) for what in judge.wrong]
     return key, {"ends": ends, "wrong": wrong, "runs": runs}
 
 
-def tasks_of(kinds, arguments):
-    """Some files of each kind in turn, as pairs of a key and a task."""
+def fronts_of(kinds, good):
+    """Each good file but words, cut at each of its bytes, as pairs of a key and a task."""
+    for kind in kinds:
+        for place, whole in enumerate(good[kind] if kind != "words" else []):
+            for begin in range(0, len(whole) + 1, STEP):
+                last = min(begin + STEP, len(whole) + 1) - 1
+                yield f"{kind}, fronts of {place}: {begin} to {last}", (kind, (place,), begin, last)
+
+
+def tasks_of(kinds, good, arguments):
+    """The fronts, and then some damaged files of each kind in turn, as pairs of a key and a task."""
     first = 1
+    if arguments.fronts:
+        yield from fronts_of(kinds, good)
     while first <= arguments.files:
         end = min(arguments.files + 1, first + (FIRST if first == 1 else MORE))
         for kind in kinds:
@@ -538,9 +565,9 @@ class Sums:
     def __init__(self):
         self.ends, self.wrong, self.runs = collections.Counter(), 0, 0
 
-    def add(self, kind, value):
+    def add(self, source, value):
         for number, what in value["wrong"][: max(0, 10 - self.wrong)]:
-            print(f"  WRONG {kind} {number}: {what}", flush=True)
+            print(f"  WRONG {source}, {number}: {what}", flush=True)
         self.ends.update(value["ends"])
         self.wrong += len({number for number, _ in value["wrong"]})
         self.runs += value["runs"]
@@ -552,7 +579,8 @@ class Sums:
 
 def main():
     arguments = shared.arguments_of(__doc__, ("--files", {"type": int, "default": FIRST}),
-                                    ("--seed", {"type": int, "default": 1}), ("--show", {"nargs": 3}))
+                                    ("--seed", {"type": int, "default": 1}), ("--show", {"nargs": 3}),
+                                    ("--fronts", {"type": int, "default": 1}))
     found, begin = shared.programs_in(arguments.programs), time.monotonic()
     good = seeds(found)
     kinds = [kind for kind in good if not arguments.only or arguments.only in kind]
@@ -565,9 +593,8 @@ def main():
     with tempfile.TemporaryDirectory(dir=quick) as folder:
         given = (found, folder, arguments.limit, shared.faults_in(folder), tries.until_of(arguments))
         with multiprocessing.Pool(arguments.jobs, ready, given) as pool:
-            for key, value in tries.carried_out(pool, tried, tasks_of(kinds, arguments), state):
-                kind = key.split(", seed ")[0]
-                sums[kind].add(kind, value)
+            for key, value in tries.carried_out(pool, tried, tasks_of(kinds, good, arguments), state):
+                sums[key.split(", ")[0]].add(key.split(":")[0], value)
     for kind in kinds:
         sums[kind].tell(kind)
     files, runs, wrong = (sum(count) for count in zip(*((sum(one.ends.values()), one.runs, one.wrong)

@@ -24,7 +24,7 @@ SCRIPTS = [("stack", 0.08, [], ["--keys", "300"]), ("repeated", 0.04, [], ["--le
            ("reads_writes", 0.15, ["--limit", "20"], ["--most", "10", "--only", "run"]),
            ("alloc", 0.28, ["--limit", "20"], ["--most", "40", "--rooms", "4"]),
            ("threads", 0.17, [], ["--runs", "10"]),
-           ("damage", 0.28, ["--limit", "20"], ["--files", "50"])]
+           ("damage", 0.28, ["--limit", "20"], ["--files", "50", "--fronts", "0"])]
 MORE = ("damage", ["--limit", "20", "--files", "100000"])
 
 
