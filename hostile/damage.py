@@ -590,8 +590,8 @@ def main():
         return
     state, sums = tries.State(arguments.state, found), {kind: Sums() for kind in kinds}
     quick = "/dev/shm" if os.access("/dev/shm", os.W_OK) else None
-    with tempfile.TemporaryDirectory(dir=quick) as folder:
-        given = (found, folder, arguments.limit, shared.faults_in(folder), tries.until_of(arguments))
+    with tempfile.TemporaryDirectory(dir=quick) as folder, tempfile.TemporaryDirectory() as built:
+        given = (found, folder, arguments.limit, shared.faults_in(built), tries.until_of(arguments))
         with multiprocessing.Pool(arguments.jobs, ready, given) as pool:
             for key, value in tries.carried_out(pool, tried, tasks_of(kinds, good, arguments), state):
                 sums[key.split(", ")[0]].add(key.split(":")[0], value)

@@ -30,7 +30,7 @@
  *   FAULTS_STATUS  how it ends
  *   FAULTS_WORDS   whether a file that can't be read is told in words (near_files)
  *   FAULTS_LIMIT   the seconds that a copy may take
- *   FAULTS_UNTIL   the second of the monotonic clock from which on no copy begins
+ *   FAULTS_UNTIL   the second of the monotonic clock from which on no copy begins; none begins either once 50 were wrong
  *   FAULTS_FOUND   a file of the size of struct found, in which the counts stand
  *
  * What is right of a copy is told at `end_of`. */
@@ -60,7 +60,7 @@ extern void *__libc_memalign(size_t, size_t);
 
 enum kind { NONE, MEMORY, READ, WRITE, OPEN, THREAD };
 enum end { WHOLE, REFUSED, SILENT, WRONG };
-enum { HOWS = 8, SHOWN = 10, FILES = 32, ASKED = 198, ANSWERED = 199 };
+enum { HOWS = 8, SHOWN = 10, MOST_WRONG = 50, FILES = 32, ASKED = 198, ANSWERED = 199 };
 
 struct shown {
     long number, how, many, status, written;
@@ -192,10 +192,11 @@ static enum end end_of(int status, int how, struct shown *shown) {
     return size == got && is_line_of(said, size, code) ? REFUSED : WRONG;
 }
 
-static int is_late(void) {
+/* Whether no more copies begin: the time is over, or many were wrong. */
+static int is_over(void) {
     struct timespec now;
     clock_gettime(CLOCK_MONOTONIC, &now);
-    return until && now.tv_sec + now.tv_nsec / 1e9 > until;
+    return found->wrong >= MOST_WRONG || (until && now.tv_sec + now.tv_nsec / 1e9 > until);
 }
 
 static void judge(int status, unsigned long number, int place, int alone) {
@@ -237,7 +238,7 @@ static void try_here(unsigned long number) {
     if (__atomic_load_n(&threads, __ATOMIC_SEQ_CST) > 1) {
         if (!found->threaded_from) found->threaded_from = number;
         found->threaded_to = number;
-    } else if (found->left || is_late()) {
+    } else if (found->left || is_over()) {
         if (!found->left) found->left = number;
     } else if (!is_copy(number)) {
         errno = before;
@@ -247,7 +248,7 @@ static void try_here(unsigned long number) {
 /* Tries each call in a run from the beginning. The copies come back. */
 static void try_whole(void) {
     for (unsigned long number = from; number <= to; number += every) {
-        if (is_late()) {
+        if (is_over()) {
             found->left = number;
             break;
         }
