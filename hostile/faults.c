@@ -30,7 +30,7 @@
  *   FAULTS_STATUS  how it ends
  *   FAULTS_WORDS   whether a file that can't be read is told in words (near_files)
  *   FAULTS_LIMIT   the seconds that a copy may take
- *   FAULTS_UNTIL   the second of the monotonic clock from which on no copy begins; none begins either once 50 were wrong
+ *   FAULTS_UNTIL   the second of the monotonic clock from which on no copy begins (nor does one once 50 were wrong)
  *   FAULTS_FOUND   a file of the size of struct found, in which the counts stand
  *
  * What is right of a copy is told at `end_of`. */
