@@ -232,7 +232,8 @@ def tasks_of(folder, found, arguments):
         for name, program, words, status in rows:
             case = shared.Case(name, program, [found.get(program), *words])
             if program in found and shared.fits(case, arguments.only):
-                key = f"{program} {words[0]} | {name} | {arguments.stack}"
+                verb = " ".join(words[: 2 if words[0] == "show" else 1])
+                key = f"{program} {verb} | {name} | {arguments.stack}"
                 yield key, (case, status, arguments.stack, arguments.limit, arguments.least)
 
 
