@@ -180,7 +180,7 @@ def outputs(case, right, limit, folder):
         return is_unwritten(ran, right)
 
     def closed(ran):
-        return right.out.startswith(ran.out) and (ran.status, ran.err) in ((0, b""), (shared.UNWRITTEN, b"6\n"))
+        return right.out.startswith(ran.out) and (ran.status, ran.err) in ((0, right.err), (shared.UNWRITTEN, b"6\n"))
 
     for path, mode in (("/dev/full", "wb"), (case.words[0], "rb")):
         with open(path, mode) as out:
