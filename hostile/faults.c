@@ -235,7 +235,7 @@ static void try_here(unsigned long number) {
     int before = errno;
     found->calls = number;
     if (number < from || (to && number > to) || (number - from) % every) return;
-    if (__atomic_load_n(&threads, __ATOMIC_SEQ_CST) > 1) {
+    if (__atomic_load_n(&threads, __ATOMIC_SEQ_CST) > 1 || syscall(SYS_gettid) != getpid()) {
         if (!found->threaded_from) found->threaded_from = number;
         found->threaded_to = number;
     } else if (found->left || is_over()) {
