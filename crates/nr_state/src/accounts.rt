@@ -7,7 +7,7 @@ ghost use Rattle.nr_records.specs.Accounts.{IsAccount};
 ghost use Rattle.nr_records.specs.Ids.{IsId};
 ghost use Rattle.nr_ids.specs.Keys.{IsKey};
 ghost use Rattle.nr_columns.specs.View.{with_columns, without_owner};
-ghost use Rattle.nr_state.specs.World.{with_account};
+ghost use Rattle.nr_state.specs.World.{with_account, with_key};
 ghost use Rattle.nr_state.specs.View.{with_world, world_in};
 ghost use Rattle.nr_state.specs.Changes.{usage_of_key, set_key, removed_key, without_account};
 ghost use Rattle.nr_state.specs.Owners.{IsMoved, with_owner};
@@ -217,6 +217,36 @@ impl<S: Store> ShardState<S> {
         self.whole = false;
         write_key(&mut self.columns, id, key, access, &owner)?;
         self.whole = true;
+        Ok(())
+    }
+
+    /// Writes an access key and nothing else: its owner stays as it is, and need not stand.
+    pub fn put_key(
+        &mut self,
+        id: &AccountId,
+        key: &PublicKey,
+        access: &AccessKey,
+    ) -> Result<(), AllocError>
+        requires { self.old.whole ≡ true }
+        ensures ok { OnOk result (self.new ≡ with_world self.old (with_key self.old.world id.now key.now access.now)) }
+        ensures err { OnErr result (self.new ≡ self.old) }
+    {
+        let bytes = encode(self.alloc, access)?;
+        self.put_spelled_key(id, key, &SpelledKey::of(bytes.inner()))
+    }
+
+    // As `put_key`, of an access key that is spelled already.
+    fn put_spelled_key(
+        &mut self,
+        id: &AccountId,
+        key: &PublicKey,
+        access: &SpelledKey<'_>,
+    ) -> Result<(), AllocError>
+        requires { self.old.whole ≡ true }
+        ensures ok { OnOk result (self.new ≡ with_world self.old (with_key self.old.world id.now key.now access.now)) }
+        ensures err { OnErr result (self.new ≡ self.old) }
+    {
+        self.columns.set_spelled_key(id, key, access)?;
         Ok(())
     }
 
