@@ -39,7 +39,7 @@ const FIELDS: &[u8] =
 
 #[test]
 fn fields_are_written(rt: HostRuntime) -> Result<(), Fail> {
-    let mut writer = Writer::new(rt.alloc());
+    let mut writer = Writer::with_room(rt.alloc(), 3)?;
     writer.put_u8(7)?;
     writer.put_u16(258)?;
     writer.put_u32(16909060)?;
