@@ -1,7 +1,8 @@
 //! A store in memory.
 
-ghost use Rattle.std.specs.Prelude.{◌≡◌, [], IfOk};
+ghost use Rattle.std.specs.Prelude.{◌≡◌, ◌≤◌, [], length, IfOk, OnOk, OnErr};
 ghost use Rattle.std.specs.FinMap as map;
+ghost use Rattle.nr_triedef.specs.Stores.{most_entries, IsSizedEntry};
 
 use crate::lending::{Lent, lent_entries};
 use crate::root::root;
@@ -87,6 +88,34 @@ impl PlainStore {
         lent_entries(self.alloc, &self.slots)
     }
 
+    /// As [`Store::set`], of a value that is handed over.
+    ///
+    /// # Errors
+    ///
+    /// As [`Store::set`].
+    pub fn set_owned(&mut self, key: &[u8], value: Vec<u8>) -> Result<(), AllocError>
+        ensures ok { OnOk result (self.new.contents ≡ map.insert self.old.contents key.now value.items) }
+        ensures sizes { OnOk result (IsSizedEntry key.now value.items
+            × (length (map.entries self.new.contents) ≤ most_entries)) }
+        ensures err { OnErr result (self.new.contents ≡ self.old.contents) }
+        ensures marks { self.new.marks ≡ self.old.marks }
+        ensures spare { self.new.spare ≡ self.old.spare }
+    {
+        if !fits(&self.slots, key, value.as_slice()) {
+            return Err(AllocError);
+        }
+        let stored = Vec::from_slice(self.alloc, key)?;
+        if self.standing == 0 {
+            put(&mut self.slots, stored, value)?;
+            return Ok(());
+        }
+        let noted = Vec::from_slice(self.alloc, key)?;
+        self.log.reserve(1)?;
+        let before = put(&mut self.slots, stored, value)?;
+        self.log.push(Undo { key: noted, before })?;
+        Ok(())
+    }
+
     /// Takes all keys out, where no checkpoint stands, and gives their memory back. It takes none.
     pub fn clear(&mut self)
         requires { self.old.marks ≡ [] }
@@ -124,19 +153,8 @@ impl Store for PlainStore {
     }
 
     fn set(&mut self, key: &[u8], value: &[u8]) -> Result<(), AllocError> {
-        if !fits(&self.slots, key, value) {
-            return Err(AllocError);
-        }
-        let stored = Vec::from_slice(self.alloc, key)?;
         let held = Vec::from_slice(self.alloc, value)?;
-        if self.standing == 0 {
-            put(&mut self.slots, stored, held)?;
-            return Ok(());
-        }
-        let noted = Vec::from_slice(self.alloc, key)?;
-        self.log.reserve(1)?;
-        let before = put(&mut self.slots, stored, held)?;
-        self.log.push(Undo { key: noted, before })?;
+        self.set_owned(key, held)?;
         Ok(())
     }
 
