@@ -4,6 +4,7 @@ mod LastFirst
 mod Pieces
 pub mod Outlined
 mod Entries
+mod Grouped
 mod Spellings
 pub mod Filling
 pub mod Sound

@@ -14,6 +14,7 @@ ghost use Rattle.nr_blocks.specs.declared.fault.GenesisFault.TheVariants.{Memory
 
 use crate::fault::GenesisFault;
 use crate::genesis_entry::GenesisEntry;
+use crate::groups::are_grouped;
 use crate::owners::{accounts_of, hashes_of, owner_of, trie_key_of, usages_of};
 use nr_config::Config;
 use nr_ids::{AccountId, Hash32};
@@ -67,6 +68,9 @@ fn check_owners_in(
 pub(crate) fn check_owners(alloc: Global, entries: &[GenesisEntry]) -> Result<(), GenesisFault>
     ensures { Gives Memory result (each (has_owner entries.now) entries.now) }
 {
+    if are_grouped(entries) {
+        return Ok(());
+    }
     let accounts = accounts_of(alloc, entries)?;
     check_owners_in(entries, &accounts)?;
     Ok(())
