@@ -69,6 +69,7 @@ fn fields_are_read(rt: HostRuntime) -> Result<(), Fail> {
     );
     assert_eq!(rt; (reader.at(), reader.rest()), (39, 5));
     assert_eq!(rt; reader.end(), Err(BytesFault::BadByte { at: 39, byte: 1 }));
+    assert_eq!(rt; reader.fork().lent_text(), Ok("c"));
     let text = reader.text(rt.alloc());
     assert_eq!(rt;
         text.map(|t| t.into_inner()),
