@@ -6,7 +6,7 @@ use Rattle.nr_records.proofs.lists.items_of.Goals as goal
 
 pub returns-in_err-item : goal.returns-in_err-item
 returns-in_err-item g c =
-    let p = err_from_is_err_and c.from_residual.result c.from_residual.ensures.1 in
+    let p = err_from_is_err_and c.from_residual-in_err-item.result c.from_residual-in_err-item.ensures.1 in
     rw (p.1, p.2) (λ other. ends g.T.Spelled.reading c.loop.items.items c.args.count c.loop.counter c.loop.reader c.in_err-item.field-0.0 (items_at g.T.Spelled.reading c.args.count c.args.reader.now) c.loop-test.true (c.in_err-item.ensures.gives other) c.loop.invariant)
 
 pub loop-preserved : goal.loop-preserved
