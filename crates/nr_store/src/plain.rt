@@ -29,11 +29,11 @@ use std::sync::ledger::Ledger;
 /// With n slots, `get`, `set` and `remove` cost what the ordered map does, which is in the order
 /// of log n comparisons of keys, and `set` and `remove` copy the key and the value. `mark` costs the
 /// same however much the store holds, and so does `keep` (commit), save that of the last checkpoint:
-/// it goes over the changes since that checkpoint, at log n each. `back` (roll back) undoes the
-/// changes since its checkpoint, at log n each. `below` finds the prefix, at log n, and goes over the
-/// keys that begin with it. `root` makes each node of the trie once: it lists the keys, hashes each
-/// value, and finds by halving which keys go on below a branch. It copies no key as a whole, and what
-/// waits at the branches above stands on the heap.
+/// it goes over the changes since that checkpoint, at log n each where a key was taken out since.
+/// `back` (roll back) undoes the changes since its checkpoint, at log n each. `below` finds the
+/// prefix, at log n, and goes over the keys that begin with it. `root` makes each node of the trie
+/// once: it lists the keys, hashes each value, and finds by halving which keys go on below a branch.
+/// It copies no key as a whole, and what waits at the branches above stands on the heap.
 #[derive(Drop)]
 pub struct PlainStore {
     alloc: Global,
@@ -44,6 +44,8 @@ pub struct PlainStore {
     starts: [usize; 8],
     standing: usize,
     spare: usize,
+    // A key was taken out since the oldest checkpoint, so that its slot may be empty.
+    emptied: bool,
 }
 
 impl Model for PlainStore {
@@ -74,6 +76,7 @@ impl PlainStore {
             starts: [0; 8],
             standing: 0,
             spare: 0,
+            emptied: false,
         }
     }
 
@@ -168,6 +171,7 @@ impl Store for PlainStore {
         }
         let noted = Vec::from_slice(self.alloc, key)?;
         self.log.reserve(1)?;
+        self.emptied = true;
         let value = clear(&mut self.slots, key);
         self.log.push(Undo {
             key: noted,
@@ -191,7 +195,8 @@ impl Store for PlainStore {
         self.standing -= 1;
         self.spare += 1;
         if self.standing == 0 {
-            drop_empty_slots(&mut self.slots, &self.log);
+            drop_empty_slots(&mut self.slots, &self.log, self.emptied);
+            self.emptied = false;
             self.log.clear();
         }
     }
@@ -202,6 +207,7 @@ impl Store for PlainStore {
         let start = self.starts[self.standing];
         undo_to(&mut self.slots, &mut self.log, start);
         if self.standing == 0 {
+            self.emptied = false;
             self.log.clear();
         }
     }
