@@ -9,7 +9,7 @@ use Rattle.nr_state.proofs.ValidOwned.{same_id, itself}
 use Rattle.nr_blocks.proofs.Turns.{front_of}
 use Rattle.nr_blocks.specs.Genesis.{is_account, is_owned}
 use Rattle.nr_blocks.specs.Judging.{has_owner}
-use Rattle.nr_blocks.specs.Groups.{again, known_after}
+use Rattle.nr_blocks.specs.Groups.{again, grouped, is_again, known_after}
 use Rattle.nr_blocks.specs.declared.fault.GenesisFault.TheVariants.{NoOwner}
 use Rattle.nr_blocks.specs.declared.genesis_entry.GenesisEntry.{GenesisEntry}
 use Rattle.nr_blocks.specs.declared.genesis_entry.GenesisEntry.TheVariants as kind
@@ -75,3 +75,22 @@ known_on es n (kind.Datum id key value) known next h is made before = again_know
 
 pub owned_passes : (es : List GenesisEntry) (n : ℕ) (e : GenesisEntry) → is_owned es e ≡ true → has_owner es n e ≡ Ok tt
 owned_passes es n e is = ap (λ (t : Bool). if t then Ok tt else Err (NoOwner n)) is
+
+-- ---- the entries behind are grouped where all are
+again_grouped : (known id next : List ℕ) (es : List GenesisEntry) → Some next ≡ again known id → (is_again known id && grouped known es) ≡ grouped next es
+again_grouped known id next es made = go (length known == 0) (bytes_eq id known) refl made
+  where
+    go : (b t : Bool) → bytes_eq id known ≡ t → Some next ≡ (if not b && t then Some id else None) → ((not b && t) && grouped known es) ≡ grouped next es
+    go true t f m = absurd (none≢some next (sym m))
+    go false false f m = absurd (none≢some next (sym m))
+    go false true f m = ap (λ (q : List ℕ). grouped q es) (sym (same_id id known f) ∙ sym (same_Some next id m))
+
+pub grouped_on : (known next : List ℕ) (e : GenesisEntry) (es : List GenesisEntry) → Some next ≡ known_after known e → grouped known (e ∷ es) ≡ grouped next es
+grouped_on known next (kind.Account id account) es made = go (is_system id) made
+  where
+    go : (b : Bool) → Some next ≡ (if b then None else Some id) → (not b && grouped id es) ≡ grouped next es
+    go true m = absurd (none≢some next (sym m))
+    go false m = ap (λ (q : List ℕ). grouped q es) (sym (same_Some next id m))
+grouped_on known next (kind.Code id code) es made = again_grouped known id next es made
+grouped_on known next (kind.Key id key access) es made = again_grouped known id next es made
+grouped_on known next (kind.Datum id key value) es made = again_grouped known id next es made

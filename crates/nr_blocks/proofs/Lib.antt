@@ -5,6 +5,7 @@ mod Pieces
 pub mod Outlined
 mod Entries
 mod Grouped
+mod Stated
 mod Spellings
 pub mod Filling
 pub mod Sound
