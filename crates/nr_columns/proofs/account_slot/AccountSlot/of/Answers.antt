@@ -8,11 +8,11 @@ use Rattle.nr_columns.proofs.account_slot.AccountSlot.of.Goals as goal
 pub loop-i-preserved : goal.loop-i-preserved
 loop-i-preserved c = record {
   full = length-set c.loop-i.bytes c.loop-i.i c.byte_at.result ∙ c.loop-i.invariant.full;
-  made = filled_more c.loop-i.bytes (account_key c.name_of-name.result.now) c.loop-i.i c.byte_at.result (omega (arith, c.loop-i.invariant.full, c.len-size.ensures, c.name_of-name.ensures.short)) c.loop-i.invariant.made c.byte_at.ensures;
+  made = filled_more c.loop-i.bytes (account_key c.name_of-name.result.now) c.loop-i.i c.byte_at.result (omega (arith, c.loop-i-test.true, c.loop-i.invariant.full, c.name_of-name.ensures.short)) c.loop-i.invariant.made c.byte_at.ensures;
 }
 
 pub returns-clause-text : goal.returns-clause-text
 returns-clause-text c =
-    front_is c.loop-i.bytes (account_key c.args.id.now) (c.len-size.result + 1)
-    (omega (arith, c.loop-i.invariant.full, c.len-size.ensures, c.name_of-name.ensures.short)) (omega (arith, c.len-size.ensures, ap length c.name_of-name.ensures.name))
-    (λ k lt. c.loop-i.invariant.made k (omega arith) ∙ ap (λ (l : List ℕ). get_or (account_key l) k 0) c.name_of-name.ensures.name)
+    front_is c.loop-i.bytes (account_key c.args.id.now) (length c.name_of-name.result.now + 1)
+    (omega (arith, c.loop-i.invariant.full, c.name_of-name.ensures.short)) (omega (arith, ap length c.name_of-name.ensures.name))
+    (λ k lt. c.loop-i.invariant.made k (omega (arith, lt, c.loop-i-test.false)) ∙ ap (λ (l : List ℕ). get_or (account_key l) k 0) c.name_of-name.ensures.name)
