@@ -13,19 +13,19 @@ use nr_config::Config;
 use nr_ids::AccountId;
 use std::alloc::{AllocError, Global};
 
-fn is_again(id: &[u8], known: &[u8]) -> bool
+fn is_again(id: &AccountId, known: &[u8]) -> bool
     ensures { result ≡ is_again known.now id.now }
 {
-    !known.is_empty() && id == known
+    let bytes = id.bytes();
+    !known.is_empty() && bytes == known
 }
 
 // The id once more, where it is the one that is known; the empty one stands for none.
 fn again<'a>(id: &'a AccountId, known: &[u8]) -> Option<&'a [u8]>
     ensures { option_copied result ≡ again known.now id.now }
 {
-    let bytes = id.bytes();
-    if is_again(bytes, known) {
-        Some(bytes)
+    if is_again(id, known) {
+        Some(id.bytes())
     } else {
         None
     }
@@ -51,7 +51,7 @@ fn known_after<'a>(entry: &'a GenesisEntry, known: &[u8]) -> Option<&'a [u8]>
 
 /// Whether each entry is an account, or has the owner of the one before it. Then each has an owner,
 /// and no set of ids is made to see that.
-#[tactic(auto, using(crate::proofs::Turns::each_begins, crate::proofs::Turns::each_ends, crate::proofs::Grouped::none_known))]
+#[tactic(auto, using(crate::proofs::Turns::each_ends))]
 pub(crate) fn are_grouped(entries: &[GenesisEntry]) -> bool
     ensures owned { result ≡ true → each (has_owner entries.now) entries.now ≡ Ok tt }
     ensures grouped { result ≡ true → grouped [] entries.now ≡ true }

@@ -3,9 +3,14 @@ use Rattle.std.proofs.Common.{◌+◌, drop, ap, ◌∙◌, arith, refl}
 use Rattle.std.proofs.lemmas.List.{drop_all}
 use Rattle.nr_blocks.specs.Groups.{grouped}
 use Rattle.nr_blocks.specs.Judging.{has_owner}
-use Rattle.nr_blocks.proofs.Grouped.{known_on, grouped_on, owned_passes}
-use Rattle.nr_blocks.proofs.Turns.{each_goes_on, front_of}
+use Rattle.nr_blocks.proofs.Grouped.{none_known, known_on, grouped_on, owned_passes}
+use Rattle.nr_blocks.proofs.Turns.{each_begins, each_goes_on, front_of}
 use Rattle.nr_blocks.proofs.groups.are_grouped.Goals as goal
+
+pub loop-index-init : goal.loop-index-init
+loop-index-init c =
+    let es = c.args.entries.now in
+    record { left = each_begins (has_owner es) es; known = none_known es; same = refl }
 
 pub loop-index-preserved : goal.loop-index-preserved
 loop-index-preserved c =
