@@ -4,7 +4,8 @@ ghost use Rattle.std.specs.Prelude.{◌≡◌, length, [], option_copied, if◌t
 ghost use Rattle.std.specs.Str.{is_utf8};
 ghost use Rattle.nr_bytes.specs.Numbers.{IsBytes};
 ghost use Rattle.nr_bytes.specs.Answers.{GivesRead};
-ghost use Rattle.nr_bytes.specs.Reading.{Reads, ReadsAs, fixed_at, number_at, flag_at, counted, bytes_at, text_at, end_at};
+ghost use Rattle.nr_bytes.specs.Reading.{Reads, ReadsAs, fixed_at, number_at, flag_at, counted, bytes_at, text_at};
+ghost use Rattle.nr_bytes.specs.Reading.{end_at};
 ghost use Rattle.nr_bytes.specs.declared.fault.BytesFault.TheVariants.{Memory};
 
 use crate::blob::Blob;
