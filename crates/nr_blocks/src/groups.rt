@@ -1,7 +1,8 @@
 //! What is seen of entries that stand behind their accounts in one walk, without a map.
 
-ghost use Rattle.std.specs.Prelude.{◌≡◌, List, true, [], IfOk, Ok};
+ghost use Rattle.std.specs.Prelude.{◌≡◌, if◌then◌else◌, List, true, [], Some, None, IfOk, Ok};
 ghost use Rattle.std.specs.Option.{option_copied};
+ghost use Rattle.nr_ids.specs.Grammar.{is_system};
 ghost use Rattle.nr_blocks.specs.Groups.{is_again, again, known_after, grouped};
 ghost use Rattle.nr_blocks.specs.Groups.{states, ahead, lead, are_stated, LeadsOn};
 ghost use Rattle.nr_blocks.specs.Judging.{each, has_owner};
@@ -31,18 +32,23 @@ fn again<'a>(id: &'a AccountId, known: &[u8]) -> Option<&'a [u8]>
     }
 }
 
+// The id, where it isn't the system's.
+fn plain(id: &AccountId) -> Option<&[u8]>
+    ensures { option_copied result ≡ (if is_system id.now then None else Some id.now) }
+{
+    if id.is_system() {
+        None
+    } else {
+        Some(id.bytes())
+    }
+}
+
 // The id of an account that the entry shows to stand, where this one is known to.
 fn known_after<'a>(entry: &'a GenesisEntry, known: &[u8]) -> Option<&'a [u8]>
     ensures { option_copied result ≡ known_after known.now entry.now }
 {
     match entry {
-        GenesisEntry::Account(id, _) => {
-            if id.is_system() {
-                None
-            } else {
-                Some(id.bytes())
-            }
-        }
+        GenesisEntry::Account(id, _) => plain(id),
         GenesisEntry::Code(id, _) => again(id, known),
         GenesisEntry::Key(id, _, _) => again(id, known),
         GenesisEntry::Datum(id, _, _) => again(id, known),
@@ -51,7 +57,6 @@ fn known_after<'a>(entry: &'a GenesisEntry, known: &[u8]) -> Option<&'a [u8]>
 
 /// Whether each entry is an account, or has the owner of the one before it. Then each has an owner,
 /// and no set of ids is made to see that.
-#[tactic(auto, using(crate::proofs::Turns::each_ends))]
 pub(crate) fn are_grouped(entries: &[GenesisEntry]) -> bool
     ensures owned { result ≡ true → each (has_owner entries.now) entries.now ≡ Ok tt }
     ensures grouped { result ≡ true → grouped [] entries.now ≡ true }

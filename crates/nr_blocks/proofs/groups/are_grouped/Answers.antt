@@ -4,7 +4,7 @@ use Rattle.std.proofs.lemmas.List.{drop_all}
 use Rattle.nr_blocks.specs.Groups.{grouped}
 use Rattle.nr_blocks.specs.Judging.{has_owner}
 use Rattle.nr_blocks.proofs.Grouped.{none_known, known_on, grouped_on, owned_passes}
-use Rattle.nr_blocks.proofs.Turns.{each_begins, each_goes_on, front_of}
+use Rattle.nr_blocks.proofs.Turns.{each_begins, each_ends, each_goes_on, front_of}
 use Rattle.nr_blocks.proofs.groups.are_grouped.Goals as goal
 
 pub loop-index-init : goal.loop-index-init
@@ -25,6 +25,9 @@ loop-index-preserved c =
       known = step.1;
       same = c.loop-index.invariant.same ∙ ap (grouped known) (front_of es n (n + 1) e (omega arith) refl c.index-entries-index.is) ∙ grouped_on known next e (drop (n + 1) es) c.in-Some.ensures;
     }
+
+pub returns-clause-owned : goal.returns-clause-owned
+returns-clause-owned c _ = each_ends (has_owner c.args.entries.now) c.args.entries.now c.loop-index.index (omega arith) c.loop-index.invariant.left
 
 pub returns-clause-grouped : goal.returns-clause-grouped
 returns-clause-grouped c _ = c.loop-index.invariant.same ∙ ap (grouped c.loop-index.known.now) (drop_all c.loop-index.index c.args.entries.now (omega arith))
