@@ -17,13 +17,13 @@ loop-index-preserved c =
     let es = c.args.entries.now in
     let n = c.loop-index.index in
     let e = c.index-entries-index.result in
-    let known = c.loop-index.known.now in
+    let last = c.loop-index.known.now in
     let next = c.in-Some.next.now in
-    let step = known_on es n e known next (omega arith) c.index-entries-index.is c.in-Some.ensures c.loop-index.invariant.known in
+    let step = known_on es n e last next (omega arith) c.index-entries-index.is c.in-Some.ensures c.loop-index.invariant.known in
     record {
       left = each_goes_on (has_owner es) es n e (omega arith) c.index-entries-index.is (owned_passes es n e step.0) c.loop-index.invariant.left;
       known = step.1;
-      same = c.loop-index.invariant.same ∙ ap (grouped known) (front_of es n (n + 1) e (omega arith) refl c.index-entries-index.is) ∙ grouped_on known next e (drop (n + 1) es) c.in-Some.ensures;
+      same = c.loop-index.invariant.same ∙ ap (grouped last) (front_of es n (n + 1) e (omega arith) refl c.index-entries-index.is) ∙ grouped_on last next e (drop (n + 1) es) c.in-Some.ensures;
     }
 
 pub returns-clause-owned : goal.returns-clause-owned
