@@ -27,11 +27,6 @@ abbrev pub Reads : {X F : Type 0} → Result X F → Input → Input → Result 
 Reads (Ok x) old new read = read ≡ Ok (x, new)
 Reads (Err e) old new read = (read ≡ Err e) × (new ≡ old)
 
--- the same of a value that is shown by this view
-abbrev pub ReadsAs : {X Y F : Type 0} → (X → Y) → Result X F → Input → Input → Result (Y × Input) F → Type 0
-ReadsAs view (Ok x) old new read = read ≡ Ok (view x, new)
-ReadsAs view (Err e) old new read = (read ≡ Err e) × (new ≡ old)
-
 -- fixed sized array of bytes: k bytes without a count
 abbrev pub fixed_at : ℕ → Input → Result (List ℕ × Input) BytesFault
 fixed_at k s = if nat_lt (length s.left) k then Err (Short s.at) else Ok (take k s.left, past k s)

@@ -3,9 +3,8 @@
 ghost use Rattle.std.specs.Prelude.{◌≡◌, length, [], option_copied, if◌then◌else◌, IfSome, OnErr, ◌+◌, ◌≤◌};
 ghost use Rattle.std.specs.Str.{is_utf8};
 ghost use Rattle.nr_bytes.specs.Numbers.{IsBytes};
-ghost use Rattle.nr_bytes.specs.Answers.{GivesRead};
-ghost use Rattle.nr_bytes.specs.Reading.{Reads, ReadsAs, fixed_at, number_at, flag_at, counted, bytes_at, text_at};
-ghost use Rattle.nr_bytes.specs.Reading.{end_at};
+ghost use Rattle.nr_bytes.specs.Answers.{GivesAlways, GivesRead};
+ghost use Rattle.nr_bytes.specs.Reading.{Reads, fixed_at, number_at, flag_at, counted, bytes_at, text_at, end_at};
 ghost use Rattle.nr_bytes.specs.declared.fault.BytesFault.TheVariants.{Memory};
 
 use crate::blob::Blob;
@@ -252,7 +251,8 @@ impl<'a> Reader<'a> {
     /// where the whole field is there and is no UTF-8.
     #[tactic(auto, unfolding(crate::specs::Reading::text_at))]
     pub fn lent_text(&mut self) -> Result<&'a str, BytesFault>
-        ensures { ReadsAs (λ text. text.now) result self.old self.new (text_at self.old) }
+        ensures gives { GivesAlways (λ text. (text.now, self.new)) result (text_at self.old) }
+        ensures refused { OnErr result (self.new ≡ self.old) }
     {
         let at = self.at;
         let bytes = self.bytes;
