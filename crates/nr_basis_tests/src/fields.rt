@@ -39,7 +39,7 @@ const FIELDS: &[u8] =
 
 #[test]
 fn fields_are_written(rt: HostRuntime) -> Result<(), Fail> {
-    let mut writer = Writer::new(rt.alloc());
+    let mut writer = Writer::with_room(rt.alloc(), 3)?;
     writer.put_u8(7)?;
     writer.put_u16(258)?;
     writer.put_u32(16909060)?;
@@ -69,6 +69,7 @@ fn fields_are_read(rt: HostRuntime) -> Result<(), Fail> {
     );
     assert_eq!(rt; (reader.at(), reader.rest()), (39, 5));
     assert_eq!(rt; reader.end(), Err(BytesFault::BadByte { at: 39, byte: 1 }));
+    assert_eq!(rt; reader.fork().lent_text(), Ok("c"));
     let text = reader.text(rt.alloc());
     assert_eq!(rt;
         text.map(|t| t.into_inner()),

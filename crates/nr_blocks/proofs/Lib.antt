@@ -4,6 +4,8 @@ mod LastFirst
 mod Pieces
 pub mod Outlined
 mod Entries
+mod Grouped
+mod Stated
 mod Spellings
 pub mod Filling
 pub mod Sound

@@ -97,7 +97,7 @@ all_new before x (e ∷ es) h =
     split true b h = (refl, h)
     split false b h = absurd cc
 
-keys_apart : (all before es : List GenesisEntry) → all ≡ before ++ es → each_from (is_first all) (length before) es ≡ Ok tt → (list_all (is_new before) es ≡ true) × (has_repeat (map trie_key es) ≡ false)
+pub keys_apart : (all before es : List GenesisEntry) → all ≡ before ++ es → each_from (is_first all) (length before) es ≡ Ok tt → (list_all (is_new before) es ≡ true) × (has_repeat (map trie_key es) ≡ false)
 unfolding each_from
 keys_apart all before [] whole h = (refl, refl)
 keys_apart all before (x ∷ es) whole h =

@@ -11,3 +11,4 @@ pub mod Judging
 pub mod Spellings
 pub mod Parts
 pub mod Filling
+pub mod Groups

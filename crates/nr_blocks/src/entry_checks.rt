@@ -1,6 +1,6 @@
 //! What must hold of the entries of a genesis beside their spelling.
 
-ghost use Rattle.std.specs.Prelude.{◌≡◌, ◌&&◌, ℕ, List, not, unwrap_or};
+ghost use Rattle.std.specs.Prelude.{◌≡◌, ◌&&◌, ℕ, List, true, not, unwrap_or, IfOk, Ok};
 ghost use Rattle.std.specs.BTreeMap as tree;
 ghost use Rattle.std.specs.BTreeSet.{contains};
 ghost use Rattle.std.specs.Map.{count_at};
@@ -14,10 +14,11 @@ ghost use Rattle.nr_blocks.specs.declared.fault.GenesisFault.TheVariants.{Memory
 
 use crate::fault::GenesisFault;
 use crate::genesis_entry::GenesisEntry;
+use crate::groups::{are_grouped, are_stated};
 use crate::owners::{accounts_of, hashes_of, owner_of, trie_key_of, usages_of};
 use nr_config::Config;
 use nr_ids::{AccountId, Hash32};
-use std::alloc::Global;
+use std::alloc::{AllocError, Global};
 use std::collections::{BTreeMap, BTreeSet};
 
 /// No trie key stands twice.
@@ -67,6 +68,9 @@ fn check_owners_in(
 pub(crate) fn check_owners(alloc: Global, entries: &[GenesisEntry]) -> Result<(), GenesisFault>
     ensures { Gives Memory result (each (has_owner entries.now) entries.now) }
 {
+    if are_grouped(entries) {
+        return Ok(());
+    }
     let accounts = accounts_of(alloc, entries)?;
     check_owners_in(entries, &accounts)?;
     Ok(())
@@ -115,7 +119,7 @@ fn check_usages_in(
 }
 
 /// Each account states what its entries are counted as.
-pub(crate) fn check_usages(
+fn check_usages(
     alloc: Global,
     entries: &[GenesisEntry],
     config: &Config,
@@ -125,6 +129,38 @@ pub(crate) fn check_usages(
     let usages = usages_of(alloc, entries, config)?;
     check_usages_in(entries, &usages)?;
     Ok(())
+}
+
+// Whether each account is seen to state what its entries are counted as by their order alone.
+fn usages_stand(
+    alloc: Global,
+    entries: &[GenesisEntry],
+    config: &Config,
+) -> Result<bool, AllocError>
+    requires { each (is_first entries.now) entries.now ≡ Ok tt }
+    ensures { IfOk result (λ stand. stand ≡ true
+        → each (states_usage (usage_in config.now entries.now)) entries.now ≡ Ok tt) }
+{
+    if !are_grouped(entries) {
+        return Ok(false);
+    }
+    let stated = are_stated(alloc, entries, config)?;
+    Ok(stated)
+}
+
+/// As `check_usages`, of entries whose trie keys are apart: a map is made only where their order tells nothing.
+pub(crate) fn judge_usages(
+    alloc: Global,
+    entries: &[GenesisEntry],
+    config: &Config,
+) -> Result<(), GenesisFault>
+    requires { each (is_first entries.now) entries.now ≡ Ok tt }
+    ensures { Gives Memory result (each (states_usage (usage_in config.now entries.now)) entries.now) }
+{
+    if usages_stand(alloc, entries, config)? {
+        return Ok(());
+    }
+    check_usages(alloc, entries, config)
 }
 
 fn check_hash(

@@ -15,6 +15,7 @@ mod first_state;
 mod genesis;
 mod genesis_entry;
 mod genesis_file;
+mod groups;
 mod laws;
 mod making;
 mod outline;

@@ -92,7 +92,11 @@ pub(crate) fn accounts_of(
 }
 
 /// The bytes of storage that an entry costs its account.
-fn usage_of(alloc: Global, entry: &GenesisEntry, config: &Config) -> Result<u128, AllocError>
+pub(crate) fn usage_of(
+    alloc: Global,
+    entry: &GenesisEntry,
+    config: &Config,
+) -> Result<u128, AllocError>
     ensures { IfOk result (λ count. count ≡ entry_usage config.now entry.now) }
 {
     match entry {
@@ -110,7 +114,7 @@ fn usage_of(alloc: Global, entry: &GenesisEntry, config: &Config) -> Result<u128
 }
 
 /// The sum, where it is a number of 128 bits; it is, of bytes that are held.
-fn sum_of(before: u128, bytes: u128) -> Result<u128, AllocError>
+pub(crate) fn sum_of(before: u128, bytes: u128) -> Result<u128, AllocError>
     ensures { IfOk result (λ sum. sum ≡ before + bytes) }
 {
     before.checked_add(bytes).ok_or(AllocError)

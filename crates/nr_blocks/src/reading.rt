@@ -16,7 +16,7 @@ ghost use Rattle.nr_blocks.specs.declared.version.Version.{Version};
 use crate::block::Block;
 use crate::block_checks::check_blocks;
 use crate::blocks_file::{bytes_law, decode_blocks};
-use crate::entry_checks::{check_code_hashes, check_owners, check_trie_keys, check_usages};
+use crate::entry_checks::{check_code_hashes, check_owners, check_trie_keys, judge_usages};
 use crate::fault::{BlocksFault, GenesisFault};
 use crate::genesis::Genesis;
 use crate::genesis_entry::GenesisEntry;
@@ -34,7 +34,7 @@ fn judge(alloc: Global, entries: &[GenesisEntry], config: &Config) -> Result<u12
 {
     check_trie_keys(alloc, entries)?;
     check_owners(alloc, entries)?;
-    check_usages(alloc, entries, config)?;
+    judge_usages(alloc, entries, config)?;
     let supply = bounded_supply(entries)?;
     check_code_hashes(alloc, entries)?;
     Ok(supply)

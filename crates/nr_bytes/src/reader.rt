@@ -3,7 +3,7 @@
 ghost use Rattle.std.specs.Prelude.{◌≡◌, length, [], option_copied, if◌then◌else◌, IfSome, OnErr, ◌+◌, ◌≤◌};
 ghost use Rattle.std.specs.Str.{is_utf8};
 ghost use Rattle.nr_bytes.specs.Numbers.{IsBytes};
-ghost use Rattle.nr_bytes.specs.Answers.{GivesRead};
+ghost use Rattle.nr_bytes.specs.Answers.{GivesAlways, GivesRead};
 ghost use Rattle.nr_bytes.specs.Reading.{Reads, fixed_at, number_at, flag_at, counted, bytes_at, text_at, end_at};
 ghost use Rattle.nr_bytes.specs.declared.fault.BytesFault.TheVariants.{Memory};
 
@@ -241,6 +241,25 @@ impl<'a> Reader<'a> {
         let text = String::from_str(alloc, text).map_err(|_| BytesFault::Memory)?;
         self.at = at + 4 + field.len();
         Ok(Text::of(text))
+    }
+
+    /// Reads as [`Reader::text`] does, and lends the text. It takes no memory.
+    ///
+    /// # Errors
+    ///
+    /// `Short`, at the count, where fewer bytes than the count and the text are left; `BadUtf8`, at the count,
+    /// where the whole field is there and is no UTF-8.
+    #[tactic(auto, unfolding(crate::specs::Reading::text_at))]
+    pub fn lent_text(&mut self) -> Result<&'a str, BytesFault>
+        ensures gives { GivesAlways (λ text. (text.now, self.new)) result (text_at self.old) }
+        ensures refused { OnErr result (self.new ≡ self.old) }
+    {
+        let at = self.at;
+        let bytes = self.bytes;
+        let field = counted_slice(&bytes[at..]).ok_or(BytesFault::Short { at })?;
+        let text = utf8(field).ok_or(BytesFault::BadUtf8 { at })?;
+        self.at = at + 4 + field.len();
+        Ok(text)
     }
 
     /// Asks that no byte is left.

@@ -1,6 +1,6 @@
 //! Writing Borsh fields one after the other.
 
-ghost use Rattle.std.specs.Prelude.{◌≡◌, ◌<◌, ◌^◌, ◌∷◌, [], length};
+ghost use Rattle.std.specs.Prelude.{◌≡◌, ◌<◌, ◌^◌, ◌∷◌, [], length, IfOk};
 ghost use Rattle.nr_bytes.specs.Numbers.{little};
 ghost use Rattle.nr_bytes.specs.Writing.{Puts, counted_bytes};
 
@@ -32,6 +32,18 @@ impl Writer {
         Writer {
             bytes: Vec::new(alloc),
         }
+    }
+
+    /// A writer that has written nothing, with room for so many bytes.
+    ///
+    /// # Errors
+    ///
+    /// Where memory ran out.
+    pub fn with_room(alloc: Global, room: usize) -> Result<Writer, AllocError>
+        ensures { IfOk result (λ writer. writer ≡ []) }
+    {
+        let bytes = Vec::with_capacity(alloc, room)?;
+        Ok(Writer { bytes })
     }
 
     /// Writes bytes without a count (Borsh: Fixed sized arrays).

@@ -8,3 +8,4 @@ pub mod KeyLists
 pub mod Owners
 pub mod InOrder
 pub mod SpelledKeys
+pub mod InPlace

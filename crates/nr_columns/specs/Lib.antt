@@ -7,3 +7,4 @@ pub mod View
 pub mod Codes
 pub mod Entries
 pub mod SpelledKeys
+pub mod Slots

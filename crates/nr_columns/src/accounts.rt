@@ -8,6 +8,7 @@ ghost use Rattle.nr_ids.specs.Keys.{IsHash, IsKey};
 ghost use Rattle.nr_records.specs.AccessKeys.{IsAccessKey};
 ghost use Rattle.nr_columns.specs.View.{with_columns, without_owner};
 
+use crate::account_slot::AccountSlot;
 use crate::columns::Columns;
 use crate::keys;
 use crate::lists::remove_each;
@@ -23,8 +24,8 @@ impl<S: Store> Columns<S> {
     pub fn account(&self, id: &AccountId) -> Result<Option<Account>, AllocError>
         ensures { IfOk result (λ found. found ≡ map.get self.now.columns.accounts id.now) }
     {
-        let key = keys::account_key(self.alloc, id)?;
-        stored(self.alloc, &self.store, key.inner())
+        let key = AccountSlot::of(id);
+        stored(self.alloc, &self.store, key.as_slice())
     }
 
     /// Writes an account.
@@ -34,8 +35,8 @@ impl<S: Store> Columns<S> {
         ensures fits { OnOk result (IsId id.now × IsAccount account.now) }
         ensures err { OnErr result (self.new ≡ self.old) }
     {
-        let key = keys::account_key(self.alloc, id)?;
-        put(self.alloc, &mut self.store, key.inner(), account)?;
+        let key = AccountSlot::of(id);
+        put(self.alloc, &mut self.store, key.as_slice(), account)?;
         Ok(())
     }
 
@@ -46,8 +47,8 @@ impl<S: Store> Columns<S> {
             (record self.old.columns { accounts = map.remove self.old.columns.accounts id.now })) }
         ensures err { OnErr result (self.new ≡ self.old) }
     {
-        let key = keys::account_key(self.alloc, id)?;
-        let found = self.store.remove(key.inner())?;
+        let key = AccountSlot::of(id);
+        let found = self.store.remove(key.as_slice())?;
         Ok(found)
     }
 

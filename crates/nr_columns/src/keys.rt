@@ -50,9 +50,10 @@ pub fn account_key(alloc: Global, id: &AccountId) -> Result<Blob, AllocError>
     ensures text { IfOk result (λ text. text ≡ account_key id.now) }
     ensures valid { OnOk result (id_fault id.now ≡ None) }
 {
-    let mut writer = Writer::new(alloc);
+    let bytes = id.bytes();
+    let mut writer = Writer::with_room(alloc, bytes.len() + 1)?;
     writer.put_u8(ACCOUNT)?;
-    writer.put_raw(id.bytes())?;
+    writer.put_raw(bytes)?;
     Ok(writer.finish())
 }
 
@@ -65,9 +66,10 @@ pub fn code_key(alloc: Global, id: &AccountId) -> Result<Blob, AllocError>
     ensures text { IfOk result (λ text. text ≡ code_key id.now) }
     ensures valid { OnOk result (id_fault id.now ≡ None) }
 {
-    let mut writer = Writer::new(alloc);
+    let bytes = id.bytes();
+    let mut writer = Writer::with_room(alloc, bytes.len() + 1)?;
     writer.put_u8(CODE)?;
-    writer.put_raw(id.bytes())?;
+    writer.put_raw(bytes)?;
     Ok(writer.finish())
 }
 
@@ -102,9 +104,10 @@ pub(crate) fn owner_key(alloc: Global, id: &AccountId, key: &PublicKey) -> Resul
     ensures valid { OnOk result (id_fault id.now ≡ None) }
     ensures fits { OnOk result (IsKey key.now) }
 {
-    let mut writer = Writer::new(alloc);
+    let bytes = id.bytes();
+    let mut writer = Writer::with_room(alloc, bytes.len() + 35)?;
     writer.put_u8(ACCESS)?;
-    writer.put_raw(id.bytes())?;
+    writer.put_raw(bytes)?;
     writer.put_u8(ACCESS)?;
     key.write(&mut writer)?;
     Ok(writer.finish())
@@ -122,9 +125,11 @@ pub(crate) fn pair_key(
     ensures there { OnOk result (at_first 44 (id.now ++ 44 ∷ rest.now) ≡ Some (id.now, rest.now)) }
     ensures valid { OnOk result (id_fault id.now ≡ None) }
 {
-    let mut writer = Writer::new(alloc);
+    let bytes = id.bytes();
+    let room = rest.len().saturating_add(bytes.len() + 2);
+    let mut writer = Writer::with_room(alloc, room)?;
     writer.put_u8(column)?;
-    writer.put_raw(id.bytes())?;
+    writer.put_raw(bytes)?;
     writer.put_u8(b',')?;
     writer.put_raw(rest)?;
     Ok(writer.finish())
@@ -135,9 +140,10 @@ pub(crate) fn front(alloc: Global, column: u8, id: &AccountId, mark: u8) -> Resu
     ensures front { IfOk result (λ front. front ≡ column ∷ (id.now ++ mark ∷ [])) }
     ensures valid { OnOk result (id_fault id.now ≡ None) }
 {
-    let mut writer = Writer::new(alloc);
+    let bytes = id.bytes();
+    let mut writer = Writer::with_room(alloc, bytes.len() + 2)?;
     writer.put_u8(column)?;
-    writer.put_raw(id.bytes())?;
+    writer.put_raw(bytes)?;
     writer.put_u8(mark)?;
     Ok(writer.finish())
 }
@@ -168,7 +174,7 @@ pub(crate) fn delayed_key(alloc: Global, ordinal: u64) -> Result<Blob, AllocErro
     ensures text { IfOk result (λ text. text ≡ delayed_key ordinal) }
     ensures there { Some (number (little 8 ordinal)) ≡ Some ordinal }
 {
-    let mut writer = Writer::new(alloc);
+    let mut writer = Writer::with_room(alloc, 9)?;
     writer.put_u8(DELAYED)?;
     writer.put_u64(ordinal)?;
     Ok(writer.finish())

@@ -1,6 +1,7 @@
 //! The columns of the state trie over any store: typed reads and writes of single entries.
 #![tactic(auto)]
 
+mod account_slot;
 mod accounts;
 mod columns;
 mod contents;

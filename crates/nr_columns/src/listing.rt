@@ -26,7 +26,7 @@ fn records_at<S: Store, T: Spelled>(
         ≡ flat_map (λ key. option_to_list (option_and_then (λ bytes. read_of (all_of T.reading bytes))
         (map.get (S.contents store.now) key))) keys.now) }
 {
-    let mut found = Vec::new(alloc);
+    let mut found = Vec::with_capacity(alloc, keys.len())?;
     for key in keys {
         if let Some(record) = stored(alloc, store, key.inner())? {
             found.push(record)?;

@@ -32,7 +32,7 @@ pub(crate) fn entries_at<S: Store>(
 ) -> Result<Vec<Entry>, AllocError>
     ensures { IfOk result (λ found. pairs_of found.items ≡ flat_map (pair_at (S.contents store.now)) keys.items) }
 {
-    let mut found = Vec::new(alloc);
+    let mut found = Vec::with_capacity(alloc, keys.len())?;
     for key in keys {
         if let Some(bytes) = store.get(key.inner()) {
             let value = Blob::of(Vec::from_slice(alloc, bytes)?);

@@ -14,7 +14,7 @@ use std::alloc::{AllocError, Global};
 fn count_text(alloc: Global, count: u32) -> Result<Blob, AllocError>
     ensures { IfOk result (λ text. text ≡ little 4 count) }
 {
-    let mut writer = Writer::new(alloc);
+    let mut writer = Writer::with_room(alloc, 4)?;
     writer.put_u32(count)?;
     Ok(writer.finish())
 }
@@ -60,7 +60,7 @@ pub(crate) fn put_count<S: Store>(
 fn queue_text(alloc: Global, served: u64, next: u64) -> Result<Blob, AllocError>
     ensures { IfOk result (λ text. text ≡ queue_bytes (served, next)) }
 {
-    let mut writer = Writer::new(alloc);
+    let mut writer = Writer::with_room(alloc, 16)?;
     writer.put_u64(served)?;
     writer.put_u64(next)?;
     Ok(writer.finish())

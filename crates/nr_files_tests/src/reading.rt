@@ -276,6 +276,24 @@ fn usages_are_judged(rt: HostRuntime) -> Result<(), Fail> {
     Ok(())
 }
 
+#[test]
+fn usages_are_judged_in_any_order(rt: HostRuntime) -> Result<(), Fail> {
+    let alloc = rt.alloc();
+    let alice = account(alloc, b"alice", 1, NO_CODE, 143)?;
+    let other = datum(alloc, b"alice")?;
+    let fault = fault_of_two(alloc, alice, other)?;
+    let want = GenesisFault::Usage {
+        index: 0,
+        stated: 143,
+        counted: 144,
+    };
+    assert!(rt; fault == Some(want));
+    let alice = account(alloc, b"alice", 1, NO_CODE, 144)?;
+    let other = datum(alloc, b"alice")?;
+    assert!(rt; fault_of_two(alloc, other, alice)? == None);
+    Ok(())
+}
+
 /// The fault of the file of alice, with this amount, and bob.
 fn fault_of_amounts(alloc: Global, alice: u128, bob: u128) -> Result<Option<GenesisFault>, Fail> {
     let alice = account(alloc, b"alice", alice, NO_CODE, 100)?;

@@ -7,6 +7,9 @@ use crate::spelled::Spelled;
 use nr_bytes::{Blob, Writer};
 use std::alloc::{AllocError, Global};
 
+// Most records take fewer bytes.
+const ROOM: usize = 256;
+
 /// The spelling of a value.
 ///
 /// # Errors
@@ -18,7 +21,7 @@ pub fn encode<T: Spelled>(alloc: Global, value: &T) -> Result<Blob, AllocError>
     // All of these bytes are read as the value.
     ensures back { IfOk result (λ bytes. all_of T.reading bytes ≡ Ok value.now) }
 {
-    let mut writer = Writer::new(alloc);
+    let mut writer = Writer::with_room(alloc, ROOM)?;
     value.write(&mut writer)?;
     Ok(writer.finish())
 }

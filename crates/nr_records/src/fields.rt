@@ -4,7 +4,7 @@ ghost use Rattle.std.specs.Prelude.{◌≡◌, ◌++◌, ◌^◌, OnOk};
 ghost use Rattle.nr_bytes.specs.Numbers.{little};
 ghost use Rattle.nr_bytes.specs.Writing.{counted_bytes};
 ghost use Rattle.nr_records.specs.Reading.{nat_at, raw_at, blob_at, string_at};
-ghost use Rattle.nr_bytes.specs.Answers.{GivesRead};
+ghost use Rattle.nr_bytes.specs.Answers.{GivesAs, GivesRead};
 ghost use Rattle.nr_bytes.specs.Spelling.{Below, IsCounted, IsString};
 ghost use Rattle.nr_bytes.proofs.Fields.{nat_law, blob_law, string_law};
 ghost use Rattle.nr_records.specs.Fault.{record_fault};
@@ -32,6 +32,13 @@ pub(crate) fn fixed_of<const N: usize>(reader: &mut Reader<'_>) -> Result<[u8; N
     ensures { GivesRead Memory result reader.new (raw_at N reader.old) }
 {
     Ok(reader.fixed::<N>()?)
+}
+
+/// A text, lent.
+pub(crate) fn lent_text_of<'a>(reader: &mut Reader<'a>) -> Result<&'a str, RecordFault>
+    ensures { GivesAs Memory (λ text. (text.now, reader.new)) result (string_at reader.old) }
+{
+    Ok(reader.lent_text()?)
 }
 
 /// Writes bytes behind their count, where they are few enough to be counted.

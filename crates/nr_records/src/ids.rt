@@ -8,9 +8,9 @@ ghost use Rattle.nr_records.specs.IdLaws.{id_law, hash_law, key_law};
 ghost use Rattle.nr_ids.specs.Keys.{hash_bytes, IsHash, key_bytes, IsKey};
 
 use crate::fault::RecordFault;
-use crate::fields::{fixed_of, u8_of};
+use crate::fields::{fixed_of, lent_text_of, u8_of};
 use crate::spelled::Spelled;
-use nr_bytes::{Reader, Text, Writer};
+use nr_bytes::{Reader, Writer};
 use nr_ids::{AccountId, Hash32, IdFault, PublicKey};
 use std::alloc::{AllocError, Global};
 
@@ -27,8 +27,8 @@ impl Spelled for AccountId {
     fn read(alloc: Global, reader: &mut Reader<'_>) -> Result<AccountId, RecordFault> {
         let at = reader.at();
         let mut ahead = reader.fork();
-        let text = Text::read(alloc, &mut ahead)?;
-        match AccountId::parse(alloc, text.inner().as_bytes()) {
+        let text = lent_text_of(&mut ahead)?;
+        match AccountId::parse(alloc, text.as_bytes()) {
             Ok(id) => {
                 *reader = ahead;
                 Ok(id)

@@ -16,6 +16,10 @@ use crate::spelled::Spelled;
 use nr_bytes::{List, Reader, Writer};
 use std::alloc::{AllocError, Global};
 
+// A list of up to so many items takes no more room than they do. The count of a longer one isn't believed
+// before its items are there.
+const FEW: u32 = 16;
+
 fn items_of<T: Spelled>(
     alloc: Global,
     count: u32,
@@ -23,7 +27,7 @@ fn items_of<T: Spelled>(
 ) -> Result<Vec<T>, RecordFault>
     ensures { GivesAs Memory (λ v. (v.items, reader.new)) result (items_at T.reading count reader.old) }
 {
-    let mut items = Vec::new(alloc);
+    let mut items = Vec::with_capacity(alloc, count.min(FEW) as usize)?;
     for _ in 0..count {
         let item = T::read(alloc, reader)?;
         items.push(item)?;
@@ -44,7 +48,7 @@ fn write_items<T: Spelled>(items: &[T], writer: &mut Writer) -> Result<(), Alloc
 fn duplicate_items<T: Spelled>(alloc: Global, items: &[T]) -> Result<Vec<T>, AllocError>
     ensures { IfOk result (λ others. others.items ≡ items.now) }
 {
-    let mut others = Vec::new(alloc);
+    let mut others = Vec::with_capacity(alloc, items.len())?;
     for item in items {
         others.push(item.duplicate(alloc)?)?;
     }

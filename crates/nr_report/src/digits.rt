@@ -18,6 +18,28 @@ pub fn hash_digits(alloc: Global, hash: &Hash32) -> Result<String, AllocError>
     hex::encode(alloc, hash.0)
 }
 
+/// The digits of a hash in hexadecimal. They take no memory.
+#[tactic(auto, unfolding(crate::specs::Lines::hash_word))]
+pub(crate) fn digits_of(hash: &Hash32) -> Result<[u8; 64], AllocError>
+    ensures { IfOk result (λ digits. digits ≡ hash_word hash.now) }
+{
+    let mut digits = [0; 64];
+    match hex::encode_to_slice(hash.0, &mut digits) {
+        Ok(()) => Ok(digits),
+        Err(_) => Err(AllocError),
+    }
+}
+
+/// Digits as a text.
+pub(crate) fn word_of(digits: &[u8; 64]) -> Result<&str, AllocError>
+    ensures { IfOk result (λ word. word.now ≡ digits.now) }
+{
+    match str::from_utf8(digits) {
+        Ok(word) => Ok(word),
+        Err(_) => Err(AllocError),
+    }
+}
+
 /// Bytes in hexadecimal, and a dash for none.
 ///
 /// # Errors

@@ -7,7 +7,7 @@ ghost use Rattle.nr_records.specs.declared.chunk_result.ChunkLine.TheVariants.{T
 ghost use Rattle.nr_report.specs.Lines.{line, hash_word, run_line, log_line, told_logs, line_text};
 ghost use Rattle.nr_report.specs.Lines.{chunk_line, chunk_text, total_line, places_words, tokens_text, totals_text};
 
-use crate::digits::{byte_digits, hash_digits};
+use crate::digits::{byte_digits, digits_of, word_of};
 use crate::totals::Totals;
 use nr_bytes::Blob;
 use nr_ids::{Hash32, ShardId};
@@ -16,33 +16,25 @@ use std::alloc::{AllocError, Global};
 use std::fmt::Write;
 
 /// A line of one word and an id.
-fn print_receipt(
-    alloc: Global,
-    word: &str,
-    id: &Hash32,
-    text: &mut String,
-) -> Result<(), AllocError>
+fn print_receipt(word: &str, id: &Hash32, text: &mut String) -> Result<(), AllocError>
     ensures { OnOk result (string_bytes text.new ≡ string_bytes text.old ++ line (word.now ∷ hash_word id.now ∷ [])) }
 {
-    let id = hash_digits(alloc, id)?;
+    let digits = digits_of(id)?;
+    let id = word_of(&digits)?;
     writeln!(text, "{word} {id}")
 }
 
-fn print_accepted(
-    alloc: Global,
-    hash: &Hash32,
-    id: &Hash32,
-    text: &mut String,
-) -> Result<(), AllocError>
+fn print_accepted(hash: &Hash32, id: &Hash32, text: &mut String) -> Result<(), AllocError>
     ensures { OnOk result (string_bytes text.new ≡ string_bytes text.old ++ line_text (TxOk hash.now id.now)) }
 {
-    let hash = hash_digits(alloc, hash)?;
-    let id = hash_digits(alloc, id)?;
+    let hash_digits = digits_of(hash)?;
+    let id_digits = digits_of(id)?;
+    let hash = word_of(&hash_digits)?;
+    let id = word_of(&id_digits)?;
     writeln!(text, "tx {hash} ok {id}")
 }
 
 fn print_refused(
-    alloc: Global,
     hash: &Hash32,
     number: u32,
     first: u128,
@@ -52,7 +44,8 @@ fn print_refused(
     ensures { OnOk result (string_bytes text.new
         ≡ string_bytes text.old ++ line_text (TxRefused hash.now number first second)) }
 {
-    let hash = hash_digits(alloc, hash)?;
+    let digits = digits_of(hash)?;
+    let hash = word_of(&digits)?;
     writeln!(text, "tx {hash} refused {number} {first} {second}")
 }
 
@@ -64,30 +57,27 @@ fn print_value(
 ) -> Result<(), AllocError>
     ensures { OnOk result (string_bytes text.new ≡ string_bytes text.old ++ run_line outcome.now (Value bytes.now)) }
 {
-    let id = hash_digits(alloc, &outcome.receipt_id)?;
+    let digits = digits_of(&outcome.receipt_id)?;
+    let id = word_of(&digits)?;
     let bytes = byte_digits(alloc, bytes)?;
     let gas = outcome.gas;
     let burnt = outcome.burnt;
     writeln!(text, "run {id} value {bytes} {gas} {burnt}")
 }
 
-fn print_promise(
-    alloc: Global,
-    outcome: &Outcome,
-    next: &Hash32,
-    text: &mut String,
-) -> Result<(), AllocError>
+fn print_promise(outcome: &Outcome, next: &Hash32, text: &mut String) -> Result<(), AllocError>
     ensures { OnOk result (string_bytes text.new ≡ string_bytes text.old ++ run_line outcome.now (Promise next.now)) }
 {
-    let id = hash_digits(alloc, &outcome.receipt_id)?;
-    let next = hash_digits(alloc, next)?;
+    let id_digits = digits_of(&outcome.receipt_id)?;
+    let next_digits = digits_of(next)?;
+    let id = word_of(&id_digits)?;
+    let next = word_of(&next_digits)?;
     let gas = outcome.gas;
     let burnt = outcome.burnt;
     writeln!(text, "run {id} promise {next} {gas} {burnt}")
 }
 
 fn print_failure(
-    alloc: Global,
     outcome: &Outcome,
     index: u32,
     kind: u32,
@@ -97,16 +87,18 @@ fn print_failure(
     ensures { OnOk result (string_bytes text.new ≡ string_bytes text.old ++ run_line outcome.now
         (Failure index kind part)) }
 {
-    let id = hash_digits(alloc, &outcome.receipt_id)?;
+    let digits = digits_of(&outcome.receipt_id)?;
+    let id = word_of(&digits)?;
     let gas = outcome.gas;
     let burnt = outcome.burnt;
     writeln!(text, "run {id} failure {index} {kind} {part} {gas} {burnt}")
 }
 
-fn print_clash(alloc: Global, outcome: &Outcome, text: &mut String) -> Result<(), AllocError>
+fn print_clash(outcome: &Outcome, text: &mut String) -> Result<(), AllocError>
     ensures { OnOk result (string_bytes text.new ≡ string_bytes text.old ++ run_line outcome.now Clash) }
 {
-    let id = hash_digits(alloc, &outcome.receipt_id)?;
+    let digits = digits_of(&outcome.receipt_id)?;
+    let id = word_of(&digits)?;
     let burnt = outcome.burnt;
     writeln!(text, "run {id} clash 0 {burnt}")
 }
@@ -116,11 +108,11 @@ fn print_run(alloc: Global, outcome: &Outcome, text: &mut String) -> Result<(), 
 {
     match &outcome.status {
         RunStatus::Value(bytes) => print_value(alloc, outcome, bytes.inner(), text),
-        RunStatus::Promise(next) => print_promise(alloc, outcome, next, text),
-        RunStatus::Failure { index, kind, part } => print_failure(
-            alloc, outcome, *index, *kind, *part, text,
-        ),
-        RunStatus::Clash => print_clash(alloc, outcome, text),
+        RunStatus::Promise(next) => print_promise(outcome, next, text),
+        RunStatus::Failure { index, kind, part } => {
+            print_failure(outcome, *index, *kind, *part, text)
+        }
+        RunStatus::Clash => print_clash(outcome, text),
     }
 }
 
@@ -157,7 +149,6 @@ fn print_told_logs(alloc: Global, outcome: &Outcome, text: &mut String) -> Resul
 }
 
 fn print_sent(
-    alloc: Global,
     dest: ShardId,
     id: &Hash32,
     hash: &Hash32,
@@ -166,8 +157,10 @@ fn print_sent(
     ensures { OnOk result (string_bytes text.new ≡ string_bytes text.old ++ line_text (Sent dest id.now hash.now)) }
 {
     let dest = dest.0;
-    let id = hash_digits(alloc, id)?;
-    let hash = hash_digits(alloc, hash)?;
+    let id_digits = digits_of(id)?;
+    let hash_digits = digits_of(hash)?;
+    let id = word_of(&id_digits)?;
+    let hash = word_of(&hash_digits)?;
     writeln!(text, "out {dest} {id} {hash}")
 }
 
@@ -176,26 +169,26 @@ fn print_line(alloc: Global, line: &ChunkLine, text: &mut String) -> Result<(), 
     ensures { OnOk result (string_bytes text.new ≡ string_bytes text.old ++ line_text line.now) }
 {
     match line {
-        ChunkLine::TxOk { hash, receipt_id } => print_accepted(alloc, hash, receipt_id, text),
+        ChunkLine::TxOk { hash, receipt_id } => print_accepted(hash, receipt_id, text),
         ChunkLine::TxRefused {
             hash,
             number,
             first,
             second,
-        } => print_refused(alloc, hash, *number, *first, *second, text),
+        } => print_refused(hash, *number, *first, *second, text),
         ChunkLine::Run(outcome) => {
             print_run(alloc, outcome, text)?;
             print_told_logs(alloc, outcome, text)
         }
-        ChunkLine::Postponed(id) => print_receipt(alloc, "post", id, text),
-        ChunkLine::Received(id) => print_receipt(alloc, "data", id, text),
-        ChunkLine::Lost(id) => print_receipt(alloc, "lost", id, text),
-        ChunkLine::Late(id) => print_receipt(alloc, "late", id, text),
+        ChunkLine::Postponed(id) => print_receipt("post", id, text),
+        ChunkLine::Received(id) => print_receipt("data", id, text),
+        ChunkLine::Lost(id) => print_receipt("lost", id, text),
+        ChunkLine::Late(id) => print_receipt("late", id, text),
         ChunkLine::Sent {
             dest,
             receipt_id,
             hash,
-        } => print_sent(alloc, *dest, receipt_id, hash, text),
+        } => print_sent(*dest, receipt_id, hash, text),
     }
 }
 
@@ -209,12 +202,13 @@ fn print_lines(alloc: Global, lines: &[ChunkLine], text: &mut String) -> Result<
 }
 
 /// A chunk's own line.
-fn print_head(alloc: Global, chunk: &ChunkResult, text: &mut String) -> Result<(), AllocError>
+fn print_head(chunk: &ChunkResult, text: &mut String) -> Result<(), AllocError>
     ensures { OnOk result (string_bytes text.new ≡ string_bytes text.old ++ chunk_line chunk.now) }
 {
     let height = chunk.height.0;
     let shard = chunk.shard.0;
-    let root = hash_digits(alloc, &chunk.root)?;
+    let digits = digits_of(&chunk.root)?;
+    let root = word_of(&digits)?;
     let gas = chunk.gas;
     let burnt = chunk.burnt;
     writeln!(text, "chunk {height} {shard} {root} {gas} {burnt}")
@@ -244,7 +238,7 @@ pub(crate) fn print_chunk(alloc: Global, chunk: &ChunkResult) -> Result<String, 
     ensures { IfOk result (λ text. string_bytes text ≡ chunk_text chunk.now) }
 {
     let mut text = String::new(alloc);
-    print_head(alloc, chunk, &mut text)?;
+    print_head(chunk, &mut text)?;
     print_lines(alloc, chunk.lines.inner(), &mut text)?;
     Ok(text)
 }

@@ -11,6 +11,7 @@ pub mod Postponed
 pub mod ValidSums
 pub mod ValidOwned
 pub mod ValidTokens
+pub mod KeptUsage
 pub mod ValidWorlds
 pub mod ValidQueues
 pub mod ValidCalls

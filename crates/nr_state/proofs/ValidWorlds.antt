@@ -1,5 +1,5 @@
 -- Writes and removals of what an account owns keep a valid world valid.
-use Rattle.std.proofs.Common.{◌≡◌, ℕ, ◌+◌, ◌-◌, ◌^◌, ◌≤◌, true, false, cond, List, length, Option, Some, None, refl, sym, ap, subst, ◌∙◌, arith}
+use Rattle.std.proofs.Common.{◌≡◌, ℕ, ◌-◌, ◌^◌, ◌≤◌, true, false, cond, List, length, Option, Some, None, refl, sym, ap, subst, ◌∙◌, arith}
 use Rattle.std.specs.Prelude.{IsSome, is_some, option_map}
 use Rattle.std.specs.FinMap.{FinMap, get, insert, remove, entries}
 use Rattle.std.specs.Str.{bytes_eq}
@@ -16,7 +16,8 @@ use Rattle.nr_state.specs.Tokens.{world_tokens}
 use Rattle.nr_state.specs.Usage.{zero_hash, key_usage, datum_usage}
 use Rattle.nr_state.specs.Valid.{IsValidWorld, AreAccounts, AreWaiting, usage_in, code_hash_in, hash_of_code}
 use Rattle.nr_state.specs.World.{World, bytes_cmp, pair_cmp, key_cmp, account_tokens, with_account, with_key}
-use Rattle.nr_state.proofs.ValidSums.{insert_twice, insert_same}
+use Rattle.nr_state.proofs.KeptUsage.{usage_kept}
+use Rattle.nr_state.proofs.ValidSums.{insert_twice}
 use Rattle.nr_state.proofs.ValidTokens.{changed_tokens, fewer_tokens}
 use Rattle.nr_state.proofs.ValidOwned.{key_total, pair_total, exact_keys, exact_data, same_id, itself, get_written, get_gone, IsMoved, moved-insert, moved-remove, owned_none, owned-without_owner, owner-without_owner}
 
@@ -124,10 +125,7 @@ module _ (c : Config) (w : World) (id : List ℕ) (v : IsValidWorld c w) where
       let owner = some_of (get w.accounts id) (v.accounts.keys (id, key) (ap is_some is)) in
       let cost : usage_of_key c w id key ≡ key_usage c key old = ap (λ (o : Option AccessKey). or_none (option_map (key_usage c key) o)) is in
       let m = moved-insert key_total exact_keys (key_usage c) w.keys id key new in
-      let usage : owner.0.storage_usage - usage_of_key c w id key + key_usage c key new ≡ owner.0.storage_usage = omega (arith, v.accounts.usage id owner.0 owner.1, m.within, cost, same) in
-      ap (with_moved (with_key w id key new) id (usage_of_key c w id key) (key_usage c key new)) owner.1
-      ∙ (λ i. with_account (with_key w id key new) id (record owner.0 { storage_usage = usage i }))
-      ∙ (λ i. record w { accounts = insert_same nat_list_cmp_total exact_bytes w.accounts id owner.0 owner.1 i; keys = insert w.keys (id, key) new })
+      usage_kept c w id key new owner.0 owner.1 (cost ∙ sym same) (omega (arith, v.accounts.usage id owner.0 owner.1, m.within, cost, same))
 
   pub key_again_kept : (key : PublicKey) (old new : AccessKey) → get w.keys (id, key) ≡ Some old → key_usage c key new ≡ key_usage c key old → IsValidWorld c (with_key w id key new)
   key_again_kept key old new is same = subst (IsValidWorld c) (key_alike key old new is same) (set_key_kept key new (v.accounts.keys (id, key) (ap is_some is)))

@@ -22,7 +22,7 @@ use Rattle.nr_records.specs.declared.access_key.AccessKey.{AccessKey}
 use Rattle.nr_records.specs.declared.account.Account.{Account}
 use Rattle.nr_records.specs.declared.receipt.Receipt.{Receipt}
 use Rattle.nr_state.specs.Changes.{without_account, with_received, without_received, with_postponed, without_postponed, with_delayed, served_front}
-use Rattle.nr_state.specs.World.{World, no_world, with_account, bytes_cmp, pair_cmp, key_cmp}
+use Rattle.nr_state.specs.World.{World, no_world, with_account, with_key, with_code_bytes, with_datum, bytes_cmp, pair_cmp, key_cmp}
 use Rattle.nr_state.specs.Worlds.{IsWorld}
 use Rattle.nr_state.proofs.ValidSums.{equal}
 use Rattle.nr_state.proofs.ValidOwned.{key_total, pair_total, exact_keys, exact_data}
@@ -103,6 +103,18 @@ module _ (w : World) (is : IsWorld w) where
 
     pub no_datum_fits : (key : List ℕ) → IsWorld (record w { accounts = insert w.accounts id owner; data_of = remove w.data_of (id, key) })
     no_datum_fits key = owning _ _ _ _ with_owner is.keys is.code (each-remove pair_total exact_data (λ k value. IsId k.0) w.data_of is.data_of (id, key))
+
+  -- ---- what an account owns, without the account
+  module _ (id : List ℕ) (named : IsId id) where
+    pub key_alone_fits : (key : PublicKey) (access : AccessKey) → IsKey key → IsAccessKey access → IsWorld (with_key w id key access)
+    key_alone_fits key access is_key is_access =
+        owning _ _ _ _ is.accounts (each-insert key_total exact_keys (λ k access. IsId k.0 × (IsKey k.1 × IsAccessKey access)) w.keys is.keys (id, key) access (named, (is_key, is_access))) is.code is.data_of
+
+    pub code_alone_fits : (code : List ℕ) → IsWorld (with_code_bytes w id code)
+    code_alone_fits code = owning _ _ _ _ is.accounts is.keys (each-insert nat_list_cmp_total exact_bytes (λ id code. IsId id) w.code is.code id code named) is.data_of
+
+    pub datum_alone_fits : (key value : List ℕ) → IsWorld (with_datum w id key value)
+    datum_alone_fits key value = owning _ _ _ _ is.accounts is.keys is.code (each-insert pair_total exact_data (λ k value. IsId k.0) w.data_of is.data_of (id, key) value named)
 
   pub no_account_fits : (id : List ℕ) → IsWorld (without_account w id)
   no_account_fits id =

@@ -45,6 +45,13 @@ with_account w id account = record w { accounts = insert w.accounts id account }
 abbrev pub with_key : World → List ℕ → PublicKey → AccessKey → World
 with_key w owner key access = record w { keys = insert w.keys (owner, key) access }
 
+-- code without its owner's hash of it, and a datum
+abbrev pub with_code_bytes : World → List ℕ → List ℕ → World
+with_code_bytes w owner code = record w { code = insert w.code owner code }
+
+abbrev pub with_datum : World → List ℕ → List ℕ → List ℕ → World
+with_datum w owner key value = record w { data_of = insert w.data_of (owner, key) value }
+
 -- the tokens of an account, and of all accounts
 abbrev pub account_tokens : Account → ℕ
 account_tokens a = a.amount + a.locked

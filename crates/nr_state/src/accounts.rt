@@ -7,7 +7,7 @@ ghost use Rattle.nr_records.specs.Accounts.{IsAccount};
 ghost use Rattle.nr_records.specs.Ids.{IsId};
 ghost use Rattle.nr_ids.specs.Keys.{IsKey};
 ghost use Rattle.nr_columns.specs.View.{with_columns, without_owner};
-ghost use Rattle.nr_state.specs.World.{with_account};
+ghost use Rattle.nr_state.specs.World.{with_account, with_key};
 ghost use Rattle.nr_state.specs.View.{with_world, world_in};
 ghost use Rattle.nr_state.specs.Changes.{usage_of_key, set_key, removed_key, without_account};
 ghost use Rattle.nr_state.specs.Owners.{IsMoved, with_owner};
@@ -20,12 +20,11 @@ use nr_config::Config;
 use nr_ids::{AccountId, PublicKey};
 use nr_records::{AccessKey, Account, encode};
 use nr_triedef::Store;
-use std::alloc::{AllocError, Global};
+use std::alloc::AllocError;
 
 /// What a key costs its owner now; 0 where there is none.
 fn usage_of_key<S: Store>(
     columns: &Columns<S>,
-    alloc: Global,
     config: &Config,
     id: &AccountId,
     key: &PublicKey,
@@ -33,7 +32,7 @@ fn usage_of_key<S: Store>(
     ensures { IfOk result (λ usage. usage ≡ usage_of_key config.now (world_in columns.now.columns) id.now key.now) }
 {
     match columns.spelled_key(id, key)? {
-        Some(access) => spelled_usage(alloc, config, key, &access),
+        Some(access) => spelled_usage(config, key, &access),
         None => Ok(0),
     }
 }
@@ -41,7 +40,6 @@ fn usage_of_key<S: Store>(
 /// The owner as it is once the key is written.
 fn owner_with_key<S: Store>(
     columns: &Columns<S>,
-    alloc: Global,
     config: &Config,
     id: &AccountId,
     key: &PublicKey,
@@ -51,15 +49,41 @@ fn owner_with_key<S: Store>(
         (usage_of_key config.now (world_in columns.now.columns) id.now key.now)
         (key_usage config.now key.now access.now)) }
 {
-    let before = usage_of_key(columns, alloc, config, id, key)?;
-    let after = spelled_usage(alloc, config, key, access)?;
+    let before = usage_of_key(columns, config, id, key)?;
+    let after = spelled_usage(config, key, access)?;
     moved_owner(columns, id, before, after)
+}
+
+/// Whether the owner stays as it is once the key is written: it stands, the key costs what the one in
+/// its place did, and that is counted.
+fn keeps_owner<S: Store>(
+    columns: &Columns<S>,
+    config: &Config,
+    id: &AccountId,
+    key: &PublicKey,
+    access: &SpelledKey<'_>,
+) -> Result<bool, AllocError>
+    ensures { IfOk result (λ keeps. keeps ≡ true
+        → set_key config.now (world_in columns.now.columns) id.now key.now access.now
+        ≡ with_key (world_in columns.now.columns) id.now key.now access.now) }
+{
+    let before = usage_of_key(columns, config, id, key)?;
+    let after = spelled_usage(config, key, access)?;
+    if before != after {
+        return Ok(false);
+    }
+    let Some(owner) = columns.account(id)? else {
+        return Ok(false);
+    };
+    if owner.storage_usage < after {
+        return Ok(false);
+    }
+    Ok(true)
 }
 
 /// The owner as it is once the key is taken out.
 fn owner_without_key<S: Store>(
     columns: &Columns<S>,
-    alloc: Global,
     config: &Config,
     id: &AccountId,
     key: &PublicKey,
@@ -67,7 +91,7 @@ fn owner_without_key<S: Store>(
     ensures { IfOk result (IsMoved (world_in columns.now.columns) id.now
         (usage_of_key config.now (world_in columns.now.columns) id.now key.now) 0) }
 {
-    let before = usage_of_key(columns, alloc, config, id, key)?;
+    let before = usage_of_key(columns, config, id, key)?;
     moved_owner(columns, id, before, 0)
 }
 
@@ -213,10 +237,72 @@ impl<S: Store> ShardState<S> {
         ensures ok { OnOk result (self.new ≡ with_world self.old
             (set_key self.old.config self.old.world id.now key.now access.now)) }
     {
-        let owner = owner_with_key(&self.columns, self.alloc, &self.config, id, key, access)?;
+        if self.keeps_owner(id, key, access)? {
+            return self.put_spelled_key(id, key, access);
+        }
+        self.set_counted_key(id, key, access)
+    }
+
+    // Whether the key's owner stays as it is once the key is written.
+    fn keeps_owner(
+        &self,
+        id: &AccountId,
+        key: &PublicKey,
+        access: &SpelledKey<'_>,
+    ) -> Result<bool, AllocError>
+        ensures { IfOk result (λ keeps. keeps ≡ true
+            → set_key self.now.config self.now.world id.now key.now access.now
+            ≡ with_key self.now.world id.now key.now access.now) }
+    {
+        keeps_owner(&self.columns, &self.config, id, key, access)
+    }
+
+    // Writes an access key, and its owner too.
+    fn set_counted_key(
+        &mut self,
+        id: &AccountId,
+        key: &PublicKey,
+        access: &SpelledKey<'_>,
+    ) -> Result<(), AllocError>
+        requires whole { self.old.whole ≡ true }
+        requires owner { IsSome (map.get self.old.world.accounts id.now) }
+        ensures ok { OnOk result (self.new ≡ with_world self.old
+            (set_key self.old.config self.old.world id.now key.now access.now)) }
+    {
+        let owner = owner_with_key(&self.columns, &self.config, id, key, access)?;
         self.whole = false;
         write_key(&mut self.columns, id, key, access, &owner)?;
         self.whole = true;
+        Ok(())
+    }
+
+    /// Writes an access key and nothing else: its owner stays as it is, and need not stand.
+    pub fn put_key(
+        &mut self,
+        id: &AccountId,
+        key: &PublicKey,
+        access: &AccessKey,
+    ) -> Result<(), AllocError>
+        requires { self.old.whole ≡ true }
+        ensures ok { OnOk result (self.new ≡ with_world self.old (with_key self.old.world id.now key.now access.now)) }
+        ensures err { OnErr result (self.new ≡ self.old) }
+    {
+        let bytes = encode(self.alloc, access)?;
+        self.put_spelled_key(id, key, &SpelledKey::of(bytes.inner()))
+    }
+
+    // As `put_key`, of an access key that is spelled already.
+    fn put_spelled_key(
+        &mut self,
+        id: &AccountId,
+        key: &PublicKey,
+        access: &SpelledKey<'_>,
+    ) -> Result<(), AllocError>
+        requires { self.old.whole ≡ true }
+        ensures ok { OnOk result (self.new ≡ with_world self.old (with_key self.old.world id.now key.now access.now)) }
+        ensures err { OnErr result (self.new ≡ self.old) }
+    {
+        self.columns.set_spelled_key(id, key, access)?;
         Ok(())
     }
 
@@ -229,7 +315,7 @@ impl<S: Store> ShardState<S> {
         ensures ok { OnOk result (self.new ≡ with_world self.old
             (removed_key self.old.config self.old.world id.now key.now)) }
     {
-        let owner = owner_without_key(&self.columns, self.alloc, &self.config, id, key)?;
+        let owner = owner_without_key(&self.columns, &self.config, id, key)?;
         self.whole = false;
         let found = take_key(&mut self.columns, id, key, &owner)?;
         self.whole = true;

@@ -1,6 +1,6 @@
 //! Code and data.
 
-ghost use Rattle.std.specs.Prelude.{◌≡◌, true, IfOk, OnOk, IsSome, is_some};
+ghost use Rattle.std.specs.Prelude.{◌≡◌, true, IfOk, OnOk, OnErr, IsSome, is_some};
 ghost use Rattle.std.specs.Option.{option_copied};
 ghost use Rattle.std.specs.FinMap as map;
 ghost use Rattle.nr_records.specs.Accounts.{IsAccount};
@@ -10,6 +10,7 @@ ghost use Rattle.nr_state.specs.View.{with_world, world_in};
 ghost use Rattle.nr_state.specs.Changes.{usage_of_code, set_code, usage_of_datum, set_datum, removed_datum};
 ghost use Rattle.nr_state.specs.Owners.{IsMoved, HasCode, with_owner};
 ghost use Rattle.nr_state.specs.Usage.{datum_usage};
+ghost use Rattle.nr_state.specs.World.{with_code_bytes, with_datum};
 
 use crate::state::ShardState;
 use crate::usage::{code_usage, datum_usage, moved_owner};
@@ -171,6 +172,16 @@ impl<S: Store> ShardState<S> {
         Ok(())
     }
 
+    /// Writes code and nothing else: its owner stays as it is, and need not stand.
+    pub fn put_code(&mut self, id: &AccountId, code: &[u8]) -> Result<(), AllocError>
+        requires { self.old.whole ≡ true }
+        ensures ok { OnOk result (self.new ≡ with_world self.old (with_code_bytes self.old.world id.now code.now)) }
+        ensures err { OnErr result (self.new ≡ self.old) }
+    {
+        self.columns.set_code(id, code)?;
+        Ok(())
+    }
+
     /// A datum of an account; `None` where there is none.
     pub fn datum(&self, id: &AccountId, key: &[u8]) -> Result<Option<&[u8]>, AllocError>
         ensures { IfOk result (λ found. option_copied found ≡ map.get self.now.world.data_of (id.now, key.now)) }
@@ -190,6 +201,17 @@ impl<S: Store> ShardState<S> {
         self.whole = false;
         write_datum(&mut self.columns, id, key, value, &owner)?;
         self.whole = true;
+        Ok(())
+    }
+
+    /// Writes a datum and nothing else: its owner stays as it is, and need not stand.
+    pub fn put_datum(&mut self, id: &AccountId, key: &[u8], value: &[u8]) -> Result<(), AllocError>
+        requires { self.old.whole ≡ true }
+        ensures ok { OnOk result (self.new ≡ with_world self.old
+            (with_datum self.old.world id.now key.now value.now)) }
+        ensures err { OnErr result (self.new ≡ self.old) }
+    {
+        self.columns.set_datum(id, key, value)?;
         Ok(())
     }
 

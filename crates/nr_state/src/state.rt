@@ -27,7 +27,7 @@ use std::sync::ledger::Ledger;
 ///
 /// Each error is want of memory, or an account that would be counted as 2^64 bytes or more. A call
 /// that answers it may leave its change in the middle; the state can then only be read or dropped.
-/// `reserve_marks`, `root` and `set_account` leave all as it was.
+/// `reserve_marks`, `root`, `set_account`, `put_key`, `put_code` and `put_datum` leave all as it was.
 #[derive(Drop)]
 pub struct ShardState<S: Store> {
     pub(crate) columns: Columns<S>,

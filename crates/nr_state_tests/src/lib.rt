@@ -7,6 +7,8 @@ mod accounts;
 #[cfg(test)]
 mod arrived;
 #[cfg(test)]
+mod bare;
+#[cfg(test)]
 mod callers;
 #[cfg(test)]
 mod calls;

@@ -1,7 +1,8 @@
 //! A store in memory.
 
-ghost use Rattle.std.specs.Prelude.{◌≡◌, [], IfOk};
+ghost use Rattle.std.specs.Prelude.{◌≡◌, ◌≤◌, [], length, IfOk, OnOk, OnErr};
 ghost use Rattle.std.specs.FinMap as map;
+ghost use Rattle.nr_triedef.specs.Stores.{most_entries, IsSizedEntry};
 
 use crate::lending::{Lent, lent_entries};
 use crate::root::root;
@@ -28,11 +29,11 @@ use std::sync::ledger::Ledger;
 /// With n slots, `get`, `set` and `remove` cost what the ordered map does, which is in the order
 /// of log n comparisons of keys, and `set` and `remove` copy the key and the value. `mark` costs the
 /// same however much the store holds, and so does `keep` (commit), save that of the last checkpoint:
-/// it goes over the changes since that checkpoint, at log n each. `back` (roll back) undoes the
-/// changes since its checkpoint, at log n each. `below` finds the prefix, at log n, and goes over the
-/// keys that begin with it. `root` makes each node of the trie once: it lists the keys, hashes each
-/// value, and finds by halving which keys go on below a branch. It copies no key as a whole, and what
-/// waits at the branches above stands on the heap.
+/// it goes over the changes since that checkpoint, at log n each where a key was taken out since.
+/// `back` (roll back) undoes the changes since its checkpoint, at log n each. `below` finds the
+/// prefix, at log n, and goes over the keys that begin with it. `root` makes each node of the trie
+/// once: it lists the keys, hashes each value, and finds by halving which keys go on below a branch.
+/// It copies no key as a whole, and what waits at the branches above stands on the heap.
 #[derive(Drop)]
 pub struct PlainStore {
     alloc: Global,
@@ -43,6 +44,8 @@ pub struct PlainStore {
     starts: [usize; 8],
     standing: usize,
     spare: usize,
+    // A key was taken out since the oldest checkpoint, so that its slot may be empty.
+    emptied: bool,
 }
 
 impl Model for PlainStore {
@@ -73,6 +76,7 @@ impl PlainStore {
             starts: [0; 8],
             standing: 0,
             spare: 0,
+            emptied: false,
         }
     }
 
@@ -85,6 +89,34 @@ impl PlainStore {
         ensures { IfOk result (λ entries. entries.items ≡ map.entries self.now.contents) }
     {
         lent_entries(self.alloc, &self.slots)
+    }
+
+    /// As [`Store::set`], of a value that is handed over.
+    ///
+    /// # Errors
+    ///
+    /// As [`Store::set`].
+    pub fn set_owned(&mut self, key: &[u8], value: Vec<u8>) -> Result<(), AllocError>
+        ensures ok { OnOk result (self.new.contents ≡ map.insert self.old.contents key.now value.items) }
+        ensures sizes { OnOk result (IsSizedEntry key.now value.items
+            × (length (map.entries self.new.contents) ≤ most_entries)) }
+        ensures err { OnErr result (self.new.contents ≡ self.old.contents) }
+        ensures marks { self.new.marks ≡ self.old.marks }
+        ensures spare { self.new.spare ≡ self.old.spare }
+    {
+        if !fits(&self.slots, key, value.as_slice()) {
+            return Err(AllocError);
+        }
+        let stored = Vec::from_slice(self.alloc, key)?;
+        if self.standing == 0 {
+            put(&mut self.slots, stored, value)?;
+            return Ok(());
+        }
+        let noted = Vec::from_slice(self.alloc, key)?;
+        self.log.reserve(1)?;
+        let before = put(&mut self.slots, stored, value)?;
+        self.log.push(Undo { key: noted, before })?;
+        Ok(())
     }
 
     /// Takes all keys out, where no checkpoint stands, and gives their memory back. It takes none.
@@ -124,19 +156,8 @@ impl Store for PlainStore {
     }
 
     fn set(&mut self, key: &[u8], value: &[u8]) -> Result<(), AllocError> {
-        if !fits(&self.slots, key, value) {
-            return Err(AllocError);
-        }
-        let stored = Vec::from_slice(self.alloc, key)?;
         let held = Vec::from_slice(self.alloc, value)?;
-        if self.standing == 0 {
-            put(&mut self.slots, stored, held)?;
-            return Ok(());
-        }
-        let noted = Vec::from_slice(self.alloc, key)?;
-        self.log.reserve(1)?;
-        let before = put(&mut self.slots, stored, held)?;
-        self.log.push(Undo { key: noted, before })?;
+        self.set_owned(key, held)?;
         Ok(())
     }
 
@@ -150,6 +171,7 @@ impl Store for PlainStore {
         }
         let noted = Vec::from_slice(self.alloc, key)?;
         self.log.reserve(1)?;
+        self.emptied = true;
         let value = clear(&mut self.slots, key);
         self.log.push(Undo {
             key: noted,
@@ -173,7 +195,8 @@ impl Store for PlainStore {
         self.standing -= 1;
         self.spare += 1;
         if self.standing == 0 {
-            drop_empty_slots(&mut self.slots, &self.log);
+            drop_empty_slots(&mut self.slots, &self.log, self.emptied);
+            self.emptied = false;
             self.log.clear();
         }
     }
@@ -184,6 +207,7 @@ impl Store for PlainStore {
         let start = self.starts[self.standing];
         undo_to(&mut self.slots, &mut self.log, start);
         if self.standing == 0 {
+            self.emptied = false;
             self.log.clear();
         }
     }

@@ -101,10 +101,13 @@ fn drop_empty(slots: &mut Slots, key: &[u8])
     }
 }
 
-/// Takes out the slots without a value at the keys of the log.
-pub(crate) fn drop_empty_slots(slots: &mut Slots, log: &[Undo])
+/// Takes out the slots without a value at the keys of the log, where some slot may have none.
+pub(crate) fn drop_empty_slots(slots: &mut Slots, log: &[Undo], emptied: bool)
     ensures { held_in slots.new.entries ≡ held_in slots.old.entries }
 {
+    if !emptied {
+        return;
+    }
     for undo in log {
         drop_empty(slots, undo.key.as_slice());
     }

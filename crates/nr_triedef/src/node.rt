@@ -48,6 +48,9 @@ pub fn usage_of(node: &Node) -> u64
     }
 }
 
+// The most bytes of a branch's text: with a value and sixteen children.
+const MOST_OF_BRANCH: usize = 559;
+
 // A part of 2^32 bytes or more counts as want of memory.
 fn put_part(text: &mut Writer, part: &[u8]) -> Result<(), AllocError>
     ensures { Puts result text.old text.new (counted_bytes part.now) }
@@ -110,7 +113,7 @@ fn leaf_text(
     ensures { IfOk result (λ text. text ≡ 0 ∷ (counted_bytes part.now ++ little 4 length ++ hash.now.0
         ++ little 8 usage)) }
 {
-    let mut text = Writer::new(alloc);
+    let mut text = Writer::with_room(alloc, part.len() + 49)?;
     text.put_u8(0)?;
     put_part(&mut text, part)?;
     put_value(&mut text, length, hash)?;
@@ -126,7 +129,7 @@ fn extension_text(
 ) -> Result<Blob, AllocError>
     ensures { IfOk result (λ text. text ≡ 1 ∷ (counted_bytes part.now ++ child.now.0 ++ little 8 usage)) }
 {
-    let mut text = Writer::new(alloc);
+    let mut text = Writer::with_room(alloc, part.len() + 45)?;
     text.put_u8(1)?;
     put_part(&mut text, part)?;
     text.put_raw(&child.0)?;
@@ -141,7 +144,7 @@ fn branch_text(
 ) -> Result<Blob, AllocError>
     ensures { IfOk result (λ text. text ≡ 2 ∷ (children_bytes children.now ++ little 8 usage)) }
 {
-    let mut text = Writer::new(alloc);
+    let mut text = Writer::with_room(alloc, MOST_OF_BRANCH)?;
     text.put_u8(2)?;
     put_children(&mut text, children)?;
     text.put_u64(usage)?;
@@ -158,7 +161,7 @@ fn valued_text(
     ensures { IfOk result (λ text. text ≡ 3 ∷ (little 4 length ++ hash.now.0 ++ children_bytes children.now
         ++ little 8 usage)) }
 {
-    let mut text = Writer::new(alloc);
+    let mut text = Writer::with_room(alloc, MOST_OF_BRANCH)?;
     text.put_u8(3)?;
     put_value(&mut text, length, hash)?;
     put_children(&mut text, children)?;

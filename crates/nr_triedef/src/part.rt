@@ -59,7 +59,7 @@ pub fn key_part(alloc: Global, nibbles: &[u8], leaf: bool) -> Result<Blob, Alloc
     requires { IsNibbles nibbles.now }
     ensures { IfOk result (λ part. part ≡ key_part nibbles.now leaf) }
 {
-    let mut part = Vec::new(alloc);
+    let mut part = Vec::with_capacity(alloc, nibbles.len() / 2 + 1)?;
     part.push(first_byte(nibbles, leaf))?;
     push_pairs(&mut part, &nibbles[nibbles.len() % 2..])?;
     Ok(Blob::of(part))

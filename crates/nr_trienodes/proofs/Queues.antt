@@ -6,7 +6,7 @@ use Rattle.std.proofs.lemmas.Bool.{eqb-true, cases_lt}
 use Rattle.std.proofs.lemmas.List.{append-nil}
 use Rattle.std.proofs.lemmas.List.Sums.{sum_by-cons, sum_by-append, sum_by_push}
 use Rattle.nr_ids.specs.declared.key.Hash32.{Hash32}
-use Rattle.nr_trienodes.specs.Shape.{Shape, child, shape_at}
+use Rattle.nr_trienodes.specs.Shape.{Shape, child, shape_at, no_children}
 use Rattle.nr_trienodes.specs.Tries.{or_zero, weight, is_leaf, cost_at}
 use Rattle.nr_trienodes.specs.Views.{Sound, IsIn, KeepsHash}
 use Rattle.nr_trienodes.specs.Hashing.{is_hashed, HasHashes, weight_at, cold, IsBehind, IsQueue, Gathering, Gathers, Warms}
@@ -33,6 +33,9 @@ cold_step nodes (Some c ∷ row) (suc i) lt =
 -- the queue behind the first children
 pub record Pushed (nodes : List Shape) (row : List (Option ℕ)) (i : ℕ) (old new : List ℕ) : Type 0 where
   pub is : new ≡ old ++ cold nodes (take i row)
+
+pub cold_nothing : (nodes : List Shape) (below : List (Option ℕ)) (queue : List ℕ) → below ≡ no_children → queue ≡ queue ++ cold nodes below
+cold_nothing nodes below queue none = sym (append-nil queue) ∙ ap (λ (r : List (Option ℕ)). queue ++ cold nodes r) (sym none)
 
 pub pushed_first : (nodes : List Shape) (below : List (Option ℕ)) (queue : List ℕ) → Pushed nodes below 0 queue queue
 pushed_first nodes below queue = record { is = sym (append-nil queue) }

@@ -40,6 +40,9 @@ fn push_cold(nodes: &Nodes, queue: &mut Vec<u32>, id: u32) -> Result<(), AllocEr
     ensures { OnOk result (queue.new.items ≡ queue.old.items ++ cold nodes.now (shape_at nodes.now id).below) }
 {
     let _count = nodes.count();
+    if !nodes.is_inner(id) {
+        return Ok(());
+    }
     let row = nodes.row(id);
     for i in 0..16 {
         push_child(nodes, queue, row[i])?;

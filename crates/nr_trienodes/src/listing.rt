@@ -113,11 +113,23 @@ fn bytes_of(alloc: Global, key: &[u8]) -> Result<Blob, AllocError>
     requires even { length key.now % 2 ≡ 0 }
     ensures { IfOk result (λ bytes. bytes ≡ paired key.now) }
 {
-    let mut bytes = Vec::new(alloc);
+    let mut bytes = Vec::with_capacity(alloc, key.len() / 2)?;
     for i in 0..key.len() / 2 {
         bytes.push(16 * key[2 * i] + key[2 * i + 1])?;
     }
     Ok(Blob::of(bytes))
+}
+
+// Room for a nibble and a part behind a copied key.
+const ROOM: usize = 16;
+
+// A key once more, with some room behind it.
+fn with_room(alloc: Global, key: &[u8]) -> Result<Vec<u8>, AllocError>
+    ensures items { IfOk result (λ copy. copy.items ≡ key.now) }
+{
+    let mut copy = Vec::with_capacity(alloc, key.len().saturating_add(ROOM))?;
+    copy.extend_from_slice(key)?;
+    Ok(copy)
 }
 
 fn push_child(
@@ -130,7 +142,7 @@ fn push_child(
     ensures { OnOk result (PushesSo places.old.items places.new.items child key.now nibble) }
 {
     if let Some(node) = child {
-        let mut front = Vec::from_slice(alloc, key)?;
+        let mut front = with_room(alloc, key)?;
         front.push(nibble)?;
         places.push(Place { front, node })?;
     }

@@ -116,7 +116,7 @@ impl TrieStore {
             return Err(AllocError);
         };
         let held = held_of(self.alloc, value)?;
-        self.changes.set(key, &held)?;
+        self.changes.set_owned(key, held)?;
         self.count = count;
         Ok(())
     }
