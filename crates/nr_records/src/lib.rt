@@ -27,7 +27,7 @@ pub use account::Account;
 pub use action::Action;
 pub use chunk_result::{ChunkLine, ChunkResult, Outcome, RunStatus};
 pub use decoding::decode;
-pub use encoding::encode;
+pub use encoding::{encode, encode_in};
 pub use fault::RecordFault;
 pub use hashing::hash_of;
 pub use laws::spelling_laws;
