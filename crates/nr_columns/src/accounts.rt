@@ -36,7 +36,7 @@ impl<S: Store> Columns<S> {
         ensures err { OnErr result (self.new ≡ self.old) }
     {
         let key = AccountSlot::of(id);
-        put(self.alloc, &mut self.store, key.as_slice(), account)?;
+        put(&mut self.spelled, &mut self.store, key.as_slice(), account)?;
         Ok(())
     }
 

@@ -46,7 +46,7 @@ impl<S: Store> Columns<S> {
         ensures err { OnErr result (self.new ≡ self.old) }
     {
         let key = keys::pair_key(self.alloc, keys::RECEIVED, receiver, &data_id.0)?;
-        put(self.alloc, &mut self.store, key.inner(), bytes)?;
+        put(&mut self.spelled, &mut self.store, key.inner(), bytes)?;
         Ok(())
     }
 
@@ -97,7 +97,7 @@ impl<S: Store> Columns<S> {
         ensures err { OnErr result (self.new ≡ self.old) }
     {
         let key = keys::pair_key(self.alloc, keys::AWAITED, receiver, &data_id.0)?;
-        put(self.alloc, &mut self.store, key.inner(), receipt_id)?;
+        put(&mut self.spelled, &mut self.store, key.inner(), receipt_id)?;
         Ok(())
     }
 

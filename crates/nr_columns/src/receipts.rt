@@ -45,7 +45,7 @@ impl<S: Store> Columns<S> {
         ensures err { OnErr result (self.new ≡ self.old) }
     {
         let key = keys::pair_key(self.alloc, keys::POSTPONED, receiver, &receipt_id.0)?;
-        put(self.alloc, &mut self.store, key.inner(), receipt)?;
+        put(&mut self.spelled, &mut self.store, key.inner(), receipt)?;
         Ok(())
     }
 
@@ -103,7 +103,7 @@ impl<S: Store> Columns<S> {
         ensures err { OnErr result (self.new ≡ self.old) }
     {
         let key = keys::delayed_key(self.alloc, number)?;
-        put(self.alloc, &mut self.store, key.inner(), receipt)?;
+        put(&mut self.spelled, &mut self.store, key.inner(), receipt)?;
         Ok(())
     }
 
