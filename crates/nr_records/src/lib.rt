@@ -29,7 +29,7 @@ pub use chunk_result::{ChunkLine, ChunkResult, Outcome, RunStatus};
 pub use decoding::decode;
 pub use encoding::{encode, encode_in};
 pub use fault::RecordFault;
-pub use hashing::hash_of;
+pub use hashing::{hash_in, hash_of};
 pub use laws::spelling_laws;
 pub use receipt::{ActionReceipt, Body, DataReceipt, DataReceiver, Receipt};
 pub use spelled::Spelled;
