@@ -89,7 +89,6 @@ fn used(
 }
 
 /// Takes the whole cost from the signer, and gives its account as it is then.
-#[tactic(auto, using(crate::proofs::Charging::is_written))]
 fn pay<S: Store>(
     state: &mut ShardState<S>,
     tx: &Transaction,
