@@ -76,20 +76,7 @@ impl CompactBytes {
     pub fn duplicate(&self, alloc: Global) -> Result<CompactBytes, AllocError>
         ensures { IfOk result (λ other. other ≡ self.now) }
     {
-        match &self.form {
-            Form::Short { count, bytes } => Ok(CompactBytes {
-                form: Form::Short {
-                    count: *count,
-                    bytes: *bytes,
-                },
-            }),
-            Form::Long(bytes) => {
-                let long = Vec::from_slice(alloc, bytes.as_slice())?;
-                Ok(CompactBytes {
-                    form: Form::Long(long),
-                })
-            }
-        }
+        CompactBytes::of(alloc, self.as_slice())
     }
 
     /// The bytes.
