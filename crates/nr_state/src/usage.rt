@@ -3,6 +3,7 @@
 ghost use Rattle.std.specs.Prelude.{◌≡◌, ◌+◌, IfOk, length};
 ghost use Rattle.nr_config.specs.Config.{extra_record_bytes};
 ghost use Rattle.nr_ids.specs.Keys.{key_bytes};
+ghost use Rattle.nr_records.specs.AccessKeys.{access_key_bytes};
 ghost use Rattle.nr_state.specs.Changes.{moved};
 ghost use Rattle.nr_state.specs.Owners.{IsMoved};
 ghost use Rattle.nr_state.specs.View.{world_in};
@@ -69,6 +70,21 @@ fn key_length(key: &PublicKey) -> u64
     }
 }
 
+// How many bytes spell an access key.
+fn access_length(alloc: Global, access: &AccessKey) -> Result<u64, AllocError>
+    ensures { IfOk result (λ bytes. bytes ≡ length (access_key_bytes access.now)) }
+{
+    let spelled = encode(alloc, access)?;
+    Ok(spelled.inner().len() as u64)
+}
+
+// How many bytes spell an access key that is spelled already.
+fn spelled_length(access: &SpelledKey<'_>) -> u64
+    ensures { result ≡ length (access_key_bytes access.now) }
+{
+    access.bytes().len() as u64
+}
+
 /// The bytes that an access key is counted as: those of the spellings of its public key and of its
 /// access key, and the entry `extra_record_bytes` of the configuration.
 ///
@@ -83,8 +99,7 @@ pub fn key_usage(
 ) -> Result<u64, AllocError>
     ensures { IfOk result (λ usage. usage ≡ key_usage config.now key.now access.now) }
 {
-    let access = encode(alloc, access)?;
-    let bytes = access.inner().len() as u64;
+    let bytes = access_length(alloc, access)?;
     Ok(record_usage(config, key_length(key), bytes)?)
 }
 
@@ -96,8 +111,7 @@ pub(crate) fn spelled_usage(
 ) -> Result<u64, AllocError>
     ensures { IfOk result (λ usage. usage ≡ key_usage config.now key.now access.now) }
 {
-    let bytes = access.bytes().len() as u64;
-    Ok(record_usage(config, key_length(key), bytes)?)
+    Ok(record_usage(config, key_length(key), spelled_length(access))?)
 }
 
 fn moved(account: &Account, less: u64, more: u64) -> Result<Account, AllocError>
