@@ -78,6 +78,23 @@ impl<S: Store> Columns<S> {
         }
     }
 
+    /// Writes an access key.
+    pub fn set_access_key(
+        &mut self,
+        id: &AccountId,
+        key: &PublicKey,
+        access: &AccessKey,
+    ) -> Result<(), AllocError>
+        ensures ok { OnOk result (self.new ≡ with_columns self.old
+            (record self.old.columns { keys = map.insert self.old.columns.keys (id.now, key.now) access.now })) }
+        ensures fits { OnOk result (IsId id.now × (IsKey key.now × IsAccessKey access.now)) }
+        ensures err { OnErr result (self.new ≡ self.old) }
+    {
+        let slot = keys::owner_slot(id, key)?;
+        put(&mut self.spelled, &mut self.store, slot.as_slice(), access)?;
+        Ok(())
+    }
+
     /// Writes an access key that is spelled already.
     pub fn set_spelled_key(
         &mut self,

@@ -326,8 +326,8 @@ impl<S: Store> ShardState<S> {
         ensures ok { OnOk result (self.new ≡ with_world self.old (with_key self.old.world id.now key.now access.now)) }
         ensures err { OnErr result (self.new ≡ self.old) }
     {
-        let bytes = encode(self.alloc, access)?;
-        self.put_spelled_key(id, key, &SpelledKey::of(bytes.inner()))
+        self.columns.set_access_key(id, key, access)?;
+        Ok(())
     }
 
     // As `put_key`, of an access key that is spelled already.
