@@ -1,6 +1,6 @@
--- The goals of `room::make_room` that no tactic closes.
+-- The goals of `room::trim_some` that no tactic closes.
 use Rattle.nr_trieupdate.proofs.Standing.{both_moved, few_moved}
-use Rattle.nr_trieupdate.proofs.room.make_room.Goals as goal
+use Rattle.nr_trieupdate.proofs.room.trim_some.Goals as goal
 
 pub trim_young-requires-clause-root : goal.trim_young-requires-clause-root
 trim_young-requires-clause-root c = c.requires.root.root
