@@ -20,7 +20,7 @@ use crate::fault::NodesFault;
 use crate::node_bytes::NodeBytes;
 use crate::nodes::{NodeId, Nodes};
 use crate::open_way::{
-    Levels, OpenNode, OpenWay, bare, head, is_bare, opened, part_from, settle_open,
+    Levels, OpenNode, OpenWay, bare, head, is_bare, opened, part_in, settle_open,
 };
 use crate::turn::{Stop, Turn, nibble_at};
 use std::alloc::AllocError;
@@ -104,6 +104,7 @@ fn start(nodes: &Nodes, root: Option<u32>) -> Result<OpenWay, AllocError>
         levels: Levels::new(nodes.allocator()),
         top,
         at: 0,
+        rest: Vec::new(nodes.allocator()),
     })
 }
 
@@ -256,7 +257,7 @@ fn sprout(
     ensures along { OnOk result (IsAlong key.now way.new) }
     ensures ends { OnOk result (way.new.top.part ≡ left key.now way.new.at) }
 {
-    let part = part_from(nodes.allocator(), key, next)?;
+    let part = part_in(&mut way.rest, nodes.allocator(), key, next)?;
     way.push(nibble, next, bare(part))?;
     Ok(())
 }
@@ -270,7 +271,8 @@ fn regrow(nodes: &Nodes, way: &mut OpenWay, key: &[u8]) -> Result<(), AllocError
     ensures levels { OnOk result (way.new.levels ≡ way.old.levels) }
     ensures at { OnOk result (way.new.at ≡ way.old.at) }
 {
-    way.top.part = part_from(nodes.allocator(), key, way.at)?;
+    let part = part_in(&mut way.rest, nodes.allocator(), key, way.at)?;
+    way.top.part = part;
     Ok(())
 }
 
@@ -468,6 +470,7 @@ fn finish(nodes: &mut Nodes, way: OpenWay) -> Result<Option<u32>, AllocError>
         levels: _,
         top,
         at: _,
+        rest: _,
     } = way;
     let id = settle_open(nodes, top)?;
     Ok(id)
