@@ -23,6 +23,9 @@ use nr_state::{Caller, Place};
 use nr_txconvert::{Converted, TxFault, convert_hashed};
 use std::alloc::{AllocError, Global};
 
+// Most transactions take fewer bytes.
+const ROOM: usize = 256;
+
 fn begin(alloc: Global, state: State, shard: ShardId, place: Place) -> Work
     ensures begun { working_of result ≡ begun (kept_of state) shard place }
     ensures state { result.state ≡ state }
@@ -148,7 +151,7 @@ fn convert_all<C: Caller<ChunkStore>>(
 {
     chain.pays();
     let mut local = Vec::new(alloc);
-    let mut spelled = Writer::new(alloc);
+    let mut spelled = Writer::with_room(alloc, txs.len().min(1) * ROOM)?;
     for tx in txs {
         convert_next(alloc, work, chain, &mut local, &mut spelled, tx)?;
     }

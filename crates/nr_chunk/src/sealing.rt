@@ -13,6 +13,9 @@ use nr_layout::Layout;
 use nr_records::{ChunkLine, ChunkResult, Receipt, hash_in};
 use std::alloc::{AllocError, Global};
 
+// Most receipts take fewer bytes.
+const ROOM: usize = 256;
+
 /// What a seal leaves.
 #[derive(Drop)]
 pub(crate) struct Sealed {
@@ -47,7 +50,7 @@ fn with_sent(
     ensures { IfOk result (λ all. all.items ≡ lines.items ++ map (sent layout.now) outgoing.now) }
 {
     let mut all = lines;
-    let mut spelled = Writer::new(alloc);
+    let mut spelled = Writer::with_room(alloc, outgoing.len().min(1) * ROOM)?;
     for receipt in outgoing {
         all.push(sent_line(&mut spelled, layout, receipt)?)?;
     }

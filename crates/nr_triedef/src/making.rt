@@ -6,7 +6,7 @@ ghost use Rattle.nr_triedef.specs.Root.{part_usage, usage_below, leaf_with, exte
 ghost use Rattle.nr_triedef.specs.declared.node.Node.TheVariants.{Leaf, Extension};
 
 use crate::hash::{Steps, Summary, bytes_of, hash_node, value_hash};
-use crate::node::{Node, extension_text, leaf_text, node_text_in};
+use crate::node::{MOST_OF_BRANCH, Node, extension_text, leaf_text, node_text_in};
 use crate::part::key_part_in;
 use nr_bytes::Writer;
 use nr_ids::Hash32;
@@ -47,6 +47,9 @@ pub fn part_usage(part: &[u8]) -> Result<u64, AllocError>
     Ok(50 + 2 * u64::from(length))
 }
 
+// Most parts take fewer bytes.
+const PART_ROOM: usize = 64;
+
 /// Memory in which nodes are spelled for their hashes, one after the other.
 #[derive(Drop)]
 pub struct Scratch {
@@ -55,12 +58,15 @@ pub struct Scratch {
 }
 
 impl Scratch {
-    /// None yet: it is taken as nodes are spelled.
-    pub fn new(alloc: Global) -> Scratch {
-        Scratch {
-            part: Writer::new(alloc),
-            text: Writer::new(alloc),
-        }
+    /// With room for any branch, and for parts as most nodes have them.
+    ///
+    /// # Errors
+    ///
+    /// Where memory ran out.
+    pub fn new(alloc: Global) -> Result<Scratch, AllocError> {
+        let part = Writer::with_room(alloc, PART_ROOM)?;
+        let text = Writer::with_room(alloc, MOST_OF_BRANCH)?;
+        Ok(Scratch { part, text })
     }
 }
 
@@ -101,7 +107,7 @@ pub fn summarize<L: Ledger>(
     ensures made { IfOk result (λ s. s ≡ summary node.now) }
     ensures steps { steps.new ≤ steps.old + 1 }
 {
-    let mut scratch = Scratch::new(alloc);
+    let mut scratch = Scratch::new(alloc)?;
     summarize_in(&mut scratch, node, usage, steps)
 }
 
@@ -250,7 +256,7 @@ pub fn with_front<L: Ledger>(
     ensures made { IfOk result (λ s. s ≡ with_front shared.now below) }
     ensures steps { steps.new ≤ steps.old + cond (length shared.now == 0) 0 1 }
 {
-    let mut scratch = Scratch::new(alloc);
+    let mut scratch = Scratch::new(alloc)?;
     with_front_in(&mut scratch, shared, below, steps)
 }
 

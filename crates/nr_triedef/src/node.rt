@@ -48,8 +48,8 @@ pub fn usage_of(node: &Node) -> u64
     }
 }
 
-// The most bytes of a branch's text: with a value and sixteen children.
-const MOST_OF_BRANCH: usize = 559;
+/// The most bytes of a branch's text: with a value and sixteen children.
+pub(crate) const MOST_OF_BRANCH: usize = 559;
 
 // A part of 2^32 bytes or more counts as want of memory.
 fn put_part(text: &mut Writer, part: &[u8]) -> Result<(), AllocError>

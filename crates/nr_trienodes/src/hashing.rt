@@ -97,7 +97,7 @@ fn warm<L: Ledger>(
 {
     let _count = nodes.count();
     let mut queue = queue;
-    let mut scratch = Scratch::new(nodes.allocator());
+    let mut scratch = Scratch::new(nodes.allocator())?;
     'up: while let Some(id) = queue.pop() {
         let made = summary_of(nodes, id, &mut scratch, steps)?;
         nodes.keep_hash(id, made.hash);

@@ -26,6 +26,9 @@ use crate::turn::{Stop, Turn, nibble_at};
 use std::alloc::AllocError;
 use std::marker::Model;
 
+// What is left of most keys has fewer nibbles.
+const REST: usize = 128;
+
 /// Another value at a key, or none.
 #[derive(Debug, Drop)]
 pub struct Change<'a> {
@@ -100,11 +103,12 @@ fn start(nodes: &Nodes, root: Option<u32>) -> Result<OpenWay, AllocError>
     ensures { IfOk result (λ way. StartsSo nodes.now root way) }
 {
     let top = top_of(nodes, root)?;
+    let rest = Vec::with_capacity(nodes.allocator(), REST)?;
     Ok(OpenWay {
         levels: Levels::new(nodes.allocator()),
         top,
         at: 0,
-        rest: Vec::new(nodes.allocator()),
+        rest,
     })
 }
 
