@@ -1,7 +1,8 @@
 //! What is seen of entries that stand behind their accounts in one walk, without a map.
 
-ghost use Rattle.std.specs.Prelude.{◌≡◌, List, true, [], IfOk, Ok};
+ghost use Rattle.std.specs.Prelude.{◌≡◌, if◌then◌else◌, List, true, [], Some, None, IfOk, Ok};
 ghost use Rattle.std.specs.Option.{option_copied};
+ghost use Rattle.nr_ids.specs.Grammar.{is_system};
 ghost use Rattle.nr_blocks.specs.Groups.{is_again, again, known_after, grouped};
 ghost use Rattle.nr_blocks.specs.Groups.{states, ahead, lead, are_stated, LeadsOn};
 ghost use Rattle.nr_blocks.specs.Judging.{each, has_owner};
@@ -13,21 +14,32 @@ use nr_config::Config;
 use nr_ids::AccountId;
 use std::alloc::{AllocError, Global};
 
-fn is_again(id: &[u8], known: &[u8]) -> bool
+fn is_again(id: &AccountId, known: &[u8]) -> bool
     ensures { result ≡ is_again known.now id.now }
 {
-    !known.is_empty() && id == known
+    let bytes = id.bytes();
+    !known.is_empty() && bytes == known
 }
 
 // The id once more, where it is the one that is known; the empty one stands for none.
 fn again<'a>(id: &'a AccountId, known: &[u8]) -> Option<&'a [u8]>
     ensures { option_copied result ≡ again known.now id.now }
 {
-    let bytes = id.bytes();
-    if is_again(bytes, known) {
-        Some(bytes)
+    if is_again(id, known) {
+        Some(id.bytes())
     } else {
         None
+    }
+}
+
+// The id, where it isn't the system's.
+fn plain(id: &AccountId) -> Option<&[u8]>
+    ensures { option_copied result ≡ (if is_system id.now then None else Some id.now) }
+{
+    if id.is_system() {
+        None
+    } else {
+        Some(id.bytes())
     }
 }
 
@@ -36,13 +48,7 @@ fn known_after<'a>(entry: &'a GenesisEntry, known: &[u8]) -> Option<&'a [u8]>
     ensures { option_copied result ≡ known_after known.now entry.now }
 {
     match entry {
-        GenesisEntry::Account(id, _) => {
-            if id.is_system() {
-                None
-            } else {
-                Some(id.bytes())
-            }
-        }
+        GenesisEntry::Account(id, _) => plain(id),
         GenesisEntry::Code(id, _) => again(id, known),
         GenesisEntry::Key(id, _, _) => again(id, known),
         GenesisEntry::Datum(id, _, _) => again(id, known),
@@ -51,7 +57,6 @@ fn known_after<'a>(entry: &'a GenesisEntry, known: &[u8]) -> Option<&'a [u8]>
 
 /// Whether each entry is an account, or has the owner of the one before it. Then each has an owner,
 /// and no set of ids is made to see that.
-#[tactic(auto, using(crate::proofs::Turns::each_begins, crate::proofs::Turns::each_ends, crate::proofs::Grouped::none_known))]
 pub(crate) fn are_grouped(entries: &[GenesisEntry]) -> bool
     ensures owned { result ≡ true → each (has_owner entries.now) entries.now ≡ Ok tt }
     ensures grouped { result ≡ true → grouped [] entries.now ≡ true }

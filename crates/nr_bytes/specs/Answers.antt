@@ -14,3 +14,8 @@ Gives memory = GivesAs memory (λ x. x)
 -- the same of a reader's call, which leaves this rest
 abbrev pub GivesRead : {X F : Type 0} → F → Result X F → Input → Result (X × Input) F → Type 0
 GivesRead memory result rest = GivesAs memory (λ x. (x, rest)) result
+
+-- a call that takes no memory gave this answer, as the view shows it
+abbrev pub GivesAlways : {X Y F : Type 0} → (X → Y) → Result X F → Result Y F → Type 0
+GivesAlways view (Ok x) answer = answer ≡ Ok (view x)
+GivesAlways view (Err e) answer = answer ≡ Err e

@@ -1,9 +1,9 @@
 //! Reading Borsh fields from left to right.
 
-ghost use Rattle.std.specs.Prelude.{◌≡◌, ◌≢◌, length, [], option_copied, if◌then◌else◌, IfSome, IfErr, OnErr, ◌+◌, ◌≤◌};
+ghost use Rattle.std.specs.Prelude.{◌≡◌, length, [], option_copied, if◌then◌else◌, IfSome, OnErr, ◌+◌, ◌≤◌};
 ghost use Rattle.std.specs.Str.{is_utf8};
 ghost use Rattle.nr_bytes.specs.Numbers.{IsBytes};
-ghost use Rattle.nr_bytes.specs.Answers.{GivesAs, GivesRead};
+ghost use Rattle.nr_bytes.specs.Answers.{GivesAlways, GivesRead};
 ghost use Rattle.nr_bytes.specs.Reading.{Reads, fixed_at, number_at, flag_at, counted, bytes_at, text_at, end_at};
 ghost use Rattle.nr_bytes.specs.declared.fault.BytesFault.TheVariants.{Memory};
 
@@ -251,9 +251,8 @@ impl<'a> Reader<'a> {
     /// where the whole field is there and is no UTF-8.
     #[tactic(auto, unfolding(crate::specs::Reading::text_at))]
     pub fn lent_text(&mut self) -> Result<&'a str, BytesFault>
-        ensures gives { GivesAs Memory (λ text. (text.now, self.new)) result (text_at self.old) }
+        ensures gives { GivesAlways (λ text. (text.now, self.new)) result (text_at self.old) }
         ensures refused { OnErr result (self.new ≡ self.old) }
-        ensures memory { IfErr result (λ fault. fault ≢ Memory) }
     {
         let at = self.at;
         let bytes = self.bytes;

@@ -1,6 +1,6 @@
 //! The storage that the records of an account are counted as.
 
-ghost use Rattle.std.specs.Prelude.{◌≡◌, ◌+◌, IfOk, length};
+ghost use Rattle.std.specs.Prelude.{◌≡◌, ◌+◌, ◌∷◌, IfOk, length};
 ghost use Rattle.nr_config.specs.Config.{extra_record_bytes};
 ghost use Rattle.nr_ids.specs.Keys.{key_bytes};
 ghost use Rattle.nr_records.specs.AccessKeys.{access_key_bytes};
@@ -55,7 +55,7 @@ pub fn datum_usage(config: &Config, key: &[u8], value: &[u8]) -> Result<u64, All
 
 // How many bytes a byte and these are.
 fn one_more(bytes: &[u8]) -> u64
-    ensures { result ≡ length bytes.now + 1 }
+    ensures { result ≡ length (0 ∷ bytes.now) }
 {
     bytes.len() as u64 + 1
 }

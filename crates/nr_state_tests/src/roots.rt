@@ -169,6 +169,19 @@ fn odd_root<S: Store>(store: &mut S) -> Result<[u8; 32], AllocError> {
     root(store)
 }
 
+/// Whether a value that is handed over stands at its key.
+fn is_handed_over(alloc: Global) -> Result<bool, AllocError> {
+    let mut store = PlainStore::new(alloc);
+    store.set_owned(b"a", b"abc".to_vec(alloc)?)?;
+    Ok(store.get(b"a") == Some(b"abc"))
+}
+
+#[test]
+fn a_value_is_handed_over(rt: HostRuntime) -> Result<(), Fail> {
+    assert!(rt; is_handed_over(rt.alloc())?);
+    Ok(())
+}
+
 #[test]
 fn roots_of_three_keys(rt: HostRuntime) -> Result<(), Fail> {
     let want = ([[0; 32], *THREE, *FOUR, *THREE], true);

@@ -1,8 +1,16 @@
 -- The goals of `groups::are_stated` that no tactic closes.
 use Rattle.std.proofs.Common.{◌≡◌, ℕ, ◌-◌, ◌∷◌, true, drop, ap, subst, ◌∙◌, arith}
+use Rattle.std.proofs.Math.Seq.{drop-length}
 use Rattle.nr_blocks.specs.Groups.{lead, are_stated}
 use Rattle.nr_blocks.proofs.Turns.{front_of}
 use Rattle.nr_blocks.proofs.groups.are_stated.Goals as goal
+
+pub loop-left-init : goal.loop-left-init
+loop-left-init c = record {
+  within = omega arith;
+  bytes = ap (lead c.args.config.now) (drop-length c.args.entries.now);
+  stated = ap (are_stated c.args.config.now) (drop-length c.args.entries.now);
+}
 
 pub loop-left-preserved : goal.loop-left-preserved
 loop-left-preserved c =

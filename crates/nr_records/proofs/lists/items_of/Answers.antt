@@ -1,8 +1,23 @@
 -- The goals of `lists::items_of` that no tactic closes.
+use Rattle.std.proofs.Common.{◌≡◌, ℕ, ◌-◌, List, [], Ok, Err, refl, ap, ◌∙◌, arith}
 use Rattle.std.proofs.lemmas.Result.{err_from_is_err_and}
-use Rattle.nr_bytes.specs.Fields.{items_at}
-use Rattle.nr_bytes.proofs.Items.{goes_on, ends, is_done}
+use Rattle.nr_bytes.specs.Fields.{Read, items_at}
+use Rattle.nr_bytes.specs.Reading.{Input}
+use Rattle.nr_bytes.proofs.Items.{with_front, goes_on, ends, is_done}
 use Rattle.nr_records.proofs.lists.items_of.Goals as goal
+
+-- none was read before
+plain : {F X : Type 0} (read : Read F (List X)) → with_front [] read ≡ read
+plain (Ok x) = refl
+plain (Err e) = refl
+
+begins : {F X : Type 0} (item : Input → Read F X) (front : List X) (count : ℕ) (s : Input) → front ≡ [] → with_front front (items_at item (count - 0) s) ≡ items_at item count s
+begins item front count s none =
+    let all : count - 0 ≡ count = omega arith in
+    ap (λ items. with_front items (items_at item (count - 0) s)) none ∙ ap (λ n. with_front [] (items_at item n s)) all ∙ plain (items_at item count s)
+
+pub loop-init : goal.loop-init
+loop-init g c = begins g.T.Spelled.reading c.in_ok-items.items.items c.args.count c.args.reader.now c.in_ok-items.ensures.items
 
 pub returns-in_err-item : goal.returns-in_err-item
 returns-in_err-item g c =
