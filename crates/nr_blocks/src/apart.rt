@@ -2,8 +2,10 @@
 
 ghost use Rattle.std.specs.Prelude.{◌≡◌, ◌||◌, ℕ, List, None, true, not, IfOk, Ok, OnOk};
 ghost use Rattle.std.specs.BTreeSet.{contains};
+ghost use Rattle.std.specs.Ordering.{is_lt};
 ghost use Rattle.std.specs.Str.{bytes_eq};
 ghost use Rattle.nr_ids.specs.Grammar.{id_fault};
+ghost use Rattle.nr_ids.specs.Keys.{key_bytes};
 ghost use Rattle.nr_state.specs.World.{bytes_cmp};
 ghost use Rattle.nr_blocks.specs.Apart.{opens, is_before_key, is_before_datum, is_behind, follows, goes_on};
 ghost use Rattle.nr_blocks.specs.Apart.{starts, all_go_on, in_turn, is_new_to, are_new, AreValid};
@@ -28,15 +30,27 @@ fn opens(entry: &GenesisEntry) -> bool
     }
 }
 
+fn is_key_before(before: &PublicKey, key: &PublicKey) -> bool
+    ensures { result ≡ is_lt (bytes_cmp (key_bytes before.now) (key_bytes key.now)) }
+{
+    before.cmp(key).is_lt()
+}
+
 fn is_before_key(entry: &GenesisEntry, key: &PublicKey) -> bool
     ensures { result ≡ is_before_key key.now entry.now }
 {
     match entry {
         GenesisEntry::Account(_, _) => true,
         GenesisEntry::Code(_, _) => true,
-        GenesisEntry::Key(_, before, _) => before.cmp(key).is_lt(),
+        GenesisEntry::Key(_, before, _) => is_key_before(before, key),
         GenesisEntry::Datum(_, _, _) => false,
     }
+}
+
+fn is_datum_before(before: &[u8], key: &[u8]) -> bool
+    ensures { result ≡ is_lt (bytes_cmp before.now key.now) }
+{
+    before.cmp(key).is_lt()
 }
 
 fn is_before_datum(entry: &GenesisEntry, key: &[u8]) -> bool
@@ -46,7 +60,7 @@ fn is_before_datum(entry: &GenesisEntry, key: &[u8]) -> bool
         GenesisEntry::Account(_, _) => true,
         GenesisEntry::Code(_, _) => true,
         GenesisEntry::Key(_, _, _) => true,
-        GenesisEntry::Datum(_, before, _) => before.inner().cmp(key).is_lt(),
+        GenesisEntry::Datum(_, before, _) => is_datum_before(before.inner(), key),
     }
 }
 
@@ -62,16 +76,17 @@ fn is_behind(before: &GenesisEntry, entry: &GenesisEntry) -> bool
     }
 }
 
-fn is_same(id: &[u8], known: &[u8]) -> bool
-    ensures { result ≡ bytes_eq id.now known.now }
+fn is_same(id: &AccountId, other: &AccountId) -> bool
+    ensures { result ≡ bytes_eq id.now other.now }
 {
-    id == known
+    let bytes = id.bytes();
+    bytes == other.bytes()
 }
 
 fn follows(before: &GenesisEntry, entry: &GenesisEntry) -> bool
     ensures { result ≡ follows before.now entry.now }
 {
-    is_same(owner_of(before).bytes(), owner_of(entry).bytes()) && is_behind(before, entry)
+    is_same(owner_of(before), owner_of(entry)) && is_behind(before, entry)
 }
 
 fn goes_on(before: &GenesisEntry, entry: &GenesisEntry) -> bool
