@@ -6,7 +6,7 @@ ghost use Rattle.nr_triedef.specs.Root.{part_usage, usage_below, leaf_with, exte
 ghost use Rattle.nr_triedef.specs.declared.node.Node.TheVariants.{Leaf, Extension};
 
 use crate::hash::{Steps, Summary, bytes_of, hash_node, value_hash};
-use crate::node::{MOST_OF_BRANCH, Node, extension_text, leaf_text, node_text_in};
+use crate::node::{MOST_OF_BRANCH, Node, extension_text, leaf_text, node_text, node_text_in};
 use crate::part::key_part_in;
 use nr_bytes::Writer;
 use nr_ids::Hash32;
@@ -107,8 +107,9 @@ pub fn summarize<L: Ledger>(
     ensures made { IfOk result (λ s. s ≡ summary node.now) }
     ensures steps { steps.new ≤ steps.old + 1 }
 {
-    let mut scratch = Scratch::new(alloc)?;
-    summarize_in(&mut scratch, node, usage, steps)
+    let text = node_text(alloc, node)?;
+    let hash = hash_node(text.inner(), steps);
+    Ok(Summary { hash, usage })
 }
 
 // The summary of a leaf with this part.
@@ -256,6 +257,9 @@ pub fn with_front<L: Ledger>(
     ensures made { IfOk result (λ s. s ≡ with_front shared.now below) }
     ensures steps { steps.new ≤ steps.old + cond (length shared.now == 0) 0 1 }
 {
+    if shared.is_empty() {
+        return Ok(below);
+    }
     let mut scratch = Scratch::new(alloc)?;
     with_front_in(&mut scratch, shared, below, steps)
 }
