@@ -48,7 +48,9 @@ fn fields_are_written(rt: HostRuntime) -> Result<(), Fail> {
     writer.put_raw(b"xy")?;
     writer.put_bytes(b"ab")?;
     writer.put_bytes(b"c")?;
-    assert_eq!(rt; writer.finish().inner(), FIELDS);
+    assert_eq!(rt; writer.written(), FIELDS);
+    writer.clear();
+    assert_eq!(rt; writer.finish().inner().len(), 0);
     Ok(())
 }
 

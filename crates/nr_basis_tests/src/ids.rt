@@ -36,10 +36,13 @@ fn bytes_are_judged(rt: HostRuntime) {
 
 #[test]
 fn an_id_and_its_copy_have_the_bytes(rt: HostRuntime) -> Result<(), Fail> {
-    let id = AccountId::parse(rt.alloc(), b"alice.near")?;
-    let copy = id.duplicate(rt.alloc())?;
-    assert_eq!(rt; copy.bytes(), b"alice.near".as_slice());
-    assert!(rt; id == copy);
+    let rows: [&[u8]; 4] = [b"alice.near", &[b'a'; 30], &[b'a'; 31], &[b'a'; 64]];
+    for bytes in rows {
+        let id = AccountId::parse(rt.alloc(), bytes)?;
+        let copy = id.duplicate(rt.alloc())?;
+        assert_eq!(rt; copy.bytes(), bytes);
+        assert!(rt; id == copy);
+    }
     assert_eq!(rt;
         AccountId::system(rt.alloc())?.bytes(),
         b"system".as_slice()

@@ -6,6 +6,7 @@ pub mod Outlined
 mod Entries
 mod Grouped
 mod Stated
+mod Ranked
 mod Spellings
 pub mod Filling
 pub mod Sound

@@ -12,3 +12,4 @@ pub mod Spellings
 pub mod Parts
 pub mod Filling
 pub mod Groups
+pub mod Apart

@@ -4,6 +4,7 @@
 //! lists begin with their count as four bytes, ordinals are one byte. All of a file is read.
 #![tactic(auto)]
 
+mod apart;
 mod block;
 mod block_checks;
 mod block_list;

@@ -1,5 +1,5 @@
-//! Blocks made of their outlines, the last transaction first. The bytes of each are given back once it is made, so that
-//! a file and its values never stand both.
+//! Blocks made of their outlines, the last transaction first. The bytes of each are given back once it is made, a page
+//! at least, so that a file and its values never stand both.
 
 ghost use Rattle.std.specs.List.{AllByRecursion, flat_map};
 ghost use Rattle.std.specs.Prelude.{◌≡◌, ℕ, ◌++◌, length, drop, List as Items, Ok, Some};
@@ -46,6 +46,19 @@ fn transaction_in(alloc: Global, bytes: &[u8], place: usize) -> Result<Transacti
     first_transaction(alloc, dropped(bytes, place))
 }
 
+// Less than this isn't worth a call.
+const PAGE: usize = 4096;
+
+/// Gives the memory back that the bytes don't take, where it is a page or more.
+fn give_back(bytes: &mut Vec<u8>)
+    ensures { bytes.new.items ≡ bytes.old.items }
+{
+    if bytes.capacity().saturating_sub(bytes.len()) < PAGE {
+        return;
+    }
+    bytes.shrink_to_fit();
+}
+
 /// The transaction that begins at a place. The bytes from there on are given back.
 fn make_transaction(
     alloc: Global,
@@ -58,7 +71,7 @@ fn make_transaction(
     match transaction_in(alloc, bytes.as_slice(), place) {
         Ok(transaction) => {
             bytes.truncate(place);
-            bytes.shrink_to_fit();
+            give_back(bytes);
             Ok(transaction)
         }
         Err(fault) => Err(fault),

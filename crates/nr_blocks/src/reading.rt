@@ -16,7 +16,7 @@ ghost use Rattle.nr_blocks.specs.declared.version.Version.{Version};
 use crate::block::Block;
 use crate::block_checks::check_blocks;
 use crate::blocks_file::{bytes_law, decode_blocks};
-use crate::entry_checks::{check_code_hashes, check_owners, check_trie_keys, judge_usages};
+use crate::entry_checks::{check_code_hashes, check_owners, judge_trie_keys, judge_usages};
 use crate::fault::{BlocksFault, GenesisFault};
 use crate::genesis::Genesis;
 use crate::genesis_entry::GenesisEntry;
@@ -32,7 +32,7 @@ use std::alloc::Global;
 fn judge(alloc: Global, entries: &[GenesisEntry], config: &Config) -> Result<u128, GenesisFault>
     ensures { Gives genesis.Memory result (founded config.now entries.now) }
 {
-    check_trie_keys(alloc, entries)?;
+    judge_trie_keys(alloc, entries)?;
     check_owners(alloc, entries)?;
     judge_usages(alloc, entries, config)?;
     let supply = bounded_supply(entries)?;

@@ -46,6 +46,20 @@ impl Writer {
         Ok(Writer { bytes })
     }
 
+    /// Lets go what was written. The memory stays, for what is written next.
+    pub fn clear(&mut self)
+        ensures { self.new ≡ [] }
+    {
+        self.bytes.clear();
+    }
+
+    /// Lends the bytes that were written.
+    pub fn written(&self) -> &[u8]
+        ensures { result.now ≡ self.now }
+    {
+        &self.bytes
+    }
+
     /// Writes bytes without a count (Borsh: Fixed sized arrays).
     ///
     /// # Errors

@@ -16,12 +16,15 @@ use crate::refused::line;
 use crate::serving::{serve_all, serve_delayed};
 use crate::state::{ChunkStore, State};
 use crate::work::Work;
-use nr_bytes::List;
+use nr_bytes::{List, Writer};
 use nr_ids::{Hash32, ShardId};
-use nr_records::{ChunkLine, Receipt, Transaction, hash_of};
+use nr_records::{ChunkLine, Receipt, Transaction, hash_in};
 use nr_state::{Caller, Place};
 use nr_txconvert::{Converted, TxFault, convert_hashed};
 use std::alloc::{AllocError, Global};
+
+// Most transactions take fewer bytes.
+const ROOM: usize = 256;
 
 fn begin(alloc: Global, state: State, shard: ShardId, place: Place) -> Work
     ensures begun { working_of result ≡ begun (kept_of state) shard place }
@@ -97,12 +100,13 @@ fn note_converted(
     put_aside(work, tx.signer == tx.receiver, local, made.receipt)
 }
 
-/// Converts a transaction.
+/// Converts a transaction. It is spelled in a writer that is used again.
 fn convert_next<C: Caller<ChunkStore>>(
     alloc: Global,
     work: &mut Work,
     chain: &ChainRun<C>,
     local: &mut Vec<Receipt>,
+    spelled: &mut Writer,
     tx: &Transaction,
 ) -> Result<(), AllocError>
     requires ready { IsReady work.old }
@@ -114,7 +118,7 @@ fn convert_next<C: Caller<ChunkStore>>(
     ensures ready { OnOk result (IsReady work.new) }
 {
     chain.pays();
-    let hash = hash_of(alloc, tx)?;
+    let hash = hash_in(spelled, tx)?;
     match convert_hashed(
         alloc,
         &mut work.state,
@@ -147,8 +151,9 @@ fn convert_all<C: Caller<ChunkStore>>(
 {
     chain.pays();
     let mut local = Vec::new(alloc);
+    let mut spelled = Writer::with_room(alloc, txs.len().min(1) * ROOM)?;
     for tx in txs {
-        convert_next(alloc, work, chain, &mut local, tx)?;
+        convert_next(alloc, work, chain, &mut local, &mut spelled, tx)?;
     }
     Ok(local)
 }

@@ -8,10 +8,13 @@ ghost use Rattle.nr_layout.specs.Layout.{parts};
 use crate::root::root_of;
 use crate::state::State;
 use crate::work::Work;
-use nr_bytes::List;
+use nr_bytes::{List, Writer};
 use nr_layout::Layout;
-use nr_records::{ChunkLine, ChunkResult, Receipt, hash_of};
+use nr_records::{ChunkLine, ChunkResult, Receipt, hash_in};
 use std::alloc::{AllocError, Global};
+
+// Most receipts take fewer bytes.
+const ROOM: usize = 256;
 
 /// What a seal leaves.
 #[derive(Drop)]
@@ -23,17 +26,21 @@ pub(crate) struct Sealed {
 }
 
 #[tactic(auto, unfolding(crate::specs::Chunk::sent))]
-fn sent_line(alloc: Global, layout: &Layout, receipt: &Receipt) -> Result<ChunkLine, AllocError>
+fn sent_line(
+    spelled: &mut Writer,
+    layout: &Layout,
+    receipt: &Receipt,
+) -> Result<ChunkLine, AllocError>
     ensures { IfOk result (λ line. line ≡ sent layout.now receipt.now) }
 {
     Ok(ChunkLine::Sent {
         dest: layout.shard_of(&receipt.receiver),
         receipt_id: receipt.receipt_id,
-        hash: hash_of(alloc, receipt)?,
+        hash: hash_in(spelled, receipt)?,
     })
 }
 
-/// The lines, and then one for each receipt that goes out.
+/// The lines, and then one for each receipt that goes out. Each is spelled in the same memory.
 fn with_sent(
     alloc: Global,
     layout: &Layout,
@@ -43,8 +50,9 @@ fn with_sent(
     ensures { IfOk result (λ all. all.items ≡ lines.items ++ map (sent layout.now) outgoing.now) }
 {
     let mut all = lines;
+    let mut spelled = Writer::with_room(alloc, outgoing.len().min(1) * ROOM)?;
     for receipt in outgoing {
-        all.push(sent_line(alloc, layout, receipt)?)?;
+        all.push(sent_line(&mut spelled, layout, receipt)?)?;
     }
     Ok(all)
 }

@@ -1,6 +1,6 @@
--- The key of an account, in place. This project's own.
+-- A key of the trie, in place. This project's own.
 use Rattle.std.specs.Prelude.{◌≤◌, ℕ, List, take}
-use Rattle.nr_columns.specs.declared.account_slot.AccountSlot.TheInside.{Inside}
+use Rattle.nr_columns.specs.declared.key_slot.KeySlot.TheInside.{Inside}
 
 -- what contracts see: the bytes
 abbrev pub slot_view : Inside → List ℕ
@@ -8,4 +8,4 @@ slot_view s = take s.count s.bytes
 
 -- no more count than there is room for
 abbrev pub IsSlot : Inside → Type 0
-IsSlot s = s.count ≤ 65
+IsSlot s = s.count ≤ 131

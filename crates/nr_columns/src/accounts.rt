@@ -8,7 +8,6 @@ ghost use Rattle.nr_ids.specs.Keys.{IsHash, IsKey};
 ghost use Rattle.nr_records.specs.AccessKeys.{IsAccessKey};
 ghost use Rattle.nr_columns.specs.View.{with_columns, without_owner};
 
-use crate::account_slot::AccountSlot;
 use crate::columns::Columns;
 use crate::keys;
 use crate::lists::remove_each;
@@ -24,7 +23,7 @@ impl<S: Store> Columns<S> {
     pub fn account(&self, id: &AccountId) -> Result<Option<Account>, AllocError>
         ensures { IfOk result (λ found. found ≡ map.get self.now.columns.accounts id.now) }
     {
-        let key = AccountSlot::of(id);
+        let key = keys::account_slot(id)?;
         stored(self.alloc, &self.store, key.as_slice())
     }
 
@@ -35,8 +34,8 @@ impl<S: Store> Columns<S> {
         ensures fits { OnOk result (IsId id.now × IsAccount account.now) }
         ensures err { OnErr result (self.new ≡ self.old) }
     {
-        let key = AccountSlot::of(id);
-        put(self.alloc, &mut self.store, key.as_slice(), account)?;
+        let key = keys::account_slot(id)?;
+        put(&mut self.spelled, &mut self.store, key.as_slice(), account)?;
         Ok(())
     }
 
@@ -47,7 +46,7 @@ impl<S: Store> Columns<S> {
             (record self.old.columns { accounts = map.remove self.old.columns.accounts id.now })) }
         ensures err { OnErr result (self.new ≡ self.old) }
     {
-        let key = AccountSlot::of(id);
+        let key = keys::account_slot(id)?;
         let found = self.store.remove(key.as_slice())?;
         Ok(found)
     }
@@ -60,8 +59,8 @@ impl<S: Store> Columns<S> {
     ) -> Result<Option<AccessKey>, AllocError>
         ensures { IfOk result (λ found. found ≡ map.get self.now.columns.keys (id.now, key.now)) }
     {
-        let slot = keys::owner_key(self.alloc, id, key)?;
-        stored(self.alloc, &self.store, slot.inner())
+        let slot = keys::owner_slot(id, key)?;
+        stored(self.alloc, &self.store, slot.as_slice())
     }
 
     /// An access key, lent as it is spelled; `None` where there is none.
@@ -72,11 +71,28 @@ impl<S: Store> Columns<S> {
     ) -> Result<Option<SpelledKey<'_>>, AllocError>
         ensures { IfOk result (λ found. found ≡ map.get self.now.columns.keys (id.now, key.now)) }
     {
-        let slot = keys::owner_key(self.alloc, id, key)?;
-        match self.store.get(slot.inner()) {
+        let slot = keys::owner_slot(id, key)?;
+        match self.store.get(slot.as_slice()) {
             Some(bytes) => Ok(Some(SpelledKey::of(bytes))),
             None => Ok(None),
         }
+    }
+
+    /// Writes an access key.
+    pub fn set_access_key(
+        &mut self,
+        id: &AccountId,
+        key: &PublicKey,
+        access: &AccessKey,
+    ) -> Result<(), AllocError>
+        ensures ok { OnOk result (self.new ≡ with_columns self.old
+            (record self.old.columns { keys = map.insert self.old.columns.keys (id.now, key.now) access.now })) }
+        ensures fits { OnOk result (IsId id.now × (IsKey key.now × IsAccessKey access.now)) }
+        ensures err { OnErr result (self.new ≡ self.old) }
+    {
+        let slot = keys::owner_slot(id, key)?;
+        put(&mut self.spelled, &mut self.store, slot.as_slice(), access)?;
+        Ok(())
     }
 
     /// Writes an access key that is spelled already.
@@ -91,8 +107,8 @@ impl<S: Store> Columns<S> {
         ensures fits { OnOk result (IsId id.now × (IsKey key.now × IsAccessKey access.now)) }
         ensures err { OnErr result (self.new ≡ self.old) }
     {
-        let slot = keys::owner_key(self.alloc, id, key)?;
-        self.store.set(slot.inner(), access.bytes())?;
+        let slot = keys::owner_slot(id, key)?;
+        self.store.set(slot.as_slice(), access.bytes())?;
         Ok(())
     }
 
@@ -103,8 +119,8 @@ impl<S: Store> Columns<S> {
             (record self.old.columns { keys = map.remove self.old.columns.keys (id.now, key.now) })) }
         ensures err { OnErr result (self.new ≡ self.old) }
     {
-        let slot = keys::owner_key(self.alloc, id, key)?;
-        let found = self.store.remove(slot.inner())?;
+        let slot = keys::owner_slot(id, key)?;
+        let found = self.store.remove(slot.as_slice())?;
         Ok(found)
     }
 

@@ -9,7 +9,7 @@ ghost use Rattle.nr_columns.specs.View.{IsLaid, columns_in};
 
 use crate::entry::Entry;
 use crate::lists::{entries_at, set_each};
-use nr_bytes::List;
+use nr_bytes::{List, Writer};
 use nr_triedef::{NodeHash, Steps, Store};
 use std::alloc::{AllocError, Global};
 use std::marker::Model;
@@ -28,6 +28,8 @@ use std::sync::ledger::Ledger;
 pub struct Columns<S: Store> {
     pub(crate) alloc: Global,
     pub(crate) store: S,
+    // What the record that was written last is spelled as. Its memory serves for the next one.
+    pub(crate) spelled: Writer,
 }
 
 impl<S: Store> Model for Columns<S> {
@@ -63,7 +65,11 @@ impl<S: Store + Drop> Columns<S> {
     {
         let mut store = store;
         set_each(&mut store, entries.inner())?;
-        Ok(Columns { alloc, store })
+        Ok(Columns {
+            alloc,
+            store,
+            spelled: Writer::new(alloc),
+        })
     }
 }
 
@@ -76,7 +82,11 @@ impl<S: Store> Columns<S> {
         ensures marks { result.marks ≡ [] }
         ensures spare { result.spare ≡ S.spare store }
     {
-        Columns { alloc, store }
+        Columns {
+            alloc,
+            store,
+            spelled: Writer::new(alloc),
+        }
     }
 
     /// All entries of the trie, in the order of their keys' bytes.

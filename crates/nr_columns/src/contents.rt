@@ -18,8 +18,8 @@ impl<S: Store> Columns<S> {
     pub fn code(&self, id: &AccountId) -> Result<Option<&[u8]>, AllocError>
         ensures { IfOk result (λ found. option_copied found ≡ map.get self.now.columns.code id.now) }
     {
-        let key = keys::code_key(self.alloc, id)?;
-        Ok(self.store.get(key.inner()))
+        let key = keys::code_slot(id)?;
+        Ok(self.store.get(key.as_slice()))
     }
 
     /// Writes an account's code.
@@ -29,8 +29,8 @@ impl<S: Store> Columns<S> {
         ensures fits { OnOk result (IsId id.now) }
         ensures err { OnErr result (self.new ≡ self.old) }
     {
-        let key = keys::code_key(self.alloc, id)?;
-        self.store.set(key.inner(), code)?;
+        let key = keys::code_slot(id)?;
+        self.store.set(key.as_slice(), code)?;
         Ok(())
     }
 
@@ -41,8 +41,8 @@ impl<S: Store> Columns<S> {
             (record self.old.columns { code = map.remove self.old.columns.code id.now })) }
         ensures err { OnErr result (self.new ≡ self.old) }
     {
-        let key = keys::code_key(self.alloc, id)?;
-        let found = self.store.remove(key.inner())?;
+        let key = keys::code_slot(id)?;
+        let found = self.store.remove(key.as_slice())?;
         Ok(found)
     }
 

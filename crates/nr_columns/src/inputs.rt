@@ -26,8 +26,8 @@ impl<S: Store> Columns<S> {
     ) -> Result<Option<Option<Blob>>, AllocError>
         ensures { IfOk result (λ found. found ≡ map.get self.now.columns.received (receiver.now, data_id.now.0)) }
     {
-        let key = keys::pair_key(self.alloc, keys::RECEIVED, receiver, &data_id.0)?;
-        stored(self.alloc, &self.store, key.inner())
+        let key = keys::pair_slot(keys::RECEIVED, receiver, &data_id.0)?;
+        stored(self.alloc, &self.store, key.as_slice())
     }
 
     /// Writes a received datum.
@@ -45,8 +45,8 @@ impl<S: Store> Columns<S> {
         ensures fits { OnOk result (IsId receiver.now × (IsHash data_id.now × IsOption IsCounted bytes.now)) }
         ensures err { OnErr result (self.new ≡ self.old) }
     {
-        let key = keys::pair_key(self.alloc, keys::RECEIVED, receiver, &data_id.0)?;
-        put(self.alloc, &mut self.store, key.inner(), bytes)?;
+        let key = keys::pair_slot(keys::RECEIVED, receiver, &data_id.0)?;
+        put(&mut self.spelled, &mut self.store, key.as_slice(), bytes)?;
         Ok(())
     }
 
@@ -65,8 +65,8 @@ impl<S: Store> Columns<S> {
             })) }
         ensures err { OnErr result (self.new ≡ self.old) }
     {
-        let key = keys::pair_key(self.alloc, keys::RECEIVED, receiver, &data_id.0)?;
-        let found = self.store.remove(key.inner())?;
+        let key = keys::pair_slot(keys::RECEIVED, receiver, &data_id.0)?;
+        let found = self.store.remove(key.as_slice())?;
         Ok(found)
     }
 
@@ -78,8 +78,8 @@ impl<S: Store> Columns<S> {
     ) -> Result<Option<Hash32>, AllocError>
         ensures { IfOk result (λ found. found ≡ map.get self.now.columns.awaited (receiver.now, data_id.now.0)) }
     {
-        let key = keys::pair_key(self.alloc, keys::AWAITED, receiver, &data_id.0)?;
-        stored(self.alloc, &self.store, key.inner())
+        let key = keys::pair_slot(keys::AWAITED, receiver, &data_id.0)?;
+        stored(self.alloc, &self.store, key.as_slice())
     }
 
     /// Writes which postponed receipt waits for a datum.
@@ -96,8 +96,13 @@ impl<S: Store> Columns<S> {
             })) }
         ensures err { OnErr result (self.new ≡ self.old) }
     {
-        let key = keys::pair_key(self.alloc, keys::AWAITED, receiver, &data_id.0)?;
-        put(self.alloc, &mut self.store, key.inner(), receipt_id)?;
+        let key = keys::pair_slot(keys::AWAITED, receiver, &data_id.0)?;
+        put(
+            &mut self.spelled,
+            &mut self.store,
+            key.as_slice(),
+            receipt_id,
+        )?;
         Ok(())
     }
 
@@ -113,8 +118,8 @@ impl<S: Store> Columns<S> {
             (record self.old.columns { awaited = map.remove self.old.columns.awaited (receiver.now, data_id.now.0) })) }
         ensures err { OnErr result (self.new ≡ self.old) }
     {
-        let key = keys::pair_key(self.alloc, keys::AWAITED, receiver, &data_id.0)?;
-        let found = self.store.remove(key.inner())?;
+        let key = keys::pair_slot(keys::AWAITED, receiver, &data_id.0)?;
+        let found = self.store.remove(key.as_slice())?;
         Ok(found)
     }
 
@@ -126,8 +131,8 @@ impl<S: Store> Columns<S> {
     ) -> Result<Option<u32>, AllocError>
         ensures { IfOk result (λ found. found ≡ map.get self.now.columns.missing (receiver.now, receipt_id.now.0)) }
     {
-        let key = keys::pair_key(self.alloc, keys::MISSING, receiver, &receipt_id.0)?;
-        Ok(stored_count(&self.store, key.inner()))
+        let key = keys::pair_slot(keys::MISSING, receiver, &receipt_id.0)?;
+        Ok(stored_count(&self.store, key.as_slice()))
     }
 
     /// Writes how many inputs a postponed receipt lacks.
@@ -144,8 +149,8 @@ impl<S: Store> Columns<S> {
             })) }
         ensures err { OnErr result (self.new ≡ self.old) }
     {
-        let key = keys::pair_key(self.alloc, keys::MISSING, receiver, &receipt_id.0)?;
-        put_count(self.alloc, &mut self.store, key.inner(), count)?;
+        let key = keys::pair_slot(keys::MISSING, receiver, &receipt_id.0)?;
+        put_count(self.alloc, &mut self.store, key.as_slice(), count)?;
         Ok(())
     }
 
@@ -164,8 +169,8 @@ impl<S: Store> Columns<S> {
             })) }
         ensures err { OnErr result (self.new ≡ self.old) }
     {
-        let key = keys::pair_key(self.alloc, keys::MISSING, receiver, &receipt_id.0)?;
-        let found = self.store.remove(key.inner())?;
+        let key = keys::pair_slot(keys::MISSING, receiver, &receipt_id.0)?;
+        let found = self.store.remove(key.as_slice())?;
         Ok(found)
     }
 }

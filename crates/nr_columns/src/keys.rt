@@ -8,6 +8,7 @@ ghost use Rattle.nr_columns.specs.Keys.{account_key, code_key, access_key_key, d
 ghost use Rattle.nr_columns.specs.Keys.{owner_prefixes};
 ghost use Rattle.nr_columns.specs.View.{at_first, key_of_rest};
 
+use crate::key_slot::KeySlot;
 use nr_bytes::{Blob, List, Writer};
 use nr_ids::{AccountId, PublicKey};
 use nr_records::Spelled;
@@ -82,7 +83,13 @@ pub fn code_key(alloc: Global, id: &AccountId) -> Result<Blob, AllocError>
 pub fn access_key(alloc: Global, id: &AccountId, key: &PublicKey) -> Result<Blob, AllocError>
     ensures { IfOk result (λ text. text ≡ access_key_key (id.now, key.now)) }
 {
-    owner_key(alloc, id, key)
+    let bytes = id.bytes();
+    let mut writer = Writer::with_room(alloc, bytes.len() + 35)?;
+    writer.put_u8(ACCESS)?;
+    writer.put_raw(bytes)?;
+    writer.put_u8(ACCESS)?;
+    key.write(&mut writer)?;
+    Ok(writer.finish())
 }
 
 /// The trie key of a datum of an account: the byte 9, the id, a comma and the datum's own key.
@@ -96,21 +103,82 @@ pub fn datum_key(alloc: Global, id: &AccountId, key: &[u8]) -> Result<Blob, Allo
     pair_key(alloc, DATUM, id, key)
 }
 
-/// The key of an access key, from which the owner and the public key can be told.
+// A column's byte and an id, in place.
+fn id_slot(column: u8, id: &AccountId) -> Result<KeySlot, AllocError>
+    ensures text { IfOk result (λ text. text ≡ column ∷ id.now) }
+    ensures valid { OnOk result (id_fault id.now ≡ None) }
+{
+    let bytes = id.bytes();
+    let mut slot = KeySlot::new();
+    slot.put(&[column])?;
+    slot.put(bytes)?;
+    Ok(slot)
+}
+
+/// The key of an account, in place.
+pub(crate) fn account_slot(id: &AccountId) -> Result<KeySlot, AllocError>
+    ensures text { IfOk result (λ text. text ≡ account_key id.now) }
+    ensures valid { OnOk result (id_fault id.now ≡ None) }
+{
+    id_slot(ACCOUNT, id)
+}
+
+/// The key of an account's code, in place.
+pub(crate) fn code_slot(id: &AccountId) -> Result<KeySlot, AllocError>
+    ensures text { IfOk result (λ text. text ≡ code_key id.now) }
+    ensures valid { OnOk result (id_fault id.now ≡ None) }
+{
+    id_slot(CODE, id)
+}
+
+// Puts the spelling of a public key behind the bytes.
+fn put_key(slot: &mut KeySlot, key: &PublicKey) -> Result<(), AllocError>
+    ensures spelled { OnOk result (slot.new ≡ slot.old ++ key_bytes key.now) }
+    ensures fits { OnOk result (IsKey key.now) }
+{
+    match key {
+        PublicKey::Ed25519(bytes) => {
+            slot.put(&[0])?;
+            slot.put(bytes)
+        }
+        PublicKey::Secp256k1(bytes) => {
+            slot.put(&[1])?;
+            slot.put(bytes)
+        }
+    }
+}
+
+/// The key of an access key, in place, from which the owner and the public key can be told.
 #[tactic(auto, using(crate::proofs::ReadBack::rest_there))]
-pub(crate) fn owner_key(alloc: Global, id: &AccountId, key: &PublicKey) -> Result<Blob, AllocError>
+pub(crate) fn owner_slot(id: &AccountId, key: &PublicKey) -> Result<KeySlot, AllocError>
     ensures text { IfOk result (λ text. text ≡ access_key_key (id.now, key.now)) }
     ensures there { OnOk result (key_of_rest (id.now ++ 2 ∷ key_bytes key.now) ≡ Some (id.now, key.now)) }
     ensures valid { OnOk result (id_fault id.now ≡ None) }
     ensures fits { OnOk result (IsKey key.now) }
 {
     let bytes = id.bytes();
-    let mut writer = Writer::with_room(alloc, bytes.len() + 35)?;
-    writer.put_u8(ACCESS)?;
-    writer.put_raw(bytes)?;
-    writer.put_u8(ACCESS)?;
-    key.write(&mut writer)?;
-    Ok(writer.finish())
+    let mut slot = KeySlot::new();
+    slot.put(&[ACCESS])?;
+    slot.put(bytes)?;
+    slot.put(&[ACCESS])?;
+    put_key(&mut slot, key)?;
+    Ok(slot)
+}
+
+/// A column's byte, an id, a comma and a hash, in place. The id and the hash can be told from it.
+#[tactic(auto, using(crate::proofs::ReadBack::comma_there))]
+pub(crate) fn pair_slot(column: u8, id: &AccountId, rest: &[u8; 32]) -> Result<KeySlot, AllocError>
+    ensures text { IfOk result (λ text. text ≡ column_key column id.now rest.now) }
+    ensures there { OnOk result (at_first 44 (id.now ++ 44 ∷ rest.now) ≡ Some (id.now, rest.now)) }
+    ensures valid { OnOk result (id_fault id.now ≡ None) }
+{
+    let bytes = id.bytes();
+    let mut slot = KeySlot::new();
+    slot.put(&[column])?;
+    slot.put(bytes)?;
+    slot.put(&[b','])?;
+    slot.put(rest)?;
+    Ok(slot)
 }
 
 /// A column's byte, an id, a comma and the rest. The id and the rest can be told from it.

@@ -1,12 +1,12 @@
 //! The columns of the state trie over any store: typed reads and writes of single entries.
 #![tactic(auto)]
 
-mod account_slot;
 mod accounts;
 mod columns;
 mod contents;
 mod entry;
 mod inputs;
+mod key_slot;
 pub mod keys;
 pub mod laws;
 mod listing;

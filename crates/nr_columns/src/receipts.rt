@@ -25,8 +25,8 @@ impl<S: Store> Columns<S> {
     ) -> Result<Option<Receipt>, AllocError>
         ensures { IfOk result (λ found. found ≡ map.get self.now.columns.postponed (receiver.now, receipt_id.now.0)) }
     {
-        let key = keys::pair_key(self.alloc, keys::POSTPONED, receiver, &receipt_id.0)?;
-        stored(self.alloc, &self.store, key.inner())
+        let key = keys::pair_slot(keys::POSTPONED, receiver, &receipt_id.0)?;
+        stored(self.alloc, &self.store, key.as_slice())
     }
 
     /// Writes a postponed receipt, under this receiver and id.
@@ -44,8 +44,8 @@ impl<S: Store> Columns<S> {
         ensures fits { OnOk result (IsId receiver.now × (IsHash receipt_id.now × IsReceipt receipt.now)) }
         ensures err { OnErr result (self.new ≡ self.old) }
     {
-        let key = keys::pair_key(self.alloc, keys::POSTPONED, receiver, &receipt_id.0)?;
-        put(self.alloc, &mut self.store, key.inner(), receipt)?;
+        let key = keys::pair_slot(keys::POSTPONED, receiver, &receipt_id.0)?;
+        put(&mut self.spelled, &mut self.store, key.as_slice(), receipt)?;
         Ok(())
     }
 
@@ -64,8 +64,8 @@ impl<S: Store> Columns<S> {
             })) }
         ensures err { OnErr result (self.new ≡ self.old) }
     {
-        let key = keys::pair_key(self.alloc, keys::POSTPONED, receiver, &receipt_id.0)?;
-        let found = self.store.remove(key.inner())?;
+        let key = keys::pair_slot(keys::POSTPONED, receiver, &receipt_id.0)?;
+        let found = self.store.remove(key.as_slice())?;
         Ok(found)
     }
 
@@ -103,7 +103,7 @@ impl<S: Store> Columns<S> {
         ensures err { OnErr result (self.new ≡ self.old) }
     {
         let key = keys::delayed_key(self.alloc, number)?;
-        put(self.alloc, &mut self.store, key.inner(), receipt)?;
+        put(&mut self.spelled, &mut self.store, key.inner(), receipt)?;
         Ok(())
     }
 

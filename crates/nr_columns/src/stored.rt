@@ -5,7 +5,8 @@ ghost use Rattle.std.specs.FinMap as map;
 ghost use Rattle.nr_records.specs.Reading.{all_of};
 ghost use Rattle.nr_columns.specs.Tables.{read_of};
 
-use nr_records::{RecordFault, Spelled, decode, encode};
+use nr_bytes::Writer;
+use nr_records::{RecordFault, Spelled, decode, encode_in};
 use nr_triedef::Store;
 use std::alloc::{AllocError, Global};
 
@@ -40,9 +41,9 @@ pub(crate) fn stored<S: Store, T: Spelled>(
     }
 }
 
-/// Writes a record at a key.
+/// Writes a record at a key. It is spelled in a writer that is used again.
 pub(crate) fn put<S: Store, T: Spelled>(
-    alloc: Global,
+    spelled: &mut Writer,
     store: &mut S,
     key: &[u8],
     value: &T,
@@ -54,7 +55,7 @@ pub(crate) fn put<S: Store, T: Spelled>(
     ensures marks { S.marks store.new ≡ S.marks store.old }
     ensures spare { S.spare store.new ≡ S.spare store.old }
 {
-    let bytes = encode(alloc, value)?;
-    store.set(key, bytes.inner())?;
+    encode_in(spelled, value)?;
+    store.set(key, spelled.written())?;
     Ok(())
 }

@@ -6,6 +6,7 @@ ghost use Rattle.nr_ids.specs.Grammar.{Judges, id_fault, is_id_byte, is_separato
 ghost use Rattle.nr_ids.specs.Grammar.{first_bad_separator, is_hex_digit, is_top, is_system, system, is_implicit};
 ghost use Rattle.nr_ids.specs.Grammar.{is_sub_of, IsSubOf};
 
+use crate::compact_bytes::CompactBytes;
 use crate::fault::IdFault;
 use std::alloc::{AllocError, Global};
 use std::marker::Model;
@@ -13,10 +14,10 @@ use std::marker::Model;
 /// The name of an account, which contracts see as its bytes.
 ///
 /// It has 2 to 64 bytes: lowercase letters, digits and the separators `-`, `_` and `.`. No
-/// separator is first, last or next to another.
+/// separator is first, last or next to another. An id of at most 30 bytes takes no memory of its own.
 #[derive(Debug, Drop)]
 pub struct AccountId {
-    bytes: Vec<u8>,
+    bytes: CompactBytes,
 }
 
 impl Model for AccountId {
@@ -25,9 +26,9 @@ impl Model for AccountId {
 
     ghost Value = { List ℕ };
 
-    ghost view = { λ a. a.bytes.items };
+    ghost view = { λ a. a.bytes };
 
-    ghost invariant = { λ a. id_fault a.bytes.items ≡ None };
+    ghost invariant = { λ a. id_fault a.bytes ≡ None };
 }
 
 fn is_separator_byte(byte: u8) -> bool
@@ -128,10 +129,10 @@ impl AccountId {
     {
         match fault_of(bytes) {
             Some(fault) => Err(fault),
-            None => {
-                let bytes = Vec::from_slice(alloc, bytes).map_err(|_| IdFault::Memory)?;
-                Ok(AccountId { bytes })
-            }
+            None => match CompactBytes::of(alloc, bytes) {
+                Ok(bytes) => Ok(AccountId { bytes }),
+                Err(_) => Err(IdFault::Memory),
+            },
         }
     }
 
@@ -144,7 +145,7 @@ impl AccountId {
     pub fn system(alloc: Global) -> Result<AccountId, AllocError>
         ensures { IfOk result (λ id. id ≡ system) }
     {
-        let bytes = Vec::from_slice(alloc, b"system")?;
+        let bytes = CompactBytes::of(alloc, b"system")?;
         Ok(AccountId { bytes })
     }
 
@@ -156,7 +157,7 @@ impl AccountId {
     pub fn duplicate(&self, alloc: Global) -> Result<AccountId, AllocError>
         ensures { IfOk result (λ id. id ≡ self.now) }
     {
-        let bytes = Vec::from_slice(alloc, &self.bytes)?;
+        let bytes = self.bytes.duplicate(alloc)?;
         Ok(AccountId { bytes })
     }
 
@@ -167,7 +168,7 @@ impl AccountId {
         ensures valid { id_fault self.now ≡ None }
         ensures short { length self.now ≤ 64 }
     {
-        &self.bytes
+        self.bytes.as_slice()
     }
 
     /// Whether this id is a name, then a dot, then `parent`, where the name has no dot.

@@ -2,6 +2,7 @@
 #![tactic(auto)]
 
 mod account_id;
+mod compact_bytes;
 mod derivation;
 mod fault;
 mod key;
@@ -11,6 +12,7 @@ mod order;
 mod threads;
 
 pub use account_id::AccountId;
+pub use compact_bytes::CompactBytes;
 pub use derivation::derive;
 pub use fault::IdFault;
 pub use key::{Hash32, PublicKey};

@@ -1,11 +1,12 @@
 -- The parts of a list, one receipt after the other.
-use Rattle.std.proofs.Common.{◌≡◌, ℕ, ◌+◌, ◌<◌, ◌≤◌, cond, eqb, List, [], ◌∷◌, ◌++◌, length, set, get_or, inl, inr, refl, sym, ap, ◌∙◌, arith}
+use Rattle.std.proofs.Common.{◌≡◌, ℕ, ◌+◌, ◌<◌, ◌≤◌, Bool, true, cond, eqb, List, [], ◌∷◌, ◌++◌, length, set, get_or, inl, inr, refl, sym, ap, ◌∙◌, arith}
 use Rattle.std.proofs.lemmas.Bool.Decides.{eqb_tells}
 use Rattle.std.proofs.lemmas.List.{append-nil, ext_get_or, length-set, get_or-set_same, get_or-set_other}
 use Rattle.std.proofs.lemmas.List.Elements.{filter-append}
 use Rattle.std.proofs.lemmas.List.FromFn.{length-map-range_with_len, get_or-map-range_with_len, map-range_with_len_more}
 use Rattle.nr_records.specs.declared.receipt.Receipt.{Receipt}
 use Rattle.nr_layout.specs.Layout.{shard_of, out_to, parts}
+use Rattle.nr_layout.proofs.Counting.{at_most}
 
 -- the parts of an empty list
 pub one_more_empty : (n : ℕ) → parts [] (n + 1) [] ≡ parts [] n [] ++ [] ∷ []
@@ -57,3 +58,16 @@ parts_next bs list lists others r k e is shard le =
     let lt : k < length bs + 1 = omega (arith, le) in
     let one : set lists k (get_or lists k [] ++ r ∷ []) ≡ set (parts bs (length bs + 1) list) k (get_or (parts bs (length bs + 1) list) k [] ++ r ∷ []) = ap (λ (xs : List (List Receipt)). set xs k (get_or xs k [] ++ r ∷ [])) is in
     e ∙ one ∙ parts_grow bs (length bs + 1) list r k shard lt
+
+-- ---- where there is one shard, it gets all
+everything : (bs : List (List ℕ)) (list : List Receipt) → length bs ≡ 0 → out_to bs 0 list ≡ list
+everything bs [] e = refl
+everything bs (r ∷ rs) e =
+    let first : shard_of bs r.receiver ≡ 0 = omega (arith, at_most bs r.receiver, e) in
+    let test : eqb (shard_of bs r.receiver) 0 ≡ true = ap (λ (n : ℕ). eqb n 0) first in
+    ap (λ (b : Bool). cond b (r ∷ out_to bs 0 rs) (out_to bs 0 rs)) test ∙ ap (λ (l : List Receipt). r ∷ l) (everything bs rs e)
+
+pub one_shard : (bs : List (List ℕ)) (list : List Receipt) → length bs ≡ 0 → list ∷ [] ≡ parts bs (length bs + 1) list
+one_shard bs list e =
+    let one : parts bs (length bs + 1) list ≡ out_to bs 0 list ∷ [] = ap (λ (n : ℕ). parts bs (n + 1) list) e in
+    sym (one ∙ ap (λ (l : List Receipt). l ∷ []) (everything bs list e))

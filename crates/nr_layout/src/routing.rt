@@ -46,9 +46,9 @@ fn send(lists: &mut Vec<List<Receipt>>, shard: usize, receipt: Receipt) -> Resul
     Ok(())
 }
 
-/// One list for each shard, in the order of the shards.
+/// One list for each shard, in the order of the shards, each receipt put to its own.
 #[tactic(auto, using(crate::proofs::Parts::within))]
-pub(crate) fn routed(
+fn spread(
     alloc: Global,
     boundaries: &[AccountId],
     list: Vec<Receipt>,
@@ -62,4 +62,29 @@ pub(crate) fn routed(
         send(&mut lists, shard, receipt)?;
     }
     Ok(lists)
+}
+
+/// The lists of one shard.
+fn alone(alloc: Global, list: Vec<Receipt>) -> Result<Vec<List<Receipt>>, AllocError>
+    ensures { IfOk result (λ lists. lists.items ≡ list.items ∷ []) }
+{
+    let mut lists = Vec::with_capacity(alloc, 1)?;
+    lists.push(List::of(list))?;
+    Ok(lists)
+}
+
+/// One list for each shard, in the order of the shards. Where there is one, no receipt moves.
+pub(crate) fn routed(
+    alloc: Global,
+    boundaries: &[AccountId],
+    list: Vec<Receipt>,
+) -> Result<Vec<List<Receipt>>, AllocError>
+    requires { length boundaries.now ≤ 15 }
+    ensures { IfOk result (λ lists. lists.items ≡ parts boundaries.now (length boundaries.now + 1) list.items) }
+{
+    if boundaries.len() == 0 {
+        let lists = alone(alloc, list)?;
+        return Ok(lists);
+    }
+    spread(alloc, boundaries, list)
 }

@@ -25,3 +25,19 @@ pub fn encode<T: Spelled>(alloc: Global, value: &T) -> Result<Blob, AllocError>
     value.write(&mut writer)?;
     Ok(writer.finish())
 }
+
+/// The spelling of a value in a writer that is used again, in place of what it had written.
+///
+/// # Errors
+///
+/// As of [`encode`]. The writer may then hold a part of the spelling.
+pub fn encode_in<T: Spelled>(writer: &mut Writer, value: &T) -> Result<(), AllocError>
+    ensures spelled { OnOk result (writer.new ≡ T.spelling value.now) }
+    ensures fits { OnOk result (T.fits value.now) }
+    // All of these bytes are read as the value.
+    ensures back { OnOk result (all_of T.reading writer.new ≡ Ok value.now) }
+{
+    writer.clear();
+    value.write(writer)?;
+    Ok(())
+}

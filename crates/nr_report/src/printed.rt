@@ -49,6 +49,18 @@ fn print_refused(
     writeln!(text, "tx {hash} refused {number} {first} {second}")
 }
 
+/// The line of a run whose value is no bytes.
+#[tactic(auto, unfolding(crate::specs::Lines::bytes_word))]
+fn print_no_value(outcome: &Outcome, text: &mut String) -> Result<(), AllocError>
+    ensures { OnOk result (string_bytes text.new ≡ string_bytes text.old ++ run_line outcome.now (Value [])) }
+{
+    let digits = digits_of(&outcome.receipt_id)?;
+    let id = word_of(&digits)?;
+    let gas = outcome.gas;
+    let burnt = outcome.burnt;
+    writeln!(text, "run {id} value - {gas} {burnt}")
+}
+
 fn print_value(
     alloc: Global,
     outcome: &Outcome,
@@ -57,6 +69,9 @@ fn print_value(
 ) -> Result<(), AllocError>
     ensures { OnOk result (string_bytes text.new ≡ string_bytes text.old ++ run_line outcome.now (Value bytes.now)) }
 {
+    if bytes.is_empty() {
+        return print_no_value(outcome, text);
+    }
     let digits = digits_of(&outcome.receipt_id)?;
     let id = word_of(&digits)?;
     let bytes = byte_digits(alloc, bytes)?;
@@ -232,12 +247,25 @@ fn print_places(places: &[u64; 5], text: &mut String) -> Result<(), AllocError>
     )
 }
 
+// Most lines take fewer bytes.
+const PER_LINE: usize = 144;
+
+/// How many bytes the text of a chunk takes, or somewhat more or less.
+fn room_of(chunk: &ChunkResult) -> usize {
+    chunk
+        .lines
+        .inner()
+        .len()
+        .saturating_add(1)
+        .saturating_mul(PER_LINE)
+}
+
 /// The text of a chunk: its own line, and then its lines.
 #[tactic(auto, unfolding(crate::specs::Lines::chunk_text))]
 pub(crate) fn print_chunk(alloc: Global, chunk: &ChunkResult) -> Result<String, AllocError>
     ensures { IfOk result (λ text. string_bytes text ≡ chunk_text chunk.now) }
 {
-    let mut text = String::new(alloc);
+    let mut text = String::with_capacity(alloc, room_of(chunk))?;
     print_head(chunk, &mut text)?;
     print_lines(alloc, chunk.lines.inner(), &mut text)?;
     Ok(text)

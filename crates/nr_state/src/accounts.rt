@@ -1,6 +1,6 @@
 //! Accounts and access keys.
 
-ghost use Rattle.std.specs.Prelude.{◌≡◌, true, IfOk, OnOk, OnErr, IsSome, is_some};
+ghost use Rattle.std.specs.Prelude.{◌≡◌, ◌≤◌, true, IfOk, OnOk, OnErr, IsSome, is_some, Some};
 ghost use Rattle.std.specs.FinMap as map;
 ghost use Rattle.nr_records.specs.AccessKeys.{IsAccessKey};
 ghost use Rattle.nr_records.specs.Accounts.{IsAccount};
@@ -76,6 +76,23 @@ fn keeps_owner<S: Store>(
         return Ok(false);
     };
     if owner.storage_usage < after {
+        return Ok(false);
+    }
+    Ok(true)
+}
+
+/// Whether what a key costs is counted in its owner's usage.
+fn counts_key(
+    config: &Config,
+    key: &PublicKey,
+    access: &SpelledKey<'_>,
+    owner: &Account,
+) -> Result<bool, AllocError>
+    ensures { IfOk result (λ counts. counts ≡ true
+        → key_usage config.now key.now access.now ≤ owner.now.storage_usage) }
+{
+    let usage = spelled_usage(config, key, access)?;
+    if owner.storage_usage < usage {
         return Ok(false);
     }
     Ok(true)
@@ -243,6 +260,28 @@ impl<S: Store> ShardState<S> {
         self.set_counted_key(id, key, access)
     }
 
+    /// As [`ShardState::set_spelled_key`], of a key that costs its owner what the one in its place does. The owner is
+    /// told, so neither is looked up.
+    pub fn set_used_key(
+        &mut self,
+        id: &AccountId,
+        key: &PublicKey,
+        access: &SpelledKey<'_>,
+        owner: &Account,
+    ) -> Result<(), AllocError>
+        requires whole { self.old.whole ≡ true }
+        requires stands { map.get self.old.world.accounts id.now ≡ Some owner.now }
+        requires same { usage_of_key self.old.config self.old.world id.now key.now
+            ≡ key_usage self.old.config key.now access.now }
+        ensures ok { OnOk result (self.new ≡ with_world self.old
+            (set_key self.old.config self.old.world id.now key.now access.now)) }
+    {
+        if counts_key(self.config(), key, access, owner)? {
+            return self.put_spelled_key(id, key, access);
+        }
+        self.set_counted_key(id, key, access)
+    }
+
     // Whether the key's owner stays as it is once the key is written.
     fn keeps_owner(
         &self,
@@ -287,8 +326,8 @@ impl<S: Store> ShardState<S> {
         ensures ok { OnOk result (self.new ≡ with_world self.old (with_key self.old.world id.now key.now access.now)) }
         ensures err { OnErr result (self.new ≡ self.old) }
     {
-        let bytes = encode(self.alloc, access)?;
-        self.put_spelled_key(id, key, &SpelledKey::of(bytes.inner()))
+        self.columns.set_access_key(id, key, access)?;
+        Ok(())
     }
 
     // As `put_key`, of an access key that is spelled already.

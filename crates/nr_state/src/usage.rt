@@ -13,7 +13,7 @@ use nr_columns::{Columns, SpelledKey};
 use nr_config::Config;
 use nr_config::entries::{EXTRA_RECORD_BYTES, STORAGE_PRICE};
 use nr_ids::{AccountId, PublicKey};
-use nr_records::{AccessKey, Account, encode};
+use nr_records::{AccessKey, Account, Permission, encode};
 use nr_triedef::Store;
 use std::alloc::{AllocError, Global};
 
@@ -74,8 +74,14 @@ fn key_length(key: &PublicKey) -> u64
 fn access_length(alloc: Global, access: &AccessKey) -> Result<u64, AllocError>
     ensures { IfOk result (λ bytes. bytes ≡ length (access_key_bytes access.now)) }
 {
-    let spelled = encode(alloc, access)?;
-    Ok(spelled.inner().len() as u64)
+    match &access.permission {
+        // A nonce and one byte.
+        Permission::Full => Ok(9),
+        Permission::Call(_) => {
+            let spelled = encode(alloc, access)?;
+            Ok(spelled.inner().len() as u64)
+        }
+    }
 }
 
 // How many bytes spell an access key that is spelled already.

@@ -13,7 +13,10 @@ mod threads;
 
 pub use fault::NodeFault;
 pub use hash::{NodeHash, Steps, Summary, bytes_of, empty_root, hash_node, value_hash};
-pub use making::{child_hashes, length_of, part_usage, sum_of, summarize, usage_below, with_front};
+pub use making::{
+    Scratch, child_hashes, leaf_in, length_of, part_usage, sum_of, summarize, summarize_in,
+    usage_below, with_front, with_front_in,
+};
 pub use node::{Node, node_text, usage_of};
 pub use part::{key_part, nibbles};
 pub use read::read_node;

@@ -1,12 +1,14 @@
 //! Summaries of nodes, made of those of their children.
 
-ghost use Rattle.std.specs.Prelude.{◌≡◌, ◌==◌, ◌<◌, ◌≤◌, ◌+◌, false, length, cond, map, sum_by, IfOk};
+ghost use Rattle.std.specs.Prelude.{◌≡◌, ◌==◌, ◌≤◌, ◌+◌, true, false, length, cond, map, sum_by, IfOk};
 ghost use Rattle.nr_triedef.specs.Node.{IsNibbles, IsNode, key_part, summary, usage_of};
-ghost use Rattle.nr_triedef.specs.Root.{part_usage, usage_below, extension, hash_below, with_front};
+ghost use Rattle.nr_triedef.specs.Root.{part_usage, usage_below, leaf_with, extension, hash_below, with_front};
+ghost use Rattle.nr_triedef.specs.declared.node.Node.TheVariants.{Leaf, Extension};
 
-use crate::hash::{Steps, Summary, bytes_of, hash_node};
-use crate::node::{Node, node_text};
-use crate::part::key_part;
+use crate::hash::{Steps, Summary, bytes_of, hash_node, value_hash};
+use crate::node::{MOST_OF_BRANCH, Node, extension_text, leaf_text, node_text, node_text_in};
+use crate::part::key_part_in;
+use nr_bytes::Writer;
 use nr_ids::Hash32;
 use std::alloc::{AllocError, Global};
 use std::sync::ledger::Ledger;
@@ -45,11 +47,55 @@ pub fn part_usage(part: &[u8]) -> Result<u64, AllocError>
     Ok(50 + 2 * u64::from(length))
 }
 
+// Most parts take fewer bytes.
+const PART_ROOM: usize = 64;
+
+/// Memory in which nodes are spelled for their hashes, one after the other.
+#[derive(Drop)]
+pub struct Scratch {
+    part: Writer,
+    text: Writer,
+}
+
+impl Scratch {
+    /// With room for any branch, and for parts as most nodes have them.
+    ///
+    /// # Errors
+    ///
+    /// Where memory ran out.
+    pub fn new(alloc: Global) -> Result<Scratch, AllocError> {
+        let part = Writer::with_room(alloc, PART_ROOM)?;
+        let text = Writer::with_room(alloc, MOST_OF_BRANCH)?;
+        Ok(Scratch { part, text })
+    }
+}
+
 /// What a node tells the one above it. It counts as one step.
 ///
 /// # Errors
 ///
 /// Where memory ran out.
+pub fn summarize_in<L: Ledger>(
+    scratch: &mut Scratch,
+    node: &Node,
+    usage: u64,
+    steps: &mut Steps<L>,
+) -> Result<Summary, AllocError>
+    requires form { IsNode node.now }
+    requires usage { usage ≡ usage_of node.now }
+    ensures made { IfOk result (λ s. s ≡ summary node.now) }
+    ensures steps { steps.new ≤ steps.old + 1 }
+{
+    node_text_in(&mut scratch.text, node)?;
+    let hash = hash_node(scratch.text.written(), steps);
+    Ok(Summary { hash, usage })
+}
+
+/// As [`summarize_in`], in memory of its own.
+///
+/// # Errors
+///
+/// As of [`summarize_in`].
 pub fn summarize<L: Ledger>(
     alloc: Global,
     node: &Node,
@@ -66,31 +112,111 @@ pub fn summarize<L: Ledger>(
     Ok(Summary { hash, usage })
 }
 
+// The summary of a leaf with this part.
+#[tactic(auto, unfolding(crate::specs::Node::node_text))]
+fn summarize_leaf<L: Ledger>(
+    text: &mut Writer,
+    part: &[u8],
+    length: u32,
+    hash: &Hash32,
+    usage: u64,
+    steps: &mut Steps<L>,
+) -> Result<Summary, AllocError>
+    ensures made { IfOk result (λ s. s ≡ summary (Leaf part.now length hash.now usage)) }
+    ensures steps { steps.new ≤ steps.old + 1 }
+{
+    leaf_text(text, part, length, hash, usage)?;
+    let hash = hash_node(text.written(), steps);
+    Ok(Summary { hash, usage })
+}
+
+// The summary of the leaf of a value with this part.
+fn leaf_with<L: Ledger>(
+    text: &mut Writer,
+    part: &[u8],
+    value: &[u8],
+    steps: &mut Steps<L>,
+) -> Result<Summary, AllocError>
+    ensures made { IfOk result (λ s. s ≡ summary (leaf_with part.now value.now)) }
+    ensures steps { steps.new ≤ steps.old + 1 }
+{
+    let length = length_of(value)?;
+    let usage = sum_of(part_usage(part)?, 50 + u64::from(length))?;
+    let hash = value_hash(value);
+    summarize_leaf(text, part, length, &hash, usage, steps)
+}
+
+/// The leaf of a value, of whose key these nibbles are left. It counts as one step.
+///
+/// # Errors
+///
+/// Where memory ran out. A value of 2^32 bytes or more counts as that.
+pub fn leaf_in<L: Ledger>(
+    scratch: &mut Scratch,
+    nibbles: &[u8],
+    value: &[u8],
+    steps: &mut Steps<L>,
+) -> Result<Summary, AllocError>
+    requires { IsNibbles nibbles.now }
+    ensures made { IfOk result (λ s. s ≡ summary (leaf_with (key_part nibbles.now true) value.now)) }
+    ensures steps { steps.new ≤ steps.old + 1 }
+{
+    key_part_in(&mut scratch.part, nibbles, true)?;
+    let made = leaf_with(&mut scratch.text, scratch.part.written(), value, steps)?;
+    Ok(made)
+}
+
 fn hash_bytes(below: &Summary) -> Hash32
     ensures { result ≡ below.now.hash }
 {
     Hash32(bytes_of(&below.hash))
 }
 
+// The summary of an extension with this part, over a node of this hash.
+#[tactic(auto, unfolding(crate::specs::Node::node_text))]
+fn summarize_extension<L: Ledger>(
+    text: &mut Writer,
+    part: &[u8],
+    child: &Hash32,
+    usage: u64,
+    steps: &mut Steps<L>,
+) -> Result<Summary, AllocError>
+    ensures made { IfOk result (λ s. s ≡ summary (Extension part.now child.now usage)) }
+    ensures steps { steps.new ≤ steps.old + 1 }
+{
+    extension_text(text, part, child, usage)?;
+    let hash = hash_node(text.written(), steps);
+    Ok(Summary { hash, usage })
+}
+
+// The summary of the extension with this part over a node.
+fn extension_with<L: Ledger>(
+    text: &mut Writer,
+    part: &[u8],
+    below: Summary,
+    steps: &mut Steps<L>,
+) -> Result<Summary, AllocError>
+    ensures made { IfOk result (λ s. s ≡ summary (extension part.now below)) }
+    ensures steps { steps.new ≤ steps.old + 1 }
+{
+    let usage = sum_of(part_usage(part)?, below.usage)?;
+    let child = hash_bytes(&below);
+    summarize_extension(text, part, &child, usage, steps)
+}
+
 fn extension<L: Ledger>(
-    alloc: Global,
+    scratch: &mut Scratch,
     shared: &[u8],
     below: Summary,
     steps: &mut Steps<L>,
 ) -> Result<Summary, AllocError>
-    requires small { IsNibbles shared.now }
-    requires some { 0 < length shared.now }
+    requires { IsNibbles shared.now }
     ensures made { IfOk result (λ s. s ≡ summary (extension (key_part shared.now false) below)) }
     ensures steps { steps.new ≤ steps.old + 1 }
 {
-    let part = key_part(alloc, shared, false)?;
-    let usage = sum_of(part_usage(part.inner())?, below.usage)?;
-    let node = Node::Extension {
-        part,
-        child: hash_bytes(&below),
-        usage,
-    };
-    summarize(alloc, &node, usage, steps)
+    key_part_in(&mut scratch.part, shared, false)?;
+    let made = extension_with(&mut scratch.text, scratch.part.written(), below, steps)?;
+    Ok(made)
 }
 
 /// A branch behind a front of nibbles, which may be empty. A front that isn't is a node of its own,
@@ -99,8 +225,8 @@ fn extension<L: Ledger>(
 /// # Errors
 ///
 /// Where memory ran out; a usage of 2^64 or more counts as that.
-pub fn with_front<L: Ledger>(
-    alloc: Global,
+pub fn with_front_in<L: Ledger>(
+    scratch: &mut Scratch,
     shared: &[u8],
     below: Summary,
     steps: &mut Steps<L>,
@@ -112,8 +238,30 @@ pub fn with_front<L: Ledger>(
     if shared.is_empty() {
         Ok(below)
     } else {
-        extension(alloc, shared, below, steps)
+        extension(scratch, shared, below, steps)
     }
+}
+
+/// As [`with_front_in`], in memory of its own.
+///
+/// # Errors
+///
+/// As of [`with_front_in`].
+pub fn with_front<L: Ledger>(
+    alloc: Global,
+    shared: &[u8],
+    below: Summary,
+    steps: &mut Steps<L>,
+) -> Result<Summary, AllocError>
+    requires { IsNibbles shared.now }
+    ensures made { IfOk result (λ s. s ≡ with_front shared.now below) }
+    ensures steps { steps.new ≤ steps.old + cond (length shared.now == 0) 0 1 }
+{
+    if shared.is_empty() {
+        return Ok(below);
+    }
+    let mut scratch = Scratch::new(alloc)?;
+    with_front_in(&mut scratch, shared, below, steps)
 }
 
 fn usage_in(below: &Option<Summary>) -> u64

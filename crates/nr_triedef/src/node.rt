@@ -48,8 +48,8 @@ pub fn usage_of(node: &Node) -> u64
     }
 }
 
-// The most bytes of a branch's text: with a value and sixteen children.
-const MOST_OF_BRANCH: usize = 559;
+/// The most bytes of a branch's text: with a value and sixteen children.
+pub(crate) const MOST_OF_BRANCH: usize = 559;
 
 // A part of 2^32 bytes or more counts as want of memory.
 fn put_part(text: &mut Writer, part: &[u8]) -> Result<(), AllocError>
@@ -103,70 +103,113 @@ fn put_value(text: &mut Writer, length: u32, hash: &Hash32) -> Result<(), AllocE
     text.put_raw(&hash.0)
 }
 
-fn leaf_text(
-    alloc: Global,
+/// The text of a leaf, in place of what was written.
+pub(crate) fn leaf_text(
+    text: &mut Writer,
     part: &[u8],
     length: u32,
     hash: &Hash32,
     usage: u64,
-) -> Result<Blob, AllocError>
-    ensures { IfOk result (λ text. text ≡ 0 ∷ (counted_bytes part.now ++ little 4 length ++ hash.now.0
+) -> Result<(), AllocError>
+    ensures { OnOk result (text.new ≡ 0 ∷ (counted_bytes part.now ++ little 4 length ++ hash.now.0
         ++ little 8 usage)) }
 {
-    let mut text = Writer::with_room(alloc, part.len() + 49)?;
+    text.clear();
     text.put_u8(0)?;
-    put_part(&mut text, part)?;
-    put_value(&mut text, length, hash)?;
+    put_part(text, part)?;
+    put_value(text, length, hash)?;
     text.put_u64(usage)?;
-    Ok(text.finish())
+    Ok(())
 }
 
-fn extension_text(
-    alloc: Global,
+/// The text of an extension, in place of what was written.
+pub(crate) fn extension_text(
+    text: &mut Writer,
     part: &[u8],
     child: &Hash32,
     usage: u64,
-) -> Result<Blob, AllocError>
-    ensures { IfOk result (λ text. text ≡ 1 ∷ (counted_bytes part.now ++ child.now.0 ++ little 8 usage)) }
+) -> Result<(), AllocError>
+    ensures { OnOk result (text.new ≡ 1 ∷ (counted_bytes part.now ++ child.now.0 ++ little 8 usage)) }
 {
-    let mut text = Writer::with_room(alloc, part.len() + 45)?;
+    text.clear();
     text.put_u8(1)?;
-    put_part(&mut text, part)?;
+    put_part(text, part)?;
     text.put_raw(&child.0)?;
     text.put_u64(usage)?;
-    Ok(text.finish())
+    Ok(())
 }
 
 fn branch_text(
-    alloc: Global,
+    text: &mut Writer,
     children: &[Option<Hash32>; 16],
     usage: u64,
-) -> Result<Blob, AllocError>
-    ensures { IfOk result (λ text. text ≡ 2 ∷ (children_bytes children.now ++ little 8 usage)) }
+) -> Result<(), AllocError>
+    ensures { OnOk result (text.new ≡ 2 ∷ (children_bytes children.now ++ little 8 usage)) }
 {
-    let mut text = Writer::with_room(alloc, MOST_OF_BRANCH)?;
+    text.clear();
     text.put_u8(2)?;
-    put_children(&mut text, children)?;
+    put_children(text, children)?;
     text.put_u64(usage)?;
-    Ok(text.finish())
+    Ok(())
 }
 
 fn valued_text(
-    alloc: Global,
+    text: &mut Writer,
     length: u32,
     hash: &Hash32,
     children: &[Option<Hash32>; 16],
     usage: u64,
-) -> Result<Blob, AllocError>
-    ensures { IfOk result (λ text. text ≡ 3 ∷ (little 4 length ++ hash.now.0 ++ children_bytes children.now
+) -> Result<(), AllocError>
+    ensures { OnOk result (text.new ≡ 3 ∷ (little 4 length ++ hash.now.0 ++ children_bytes children.now
         ++ little 8 usage)) }
 {
-    let mut text = Writer::with_room(alloc, MOST_OF_BRANCH)?;
+    text.clear();
     text.put_u8(3)?;
-    put_value(&mut text, length, hash)?;
-    put_children(&mut text, children)?;
+    put_value(text, length, hash)?;
+    put_children(text, children)?;
     text.put_u64(usage)?;
-    Ok(text.finish())
+    Ok(())
+}
+
+/// The text of a node that has its form, in place of what was written.
+#[tactic(auto, unfolding(crate::specs::Node::node_text))]
+pub(crate) fn node_text_in(text: &mut Writer, node: &Node) -> Result<(), AllocError>
+    requires { IsNode node.now }
+    ensures { OnOk result (text.new ≡ node_text node.now) }
+{
+    match node {
+        Node::Leaf {
+            part,
+            length,
+            hash,
+            usage,
+        } => leaf_text(text, part.inner(), *length, hash, *usage),
+        Node::Extension { part, child, usage } => {
+            extension_text(text, part.inner(), child, *usage)
+        }
+        Node::Branch {
+            value: None,
+            children,
+            usage,
+        } => branch_text(text, children, *usage),
+        Node::Branch {
+            value: Some((length, hash)),
+            children,
+            usage,
+        } => valued_text(text, *length, hash, children, *usage),
+    }
+}
+
+// Room for the text of a node.
+fn text_room(alloc: Global, node: &Node) -> Result<Writer, AllocError>
+    ensures { IfOk result (λ text. text ≡ []) }
+{
+    let room = match node {
+        Node::Leaf { part, .. } => part.inner().len() + 49,
+        Node::Extension { part, .. } => part.inner().len() + 45,
+        Node::Branch { .. } => MOST_OF_BRANCH,
+    };
+    Writer::with_room(alloc, room)
 }
 
 /// The text of a node whose parts have their form (see `key_part`), whose part has a nibble where
@@ -176,30 +219,11 @@ fn valued_text(
 /// # Errors
 ///
 /// Where memory ran out. A part of 2^32 bytes or more counts as that.
-#[tactic(auto, unfolding(crate::specs::Node::node_text))]
 pub fn node_text(alloc: Global, node: &Node) -> Result<Blob, AllocError>
     requires { IsNode node.now }
     ensures { IfOk result (λ text. text ≡ node_text node.now) }
 {
-    match node {
-        Node::Leaf {
-            part,
-            length,
-            hash,
-            usage,
-        } => leaf_text(alloc, part.inner(), *length, hash, *usage),
-        Node::Extension { part, child, usage } => {
-            extension_text(alloc, part.inner(), child, *usage)
-        }
-        Node::Branch {
-            value: None,
-            children,
-            usage,
-        } => branch_text(alloc, children, *usage),
-        Node::Branch {
-            value: Some((length, hash)),
-            children,
-            usage,
-        } => valued_text(alloc, *length, hash, children, *usage),
-    }
+    let mut text = text_room(alloc, node)?;
+    node_text_in(&mut text, node)?;
+    Ok(text.finish())
 }

@@ -3,7 +3,7 @@
 ghost use Rattle.std.specs.Prelude.{◌≡◌, ◌+◌, ◌*◌, ◌%◌, ◌/◌, ◌++◌, ◌∷◌, [], length, drop, cond, IfOk, OnOk};
 ghost use Rattle.nr_triedef.specs.Node.{IsNibbles, nibbles, paired, key_part};
 
-use nr_bytes::Blob;
+use nr_bytes::{Blob, Writer};
 use std::alloc::{AllocError, Global};
 
 /// The nibbles of a key, the high one of each byte first. Each is below 16.
@@ -36,14 +36,29 @@ fn first_byte(nibbles: &[u8], leaf: bool) -> u8
     }
 }
 
-fn push_pairs(part: &mut Vec<u8>, nibbles: &[u8]) -> Result<(), AllocError>
+fn put_pairs(part: &mut Writer, nibbles: &[u8]) -> Result<(), AllocError>
     requires small { IsNibbles nibbles.now }
     requires even { length nibbles.now % 2 ≡ 0 }
-    ensures { OnOk result (part.new.items ≡ part.old.items ++ paired nibbles.now) }
+    ensures { OnOk result (part.new ≡ part.old ++ paired nibbles.now) }
 {
     for i in 0..nibbles.len() / 2 {
-        part.push(16 * nibbles[2 * i] + nibbles[2 * i + 1])?;
+        part.put_u8(16 * nibbles[2 * i] + nibbles[2 * i + 1])?;
     }
+    Ok(())
+}
+
+/// As [`key_part`], in a writer that is used again, in place of what it had written.
+///
+/// # Errors
+///
+/// As of [`key_part`]. The writer may then hold the front of the part.
+pub(crate) fn key_part_in(part: &mut Writer, nibbles: &[u8], leaf: bool) -> Result<(), AllocError>
+    requires { IsNibbles nibbles.now }
+    ensures { OnOk result (part.new ≡ key_part nibbles.now leaf) }
+{
+    part.clear();
+    part.put_u8(first_byte(nibbles, leaf))?;
+    put_pairs(part, &nibbles[nibbles.len() % 2..])?;
     Ok(())
 }
 
@@ -59,8 +74,7 @@ pub fn key_part(alloc: Global, nibbles: &[u8], leaf: bool) -> Result<Blob, Alloc
     requires { IsNibbles nibbles.now }
     ensures { IfOk result (λ part. part ≡ key_part nibbles.now leaf) }
 {
-    let mut part = Vec::with_capacity(alloc, nibbles.len() / 2 + 1)?;
-    part.push(first_byte(nibbles, leaf))?;
-    push_pairs(&mut part, &nibbles[nibbles.len() % 2..])?;
-    Ok(Blob::of(part))
+    let mut part = Writer::with_room(alloc, nibbles.len() / 2 + 1)?;
+    key_part_in(&mut part, nibbles, leaf)?;
+    Ok(part.finish())
 }

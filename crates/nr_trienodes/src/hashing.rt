@@ -11,7 +11,7 @@ ghost use Rattle.nr_trienodes.specs.Hashing.{cold, is_hashed, weight_at, IsQueue
 
 use crate::making::summary_of;
 use crate::nodes::{NodeId, Nodes};
-use nr_triedef::{NodeHash, Steps, empty_root};
+use nr_triedef::{NodeHash, Scratch, Steps, empty_root};
 use std::alloc::AllocError;
 use std::sync::ledger::Ledger;
 
@@ -97,8 +97,9 @@ fn warm<L: Ledger>(
 {
     let _count = nodes.count();
     let mut queue = queue;
+    let mut scratch = Scratch::new(nodes.allocator())?;
     'up: while let Some(id) = queue.pop() {
-        let made = summary_of(nodes, id, steps)?;
+        let made = summary_of(nodes, id, &mut scratch, steps)?;
         nodes.keep_hash(id, made.hash);
     }
     Ok(())

@@ -1,10 +1,10 @@
 //! Hashes and usages of nodes, made of those of their children.
 
-ghost use Rattle.std.specs.Prelude.{◌≡◌, ◌<◌, ◌≤◌, ◌+◌, ℕ, true, false, length, map, is_some, count_by};
+ghost use Rattle.std.specs.Prelude.{◌≡◌, ◌<◌, ◌≤◌, ◌+◌, ℕ, false, length, map, is_some, count_by};
 ghost use Rattle.std.specs.Prelude.{slice_index_or, None, IfOk};
 ghost use Rattle.std.specs.Option.{option_copied, option_map};
-ghost use Rattle.nr_triedef.specs.Node.{IsNibbles, key_part, links, summary};
-ghost use Rattle.nr_triedef.specs.Root.{value_usage, leaf_with, value_field, hash_below, branch};
+ghost use Rattle.nr_triedef.specs.Node.{links, summary};
+ghost use Rattle.nr_triedef.specs.Root.{value_usage, value_field, hash_below, branch};
 ghost use Rattle.nr_trienodes.specs.Shape.{shape_at};
 ghost use Rattle.nr_trienodes.specs.Tries.{is_leaf, summary_at};
 ghost use Rattle.nr_trienodes.specs.Hashing.{HasHashes, IsWarm, weight_at};
@@ -14,34 +14,11 @@ use crate::nodes::Nodes;
 use crate::packed::Row;
 use nr_ids::Hash32;
 use nr_triedef::{
-    Node, Steps, Summary, child_hashes, key_part, length_of, part_usage, sum_of, summarize,
-    usage_below, value_hash, with_front,
+    Node, Scratch, Steps, Summary, child_hashes, leaf_in, length_of, sum_of, summarize_in,
+    usage_below, value_hash, with_front_in,
 };
-use std::alloc::{AllocError, Global};
+use std::alloc::AllocError;
 use std::sync::ledger::Ledger;
-
-fn leaf<L: Ledger>(
-    alloc: Global,
-    part: &[u8],
-    value: &[u8],
-    steps: &mut Steps<L>,
-) -> Result<Summary, AllocError>
-    requires { IsNibbles part.now }
-    ensures made { IfOk result (λ s. s ≡ summary (leaf_with (key_part part.now true) value.now)) }
-    ensures steps { steps.new ≤ steps.old + 1 }
-{
-    let part = key_part(alloc, part, true)?;
-    let length = length_of(value)?;
-    let usage = sum_of(part_usage(part.inner())?, 50 + u64::from(length))?;
-    let hash = value_hash(value);
-    let node = Node::Leaf {
-        part,
-        length,
-        hash,
-        usage,
-    };
-    summarize(alloc, &node, usage, steps)
-}
 
 // A value as a branch has it, and its memory usage.
 fn value_of(value: Option<&[u8]>) -> Result<(Option<(u32, Hash32)>, u64), AllocError>
@@ -60,7 +37,7 @@ fn value_of(value: Option<&[u8]>) -> Result<(Option<(u32, Hash32)>, u64), AllocE
 }
 
 fn branch<L: Ledger>(
-    alloc: Global,
+    scratch: &mut Scratch,
     value: Option<&[u8]>,
     below: &[Option<Summary>],
     steps: &mut Steps<L>,
@@ -78,7 +55,7 @@ fn branch<L: Ledger>(
         children: child_hashes(below),
         usage,
     };
-    summarize(alloc, &node, usage, steps)
+    summarize_in(scratch, &node, usage, steps)
 }
 
 #[tactic(auto, using(crate::proofs::Hashed::summary_kept, crate::proofs::Hashed::no_hash))]
@@ -110,18 +87,23 @@ fn summaries(nodes: &Nodes, row: &Row) -> [Option<Summary>; 16]
 }
 
 // The summary of a node that is no leaf, of which all children's hashes are kept.
-fn inner<L: Ledger>(nodes: &Nodes, id: u32, steps: &mut Steps<L>) -> Result<Summary, AllocError>
+fn inner<L: Ledger>(
+    nodes: &Nodes,
+    id: u32,
+    scratch: &mut Scratch,
+    steps: &mut Steps<L>,
+) -> Result<Summary, AllocError>
     requires there { id < length nodes.now }
     requires hashes { HasHashes nodes.now id }
     requires leaf { is_leaf (shape_at nodes.now id).value (count_by is_some (shape_at nodes.now id).below) ≡ false }
     ensures made { IfOk result (λ s. s ≡ summary_at nodes.now id) }
     ensures steps { steps.new ≤ steps.old + weight_at nodes.now id }
 {
-    let alloc = nodes.allocator();
+    let _alloc = nodes.allocator();
     let row = nodes.row(id);
     let below = summaries(nodes, &row);
-    let top = branch(alloc, nodes.value(id), &below, steps)?;
-    let made = with_front(alloc, nodes.part(id), top, steps)?;
+    let top = branch(scratch, nodes.value(id), &below, steps)?;
+    let made = with_front_in(scratch, nodes.part(id), top, steps)?;
     Ok(made)
 }
 
@@ -129,6 +111,7 @@ fn inner<L: Ledger>(nodes: &Nodes, id: u32, steps: &mut Steps<L>) -> Result<Summ
 pub(crate) fn summary_of<L: Ledger>(
     nodes: &Nodes,
     id: u32,
+    scratch: &mut Scratch,
     steps: &mut Steps<L>,
 ) -> Result<Summary, AllocError>
     requires there { id < length nodes.now }
@@ -136,19 +119,19 @@ pub(crate) fn summary_of<L: Ledger>(
     ensures made { IfOk result (λ s. s ≡ summary_at nodes.now id) }
     ensures steps { steps.new ≤ steps.old + weight_at nodes.now id }
 {
-    let alloc = nodes.allocator();
+    let _alloc = nodes.allocator();
     let row = nodes.row(id);
     if !is_alone(&row) {
-        let several = inner(nodes, id, steps)?;
+        let several = inner(nodes, id, scratch, steps)?;
         return Ok(several);
     }
     match nodes.value(id) {
         None => {
-            let empty = inner(nodes, id, steps)?;
+            let empty = inner(nodes, id, scratch, steps)?;
             Ok(empty)
         }
         Some(value) => {
-            let single = leaf(alloc, nodes.part(id), value, steps)?;
+            let single = leaf_in(scratch, nodes.part(id), value, steps)?;
             Ok(single)
         }
     }

@@ -20,11 +20,14 @@ use crate::fault::NodesFault;
 use crate::node_bytes::NodeBytes;
 use crate::nodes::{NodeId, Nodes};
 use crate::open_way::{
-    Levels, OpenNode, OpenWay, bare, head, is_bare, opened, part_from, settle_open,
+    Levels, OpenNode, OpenWay, bare, head, is_bare, opened, part_in, settle_open,
 };
 use crate::turn::{Stop, Turn, nibble_at};
 use std::alloc::AllocError;
 use std::marker::Model;
+
+// What is left of most keys has fewer nibbles.
+const REST: usize = 128;
 
 /// Another value at a key, or none.
 #[derive(Debug, Drop)]
@@ -100,10 +103,12 @@ fn start(nodes: &Nodes, root: Option<u32>) -> Result<OpenWay, AllocError>
     ensures { IfOk result (λ way. StartsSo nodes.now root way) }
 {
     let top = top_of(nodes, root)?;
+    let rest = Vec::with_capacity(nodes.allocator(), REST)?;
     Ok(OpenWay {
         levels: Levels::new(nodes.allocator()),
         top,
         at: 0,
+        rest,
     })
 }
 
@@ -256,7 +261,7 @@ fn sprout(
     ensures along { OnOk result (IsAlong key.now way.new) }
     ensures ends { OnOk result (way.new.top.part ≡ left key.now way.new.at) }
 {
-    let part = part_from(nodes.allocator(), key, next)?;
+    let part = part_in(&mut way.rest, nodes.allocator(), key, next)?;
     way.push(nibble, next, bare(part))?;
     Ok(())
 }
@@ -270,7 +275,8 @@ fn regrow(nodes: &Nodes, way: &mut OpenWay, key: &[u8]) -> Result<(), AllocError
     ensures levels { OnOk result (way.new.levels ≡ way.old.levels) }
     ensures at { OnOk result (way.new.at ≡ way.old.at) }
 {
-    way.top.part = part_from(nodes.allocator(), key, way.at)?;
+    let part = part_in(&mut way.rest, nodes.allocator(), key, way.at)?;
+    way.top.part = part;
     Ok(())
 }
 
@@ -468,6 +474,7 @@ fn finish(nodes: &mut Nodes, way: OpenWay) -> Result<Option<u32>, AllocError>
         levels: _,
         top,
         at: _,
+        rest: _,
     } = way;
     let id = settle_open(nodes, top)?;
     Ok(id)

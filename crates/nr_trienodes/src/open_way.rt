@@ -13,7 +13,7 @@ use crate::node_bytes::NodeBytes;
 use crate::nodes::Nodes;
 use crate::packed::Row;
 use crate::settling::{Links, join, links_of};
-use crate::turn::{Stop, Turn, matched, nibble_at, rest_of};
+use crate::turn::{Stop, Turn, matched, nibble_at, rest_in};
 use std::alloc::{AllocError, Global};
 use std::marker::Model;
 
@@ -78,6 +78,8 @@ pub(crate) struct OpenWay {
     pub(crate) top: OpenNode,
     /// How many nibbles of the key lie before that node's part.
     pub(crate) at: usize,
+    /// Memory for what is left of a key, which is used again.
+    pub(crate) rest: Vec<u8>,
 }
 
 /// A node of the arena, opened.
@@ -106,13 +108,19 @@ pub(crate) fn bare(part: NodeBytes) -> OpenNode
     }
 }
 
-/// What is left of a key from a place on, for a node's part.
-pub(crate) fn part_from(alloc: Global, key: &[u8], at: usize) -> Result<NodeBytes, AllocError>
+/// What is left of a key from a place on, for a node's part. It is written in memory that is used again, and the
+/// part is made of that.
+pub(crate) fn part_in(
+    rest: &mut Vec<u8>,
+    alloc: Global,
+    key: &[u8],
+    at: usize,
+) -> Result<NodeBytes, AllocError>
     ensures value { IfOk result (λ part. part ≡ left key.now at) }
     ensures small { IfOk result (λ part. IsNibbles part) }
 {
-    let rest = rest_of(alloc, key, at)?;
-    let part = NodeBytes::of(alloc, &rest)?;
+    rest_in(rest, key, at)?;
+    let part = NodeBytes::of(alloc, rest.as_slice())?;
     Ok(part)
 }
 

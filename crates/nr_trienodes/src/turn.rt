@@ -26,17 +26,27 @@ pub(crate) fn nibble_at(key: &[u8], at: usize) -> Option<u8>
     }
 }
 
+/// The nibbles of a key from a place on, in memory that is used again.
+pub(crate) fn rest_in(rest: &mut Vec<u8>, key: &[u8], at: usize) -> Result<(), AllocError>
+    ensures value { OnOk result (rest.new.items ≡ left key.now at) }
+    ensures small { OnOk result (IsNibbles rest.new.items) }
+{
+    rest.clear();
+    let mut at = at;
+    'on: while let Some(nibble) = nibble_at(key, at) {
+        rest.push(nibble)?;
+        at += 1;
+    }
+    Ok(())
+}
+
 /// The nibbles of a key from a place on.
 pub(crate) fn rest_of(alloc: Global, key: &[u8], at: usize) -> Result<Vec<u8>, AllocError>
     ensures value { IfOk result (λ rest. rest.items ≡ left key.now at) }
     ensures small { IfOk result (λ rest. IsNibbles rest.items) }
 {
     let mut rest = Vec::with_capacity(alloc, key.len().saturating_mul(2).saturating_sub(at))?;
-    let mut at = at;
-    'on: while let Some(nibble) = nibble_at(key, at) {
-        rest.push(nibble)?;
-        at += 1;
-    }
+    rest_in(&mut rest, key, at)?;
     Ok(rest)
 }
 

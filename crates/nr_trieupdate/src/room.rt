@@ -127,9 +127,35 @@ fn trim_all(
     Ok(limits_of(held, held + held / 4 + SLACK, 0))
 }
 
+// Trims the young nodes, and behind that all, where few more nodes could be made until then, or many values
+// came since the last time. Gives the next limits.
+fn trim_some(
+    nodes: &mut Nodes,
+    root: &mut Option<NodeId>,
+    draft: &mut Option<NodeId>,
+    limits: Limits,
+) -> Result<Limits, AllocError>
+    requires root { IsFew nodes.old root.old }
+    requires draft { IsFew nodes.old draft.old }
+    requires bounded { IsBounded limits }
+    ensures root { IsMoved nodes.old nodes.new root.old root.new }
+    ensures draft { IsMoved nodes.old nodes.new draft.old draft.new }
+    ensures room { OnOk result (length nodes.new ≤ most_nodes) }
+    ensures bounded { IfOk result (λ limits. IsBounded limits) }
+{
+    trim_young(nodes, root, draft, limits.oldest)?;
+    let held = nodes.len();
+    let much = is_much(limits.all_bytes, held);
+    if limits.all.saturating_sub(held) >= LEAST_YOUNG && !much {
+        return Ok(limits_of(held, limits.all, limits.all_bytes));
+    }
+    trim_all(nodes, root, draft)
+}
+
 /// Trims the arena to the tries of a root and of a draft beside it, where it holds more nodes than the
-/// limits allow, or more values came: its young nodes, and behind that all, where few more nodes could
-/// be made until then, or many values came since the last time. Gives the next limits.
+/// limits allow, or more values came: all nodes at once where it holds as many as until the next trim of all,
+/// else its young nodes, and behind that all, where few more nodes could be made until then, or many values
+/// came since the last time. Gives the next limits.
 ///
 /// # Errors
 ///
@@ -151,13 +177,10 @@ pub(crate) fn make_room(
     if nodes.len() <= limits.young && limits.young_bytes <= YOUNG_BYTES {
         return Ok(limits);
     }
-    trim_young(nodes, root, draft, limits.oldest)?;
-    let held = nodes.len();
-    let much = is_much(limits.all_bytes, held);
-    if limits.all.saturating_sub(held) >= LEAST_YOUNG && !much {
-        return Ok(limits_of(held, limits.all, limits.all_bytes));
+    if nodes.len() >= limits.all {
+        return trim_all(nodes, root, draft);
     }
-    trim_all(nodes, root, draft)
+    trim_some(nodes, root, draft, limits)
 }
 
 // The most entries that a store holds.

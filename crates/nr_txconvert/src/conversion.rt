@@ -1,10 +1,11 @@
 //! How a transaction becomes a receipt.
 
-ghost use Rattle.std.specs.Prelude.{◌≡◌, ◌-◌, true, IfOk, OnOk, IsSome};
+ghost use Rattle.std.specs.Prelude.{◌≡◌, ◌-◌, true, IfOk, OnOk, Some};
 ghost use Rattle.std.specs.FinMap.{get};
 ghost use Rattle.nr_state.specs.View.{with_world};
 ghost use Rattle.nr_state.specs.World.{with_account};
-ghost use Rattle.nr_state.specs.Changes.{set_key};
+ghost use Rattle.nr_state.specs.Changes.{set_key, usage_of_key};
+ghost use Rattle.nr_state.specs.Usage.{key_usage};
 ghost use Rattle.nr_columns.specs.SpelledKeys.{key_read};
 ghost use Rattle.nr_keys.specs.Changed.{with_allowance};
 ghost use Rattle.nr_keys.specs.Lent.{shown_permission, shown};
@@ -87,24 +88,25 @@ fn used(
     changed(alloc, key, &access, tx.nonce, left)
 }
 
-/// Takes the whole cost from the signer.
+/// Takes the whole cost from the signer, and gives its account as it is then.
 fn pay<S: Store>(
     state: &mut ShardState<S>,
     tx: &Transaction,
     account: &Account,
     cost: u128,
-) -> Result<(), AllocError>
+) -> Result<Account, AllocError>
     requires { state.old.whole ≡ true }
-    ensures { OnOk result (state.new ≡ with_world state.old
+    ensures paid { OnOk result (state.new ≡ with_world state.old
         (with_account state.old.world tx.now.signer (record account.now { amount = account.now.amount - cost }))) }
+    ensures stands { IfOk result (λ paid. get state.new.world.accounts tx.now.signer ≡ Some paid) }
 {
     let amount = account.amount.saturating_sub(cost);
-    state.set_account(&tx.signer, &Account { amount, ..*account })?;
-    Ok(())
+    let paid = Account { amount, ..*account };
+    state.set_account(&tx.signer, &paid)?;
+    Ok(paid)
 }
 
-/// Takes the whole cost from the signer, and writes its key as it is once it was used.
-#[tactic(auto, using(crate::proofs::Charging::stands_with_account))]
+/// Takes the whole cost from the signer, and writes its key as it is once it was used, which costs what it did.
 fn charge<S: Store>(
     state: &mut ShardState<S>,
     tx: &Transaction,
@@ -113,12 +115,14 @@ fn charge<S: Store>(
     cost: u128,
 ) -> Result<(), AllocError>
     requires whole { state.old.whole ≡ true }
+    requires same { usage_of_key state.old.config state.old.world tx.now.signer tx.now.public_key
+        ≡ key_usage state.old.config tx.now.public_key used.now }
     ensures { OnOk result (state.new ≡ with_world state.old (set_key state.old.config
         (with_account state.old.world tx.now.signer (record account.now { amount = account.now.amount - cost }))
         tx.now.signer tx.now.public_key used.now)) }
 {
-    pay(state, tx, account, cost)?;
-    state.set_spelled_key(&tx.signer, &tx.public_key, used)?;
+    let paid = pay(state, tx, account, cost)?;
+    state.set_used_key(&tx.signer, &tx.public_key, used, &paid)?;
     Ok(())
 }
 

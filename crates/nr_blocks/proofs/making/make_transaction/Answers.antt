@@ -5,9 +5,9 @@ use Rattle.nr_blocks.proofs.making.make_transaction.Goals as goal
 
 pub returns-in-Ok : goal.returns-in-Ok
 returns-in-Ok c =
-    made_and_cut c.args.bytes.now.items c.as_slice.result.now c.shrink_to_fit.new.self.items c.args.place
+    made_and_cut c.args.bytes.now.items c.as_slice.result.now c.give_back.new.bytes.items c.args.place
     c.in-Ok.transaction
-    c.as_slice.ensures.value (c.shrink_to_fit.ensures.items ∙ c.truncate.ensures.items) c.in-Ok.ensures
+    c.as_slice.ensures.value (c.give_back.ensures ∙ c.truncate.ensures.items) c.in-Ok.ensures
 
 pub returns-in-Err : goal.returns-in-Err
 returns-in-Err c =

@@ -1,6 +1,9 @@
 -- The goals of `making::extension` that no tactic closes.
-use Rattle.nr_triedef.proofs.Parts.{extension_is_node}
+use Rattle.std.proofs.Common.{ℕ, List, ap, ◌∙◌}
+use Rattle.nr_triedef.specs.Node.{summary}
+use Rattle.nr_triedef.specs.Root.{extension}
 use Rattle.nr_triedef.proofs.making.extension.Goals as goal
 
-pub summarize-requires-clause-form : goal.summarize-requires-clause-form
-summarize-requires-clause-form g c = rw c.in_ok-part.ensures (extension_is_node c.args.shared.now c.hash_bytes.result c.in_ok-usage.usage c.requires.small c.requires.some)
+pub returns-clause-made : goal.returns-clause-made
+returns-clause-made g c =
+    c.in_ok-made.ensures.made ∙ ap (λ (part : List ℕ). summary (extension part c.args.below)) (c.written.ensures ∙ c.in_ok-key_part_in.ensures)

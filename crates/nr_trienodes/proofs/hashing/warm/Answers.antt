@@ -1,7 +1,11 @@
 -- The goals of `hashing::warm` that no tactic closes.
 use Rattle.std.proofs.Common.{arith}
+use Rattle.nr_trienodes.proofs.Hashed.{warm_refl}
 use Rattle.nr_trienodes.proofs.Queues.{next_warm, warming_next, left_weights}
 use Rattle.nr_trienodes.proofs.hashing.warm.Goals as goal
+
+pub returns-in_err-scratch-clause-warms : goal.returns-in_err-scratch-clause-warms
+returns-in_err-scratch-clause-warms g c = warm_refl c.args.nodes.now c.count-count.ensures.sound
 
 pub summary_of-requires-clause-hashes : goal.summary_of-requires-clause-hashes
 summary_of-requires-clause-hashes g c = (next_warm c.args.nodes.now c.up.nodes c.args.queue.items c.up.queue.items c.pop.new.self.items c.in-Some.id c.count-count.ensures.sound c.requires c.up.invariant.warming c.in-Some.ensures.items).hashes

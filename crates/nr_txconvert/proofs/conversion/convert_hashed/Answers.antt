@@ -3,6 +3,7 @@ use Rattle.std.proofs.Common.{Some, refl, sym, ap, subst, ◌∙◌}
 use Rattle.std.specs.Prelude.{IsSome}
 use Rattle.nr_columns.specs.SpelledKeys.{key_read}
 use Rattle.nr_state.specs.View.{with_world}
+use Rattle.nr_txconvert.proofs.Charging.{costs_alike}
 use Rattle.nr_txconvert.proofs.Converting.{no_signer, no_key, refuses, charges, same_key, converts}
 use Rattle.nr_keys.specs.Lent.{shown}
 use Rattle.nr_txconvert.proofs.conversion.convert_hashed.Goals as goal
@@ -25,6 +26,12 @@ returns-in-Err g c =
 
 pub of-requires : goal.of-requires
 of-requires g c = subst (λ bytes. IsSome (key_read bytes)) (sym c.inner.ensures) (subst IsSome (sym c.in_ok-used.ensures) refl)
+
+pub charge-requires-clause-same : goal.charge-requires-clause-same
+charge-requires-clause-same g c =
+    let used = same_key _ _ _ c.of.ensures (ap key_read c.inner.ensures ∙ c.in_ok-used.ensures) in
+    costs_alike c.args.state.now.config c.args.state.now.world c.args.tx.now.signer c.args.tx.now.public_key (shown c.in_ok-access.access) _ c.args.tx.now.nonce c.in-Ok.cost.gas
+    (sym c.in_ok-spelled.ensures ∙ c.in-Some-2.is ∙ ap Some (sym c.in_ok-access.ensures)) used
 
 pub returns : goal.returns
 returns g c =

@@ -8,4 +8,4 @@ use Rattle.nr_columns.proofs.columns.Columns.account.Goals as goal
 pub returns : goal.returns
 returns g c =
     subst (λ o. IfOk c.stored.result (λ found. found ≡ o))
-    (found accounts_column _ _ c.args.id.now (c.as_slice.ensures ∙ c.of-key.ensures.text) refl ∙ ap (λ v. map.get v.columns.accounts c.args.id.now) c.self.view_is) c.stored.ensures
+    (found accounts_column _ _ c.args.id.now (c.as_slice.ensures ∙ c.in_ok-key.ensures.text) refl ∙ ap (λ v. map.get v.columns.accounts c.args.id.now) c.self.view_is) c.stored.ensures

@@ -8,4 +8,4 @@ use Rattle.nr_columns.proofs.columns.Columns.awaited.Goals as goal
 pub returns : goal.returns
 returns g c =
     subst (λ o. IfOk c.stored.result (λ found. found ≡ o))
-    (found awaited_column _ _ (c.args.receiver.now, c.args.data_id.now.0) (c.inner.ensures ∙ c.in_ok-key.ensures.text) c.in_ok-key.ensures.there ∙ ap (λ v. map.get v.columns.awaited (c.args.receiver.now, c.args.data_id.now.0)) c.self.view_is) c.stored.ensures
+    (found awaited_column _ _ (c.args.receiver.now, c.args.data_id.now.0) (c.as_slice.ensures ∙ c.in_ok-key.ensures.text) c.in_ok-key.ensures.there ∙ ap (λ v. map.get v.columns.awaited (c.args.receiver.now, c.args.data_id.now.0)) c.self.view_is) c.stored.ensures

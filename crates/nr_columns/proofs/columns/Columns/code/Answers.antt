@@ -6,5 +6,5 @@ use Rattle.nr_columns.proofs.columns.Columns.code.Goals as goal
 
 pub returns : goal.returns
 returns g c =
-    c.get.ensures ∙ as_read _ ∙ found code_column _ _ c.args.id.now (c.inner.ensures ∙ c.in_ok-key.ensures.text) refl
+    c.get.ensures ∙ as_read _ ∙ found code_column _ _ c.args.id.now (c.as_slice.ensures ∙ c.in_ok-key.ensures.text) refl
     ∙ ap (λ v. map.get v.columns.code c.args.id.now) c.self.view_is

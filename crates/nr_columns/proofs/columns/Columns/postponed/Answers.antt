@@ -8,4 +8,4 @@ use Rattle.nr_columns.proofs.columns.Columns.postponed.Goals as goal
 pub returns : goal.returns
 returns g c =
     subst (λ o. IfOk c.stored.result (λ found. found ≡ o))
-    (found postponed_column _ _ (c.args.receiver.now, c.args.receipt_id.now.0) (c.inner.ensures ∙ c.in_ok-key.ensures.text) c.in_ok-key.ensures.there ∙ ap (λ v. map.get v.columns.postponed (c.args.receiver.now, c.args.receipt_id.now.0)) c.self.view_is) c.stored.ensures
+    (found postponed_column _ _ (c.args.receiver.now, c.args.receipt_id.now.0) (c.as_slice.ensures ∙ c.in_ok-key.ensures.text) c.in_ok-key.ensures.there ∙ ap (λ v. map.get v.columns.postponed (c.args.receiver.now, c.args.receipt_id.now.0)) c.self.view_is) c.stored.ensures

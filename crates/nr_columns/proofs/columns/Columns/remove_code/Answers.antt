@@ -8,15 +8,15 @@ use Rattle.nr_columns.proofs.columns.Columns.remove_code.Goals as goal
 pub invariant_of-self-2 : goal.invariant_of-self-2
 invariant_of-self-2 g c =
     let removed = c.in_ok-found.ensures in
-    stays (took code_column _ _ _ c.args.id.now removed.ok (c.inner.ensures ∙ c.in_ok-key.ensures.text) refl) c.self.invariant removed.marks
+    stays (took code_column _ _ _ c.args.id.now removed.ok (c.as_slice.ensures ∙ c.in_ok-key.ensures.text) refl) c.self.invariant removed.marks
 
 pub returns-clause-found : goal.returns-clause-found
 returns-clause-found g c =
     c.in_ok-found.ensures.found
-    ∙ present code_column _ _ c.args.id.now c.self.invariant.here (c.inner.ensures ∙ c.in_ok-key.ensures.text) refl
+    ∙ present code_column _ _ c.args.id.now c.self.invariant.here (c.as_slice.ensures ∙ c.in_ok-key.ensures.text) refl
     ∙ ap (λ v. is_some (map.get v.columns.code c.args.id.now)) c.self.view_is
 
 pub returns-clause-ok : goal.returns-clause-ok
 returns-clause-ok g c =
     let removed = c.in_ok-found.ensures in
-    shows (took code_column _ _ _ c.args.id.now removed.ok (c.inner.ensures ∙ c.in_ok-key.ensures.text) refl) c.self.view_is removed.marks removed.spare
+    shows (took code_column _ _ _ c.args.id.now removed.ok (c.as_slice.ensures ∙ c.in_ok-key.ensures.text) refl) c.self.view_is removed.marks removed.spare

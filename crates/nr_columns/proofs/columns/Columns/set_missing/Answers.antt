@@ -6,9 +6,9 @@ use Rattle.nr_columns.proofs.columns.Columns.set_missing.Goals as goal
 pub invariant_of-self-2 : goal.invariant_of-self-2
 invariant_of-self-2 g c =
     let wrote_it = c.in_ok-put_count.ensures in
-    stays (wrote missing_column _ _ _ (c.args.receiver.now, c.args.receipt_id.now.0) c.args.count wrote_it.ok (c.inner.ensures ∙ c.in_ok-key.ensures.text) c.in_ok-key.ensures.there wrote_it.back) c.self.invariant wrote_it.marks
+    stays (wrote missing_column _ _ _ (c.args.receiver.now, c.args.receipt_id.now.0) c.args.count wrote_it.ok (c.as_slice.ensures ∙ c.in_ok-key.ensures.text) c.in_ok-key.ensures.there wrote_it.back) c.self.invariant wrote_it.marks
 
 pub returns-clause-ok : goal.returns-clause-ok
 returns-clause-ok g c =
     let wrote_it = c.in_ok-put_count.ensures in
-    shows (wrote missing_column _ _ _ (c.args.receiver.now, c.args.receipt_id.now.0) c.args.count wrote_it.ok (c.inner.ensures ∙ c.in_ok-key.ensures.text) c.in_ok-key.ensures.there wrote_it.back) c.self.view_is wrote_it.marks wrote_it.spare
+    shows (wrote missing_column _ _ _ (c.args.receiver.now, c.args.receipt_id.now.0) c.args.count wrote_it.ok (c.as_slice.ensures ∙ c.in_ok-key.ensures.text) c.in_ok-key.ensures.there wrote_it.back) c.self.view_is wrote_it.marks wrote_it.spare

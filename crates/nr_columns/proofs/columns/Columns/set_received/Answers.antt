@@ -7,9 +7,9 @@ use Rattle.nr_columns.proofs.columns.Columns.set_received.Goals as goal
 pub invariant_of-self-2 : goal.invariant_of-self-2
 invariant_of-self-2 g c =
     let wrote_it = c.in_ok-put.ensures in
-    stays (wrote received_column _ _ _ (c.args.receiver.now, c.args.data_id.now.0) c.args.bytes.now wrote_it.ok (c.inner.ensures ∙ c.in_ok-key.ensures.text) c.in_ok-key.ensures.there (ap read_of wrote_it.back)) c.self.invariant wrote_it.marks
+    stays (wrote received_column _ _ _ (c.args.receiver.now, c.args.data_id.now.0) c.args.bytes.now wrote_it.ok (c.as_slice.ensures ∙ c.in_ok-key.ensures.text) c.in_ok-key.ensures.there (ap read_of wrote_it.back)) c.self.invariant wrote_it.marks
 
 pub returns-clause-ok : goal.returns-clause-ok
 returns-clause-ok g c =
     let wrote_it = c.in_ok-put.ensures in
-    shows (wrote received_column _ _ _ (c.args.receiver.now, c.args.data_id.now.0) c.args.bytes.now wrote_it.ok (c.inner.ensures ∙ c.in_ok-key.ensures.text) c.in_ok-key.ensures.there (ap read_of wrote_it.back)) c.self.view_is wrote_it.marks wrote_it.spare
+    shows (wrote received_column _ _ _ (c.args.receiver.now, c.args.data_id.now.0) c.args.bytes.now wrote_it.ok (c.as_slice.ensures ∙ c.in_ok-key.ensures.text) c.in_ok-key.ensures.there (ap read_of wrote_it.back)) c.self.view_is wrote_it.marks wrote_it.spare
