@@ -11,7 +11,6 @@ use crate::plain::{Scope, check_plain};
 use crate::refusal::{BodyFault, Refusal};
 use crate::stacks::Stacks;
 use nr_wasmtypes::{Instr, ValType};
-use std::alloc::Global;
 
 /// The end of a block: its result, and no other operand.
 #[inline]
@@ -137,18 +136,18 @@ fn check_code(
     Ok(next)
 }
 
-/// A function's body.
+/// A function's body. The stacks lend their memory.
 #[tactic(auto, unfolding(crate::specs::Shapes::body_judged))]
 pub(crate) fn check_body(
-    alloc: Global,
     scope: &Scope<'_>,
+    stacks: &mut Stacks,
     code: &Vec<Instr>,
 ) -> Result<(), BodyFault>
     ensures { BodyJudges result (body_judged (in_scope scope.now []) (code_of code.now.items)) }
 {
-    let mut stacks = Stacks::new(alloc, scope.result);
-    let next = check_code(scope, &mut stacks, code, 0)?;
-    if let Err(refusal) = check_end(&mut stacks, scope.result) {
+    stacks.restart(scope.result);
+    let next = check_code(scope, stacks, code, 0)?;
+    if let Err(refusal) = check_end(stacks, scope.result) {
         return Err(refusal.at(next));
     }
     Ok(())

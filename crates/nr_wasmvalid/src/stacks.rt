@@ -50,6 +50,20 @@ impl Stacks {
         }
     }
 
+    /// One open block and no operands, in the memory that is there.
+    #[inline]
+    pub(crate) fn restart(&mut self, label: Option<ValType>)
+        ensures { self.new ≡ record { shape = fresh; labels = label ∷ []; outer = [] } }
+    {
+        self.operands.clear();
+        self.around.clear();
+        self.frame = Frame {
+            label,
+            height: 0,
+            any_below: false,
+        };
+    }
+
     /// An operand on top.
     #[inline(always)]
     fn push(&mut self, operand: Option<ValType>) -> Result<(), AllocError>
