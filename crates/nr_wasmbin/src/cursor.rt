@@ -214,6 +214,14 @@ impl<'a> Cursor<'a> {
         Ok(name)
     }
 
+    /// How many bytes are left.
+    #[inline]
+    pub(crate) fn left(&self) -> usize
+        ensures { result ≡ length self.now.left }
+    {
+        self.bytes.len() - self.at
+    }
+
     /// Whether no byte is left.
     #[inline]
     pub(crate) fn is_empty(&self) -> bool

@@ -7,7 +7,7 @@ use Rattle.nr_wasmbin.proofs.item.read_items.Goals as goal
 
 pub returns-in_err-item-clause-gives : goal.returns-in_err-item-clause-gives
 returns-in_err-item-clause-gives g c =
-    let p = err_from_is_err_and c.from_residual.result c.from_residual.ensures.1 in
+    let p = err_from_is_err_and c.from_residual-in_err-item.result c.from_residual-in_err-item.ensures.1 in
     rw (p.1, p.2) (λ other. ends g.T.Item.reading c.loop.items.items c.args.count c.loop.counter c.loop.cursor c.in_err-item.field-0.0 (items_at g.T.Item.reading c.args.count c.args.cursor.now) c.loop-test.true (c.in_err-item.ensures.gives other) c.loop.invariant.reads)
 
 pub loop-preserved : goal.loop-preserved
