@@ -2,14 +2,53 @@
 
 ghost use Rattle.std.specs.Prelude.{◌≡◌, ◌≢◌, ◌+◌, ◌≤◌, ◌<◌, ℕ, Bool, false, OnOk, length};
 ghost use Rattle.nr_wasmbin.specs.Expressions.{code_at, instr_at, expression_at, other_side, GivesCode, GivesOther};
-ghost use Rattle.nr_wasmbin.specs.Expressions.{StepsOn, GivesExpression};
+ghost use Rattle.nr_wasmbin.specs.Expressions.{StepsOn, GivesExpression, RowGives, is_structured};
 ghost use Rattle.nr_wasmtypes.specs.declared.opcode.Op.TheVariants as op;
 
 use crate::cursor::Cursor;
 use crate::fault::DecodeFault;
-use crate::plain::{open_block, read_plain};
+use crate::plain::{open_block, plain_of, read_plain};
 use nr_wasmtypes::{Instr, Op};
 use std::alloc::Global;
+
+/// Whether it is the opcode of an instruction that holds others, or ends a sequence.
+#[inline(always)]
+fn is_structured(op: Op) -> bool
+    ensures { result ≡ is_structured op }
+{
+    match op {
+        Op::Block => true,
+        Op::Loop => true,
+        Op::If => true,
+        Op::Else => true,
+        Op::End => true,
+        _ => false,
+    }
+}
+
+/// Puts the instructions that hold no others behind those that are there. Answers the place of the opcode behind them,
+/// and what it stands for. It stays a call, so that a block takes little of the stack.
+#[inline(never)]
+fn read_row(
+    alloc: Global,
+    cursor: &mut Cursor<'_>,
+    items: &mut Vec<Instr>,
+) -> Result<(usize, Op), DecodeFault>
+    ensures gives { (turns : ℕ) (depth : ℕ) (may_else : Bool) → length cursor.old.left ≤ turns
+        → RowGives result cursor.new items.old.items items.new.items depth may_else
+        (code_at turns depth may_else cursor.old) }
+    ensures shorter { OnOk result (length cursor.new.left < length cursor.old.left) }
+{
+    'opcodes: loop {
+        let at = cursor.at();
+        let op = Op::of(cursor.byte()?);
+        if is_structured(op) {
+            return Ok((at, op));
+        }
+        let plain = plain_of(alloc, cursor, at, op)?;
+        items.push(Instr::Plain(plain))?;
+    }
+}
 
 /// The instructions up to an end, and whether it is an `else`.
 #[cycle(code)]
@@ -25,9 +64,8 @@ fn read_code(
     ensures shorter { OnOk result (length cursor.new.left < length cursor.old.left) }
 {
     let mut items = Vec::new(alloc);
-    loop {
-        let at = cursor.at();
-        let op = Op::of(cursor.byte()?);
+    'rows: loop {
+        let (at, op) = read_row(alloc, cursor, &mut items)?;
         match op {
             Op::End => return Ok((items, false)),
             Op::Else => {
@@ -64,7 +102,7 @@ fn read_other(
     Ok(other)
 }
 
-/// One instruction, with what it holds, behind its opcode.
+/// One instruction, with what it holds, behind its opcode. Those that hold nothing are read by `read_row` before.
 #[cycle(code)]
 fn read_instr(
     alloc: Global,

@@ -10,65 +10,76 @@ use Rattle.nr_bytes.specs.Reading.{◌>>=◌}
 use Rattle.nr_wasmbin.specs.Fields.{Read}
 use Rattle.nr_wasmbin.specs.Expressions.{Sequence, front, onto, instr_at, code_at}
 use Rattle.nr_wasmtypes.specs.declared.opcode.Op.{Op}
-use Rattle.nr_wasmtypes.specs.declared.opcode.Op.TheVariants as op
-use Rattle.nr_wasmbin.proofs.OnCode.{front_nothing, front_push, turn, short, ends_here, else_here, else_refused, block_opens, block_body, loop_opens, loop_body, if_opens, if_body, plain_instr, puts}
+use Rattle.nr_wasmbin.proofs.OnCode.{front_nothing, front_push, row_joins, row_stops, ends_here, else_here, else_refused, block_opens, block_body, loop_opens, loop_body, if_opens, if_body, plain_instr, puts}
 use Rattle.nr_wasmbin.proofs.expression.+code.Goals as goal
 
-pub read_code-loop-items-init : goal.read_code-loop-items-init
-read_code-loop-items-init t c = record {
+pub read_code-rows-init : goal.read_code-rows-init
+read_code-rows-init t c = record {
   reads = λ turns h. (turns, h, ap (λ (is : List Instr). front (onto is) (code_at turns c.args.depth c.args.may_else c.args.cursor.now)) c.new-items.ensures.items ∙ front_nothing (code_at turns c.args.depth c.args.may_else c.args.cursor.now));
   shorter = omega arith;
 }
 
-pub read_code-returns-in_err-byte-clause-gives : goal.read_code-returns-in_err-byte-clause-gives
-read_code-returns-in_err-byte-clause-gives t c =
+pub read_code-returns-in_err-at-clause-gives : goal.read_code-returns-in_err-at-clause-gives
+read_code-returns-in_err-at-clause-gives t c =
     let p = err_from_is_err_and c.from_residual.result c.from_residual.ensures.1 in
-    rw (p.1, p.2) (λ turns h other. let so = c.loop-items.invariant.reads turns h in
-    short c.loop-items.items.items so.0 c.args.depth c.args.may_else c.loop-items.cursor _ _ (c.in_err-byte.ensures.gives other) so.2)
+    rw (p.1, p.2) (λ turns h other. let so = c.rows.invariant.reads turns h in
+    row_stops c.rows.items.items _ _ _ (c.in_err-at.ensures.gives so.0 c.args.depth c.args.may_else so.1 other) so.2)
 
 pub read_code-returns-in-End-clause-gives : goal.read_code-returns-in-End-clause-gives
 read_code-returns-in-End-clause-gives t c = λ turns h.
-    let so = c.loop-items.invariant.reads turns h in
-    let x = turn c.loop-items.items.items so.0 c.args.depth c.args.may_else c.loop-items.cursor c.byte.new.self c.in_ok-byte.field-0 _ c.at-at.result op.End c.in_ok-byte.ensures.gives c.at-at.ensures c.in-End.ensures so.1 so.2 in
-    x.2 ∙ ends_here c.loop-items.items.items (code_at x.0) c.args.depth c.args.may_else c.at-at.result c.byte.new.self
+    let so = c.rows.invariant.reads turns h in
+    let x = c.in_ok-at.ensures.gives so.0 c.args.depth c.args.may_else so.1 in
+    let after = c.read_row.new.items.items in
+    row_joins c.rows.items.items x.0 after _ _ _ x.1 x.4 so.2
+    ∙ ap (λ (o : Op). front (onto after) (instr_at (code_at x.2) c.args.depth c.args.may_else c.in_ok-at.at o c.read_row.new.cursor)) c.in-End.is
+    ∙ ends_here after (code_at x.2) c.args.depth c.args.may_else c.in_ok-at.at c.read_row.new.cursor
 
 pub read_code-returns-then-may_else-clause-gives : goal.read_code-returns-then-may_else-clause-gives
 read_code-returns-then-may_else-clause-gives t c = λ turns h.
-    let so = c.loop-items.invariant.reads turns h in
-    let x = turn c.loop-items.items.items so.0 c.args.depth c.args.may_else c.loop-items.cursor c.byte.new.self c.in_ok-byte.field-0 _ c.at-at.result op.Else c.in_ok-byte.ensures.gives c.at-at.ensures c.in-Else.ensures so.1 so.2 in
-    x.2 ∙ else_here c.loop-items.items.items (code_at x.0) c.args.depth c.args.may_else c.at-at.result c.byte.new.self c.if-may_else.true
+    let so = c.rows.invariant.reads turns h in
+    let x = c.in_ok-at.ensures.gives so.0 c.args.depth c.args.may_else so.1 in
+    let after = c.read_row.new.items.items in
+    row_joins c.rows.items.items x.0 after _ _ _ x.1 x.4 so.2
+    ∙ ap (λ (o : Op). front (onto after) (instr_at (code_at x.2) c.args.depth c.args.may_else c.in_ok-at.at o c.read_row.new.cursor)) c.in-Else.is
+    ∙ else_here after (code_at x.2) c.args.depth c.args.may_else c.in_ok-at.at c.read_row.new.cursor c.if-may_else.true
 
 pub read_code-returns-in-Else-clause-gives : goal.read_code-returns-in-Else-clause-gives
 read_code-returns-in-Else-clause-gives t c = λ turns h _.
-    let so = c.loop-items.invariant.reads turns h in
-    let x = turn c.loop-items.items.items so.0 c.args.depth c.args.may_else c.loop-items.cursor c.byte.new.self c.in_ok-byte.field-0 _ c.at-at.result op.Else c.in_ok-byte.ensures.gives c.at-at.ensures c.in-Else.ensures so.1 so.2 in
-    x.2 ∙ else_refused c.loop-items.items.items (code_at x.0) c.args.depth c.args.may_else c.at-at.result c.byte.new.self c.if-may_else.false
+    let so = c.rows.invariant.reads turns h in
+    let x = c.in_ok-at.ensures.gives so.0 c.args.depth c.args.may_else so.1 in
+    let after = c.read_row.new.items.items in
+    row_joins c.rows.items.items x.0 after _ _ _ x.1 x.4 so.2
+    ∙ ap (λ (o : Op). front (onto after) (instr_at (code_at x.2) c.args.depth c.args.may_else c.in_ok-at.at o c.read_row.new.cursor)) c.in-Else.is
+    ∙ else_refused after (code_at x.2) c.args.depth c.args.may_else c.in_ok-at.at c.read_row.new.cursor c.if-may_else.false
 
 pub read_code-returns-in_err-instr-in_default : goal.read_code-returns-in_err-instr-in_default
 read_code-returns-in_err-instr-in_default t c =
     let p = err_from_is_err_and c.from_residual-in_err-instr-in_default.result c.from_residual-in_err-instr-in_default.ensures.1 in
     rw (p.1, p.2) (record {
       gives = λ turns h other.
-          let so = c.loop-items.invariant.reads turns h in
-          let x = turn c.loop-items.items.items so.0 c.args.depth c.args.may_else c.loop-items.cursor c.byte.new.self c.in_ok-byte.field-0 _ c.at-at.result c.of-op.result c.in_ok-byte.ensures.gives c.at-at.ensures c.of-op.ensures so.1 so.2 in
-          x.2 ∙ ap (front (onto c.loop-items.items.items)) (c.in_err-instr-in_default.ensures.gives x.0 c.args.may_else x.1 other);
+          let so = c.rows.invariant.reads turns h in
+          let x = c.in_ok-at.ensures.gives so.0 c.args.depth c.args.may_else so.1 in
+          let after = c.read_row.new.items.items in
+          row_joins c.rows.items.items x.0 after _ _ _ x.1 x.4 so.2
+          ∙ ap (front (onto after)) (c.in_err-instr-in_default.ensures.gives x.2 c.args.may_else x.3 other);
       shorter = tt;
     })
 
-pub read_code-loop-items-preserved : goal.read_code-loop-items-preserved
-read_code-loop-items-preserved t c = record {
+pub read_code-rows-preserved : goal.read_code-rows-preserved
+read_code-rows-preserved t c = record {
   reads = λ turns h.
-      let so = c.loop-items.invariant.reads turns h in
-      let x = turn c.loop-items.items.items so.0 c.args.depth c.args.may_else c.loop-items.cursor c.byte.new.self c.in_ok-byte.field-0 _ c.at-at.result c.of-op.result c.in_ok-byte.ensures.gives c.at-at.ensures c.of-op.ensures so.1 so.2 in
-      let left = code_at x.0 c.args.depth c.args.may_else c.read_instr.new.cursor in (
-        x.0,
-        omega (arith, c.in_ok-instr-in_default.ensures.shorter, x.1),
+      let so = c.rows.invariant.reads turns h in
+      let x = c.in_ok-at.ensures.gives so.0 c.args.depth c.args.may_else so.1 in
+      let after = c.read_row.new.items.items in
+      let left = code_at x.2 c.args.depth c.args.may_else c.read_instr.new.cursor in (
+        x.2,
+        omega (arith, c.in_ok-instr-in_default.ensures.shorter, x.3),
         ap (λ (is : List Instr). front (onto is) left) c.in_ok-push-in_default.ensures.items
-            ∙ sym (front_push c.loop-items.items.items c.in_ok-instr-in_default.instr left)
-            ∙ ap (front (onto c.loop-items.items.items)) (sym (c.in_ok-instr-in_default.ensures.gives x.0 c.args.may_else x.1))
-            ∙ sym x.2,
+            ∙ sym (front_push after c.in_ok-instr-in_default.instr left)
+            ∙ ap (front (onto after)) (sym (c.in_ok-instr-in_default.ensures.gives x.2 c.args.may_else x.3))
+            ∙ sym (row_joins c.rows.items.items x.0 after _ _ _ x.1 x.4 so.2),
       );
-  shorter = omega (arith, c.in_ok-instr-in_default.ensures.shorter, c.in_ok-byte.ensures.shorter, c.loop-items.invariant.shorter);
+  shorter = omega (arith, c.in_ok-instr-in_default.ensures.shorter, c.in_ok-at.ensures.shorter, c.rows.invariant.shorter);
 }
 
 pub read_instr-returns-in_err-ty-in-Block-clause-gives : goal.read_instr-returns-in_err-ty-in-Block-clause-gives

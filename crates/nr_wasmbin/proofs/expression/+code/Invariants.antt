@@ -12,12 +12,12 @@ decreases-read_other l = 2 * length l.cursor.now.left + 1
 abbrev pub decreases-read_instr : goal.decreases-read_instr
 decreases-read_instr l = 2 * length l.cursor.now.left
 
-abbrev pub invariant-read_code-loop-items : goal.invariant-read_code-loop-items
-invariant-read_code-loop-items l = record {
+abbrev pub invariant-read_code-rows : goal.invariant-read_code-rows
+invariant-read_code-rows l = record {
   reads : (turns : ℕ) → length l.fn.cursor.left ≤ turns
       → (more : ℕ) × (length l.cursor.left ≤ more) × (front (onto l.items.items) (code_at more l.depth l.may_else l.cursor) ≡ code_at turns l.depth l.may_else l.fn.cursor);
   shorter : length l.cursor.left ≤ length l.fn.cursor.left;
 }
 
-abbrev pub decreases-read_code-loop-items : goal.decreases-read_code-loop-items
-decreases-read_code-loop-items l = length l.cursor.left
+abbrev pub decreases-read_code-rows : goal.decreases-read_code-rows
+decreases-read_code-rows l = length l.cursor.left
