@@ -1,5 +1,6 @@
 -- Reading a sequence, up to the instruction that a loop stands at.
-use Rattle.std.proofs.Common.{◌≡◌, ◌≢◌, ℕ, zero, suc, ◌+◌, ◌≤◌, List, [], ◌∷◌, ◌++◌, length, Bool, true, false, Ok, Err, Option, refl, sym, ap, subst, ◌∙◌, arith}
+use Rattle.std.proofs.Common.{◌≡◌, ◌≢◌, ℕ, zero, suc, ◌+◌, ◌≤◌, List, [], ◌∷◌, ◌++◌, length, take, drop, Bool, true, false, Ok, Err, Option, refl, sym, ap, subst, ◌∙◌, append_assoc, length-append, arith}
+use Rattle.std.proofs.Math.Seq.{drop-append_seam, take-append_seam}
 use Rattle.nr_wasmtypes.specs.declared.instr.ValType.{ValType}
 use Rattle.nr_wasmtypes.specs.declared.instr.Instr.{Instr}
 use Rattle.nr_wasmtypes.specs.declared.instr.Instr.TheVariants as instr
@@ -187,3 +188,20 @@ row_joins before items after whole next total e leads so_far =
 
 pub row_stops : (before : List Instr) (whole total : Sequence) (e : DecodeFault) → whole ≡ Err e → front (onto before) whole ≡ total → total ≡ Err e
 row_stops before whole total e is so_far = sym so_far ∙ ap (front (onto before)) is
+
+-- ---- a sequence on top of a stack
+pub behind : (before is js stack after : List Instr) → stack ≡ before ++ is → after ≡ stack ++ js → after ≡ before ++ (is ++ js)
+behind before is js stack after so_far more = more ∙ ap (λ (ks : List Instr). ks ++ js) so_far ∙ append_assoc before is js
+
+pub longer : (before items after : List Instr) → after ≡ before ++ items → length before ≤ length after
+longer before items after e = let l : length after ≡ length (before ++ items) = ap length e in omega (arith, l, length-append before items)
+
+pub cut_off : (before items after tail : List Instr) (start : ℕ) → start ≡ length before → after ≡ before ++ items → tail ≡ drop start after → tail ≡ items
+cut_off before items after tail start s e is =
+    is ∙ ap (drop start) e ∙ ap (λ n. drop n (before ++ items)) s ∙ drop-append_seam before items
+
+pub left_over : (before items after : List Instr) (start : ℕ) → start ≡ length before → after ≡ before ++ items → take start after ≡ before
+left_over before items after start s e = ap (take start) e ∙ ap (λ n. take n (before ++ items)) s ∙ take-append_seam before items
+
+abbrev pub sequence : List Instr → Bool → Input → Sequence
+sequence is is_else s = Ok ((code_of is, is_else), s)

@@ -145,6 +145,12 @@ RowGives (Ok r) new before after depth may_else whole =
     × (whole ≡ front (onto items) (instr_at (code_at more) depth may_else r.0 r.1 new))
 RowGives (Err e) new before after depth may_else whole = e ≢ fault.Memory → whole ≡ Err e
 
+-- the same of a call that put the whole sequence there
+abbrev pub PutsCode : Result Bool DecodeFault → Input → List Instr → List Instr → Sequence → Type 0
+PutsCode (Ok is_else) new before after whole =
+    (items : List Instr) × (after ≡ before ++ items) × (whole ≡ Ok ((code_of items, is_else), new))
+PutsCode (Err e) new before after whole = e ≢ fault.Memory → whole ≡ Err e
+
 -- a call gave a sequence, unless memory ran out
 abbrev pub GivesCode : Result (Vec Instr × Bool) DecodeFault → Input → Sequence → Type 0
 GivesCode (Ok r) new read = read ≡ Ok ((code_of r.0.items, r.1), new)

@@ -2,7 +2,7 @@
 
 ghost use Rattle.std.specs.Prelude.{◌≡◌, ◌≢◌, ◌+◌, ◌≤◌, ◌<◌, ℕ, Bool, false, OnOk, length};
 ghost use Rattle.nr_wasmbin.specs.Expressions.{code_at, instr_at, expression_at, other_side, GivesCode, GivesOther};
-ghost use Rattle.nr_wasmbin.specs.Expressions.{StepsOn, GivesExpression, RowGives, is_structured};
+ghost use Rattle.nr_wasmbin.specs.Expressions.{StepsOn, GivesExpression, RowGives, PutsCode, is_structured};
 ghost use Rattle.nr_wasmtypes.specs.declared.opcode.Op.TheVariants as op;
 
 use crate::cursor::Cursor;
@@ -50,11 +50,46 @@ fn read_row(
     }
 }
 
-/// The instructions up to an end, and whether it is an `else`.
+/// Puts the instructions up to an end behind those that are there. Answers whether the end is an `else`.
+#[cycle(code)]
+fn read_rows(
+    alloc: Global,
+    cursor: &mut Cursor<'_>,
+    stack: &mut Vec<Instr>,
+    depth: u32,
+    may_else: bool,
+) -> Result<bool, DecodeFault>
+    requires shallow { depth ≤ 256 }
+    ensures gives { (turns : ℕ) → length cursor.old.left ≤ turns
+        → PutsCode result cursor.new stack.old.items stack.new.items (code_at turns depth may_else cursor.old) }
+    ensures shorter { OnOk result (length cursor.new.left < length cursor.old.left) }
+{
+    'rows: loop {
+        let (at, op) = read_row(alloc, cursor, stack)?;
+        match op {
+            Op::End => return Ok(false),
+            Op::Else => {
+                if may_else {
+                    return Ok(true);
+                }
+                return Err(DecodeFault::Opcode { at });
+            }
+            _ => {
+                let instr = read_instr(alloc, cursor, stack, depth, at, op)?;
+                stack.push(instr)?;
+            }
+        }
+    }
+}
+
+/// The instructions up to an end, in memory for just as many, and whether it is an `else`. On the way they stand on a
+/// stack.
+#[inline(never)]
 #[cycle(code)]
 fn read_code(
     alloc: Global,
     cursor: &mut Cursor<'_>,
+    stack: &mut Vec<Instr>,
     depth: u32,
     may_else: bool,
 ) -> Result<(Vec<Instr>, bool), DecodeFault>
@@ -62,24 +97,12 @@ fn read_code(
     ensures gives { (turns : ℕ) → length cursor.old.left ≤ turns
         → GivesCode result cursor.new (code_at turns depth may_else cursor.old) }
     ensures shorter { OnOk result (length cursor.new.left < length cursor.old.left) }
+    ensures held { OnOk result (stack.new.items ≡ stack.old.items) }
 {
-    let mut items = Vec::new(alloc);
-    'rows: loop {
-        let (at, op) = read_row(alloc, cursor, &mut items)?;
-        match op {
-            Op::End => return Ok((items, false)),
-            Op::Else => {
-                if may_else {
-                    return Ok((items, true));
-                }
-                return Err(DecodeFault::Opcode { at });
-            }
-            _ => {
-                let instr = read_instr(alloc, cursor, depth, at, op)?;
-                items.push(instr)?;
-            }
-        }
-    }
+    let start = stack.len();
+    let is_else = read_rows(alloc, cursor, stack, depth, may_else)?;
+    let items = stack.split_off(start)?;
+    Ok((items, is_else))
 }
 
 /// The second side of a choice, where an `else` stands.
@@ -87,6 +110,7 @@ fn read_code(
 fn read_other(
     alloc: Global,
     cursor: &mut Cursor<'_>,
+    stack: &mut Vec<Instr>,
     depth: u32,
     stands: bool,
 ) -> Result<Vec<Instr>, DecodeFault>
@@ -94,11 +118,12 @@ fn read_other(
     ensures gives { (turns : ℕ) → length cursor.old.left ≤ turns
         → GivesOther result cursor.new (other_side (code_at turns depth false) stands cursor.old) }
     ensures shorter { OnOk result (length cursor.new.left ≤ length cursor.old.left) }
+    ensures held { OnOk result (stack.new.items ≡ stack.old.items) }
 {
     if !stands {
         return Ok(Vec::new(alloc));
     }
-    let (other, _) = read_code(alloc, cursor, depth, false)?;
+    let (other, _) = read_code(alloc, cursor, stack, depth, false)?;
     Ok(other)
 }
 
@@ -107,6 +132,7 @@ fn read_other(
 fn read_instr(
     alloc: Global,
     cursor: &mut Cursor<'_>,
+    stack: &mut Vec<Instr>,
     depth: u32,
     at: usize,
     op: Op,
@@ -118,35 +144,37 @@ fn read_instr(
         → StepsOn result cursor.new (code_at turns depth may_else)
         (instr_at (code_at turns) depth may_else at op cursor.old) }
     ensures shorter { OnOk result (length cursor.new.left ≤ length cursor.old.left) }
+    ensures held { OnOk result (stack.new.items ≡ stack.old.items) }
 {
     match op {
         Op::Block => {
             let ty = open_block(cursor, depth, at)?;
-            let (body, _) = read_code(alloc, cursor, depth + 1, false)?;
+            let (body, _) = read_code(alloc, cursor, stack, depth + 1, false)?;
             Ok(Instr::block(alloc, ty, body)?)
         }
         Op::Loop => {
             let ty = open_block(cursor, depth, at)?;
-            let (body, _) = read_code(alloc, cursor, depth + 1, false)?;
+            let (body, _) = read_code(alloc, cursor, stack, depth + 1, false)?;
             Ok(Instr::repeat(alloc, ty, body)?)
         }
         Op::If => {
             let ty = open_block(cursor, depth, at)?;
-            let (one, stands) = read_code(alloc, cursor, depth + 1, true)?;
-            let other = read_other(alloc, cursor, depth + 1, stands)?;
+            let (one, stands) = read_code(alloc, cursor, stack, depth + 1, true)?;
+            let other = read_other(alloc, cursor, stack, depth + 1, stands)?;
             Ok(Instr::choice(alloc, ty, one, other)?)
         }
         _ => Ok(Instr::Plain(read_plain(alloc, cursor, at, op)?)),
     }
 }
 
-/// An expression: instructions up to their end.
+/// An expression: instructions up to their end. They stand on a stack before they have memory of their own.
 pub(crate) fn read_expression(
     alloc: Global,
     cursor: &mut Cursor<'_>,
+    stack: &mut Vec<Instr>,
 ) -> Result<Vec<Instr>, DecodeFault>
     ensures gives { GivesExpression result cursor.new (expression_at cursor.old) }
 {
-    let (items, _) = read_code(alloc, cursor, 0, false)?;
+    let (items, _) = read_code(alloc, cursor, stack, 0, false)?;
     Ok(items)
 }
