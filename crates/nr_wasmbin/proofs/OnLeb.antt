@@ -193,7 +193,10 @@ room w left bits many few spans =
     let same : w ≤ w = omega arith in
     omega (arith, mul-le w 256 w (2 ^ left) same (wider left many), spans, most bits few)
 
+digit_below : (digit w low : ℕ) → digit < 128 → low < w → low + digit * w < w * 128
+digit_below digit w low small fits = omega (arith, mul-add-lt digit w low 128 small fits)
+
 pub digit_fits : (b w low : ℕ) → b < 256 → low < w → low + (b - 128) * w < w * 128
 digit_fits b w low byte fits =
-    let digit : b - 128 < 128 = omega arith in
-    omega (arith, mul-add-lt (b - 128) w low 128 digit fits)
+    let small : b - 128 < 128 = omega arith in
+    digit_below (b - 128) w low small fits

@@ -21,7 +21,7 @@ loop-index-init c = record {
 pub returns-in_err-high-clause-gives : goal.returns-in_err-high-clause-gives
 returns-in_err-high-clause-gives c =
     let p = err_from_is_err_and c.from_residual.result c.from_residual.ensures.1 in
-    rw (p.1, p.2) (comes_refused c.args.is_signed c.loop-index.left c.loop-index.width c.loop-index.low c.loop-index.index c.from-byte.result c.args.others.now _ _ (omega arith) c.from-byte.ensures
+    rw (p.1, p.2) (comes_refused c.args.is_signed c.loop-index.left c.loop-index.width c.loop-index.low c.loop-index.index c.from-byte.result c.args.others.now c.in_err-high.field-0.0 _ (omega arith) c.from-byte.ensures
     (c.in_err-high.ensures.gives (drop (c.loop-index.index + 1) c.args.others.now)) c.loop-index.invariant.reads)
 
 pub overflow_mul-result : goal.overflow_mul-result
@@ -41,6 +41,9 @@ pub returns-then-byte-lt128-clause-fits : goal.returns-then-byte-lt128-clause-fi
 returns-then-byte-lt128-clause-fits c =
     omega (arith, mul-add-lt c.in_ok-high.high c.loop-index.width c.loop-index.low (2 ^ c.loop-index.left) c.in_ok-high.ensures.fits c.loop-index.invariant.fits, c.loop-index.invariant.spans)
 
+pub returns-then-byte-lt128-clause-within : goal.returns-then-byte-lt128-clause-within
+returns-then-byte-lt128-clause-within c = (omega (arith, c.in_ok-high.ensures.one), omega (arith, c.in_ok-high.ensures.one))
+
 pub returns-then-left-le7-clause-gives : goal.returns-then-left-le7-clause-gives
 returns-then-left-le7-clause-gives c =
     comes_refused c.args.is_signed c.loop-index.left c.loop-index.width c.loop-index.low c.loop-index.index c.from-byte.result c.args.others.now Leb _ (omega arith) c.from-byte.ensures
@@ -48,12 +51,12 @@ returns-then-left-le7-clause-gives c =
 
 pub overflow_mul-low : goal.overflow_mul-low
 overflow_mul-low c =
-    let byte : c.from-byte.result < 256 = omega (arith, c.from-byte.ensures) in
+    let byte : c.from-byte.result < 256 = omega (arith, c.from-byte.ensures, c.type_inv.others c.loop-index.index) in
     omega (arith, digit_fits c.from-byte.result c.loop-index.width c.loop-index.low byte c.loop-index.invariant.fits, room c.loop-index.width c.loop-index.left c.args.bits c.if-left-le7.false c.requires.in_range c.loop-index.invariant.spans)
 
 pub overflow_add-low : goal.overflow_add-low
 overflow_add-low c =
-    let byte : c.from-byte.result < 256 = omega (arith, c.from-byte.ensures) in
+    let byte : c.from-byte.result < 256 = omega (arith, c.from-byte.ensures, c.type_inv.others c.loop-index.index) in
     omega (arith, digit_fits c.from-byte.result c.loop-index.width c.loop-index.low byte c.loop-index.invariant.fits, room c.loop-index.width c.loop-index.left c.args.bits c.if-left-le7.false c.requires.in_range c.loop-index.invariant.spans)
 
 pub overflow_mul-width : goal.overflow_mul-width
@@ -62,7 +65,7 @@ overflow_mul-width c =
 
 pub loop-index-preserved : goal.loop-index-preserved
 loop-index-preserved c =
-    let byte : c.from-byte.result < 256 = omega (arith, c.from-byte.ensures) in record {
+    let byte : c.from-byte.result < 256 = omega (arith, c.from-byte.ensures, c.type_inv.others c.loop-index.index) in record {
       reads = goes_further c.args.is_signed c.loop-index.left c.loop-index.width c.loop-index.low c.loop-index.index c.from-byte.result c.args.others.now _ (omega arith) c.from-byte.ensures c.if-byte-lt128.false c.if-left-le7.false c.loop-index.invariant.reads;
       spans = spans_more c.loop-index.width c.loop-index.left c.args.bits c.if-left-le7.false c.loop-index.invariant.spans;
       fits = digit_fits c.from-byte.result c.loop-index.width c.loop-index.low byte c.loop-index.invariant.fits;
