@@ -3,7 +3,14 @@ use Rattle.std.proofs.Common.{arith}
 use Rattle.std.proofs.lemmas.Result.{err_from_is_err_and}
 use Rattle.nr_bytes.specs.Fields.{items_at}
 use Rattle.nr_bytes.proofs.Items.{goes_on, ends, is_done}
+use Rattle.nr_wasmbin.proofs.OnFields.{items_begin}
 use Rattle.nr_wasmbin.proofs.item.read_items.Goals as goal
+
+pub loop-init : goal.loop-init
+loop-init g c = record {
+  reads = items_begin g.T.Item.reading c.in_ok-items.items.items c.args.count c.args.cursor.now c.in_ok-items.ensures.items;
+  shorter = omega arith;
+}
 
 pub returns-in_err-item-clause-gives : goal.returns-in_err-item-clause-gives
 returns-in_err-item-clause-gives g c =
