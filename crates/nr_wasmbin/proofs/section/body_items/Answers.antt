@@ -2,8 +2,12 @@
 use Rattle.std.proofs.lemmas.Result.{err_from_is_err_and}
 use Rattle.nr_bytes.specs.Fields.{items_at}
 use Rattle.nr_bytes.proofs.Items.{goes_on, ends, is_done}
+use Rattle.nr_wasmbin.proofs.OnFields.{items_begin}
 use Rattle.nr_wasmbin.specs.Modules.{body_at}
 use Rattle.nr_wasmbin.proofs.section.body_items.Goals as goal
+
+pub loop-init : goal.loop-init
+loop-init c = items_begin body_at c.in_ok-items.items.items c.args.count c.args.cursor.now c.in_ok-items.ensures.items
 
 pub returns-in_err-item : goal.returns-in_err-item
 returns-in_err-item c =
