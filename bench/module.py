@@ -1,12 +1,13 @@
 #!/usr/bin/env python3
 """Measures decoding and validating, and prints nanoseconds for a byte of the module.
 
-usage: bench/module.py [--turns N] [--program PATH] [--write FILE] [MODULE]
+usage: bench/module.py [--turns N] [--fillers N] [--program PATH] [--write FILE] [MODULE]
 
 With no MODULE it makes one of some 60,000 bytes, in the form of a token contract: nine functions of the host, three
-methods, and 700 functions that only fill; --write keeps it in a file. Build the program first:
-cd crates/near_bench && rt run. The number is the processor time of a run with N turns less that of a run with none, the
-least of three tries each, over N and over the bytes.
+methods, and 700 functions that only fill, or as many as --fillers says (40,000 make 4.1 MB; a module has at most 50,000
+functions); --write keeps it in a file. Build the program first: cd crates/near_bench && rt run. The number is the
+processor time of a run with N turns less that of a run with none, the least of three tries each, over N and over the
+bytes.
 """
 import argparse
 import os
@@ -75,7 +76,7 @@ def consts(*numbers):
     return b"".join(const64(number) for number in numbers)
 
 
-def module():
+def module(count):
     types = [(0, 0), (1, 0), (2, 0), (1, 1), (2, 1), (3, 1), (5, 1), (8, 1), (9, 1)]
     imports = [
         ("input", 1), ("read_register", 2), ("current_account_id", 1), ("value_return", 2), ("promise_result", 4),
@@ -89,14 +90,14 @@ def module():
     done = consts(0, 4) + call(4) + consts(1) + b"\x52\x04\x40\x00\x0b"
     fillers = [
         body(b"\x20\x00" + b"".join(const64(64 + number + place) + b"\x7c" for place in range(20)))
-        for number in range(FILLERS)
+        for number in range(count)
     ]
     exports = [name(text) + b"\x00" + unsigned(9 + place) for place, text in enumerate(("send", "recv", "done"))]
     segment = unsigned(0) + const32(0) + b"\x0b" + unsigned(17) + b"recv\0\0\0\0done\0\0\0\0n"
     return b"\0asm\1\0\0\0" + b"".join([
         section(1, vector([function_type(*kind) for kind in types])),
         section(2, vector([name("env") + name(text) + b"\x00" + unsigned(kind) for text, kind in imports])),
-        section(3, vector([unsigned(0)] * 3 + [unsigned(3)] * FILLERS)),
+        section(3, vector([unsigned(0)] * 3 + [unsigned(3)] * count)),
         section(5, vector([b"\x00\x01"])),
         section(7, vector(exports)),
         section(10, vector([body(send), body(recv), body(done)] + fillers)),
@@ -119,20 +120,21 @@ def main():
     here = os.path.dirname(os.path.abspath(__file__))
     parser = argparse.ArgumentParser()
     parser.add_argument("--turns", type=int, default=200)
+    parser.add_argument("--fillers", type=int, default=FILLERS)
     parser.add_argument("--program", default=os.path.join(here, "..", "crates", "near_bench", "out", "near_bench"))
     parser.add_argument("--write")
     parser.add_argument("module", nargs="?")
     arguments = parser.parse_args()
     if arguments.write:
         with open(arguments.write, "wb") as out:
-            out.write(module())
+            out.write(module(arguments.fillers))
     if not os.path.exists(arguments.program):
         sys.exit("no program: build it first (cd crates/near_bench && rt run)")
     with tempfile.TemporaryDirectory() as folder:
         path = arguments.module or os.path.join(folder, "module.wasm")
         if not arguments.module:
             with open(path, "wb") as out:
-                out.write(module())
+                out.write(module(arguments.fillers))
         size = os.path.getsize(path)
         taken = seconds(arguments.program, path, arguments.turns) - seconds(arguments.program, path, 0)
     print(f"{size} bytes, {taken / arguments.turns / size * 1e9:.1f} ns a byte")

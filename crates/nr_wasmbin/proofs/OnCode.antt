@@ -1,12 +1,16 @@
 -- Reading a sequence, up to the instruction that a loop stands at.
-use Rattle.std.proofs.Common.{◌≡◌, ◌≢◌, ℕ, zero, suc, ◌+◌, ◌≤◌, List, [], ◌∷◌, ◌++◌, length, Bool, true, false, Ok, Err, Option, refl, sym, ap, subst, ◌∙◌, arith}
+use Rattle.std.proofs.Common.{◌≡◌, ◌≢◌, ℕ, zero, suc, ◌+◌, ◌≤◌, List, [], ◌∷◌, ◌++◌, length, take, drop, Bool, true, false, Ok, Err, Option, refl, sym, ap, subst, ◌∙◌, append_assoc, length-append, arith}
+use Rattle.std.proofs.Math.Seq.{drop-append_seam, take-append_seam}
 use Rattle.nr_wasmtypes.specs.declared.instr.ValType.{ValType}
 use Rattle.nr_wasmtypes.specs.declared.instr.Instr.{Instr}
+use Rattle.nr_wasmtypes.specs.declared.instr.Instr.TheVariants as instr
+use Rattle.nr_wasmtypes.specs.declared.instr.Plain.{Plain}
+use Rattle.nr_wasmtypes.proofs.Levels.{put_plain}
 use Rattle.nr_wasmtypes.specs.Code.{Code, End, Then, Block, Loop, Choice, code_of, put}
 use Rattle.nr_bytes.specs.Reading.{Input, ◌>>=◌}
 use Rattle.nr_wasmbin.specs.Fields.{Read, byte_at, byte_of}
 use Rattle.nr_wasmtypes.specs.Opcodes.{op_of}
-use Rattle.nr_wasmbin.specs.Expressions.{Sequence, front, onto, instr_at, code_at, plain_at, opened, other_side}
+use Rattle.nr_wasmbin.specs.Expressions.{Sequence, front, onto, instr_at, code_at, plain_at, opened, other_side, is_structured}
 use Rattle.nr_wasmtypes.specs.declared.opcode.Op.{Op}
 use Rattle.nr_wasmtypes.specs.declared.opcode.Op.TheVariants as op
 use Rattle.nr_wasmbin.specs.declared.fault.DecodeFault.{DecodeFault}
@@ -132,3 +136,72 @@ plain_instr next depth at may_else op.If s a b c d e = absurd (c refl)
 plain_instr next depth at may_else op.End s a b c d e = absurd (d refl)
 plain_instr next depth at may_else op.Else s a b c d e = absurd (e refl)
 plain_instr next depth at may_else o s a b c d e = refl
+
+-- ---- instructions that hold no others, in a row
+pub any_in_row : (o : Op) → o ≢ op.Block → o ≢ op.Loop → o ≢ op.If → o ≢ op.Else → o ≢ op.End → false ≡ is_structured o
+any_in_row op.Block a b c d e = absurd (a refl)
+any_in_row op.Loop a b c d e = absurd (b refl)
+any_in_row op.If a b c d e = absurd (c refl)
+any_in_row op.Else a b c d e = absurd (d refl)
+any_in_row op.End a b c d e = absurd (e refl)
+any_in_row o a b c d e = refl
+
+in_row : (next : ℕ → Bool → Input → Sequence) (depth at : ℕ) (may_else : Bool) (o : Op) (s : Input) → is_structured o ≡ false → instr_at next depth may_else at o s ≡ (plain_at at o s >>= λ p. front (Then p.0) (next depth may_else p.1))
+unfolding instr_at
+in_row next depth at may_else op.Block s h = absurd (let x : true ≡ false = h in cc)
+in_row next depth at may_else op.Loop s h = absurd (let x : true ≡ false = h in cc)
+in_row next depth at may_else op.If s h = absurd (let x : true ≡ false = h in cc)
+in_row next depth at may_else op.Else s h = absurd (let x : true ≡ false = h in cc)
+in_row next depth at may_else op.End s h = absurd (let x : true ≡ false = h in cc)
+in_row next depth at may_else o s h = refl
+
+pub row_goes_on : (is : List Instr) (k depth at : ℕ) (may_else : Bool) (o : Op) (s after : Input) (p : Plain) → is_structured o ≡ false → plain_at at o s ≡ Ok (p, after)
+    → front (onto is) (instr_at (code_at k) depth may_else at o s) ≡ front (onto (is ++ instr.Plain p ∷ [])) (code_at k depth may_else after)
+row_goes_on is k depth at may_else o s after p flat gives =
+    let left = code_at k depth may_else after in
+    ap (front (onto is))
+    (in_row (code_at k) depth at may_else o s flat
+    ∙ ap (λ (r : Read Plain). r >>= λ p. front (Then p.0) (code_at k depth may_else p.1)) gives
+    ∙ puts (Then p) (instr.Plain p) left (λ rest. sym (put_plain (instr.Plain p) p rest refl)))
+    ∙ front_push is (instr.Plain p) left
+
+pub row_refused : (is : List Instr) (k depth at : ℕ) (may_else : Bool) (o : Op) (s : Input) (e : DecodeFault) → is_structured o ≡ false → plain_at at o s ≡ Err e
+    → front (onto is) (instr_at (code_at k) depth may_else at o s) ≡ Err e
+row_refused is k depth at may_else o s e flat gives =
+    ap (front (onto is))
+    (in_row (code_at k) depth at may_else o s flat
+    ∙ ap (λ (r : Read Plain). r >>= λ p. front (Then p.0) (code_at k depth may_else p.1)) gives)
+
+onto_append : (is js : List Instr) (rest : Code) → onto (is ++ js) rest ≡ onto is (onto js rest)
+onto_append [] js rest = refl
+onto_append (i ∷ is) js rest = ap (put i) (onto_append is js rest)
+
+front_append : (is js : List Instr) (r : Sequence) → front (onto is) (front (onto js) r) ≡ front (onto (is ++ js)) r
+unfolding ended
+front_append is js (Ok x) = ap (ended x.0.1 x.1) (sym (onto_append is js x.0.0))
+front_append is js (Err e) = refl
+
+-- a row behind what was read before
+pub row_joins : (before items after : List Instr) (whole next total : Sequence) → after ≡ before ++ items → whole ≡ front (onto items) next → front (onto before) whole ≡ total → total ≡ front (onto after) next
+row_joins before items after whole next total e leads so_far =
+    sym so_far ∙ ap (front (onto before)) leads ∙ front_append before items next ∙ ap (λ (is : List Instr). front (onto is) next) (sym e)
+
+pub row_stops : (before : List Instr) (whole total : Sequence) (e : DecodeFault) → whole ≡ Err e → front (onto before) whole ≡ total → total ≡ Err e
+row_stops before whole total e is so_far = sym so_far ∙ ap (front (onto before)) is
+
+-- ---- a sequence on top of a stack
+pub behind : (before is js stack after : List Instr) → stack ≡ before ++ is → after ≡ stack ++ js → after ≡ before ++ (is ++ js)
+behind before is js stack after so_far more = more ∙ ap (λ (ks : List Instr). ks ++ js) so_far ∙ append_assoc before is js
+
+pub longer : (before items after : List Instr) → after ≡ before ++ items → length before ≤ length after
+longer before items after e = let l : length after ≡ length (before ++ items) = ap length e in omega (arith, l, length-append before items)
+
+pub cut_off : (before items after tail : List Instr) (start : ℕ) → start ≡ length before → after ≡ before ++ items → tail ≡ drop start after → tail ≡ items
+cut_off before items after tail start s e is =
+    is ∙ ap (drop start) e ∙ ap (λ n. drop n (before ++ items)) s ∙ drop-append_seam before items
+
+pub left_over : (before items after : List Instr) (start : ℕ) → start ≡ length before → after ≡ before ++ items → take start after ≡ before
+left_over before items after start s e = ap (take start) e ∙ ap (λ n. take n (before ++ items)) s ∙ take-append_seam before items
+
+abbrev pub sequence : List Instr → Bool → Input → Sequence
+sequence is is_else s = Ok ((code_of is, is_else), s)

@@ -1,7 +1,7 @@
 -- WebAssembly Core 1.0, "Binary Format", "Instructions" and
 -- "Expressions": a sequence of instructions, read up to its end.
-use Rattle.std.specs.Prelude.{◌≡◌, ◌≢◌, ℕ, zero, suc, ◌+◌, List, [], ◌∷◌, Option, Some, None, Bool, true, false, Result}
-use Rattle.std.specs.Prelude.{Ok, Err, nat_lt, ◌==◌, if◌then◌else◌, length, min}
+use Rattle.std.specs.Prelude.{◌≡◌, ◌≢◌, ℕ, zero, suc, ◌+◌, ◌≤◌, List, [], ◌∷◌, ◌++◌, Option, Some, None, Bool, true, false}
+use Rattle.std.specs.Prelude.{Result, Ok, Err, nat_lt, ◌==◌, if◌then◌else◌, length, min}
 use Rattle.std.specs.Global.{Vec}
 use Rattle.nr_bytes.specs.Fields.{mapped, pair}
 use Rattle.nr_bytes.specs.Reading.{Input, ◌>>=◌}
@@ -127,6 +127,29 @@ expression_at s = code_at (length s.left) 0 false s >>= λ r. Ok (r.0.0, r.1)
 abbrev pub onto : List Instr → Code → Code
 onto [] rest = rest
 onto (i ∷ is) rest = put i (onto is rest)
+
+-- the opcodes of the instructions that hold others, and those that end a sequence
+abbrev pub is_structured : Op → Bool
+is_structured op.Block = true
+is_structured op.Loop = true
+is_structured op.If = true
+is_structured op.Else = true
+is_structured op.End = true
+is_structured o = false
+
+-- A call put a sequence's first instructions behind others, and stands behind the opcode that comes next, at its place,
+-- unless memory ran out.
+abbrev pub RowGives : Result (ℕ × Op) DecodeFault → Input → List Instr → List Instr → ℕ → Bool → Sequence → Type 0
+RowGives (Ok r) new before after depth may_else whole =
+    (items : List Instr) × (after ≡ before ++ items) × (more : ℕ) × (length new.left ≤ more)
+    × (whole ≡ front (onto items) (instr_at (code_at more) depth may_else r.0 r.1 new))
+RowGives (Err e) new before after depth may_else whole = e ≢ fault.Memory → whole ≡ Err e
+
+-- the same of a call that put the whole sequence there
+abbrev pub PutsCode : Result Bool DecodeFault → Input → List Instr → List Instr → Sequence → Type 0
+PutsCode (Ok is_else) new before after whole =
+    (items : List Instr) × (after ≡ before ++ items) × (whole ≡ Ok ((code_of items, is_else), new))
+PutsCode (Err e) new before after whole = e ≢ fault.Memory → whole ≡ Err e
 
 -- a call gave a sequence, unless memory ran out
 abbrev pub GivesCode : Result (Vec Instr × Bool) DecodeFault → Input → Sequence → Type 0

@@ -1,6 +1,6 @@
 -- WebAssembly Core 1.0, "Binary Format", "Integers": numbers in LEB128.
 use Rattle.std.specs.Prelude.{◌≡◌, ℕ, ◌+◌, ◌-◌, ◌*◌, ◌<◌, ◌≤◌, ◌^◌, List, [], ◌∷◌, Result, Ok, Err, ◌⊎◌, nat_lt, nat_le}
-use Rattle.std.specs.Prelude.{if◌then◌else◌}
+use Rattle.std.specs.Prelude.{if◌then◌else◌, Bool, true, false}
 use Rattle.nr_wasmbin.specs.declared.leb.LebFault.{LebFault}
 use Rattle.nr_wasmbin.specs.declared.leb.LebFault.TheVariants.{Short, Leb}
 
@@ -45,3 +45,8 @@ signed bits (b ∷ bs) =
     if nat_lt b 64 then (if nat_lt b (2 ^ (bits - 1)) then Ok (b, 1) else Err Leb)
     else (if nat_lt b 128 then (if nat_lt (127 - b) (2 ^ (bits - 1)) then Ok (2 ^ bits - 1 - (127 - b), 1) else Err Leb)
     else (if nat_le bits 7 then Err Leb else lengthened b (signed (bits - 7) bs)))
+
+-- either of them
+abbrev pub number : Bool → ℕ → List ℕ → Found
+number true bits bytes = signed bits bytes
+number false bits bytes = unsigned bits bytes

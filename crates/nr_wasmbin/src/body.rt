@@ -8,9 +8,8 @@ ghost use Rattle.nr_wasmbin.specs.Modules.{body_at, inner_body_at};
 use crate::cursor::Cursor;
 use crate::expression::read_expression;
 use crate::fault::DecodeFault;
-use crate::item::Item;
 use crate::parts::read_val_type;
-use nr_wasmtypes::{FuncBody, Locals, ValType};
+use nr_wasmtypes::{FuncBody, Instr, Locals, ValType};
 use std::alloc::Global;
 
 /// The most locals of a body.
@@ -66,29 +65,40 @@ pub fn read_locals(alloc: Global, cursor: &mut Cursor<'_>) -> Result<Locals, Dec
     read_groups(alloc, cursor, count)
 }
 
-fn read_inner_body(alloc: Global, cursor: &mut Cursor<'_>) -> Result<FuncBody, DecodeFault>
+fn read_inner_body(
+    alloc: Global,
+    cursor: &mut Cursor<'_>,
+    stack: &mut Vec<Instr>,
+) -> Result<FuncBody, DecodeFault>
     ensures { Gives result cursor.new (inner_body_at cursor.old) }
 {
     let locals = read_locals(alloc, cursor)?;
-    let code = read_expression(alloc, cursor)?;
+    let code = read_expression(alloc, cursor, stack)?;
     Ok(FuncBody::of(locals, code))
 }
 
-fn read_whole_body(alloc: Global, inner: &mut Cursor<'_>) -> Result<FuncBody, DecodeFault>
+fn read_whole_body(
+    alloc: Global,
+    inner: &mut Cursor<'_>,
+    stack: &mut Vec<Instr>,
+) -> Result<FuncBody, DecodeFault>
     ensures { GivesAll result (whole inner_body_at inner.old) }
 {
-    let body = read_inner_body(alloc, inner)?;
+    let body = read_inner_body(alloc, inner, stack)?;
     inner.filled()?;
     Ok(body)
 }
 
-impl Item for FuncBody {
-    ghost reading = { body_at };
-
-    #[tactic(auto, unfolding(crate::specs::Modules::body_at))]
-    fn read(alloc: Global, cursor: &mut Cursor<'_>) -> Result<FuncBody, DecodeFault> {
-        let mut inner = cursor.sized()?;
-        let body = read_whole_body(alloc, &mut inner)?;
-        Ok(body)
-    }
+/// A body. The stack lends its memory.
+#[tactic(auto, unfolding(crate::specs::Modules::body_at))]
+pub(crate) fn read_body(
+    alloc: Global,
+    cursor: &mut Cursor<'_>,
+    stack: &mut Vec<Instr>,
+) -> Result<FuncBody, DecodeFault>
+    ensures { Gives result cursor.new (body_at cursor.old) }
+{
+    let mut inner = cursor.sized()?;
+    let body = read_whole_body(alloc, &mut inner, stack)?;
+    Ok(body)
 }

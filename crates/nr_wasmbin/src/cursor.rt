@@ -54,6 +54,7 @@ impl<'a> Cursor<'a> {
     }
 
     /// The place of the next byte.
+    #[inline(always)]
     pub fn at(&self) -> usize
         ensures { result ≡ self.now.at }
     {
@@ -61,6 +62,7 @@ impl<'a> Cursor<'a> {
     }
 
     /// The next byte.
+    #[inline(always)]
     pub fn byte(&mut self) -> Result<u8, DecodeFault>
         ensures gives { Gives result self.new (byte_at self.old) }
         ensures shorter { OnOk result (length self.new.left < length self.old.left) }
@@ -74,6 +76,7 @@ impl<'a> Cursor<'a> {
     }
 
     /// Whether the next byte is this one.
+    #[inline]
     pub(crate) fn begins(&self, id: u8) -> bool
         ensures { result ≡ begins id self.now.left }
     {
@@ -84,6 +87,7 @@ impl<'a> Cursor<'a> {
     }
 
     /// Passes over the next byte.
+    #[inline]
     pub(crate) fn pass(&mut self)
         requires { 0 < length self.old.left }
         ensures { self.new ≡ past 1 self.old }
@@ -92,6 +96,7 @@ impl<'a> Cursor<'a> {
     }
 
     /// An unsigned number of 32 bits.
+    #[inline(always)]
     pub(crate) fn u32(&mut self) -> Result<u32, DecodeFault>
         ensures gives { Gives result self.new (u32_at self.old) }
         ensures shorter { OnOk result (length self.new.left < length self.old.left) }
@@ -106,6 +111,7 @@ impl<'a> Cursor<'a> {
     }
 
     /// A signed number of 32 bits, in two's complement.
+    #[inline(always)]
     pub(crate) fn s32(&mut self) -> Result<u32, DecodeFault>
         ensures gives { Gives result self.new (s32_at self.old) }
         ensures shorter { OnOk result (length self.new.left < length self.old.left) }
@@ -120,6 +126,7 @@ impl<'a> Cursor<'a> {
     }
 
     /// A signed number of 64 bits, in two's complement.
+    #[inline(always)]
     pub(crate) fn s64(&mut self) -> Result<u64, DecodeFault>
         ensures gives { Gives result self.new (s64_at self.old) }
         ensures shorter { OnOk result (length self.new.left < length self.old.left) }
@@ -134,6 +141,7 @@ impl<'a> Cursor<'a> {
     }
 
     /// How many items a list has.
+    #[inline]
     pub fn count(&mut self) -> Result<u32, DecodeFault>
         ensures gives { Gives result self.new (count_at self.old) }
         ensures shorter { OnOk result (length self.new.left < length self.old.left) }
@@ -206,7 +214,16 @@ impl<'a> Cursor<'a> {
         Ok(name)
     }
 
+    /// How many bytes are left.
+    #[inline]
+    pub(crate) fn left(&self) -> usize
+        ensures { result ≡ length self.now.left }
+    {
+        self.bytes.len() - self.at
+    }
+
     /// Whether no byte is left.
+    #[inline]
     pub(crate) fn is_empty(&self) -> bool
         ensures { result ≡ (length self.now.left == 0) }
     {
@@ -242,6 +259,7 @@ impl<'a> Cursor<'a> {
     }
 
     /// Asks that no byte is left.
+    #[inline]
     pub(crate) fn filled(&self) -> Result<(), DecodeFault>
         ensures { result ≡ filled self.now }
     {

@@ -24,7 +24,7 @@ pub(crate) trait Item: Sized + Drop {
         ensures shorter { OnOk result (length cursor.new.left ≤ length cursor.old.left) };
 }
 
-/// So many entries.
+/// So many entries. Room is made for them at once, for no more than there are bytes.
 pub(crate) fn read_items<T: Item>(
     alloc: Global,
     cursor: &mut Cursor<'_>,
@@ -33,7 +33,7 @@ pub(crate) fn read_items<T: Item>(
     ensures gives { GivesAs Memory (λ v. (v.items, cursor.new)) result (items_at T.reading count cursor.old) }
     ensures shorter { OnOk result (length cursor.new.left ≤ length cursor.old.left) }
 {
-    let mut items = Vec::new(alloc);
+    let mut items = Vec::with_capacity(alloc, cursor.left().min(count as usize))?;
     for _ in 0..count {
         let item = T::read(alloc, cursor)?;
         items.push(item)?;

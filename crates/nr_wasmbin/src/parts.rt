@@ -20,6 +20,7 @@ use nr_wasmtypes::{
 use std::alloc::Global;
 
 /// A value type, whose byte stood at a place.
+#[inline]
 pub(crate) fn val_type_of(at: usize, byte: u8) -> Result<ValType, DecodeFault>
     ensures { (rest : Input) → Gives result rest (val_type_of at (byte, rest)) }
 {
@@ -32,6 +33,7 @@ pub(crate) fn val_type_of(at: usize, byte: u8) -> Result<ValType, DecodeFault>
 }
 
 /// A value type.
+#[inline]
 pub(crate) fn read_val_type(cursor: &mut Cursor<'_>) -> Result<ValType, DecodeFault>
     ensures gives { Gives result cursor.new (val_type_at cursor.old) }
     ensures shorter { OnOk result (length cursor.new.left ≤ length cursor.old.left) }
@@ -42,6 +44,7 @@ pub(crate) fn read_val_type(cursor: &mut Cursor<'_>) -> Result<ValType, DecodeFa
 }
 
 /// A byte that must be this one.
+#[inline]
 pub(crate) fn read_exact(cursor: &mut Cursor<'_>, wanted: u8) -> Result<u8, DecodeFault>
     ensures gives { Gives result cursor.new (exact_at wanted cursor.old) }
     ensures shorter { OnOk result (length cursor.new.left ≤ length cursor.old.left) }

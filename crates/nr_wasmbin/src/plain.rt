@@ -26,6 +26,7 @@ fn read_br_table(alloc: Global, cursor: &mut Cursor<'_>, at: usize) -> Result<Pl
     Ok(Plain::BrTable(labels))
 }
 
+#[inline(always)]
 #[tactic(auto, unfolding(crate::specs::Expressions::plain_at))]
 fn read_call_indirect(cursor: &mut Cursor<'_>, at: usize) -> Result<Plain, DecodeFault>
     ensures gives { Gives result cursor.new (plain_at at op.CallIndirect cursor.old) }
@@ -36,6 +37,7 @@ fn read_call_indirect(cursor: &mut Cursor<'_>, at: usize) -> Result<Plain, Decod
     Ok(Plain::CallIndirect(kind))
 }
 
+#[inline(always)]
 #[tactic(auto, unfolding(crate::specs::Expressions::plain_at))]
 fn read_load(cursor: &mut Cursor<'_>, at: usize, what: Load) -> Result<Plain, DecodeFault>
     ensures gives { Gives result cursor.new (plain_at at (op.Load what) cursor.old) }
@@ -46,6 +48,7 @@ fn read_load(cursor: &mut Cursor<'_>, at: usize, what: Load) -> Result<Plain, De
     Ok(Plain::Load(what, align.min(255) as u8, offset))
 }
 
+#[inline(always)]
 #[tactic(auto, unfolding(crate::specs::Expressions::plain_at))]
 fn read_store(cursor: &mut Cursor<'_>, at: usize, what: Store) -> Result<Plain, DecodeFault>
     ensures gives { Gives result cursor.new (plain_at at (op.Store what) cursor.old) }
@@ -57,8 +60,23 @@ fn read_store(cursor: &mut Cursor<'_>, at: usize, what: Store) -> Result<Plain, 
 }
 
 /// An instruction that holds no others, behind its opcode.
-#[tactic(auto, unfolding(crate::specs::Expressions::plain_at))]
+#[inline(never)]
 pub fn read_plain(
+    alloc: Global,
+    cursor: &mut Cursor<'_>,
+    at: usize,
+    op: Op,
+) -> Result<Plain, DecodeFault>
+    ensures gives { Gives result cursor.new (plain_at at op cursor.old) }
+    ensures shorter { OnOk result (length cursor.new.left ≤ length cursor.old.left) }
+{
+    plain_of(alloc, cursor, at, op)
+}
+
+/// The same, without a call.
+#[inline(always)]
+#[tactic(auto, unfolding(crate::specs::Expressions::plain_at))]
+pub(crate) fn plain_of(
     alloc: Global,
     cursor: &mut Cursor<'_>,
     at: usize,

@@ -5,12 +5,13 @@ ghost use Rattle.nr_bytes.specs.Answers.{GivesAs};
 ghost use Rattle.nr_bytes.specs.Fields.{items_at};
 ghost use Rattle.nr_wasmbin.specs.Fields.{Gives, GivesAll, begins, list_at, whole};
 ghost use Rattle.nr_wasmbin.specs.Parts.{table_at};
-ghost use Rattle.nr_wasmbin.specs.Modules.{bodies_at, custom_at, entered, section_at, skipped};
+ghost use Rattle.nr_wasmbin.specs.Modules.{bodies_at, body_at, custom_at, entered, section_at, skipped};
 ghost use Rattle.nr_wasmbin.specs.declared.fault.DecodeFault.TheVariants.{Memory};
 
+use crate::body::read_body;
 use crate::cursor::Cursor;
 use crate::fault::DecodeFault;
-use crate::item::{Item, read_items, read_list};
+use crate::item::{Item, read_list};
 use crate::parts::read_table;
 use nr_bytes::List;
 use nr_wasmtypes::{FuncBody, Limits};
@@ -128,6 +129,23 @@ pub(crate) fn read_table_section(
     }
 }
 
+/// So many bodies. One stack lends its memory to all of them.
+fn body_items(
+    alloc: Global,
+    cursor: &mut Cursor<'_>,
+    count: u32,
+) -> Result<Vec<FuncBody>, DecodeFault>
+    ensures { GivesAs Memory (λ v. (v.items, cursor.new)) result (items_at body_at count cursor.old) }
+{
+    let mut stack = Vec::new(alloc);
+    let mut items = Vec::with_capacity(alloc, cursor.left().min(count as usize))?;
+    for _ in 0..count {
+        let item = read_body(alloc, cursor, &mut stack)?;
+        items.push(item)?;
+    }
+    Ok(items)
+}
+
 /// As many bodies as there are functions.
 #[tactic(auto, unfolding(crate::specs::Modules::bodies_at))]
 fn read_bodies(
@@ -142,7 +160,7 @@ fn read_bodies(
     if count as usize != functions {
         return Err(DecodeFault::Section { at });
     }
-    let items = read_items(alloc, cursor, count)?;
+    let items = body_items(alloc, cursor, count)?;
     Ok(List::of(items))
 }
 

@@ -67,6 +67,7 @@ impl Locals {
     }
 
     /// The type of the local with this number.
+    #[inline]
     pub fn get(&self, number: usize) -> Option<ValType>
         ensures { result ≡ slice_get self.now number }
     {

@@ -304,6 +304,7 @@ static OPCODES: [Op; 256] = [
 ];
 
 /// What each byte stands for.
+#[inline(always)]
 #[tactic(auto, unfolding(crate::specs::Opcodes::opcodes))]
 fn opcodes() -> &'static [Op; 256]
     ensures { result.now ≡ opcodes }
@@ -313,6 +314,7 @@ fn opcodes() -> &'static [Op; 256]
 
 impl Op {
     /// What a byte stands for as an opcode.
+    #[inline(always)]
     pub fn of(byte: u8) -> Op
         ensures { result ≡ op_of byte }
     {

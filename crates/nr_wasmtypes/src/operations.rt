@@ -8,6 +8,7 @@ use crate::instr::{Convert, Load, Store, ValType};
 
 impl Convert {
     /// The type of the number that it takes.
+    #[inline]
     pub fn taken(self) -> ValType
         ensures { result ≡ taken_by_convert self }
     {
@@ -18,6 +19,7 @@ impl Convert {
     }
 
     /// The type of the number that it gives.
+    #[inline]
     pub fn given(self) -> ValType
         ensures { result ≡ given_by_convert self }
     {
@@ -30,6 +32,7 @@ impl Convert {
 
 impl Load {
     /// The type of the number that it gives.
+    #[inline]
     pub fn given(self) -> ValType
         ensures { result ≡ given_by_load self }
     {
@@ -44,6 +47,7 @@ impl Load {
     }
 
     /// The exponent of its natural alignment, from 0 to 3: 2 to this many bytes are read.
+    #[inline]
     pub fn align(self) -> u8
         ensures { result ≡ align_of_load self }
     {
@@ -59,6 +63,7 @@ impl Load {
 
 impl Store {
     /// The type of the number that it takes.
+    #[inline]
     pub fn taken(self) -> ValType
         ensures { result ≡ taken_by_store self }
     {
@@ -69,6 +74,7 @@ impl Store {
     }
 
     /// The exponent of its natural alignment, from 0 to 3: 2 to this many bytes are written.
+    #[inline]
     pub fn align(self) -> u8
         ensures { result ≡ align_of_store self }
     {

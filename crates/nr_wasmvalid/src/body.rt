@@ -11,9 +11,9 @@ use crate::plain::{Scope, check_plain};
 use crate::refusal::{BodyFault, Refusal};
 use crate::stacks::Stacks;
 use nr_wasmtypes::{Instr, ValType};
-use std::alloc::Global;
 
 /// The end of a block: its result, and no other operand.
+#[inline]
 #[tactic(auto, unfolding(crate::specs::Shapes::asked_all))]
 fn check_end(stacks: &mut Stacks, result_type: Option<ValType>) -> Result<(), Refusal>
     ensures gives { Leaves result (emptied stacks.new) (asked_all (ending result_type) stacks.old.shape) }
@@ -25,6 +25,7 @@ fn check_end(stacks: &mut Stacks, result_type: Option<ValType>) -> Result<(), Re
 }
 
 /// A block's body, in a block of its own. Answers the number of the instruction that comes next.
+#[inline(never)]
 #[cycle(code)]
 fn check_inside(
     scope: &Scope<'_>,
@@ -49,6 +50,7 @@ fn check_inside(
 }
 
 /// The operand that a block leaves.
+#[inline(always)]
 fn give_result(stacks: &mut Stacks, result_type: Option<ValType>) -> Result<(), BodyFault>
     ensures shape { OnOk result (stacks.new.shape ≡ give_all (types result_type) stacks.old.shape) }
     ensures around { OnOk result (SameAround stacks.old stacks.new) }
@@ -61,6 +63,7 @@ fn give_result(stacks: &mut Stacks, result_type: Option<ValType>) -> Result<(), 
 }
 
 /// The number of the next instruction. A body with 2^32 of them takes more memory than there is.
+#[inline(always)]
 fn next_place(place: u32) -> Result<u32, BodyFault>
     ensures next { IfOk result (λ next. next ≡ place + 1) }
     ensures memory { IfErr result (λ e. e ≡ Memory) }
@@ -69,6 +72,7 @@ fn next_place(place: u32) -> Result<u32, BodyFault>
 }
 
 /// One instruction, with what it holds. Answers the number of the instruction that comes next.
+#[inline(always)]
 #[cycle(code)]
 fn check_instr(
     scope: &Scope<'_>,
@@ -132,18 +136,18 @@ fn check_code(
     Ok(next)
 }
 
-/// A function's body.
+/// A function's body. The stacks lend their memory.
 #[tactic(auto, unfolding(crate::specs::Shapes::body_judged))]
 pub(crate) fn check_body(
-    alloc: Global,
     scope: &Scope<'_>,
+    stacks: &mut Stacks,
     code: &Vec<Instr>,
 ) -> Result<(), BodyFault>
     ensures { BodyJudges result (body_judged (in_scope scope.now []) (code_of code.now.items)) }
 {
-    let mut stacks = Stacks::new(alloc, scope.result);
-    let next = check_code(scope, &mut stacks, code, 0)?;
-    if let Err(refusal) = check_end(&mut stacks, scope.result) {
+    stacks.restart(scope.result);
+    let next = check_code(scope, stacks, code, 0)?;
+    if let Err(refusal) = check_end(stacks, scope.result) {
         return Err(refusal.at(next));
     }
     Ok(())

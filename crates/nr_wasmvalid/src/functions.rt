@@ -8,6 +8,7 @@ use crate::demand::number;
 use crate::fault::ValidFault;
 use crate::locals::LocalTypes;
 use crate::plain::Scope;
+use crate::stacks::Stacks;
 use crate::typing::check_typing;
 use nr_wasmtypes::{FuncBody, FuncType, Import, ImportKind, Module};
 use std::alloc::{AllocError, Global};
@@ -38,7 +39,7 @@ pub(crate) fn imported_types(alloc: Global, imports: &[Import]) -> Result<Vec<u3
 
 /// The body of the function with this number.
 fn check_function(
-    alloc: Global,
+    stacks: &mut Stacks,
     module: &Module,
     funcs: &[u32],
     func: usize,
@@ -56,7 +57,7 @@ fn check_function(
         locals,
         result: sig.result,
     };
-    match check_typing(alloc, &scope, body.code_vec()) {
+    match check_typing(&scope, stacks, body.code_vec()) {
         Ok(()) => Ok(()),
         Err(fault) => Err(fault.of(func)),
     }
@@ -77,11 +78,12 @@ pub(crate) fn check_functions(
     let types = module.types.inner();
     let numbers = module.funcs.inner();
     let bodies = module.bodies.inner();
+    let mut stacks = Stacks::new(alloc, None);
     for index in 0..numbers.len() {
         let number = numbers[index] as usize;
         let sig = &types[number];
         let body = &bodies[index];
-        check_function(alloc, module, funcs, first + index, sig, body)?;
+        check_function(&mut stacks, module, funcs, first + index, sig, body)?;
     }
     Ok(())
 }

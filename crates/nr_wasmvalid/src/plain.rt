@@ -22,6 +22,7 @@ pub(crate) struct Scope<'a> {
 }
 
 /// What must hold.
+#[inline(always)]
 fn must(kind: Refusal, holds: bool) -> Result<(), Refusal>
     ensures { result ≡ (if holds then Ok tt else Err kind) }
 {
@@ -29,6 +30,7 @@ fn must(kind: Refusal, holds: bool) -> Result<(), Refusal>
 }
 
 /// A place that is never reached.
+#[inline]
 #[tactic(auto, unfolding(crate::specs::Shapes::asked_all))]
 fn check_unreachable(stacks: &mut Stacks) -> Result<(), Refusal>
     ensures leaves { Leaves result stacks.new (asked_all (Leave ∷ []) stacks.old.shape) }
@@ -39,6 +41,7 @@ fn check_unreachable(stacks: &mut Stacks) -> Result<(), Refusal>
 }
 
 /// A branch.
+#[inline]
 #[tactic(auto, unfolding(crate::specs::Shapes::asked_all))]
 fn check_br(scope: &Scope<'_>, stacks: &mut Stacks, depth: u32) -> Result<(), Refusal>
     ensures leaves { Leaves result stacks.new (left_by scope.now stacks.old (op.Br depth)) }
@@ -51,6 +54,7 @@ fn check_br(scope: &Scope<'_>, stacks: &mut Stacks, depth: u32) -> Result<(), Re
 }
 
 /// A branch on a condition.
+#[inline]
 #[tactic(auto, unfolding(crate::specs::Shapes::asked_all))]
 fn check_br_if(scope: &Scope<'_>, stacks: &mut Stacks, depth: u32) -> Result<(), Refusal>
     ensures leaves { Leaves result stacks.new (left_by scope.now stacks.old (op.BrIf depth)) }
@@ -110,6 +114,7 @@ fn check_br_table(scope: &Scope<'_>, stacks: &mut Stacks, table: &Labels) -> Res
 }
 
 /// A return.
+#[inline]
 #[tactic(auto, unfolding(crate::specs::Shapes::asked_all))]
 fn check_return(scope: &Scope<'_>, stacks: &mut Stacks) -> Result<(), Refusal>
     ensures leaves { Leaves result stacks.new (left_by scope.now stacks.old op.Return) }
@@ -121,6 +126,7 @@ fn check_return(scope: &Scope<'_>, stacks: &mut Stacks) -> Result<(), Refusal>
 }
 
 /// The type of a function.
+#[inline(always)]
 fn func_type<'a>(scope: &Scope<'a>, func: u32) -> Option<&'a FuncType>
     ensures { option_copied result ≡ func_type scope.now.module.now.types scope.now.funcs.now func }
 {
@@ -129,6 +135,7 @@ fn func_type<'a>(scope: &Scope<'a>, func: u32) -> Option<&'a FuncType>
 }
 
 /// A call.
+#[inline]
 #[tactic(auto, unfolding(crate::specs::Shapes::asked_all))]
 fn check_call(scope: &Scope<'_>, stacks: &mut Stacks, func: u32) -> Result<(), Refusal>
     ensures leaves { Leaves result stacks.new (left_by scope.now stacks.old (op.Call func)) }
@@ -140,6 +147,7 @@ fn check_call(scope: &Scope<'_>, stacks: &mut Stacks, func: u32) -> Result<(), R
 }
 
 /// A call by the table.
+#[inline]
 #[tactic(auto, unfolding(crate::specs::Shapes::asked_all))]
 fn check_call_indirect(scope: &Scope<'_>, stacks: &mut Stacks, index: u32) -> Result<(), Refusal>
     ensures leaves { Leaves result stacks.new (left_by scope.now stacks.old (op.CallIndirect index)) }
@@ -155,6 +163,7 @@ fn check_call_indirect(scope: &Scope<'_>, stacks: &mut Stacks, index: u32) -> Re
 }
 
 /// A global's value.
+#[inline]
 #[tactic(auto, unfolding(crate::specs::Shapes::asked_all))]
 fn check_global_get(scope: &Scope<'_>, stacks: &mut Stacks, global: u32) -> Result<(), Refusal>
     ensures leaves { Leaves result stacks.new (left_by scope.now stacks.old (op.GlobalGet global)) }
@@ -167,6 +176,7 @@ fn check_global_get(scope: &Scope<'_>, stacks: &mut Stacks, global: u32) -> Resu
 }
 
 /// A global's new value.
+#[inline]
 #[tactic(auto, unfolding(crate::specs::Shapes::asked_all))]
 fn check_global_set(scope: &Scope<'_>, stacks: &mut Stacks, global: u32) -> Result<(), Refusal>
     ensures leaves { Leaves result stacks.new (left_by scope.now stacks.old (op.GlobalSet global)) }
@@ -180,6 +190,7 @@ fn check_global_set(scope: &Scope<'_>, stacks: &mut Stacks, global: u32) -> Resu
 }
 
 /// A number from memory.
+#[inline]
 #[tactic(auto, unfolding(crate::specs::Shapes::asked_all))]
 fn check_load(scope: &Scope<'_>, stacks: &mut Stacks, what: Load, align: u8) -> Result<(), Refusal>
     ensures leaves { Leaves result stacks.new (left_by scope.now stacks.old (op.Load what align 0)) }
@@ -192,6 +203,7 @@ fn check_load(scope: &Scope<'_>, stacks: &mut Stacks, what: Load, align: u8) -> 
 }
 
 /// A number to memory.
+#[inline]
 #[tactic(auto, unfolding(crate::specs::Shapes::asked_all))]
 fn check_store(
     scope: &Scope<'_>,
@@ -208,6 +220,7 @@ fn check_store(
 }
 
 /// The memory's size.
+#[inline]
 #[tactic(auto, unfolding(crate::specs::Shapes::asked_all))]
 fn check_memory_size(scope: &Scope<'_>, stacks: &mut Stacks) -> Result<(), Refusal>
     ensures leaves { Leaves result stacks.new (left_by scope.now stacks.old op.MemorySize) }
@@ -218,6 +231,7 @@ fn check_memory_size(scope: &Scope<'_>, stacks: &mut Stacks) -> Result<(), Refus
 }
 
 /// The memory's growth.
+#[inline]
 #[tactic(auto, unfolding(crate::specs::Shapes::asked_all))]
 fn check_memory_grow(scope: &Scope<'_>, stacks: &mut Stacks) -> Result<(), Refusal>
     ensures leaves { Leaves result stacks.new (left_by scope.now stacks.old op.MemoryGrow) }
@@ -229,6 +243,7 @@ fn check_memory_grow(scope: &Scope<'_>, stacks: &mut Stacks) -> Result<(), Refus
 }
 
 /// A local's value.
+#[inline]
 #[tactic(auto, unfolding(crate::specs::Shapes::asked_all))]
 fn check_local_get(scope: &Scope<'_>, stacks: &mut Stacks, local: u32) -> Result<(), Refusal>
     ensures leaves { Leaves result stacks.new (left_by scope.now stacks.old (op.LocalGet local)) }
@@ -241,6 +256,7 @@ fn check_local_get(scope: &Scope<'_>, stacks: &mut Stacks, local: u32) -> Result
 }
 
 /// A local's new value.
+#[inline]
 #[tactic(auto, unfolding(crate::specs::Shapes::asked_all))]
 fn check_local_set(scope: &Scope<'_>, stacks: &mut Stacks, local: u32) -> Result<(), Refusal>
     ensures leaves { Leaves result stacks.new (left_by scope.now stacks.old (op.LocalSet local)) }
@@ -253,6 +269,7 @@ fn check_local_set(scope: &Scope<'_>, stacks: &mut Stacks, local: u32) -> Result
 }
 
 /// A local's new value, which stays.
+#[inline]
 #[tactic(auto, unfolding(crate::specs::Shapes::asked_all))]
 fn check_local_tee(scope: &Scope<'_>, stacks: &mut Stacks, local: u32) -> Result<(), Refusal>
     ensures leaves { Leaves result stacks.new (left_by scope.now stacks.old (op.LocalTee local)) }
@@ -266,6 +283,7 @@ fn check_local_tee(scope: &Scope<'_>, stacks: &mut Stacks, local: u32) -> Result
 }
 
 /// An instruction that takes and gives operands of its own types alone.
+#[inline]
 #[tactic(auto, unfolding(crate::specs::Shapes::asked_all))]
 fn check_operation(stacks: &mut Stacks, taken: &[ValType], given: ValType) -> Result<(), Refusal>
     ensures leaves { Leaves result stacks.new (asked_all (Take taken.now ∷ Give (given ∷ []) ∷ []) stacks.old.shape) }
@@ -276,6 +294,7 @@ fn check_operation(stacks: &mut Stacks, taken: &[ValType], given: ValType) -> Re
 }
 
 /// A choice between two operands.
+#[inline]
 #[tactic(auto, unfolding(crate::specs::Shapes::asked_all))]
 fn check_select(scope: &Scope<'_>, stacks: &mut Stacks) -> Result<(), Refusal>
     ensures leaves { Leaves result stacks.new (left_by scope.now stacks.old op.Select) }
@@ -286,6 +305,7 @@ fn check_select(scope: &Scope<'_>, stacks: &mut Stacks) -> Result<(), Refusal>
 }
 
 /// One instruction that holds no others.
+#[inline(always)]
 #[tactic(auto, unfolding(crate::specs::Shapes::asked_all))]
 pub(crate) fn check_plain(
     scope: &Scope<'_>,

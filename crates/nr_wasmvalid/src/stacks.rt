@@ -50,7 +50,22 @@ impl Stacks {
         }
     }
 
+    /// One open block and no operands, in the memory that is there.
+    #[inline]
+    pub(crate) fn restart(&mut self, label: Option<ValType>)
+        ensures { self.new ≡ record { shape = fresh; labels = label ∷ []; outer = [] } }
+    {
+        self.operands.clear();
+        self.around.clear();
+        self.frame = Frame {
+            label,
+            height: 0,
+            any_below: false,
+        };
+    }
+
     /// An operand on top.
+    #[inline(always)]
     fn push(&mut self, operand: Option<ValType>) -> Result<(), AllocError>
         ensures shape { OnOk result (self.new.shape ≡ on_top operand self.old.shape) }
         ensures around { OnOk result (SameAround self.old self.new) }
@@ -60,6 +75,7 @@ impl Stacks {
     }
 
     /// The topmost operand, of any type.
+    #[inline(always)]
     fn pop(&mut self) -> Result<Option<ValType>, Refusal>
         ensures passes { Passes result self.new (top self.old.shape) }
         ensures around { OnOk result (SameAround self.old self.new) }
@@ -74,6 +90,7 @@ impl Stacks {
     }
 
     /// No operand is left in this block, and any may stand below: whatever is taken, nothing changes.
+    #[inline(always)]
     #[tactic(auto, using(crate::proofs::OnStacks::nothing_at))]
     fn gives_any(&self) -> bool
         ensures { result ≡ true → self.now.shape ≡ record { known = []; any_below = true } }
@@ -82,6 +99,7 @@ impl Stacks {
     }
 
     /// A block inside.
+    #[inline]
     pub(crate) fn enter(&mut self, label: Option<ValType>) -> Result<(), AllocError>
         ensures { OnOk result (self.new ≡ entered label self.old) }
     {
@@ -95,6 +113,7 @@ impl Stacks {
     }
 
     /// The topmost operand, which can have this type.
+    #[inline(always)]
     #[tactic(auto, unfolding(crate::specs::Shapes::take_one))]
     fn take_one(&mut self, wanted: ValType) -> Result<(), Refusal>
         ensures leaves { Leaves result self.new (take_one wanted self.old.shape) }
@@ -108,6 +127,7 @@ impl Stacks {
     }
 
     /// Operands that can have these types, the first of which stands on top.
+    #[inline(always)]
     #[tactic(auto, using(crate::proofs::OnShapes::takes_on, crate::proofs::OnShapes::takes_stop, crate::proofs::OnShapes::takes_end))]
     pub(crate) fn take(&mut self, wanted: &[ValType]) -> Result<(), Refusal>
         ensures leaves { Leaves result self.new (asked (Take wanted.now) self.old.shape) }
@@ -120,6 +140,7 @@ impl Stacks {
     }
 
     /// The same, where the last one stands on top.
+    #[inline]
     #[tactic(auto, using(crate::proofs::OnShapes::takes_back, crate::proofs::OnShapes::takes_back_stop, crate::proofs::OnShapes::takes_back_end), unfolding(crate::specs::Shapes::take_all))]
     pub(crate) fn take_last_first(&mut self, wanted: &[ValType]) -> Result<(), Refusal>
         ensures leaves { Leaves result self.new (asked (Take (reverse wanted.now)) self.old.shape) }
@@ -134,6 +155,7 @@ impl Stacks {
     }
 
     /// No operand, or one that can have this type.
+    #[inline(always)]
     #[tactic(auto, unfolding(crate::specs::Shapes::take_all))]
     pub(crate) fn take_some(&mut self, wanted: Option<ValType>) -> Result<(), Refusal>
         ensures leaves { Leaves result self.new (asked (Take (types wanted)) self.old.shape) }
@@ -146,6 +168,7 @@ impl Stacks {
     }
 
     /// An operand of any type.
+    #[inline(always)]
     pub(crate) fn take_any(&mut self) -> Result<(), Refusal>
         ensures leaves { Leaves result self.new (asked TakeAny self.old.shape) }
         ensures around { OnOk result (SameAround self.old self.new) }
@@ -155,6 +178,7 @@ impl Stacks {
     }
 
     /// An operand of this type.
+    #[inline(always)]
     #[tactic(auto, unfolding(crate::specs::Shapes::give_all))]
     pub(crate) fn give(&mut self, given: ValType) -> Result<(), Refusal>
         ensures leaves { Leaves result self.new (asked (Give (given ∷ [])) self.old.shape) }
@@ -165,6 +189,7 @@ impl Stacks {
     }
 
     /// No operand, or one of this type.
+    #[inline(always)]
     #[tactic(auto, unfolding(crate::specs::Shapes::give_all))]
     pub(crate) fn give_some(&mut self, given: Option<ValType>) -> Result<(), Refusal>
         ensures leaves { Leaves result self.new (asked (Give (types given)) self.old.shape) }
@@ -177,6 +202,7 @@ impl Stacks {
     }
 
     /// Two operands of one type, of which one stays.
+    #[inline]
     #[tactic(auto, unfolding(crate::specs::Shapes::alike))]
     pub(crate) fn alike(&mut self) -> Result<(), Refusal>
         ensures leaves { Leaves result self.new (asked Alike self.old.shape) }
@@ -190,6 +216,7 @@ impl Stacks {
     }
 
     /// No operand is left in this block.
+    #[inline]
     pub(crate) fn empty(&self) -> Result<(), Refusal>
         ensures { Leaves result (record self.now { shape = fresh }) (asked Empty self.now.shape) }
     {
@@ -201,6 +228,7 @@ impl Stacks {
     }
 
     /// What stands behind is never reached.
+    #[inline]
     pub(crate) fn never_reached(&mut self)
         ensures leaves { Leaves (Ok tt) self.new (asked Leave self.old.shape) }
         ensures around { SameAround self.old self.new }
@@ -210,6 +238,7 @@ impl Stacks {
     }
 
     /// What a branch out of so many blocks takes.
+    #[inline]
     pub(crate) fn label(&self, depth: u32) -> Option<Option<ValType>>
         ensures { result ≡ slice_get self.now.labels depth }
     {
@@ -224,6 +253,7 @@ impl Stacks {
     }
 
     /// Back to the block around. The block that is left has no operands.
+    #[inline]
     pub(crate) fn leave(&mut self)
         requires around { self.old.outer ≢ [] }
         requires empty { self.old.shape.known ≡ [] }
@@ -234,6 +264,7 @@ impl Stacks {
     }
 }
 
+#[inline(always)]
 fn can_be(wanted: ValType, operand: Option<ValType>) -> bool
     ensures { result ≡ can_be wanted operand }
 {
@@ -244,6 +275,7 @@ fn can_be(wanted: ValType, operand: Option<ValType>) -> bool
 }
 
 /// The one type of two operands.
+#[inline]
 fn both_of(one: Option<ValType>, other: Option<ValType>) -> Result<Option<ValType>, Refusal>
     ensures { result ≡ both one other }
 {

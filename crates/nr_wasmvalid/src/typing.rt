@@ -13,15 +13,15 @@ ghost use Rattle.nr_wasmvalid.specs.declared.refusal.BodyFault.TheVariants.{Memo
 use crate::body::check_body;
 use crate::plain::Scope;
 use crate::refusal::BodyFault;
+use crate::stacks::Stacks;
 use nr_wasmtypes::Instr;
-use std::alloc::Global;
 
 /// Checks that a function's body has the function's type. Answers the first breach, with the number
 /// of its instruction.
 #[tactic(auto, using(crate::proofs::Verdicts::verdict, crate::proofs::Verdicts::gives_typed, crate::proofs::Verdicts::gives_breach))]
 pub(crate) fn check_typing(
-    alloc: Global,
     scope: &Scope<'_>,
+    stacks: &mut Stacks,
     code: &Vec<Instr>,
 ) -> Result<(), BodyFault>
     // What passes is typed, and any other answer is the first breach.
@@ -32,5 +32,5 @@ pub(crate) fn check_typing(
     ensures breach { (place : ℕ) (kind : Refusal) → IsBreach (in_scope scope.now []) (code_of code.now.items) place kind
         → Gives Memory result (Err (fault_at place kind)) }
 {
-    check_body(alloc, scope, code)
+    check_body(scope, stacks, code)
 }

@@ -1,5 +1,6 @@
 -- The goals of `expression::code` that no tactic closes.
-use Rattle.std.proofs.Common.{List, refl, sym, ap, ◌∙◌, arith}
+use Rattle.std.proofs.Common.{List, [], ◌∷◌, ◌++◌, length, refl, sym, ap, ◌∙◌, arith}
+use Rattle.std.proofs.lemmas.List.{append-nil}
 use Rattle.std.proofs.lemmas.Result.{err_from_is_err_and}
 use Rattle.nr_wasmtypes.specs.declared.instr.Instr.{Instr}
 use Rattle.nr_wasmtypes.specs.declared.instr.Instr.TheVariants as instr
@@ -10,66 +11,107 @@ use Rattle.nr_bytes.specs.Reading.{◌>>=◌}
 use Rattle.nr_wasmbin.specs.Fields.{Read}
 use Rattle.nr_wasmbin.specs.Expressions.{Sequence, front, onto, instr_at, code_at}
 use Rattle.nr_wasmtypes.specs.declared.opcode.Op.{Op}
-use Rattle.nr_wasmtypes.specs.declared.opcode.Op.TheVariants as op
-use Rattle.nr_wasmbin.proofs.OnCode.{front_nothing, front_push, turn, short, ends_here, else_here, else_refused, block_opens, block_body, loop_opens, loop_body, if_opens, if_body, plain_instr, puts}
+use Rattle.nr_wasmbin.proofs.OnCode.{front_nothing, front_push, row_joins, row_stops, behind, longer, cut_off, left_over, sequence, ends_here, else_here, else_refused, block_opens, block_body, loop_opens, loop_body, if_opens, if_body, plain_instr, puts}
 use Rattle.nr_wasmbin.proofs.expression.+code.Goals as goal
 
-pub read_code-loop-items-init : goal.read_code-loop-items-init
-read_code-loop-items-init t c = record {
-  reads = λ turns h. (turns, h, ap (λ (is : List Instr). front (onto is) (code_at turns c.args.depth c.args.may_else c.args.cursor.now)) c.new-items.ensures.items ∙ front_nothing (code_at turns c.args.depth c.args.may_else c.args.cursor.now));
+pub read_rows-rows-init : goal.read_rows-rows-init
+read_rows-rows-init t c = record {
+  reads = λ turns h. ([], sym (append-nil c.args.stack.now.items), turns, h, front_nothing (code_at turns c.args.depth c.args.may_else c.args.cursor.now));
   shorter = omega arith;
 }
 
-pub read_code-returns-in_err-byte-clause-gives : goal.read_code-returns-in_err-byte-clause-gives
-read_code-returns-in_err-byte-clause-gives t c =
+pub read_rows-returns-in_err-at-clause-gives : goal.read_rows-returns-in_err-at-clause-gives
+read_rows-returns-in_err-at-clause-gives t c =
     let p = err_from_is_err_and c.from_residual.result c.from_residual.ensures.1 in
-    rw (p.1, p.2) (λ turns h other. let so = c.loop-items.invariant.reads turns h in
-    short c.loop-items.items.items so.0 c.args.depth c.args.may_else c.loop-items.cursor _ _ (c.in_err-byte.ensures.gives other) so.2)
+    rw (p.1, p.2) (λ turns h other. let so = c.rows.invariant.reads turns h in
+    row_stops so.0 _ _ _ (c.in_err-at.ensures.gives so.2 c.args.depth c.args.may_else so.3 other) so.4)
 
-pub read_code-returns-in-End-clause-gives : goal.read_code-returns-in-End-clause-gives
-read_code-returns-in-End-clause-gives t c = λ turns h.
-    let so = c.loop-items.invariant.reads turns h in
-    let x = turn c.loop-items.items.items so.0 c.args.depth c.args.may_else c.loop-items.cursor c.byte.new.self c.in_ok-byte.field-0 _ c.at-at.result op.End c.in_ok-byte.ensures.gives c.at-at.ensures c.in-End.ensures so.1 so.2 in
-    x.2 ∙ ends_here c.loop-items.items.items (code_at x.0) c.args.depth c.args.may_else c.at-at.result c.byte.new.self
+pub read_rows-returns-in-End-clause-gives : goal.read_rows-returns-in-End-clause-gives
+read_rows-returns-in-End-clause-gives t c = λ turns h.
+    let so = c.rows.invariant.reads turns h in
+    let x = c.in_ok-at.ensures.gives so.2 c.args.depth c.args.may_else so.3 in
+    let all = so.0 ++ x.0 in (
+      all,
+      behind c.args.stack.now.items so.0 x.0 _ _ so.1 x.1,
+      row_joins so.0 x.0 all _ _ _ refl x.4 so.4
+          ∙ ap (λ (o : Op). front (onto all) (instr_at (code_at x.2) c.args.depth c.args.may_else c.in_ok-at.at o c.read_row.new.cursor)) c.in-End.is
+          ∙ ends_here all (code_at x.2) c.args.depth c.args.may_else c.in_ok-at.at c.read_row.new.cursor,
+    )
 
-pub read_code-returns-then-may_else-clause-gives : goal.read_code-returns-then-may_else-clause-gives
-read_code-returns-then-may_else-clause-gives t c = λ turns h.
-    let so = c.loop-items.invariant.reads turns h in
-    let x = turn c.loop-items.items.items so.0 c.args.depth c.args.may_else c.loop-items.cursor c.byte.new.self c.in_ok-byte.field-0 _ c.at-at.result op.Else c.in_ok-byte.ensures.gives c.at-at.ensures c.in-Else.ensures so.1 so.2 in
-    x.2 ∙ else_here c.loop-items.items.items (code_at x.0) c.args.depth c.args.may_else c.at-at.result c.byte.new.self c.if-may_else.true
+pub read_rows-returns-then-may_else-clause-gives : goal.read_rows-returns-then-may_else-clause-gives
+read_rows-returns-then-may_else-clause-gives t c = λ turns h.
+    let so = c.rows.invariant.reads turns h in
+    let x = c.in_ok-at.ensures.gives so.2 c.args.depth c.args.may_else so.3 in
+    let all = so.0 ++ x.0 in (
+      all,
+      behind c.args.stack.now.items so.0 x.0 _ _ so.1 x.1,
+      row_joins so.0 x.0 all _ _ _ refl x.4 so.4
+          ∙ ap (λ (o : Op). front (onto all) (instr_at (code_at x.2) c.args.depth c.args.may_else c.in_ok-at.at o c.read_row.new.cursor)) c.in-Else.is
+          ∙ else_here all (code_at x.2) c.args.depth c.args.may_else c.in_ok-at.at c.read_row.new.cursor c.if-may_else.true,
+    )
 
-pub read_code-returns-in-Else-clause-gives : goal.read_code-returns-in-Else-clause-gives
-read_code-returns-in-Else-clause-gives t c = λ turns h _.
-    let so = c.loop-items.invariant.reads turns h in
-    let x = turn c.loop-items.items.items so.0 c.args.depth c.args.may_else c.loop-items.cursor c.byte.new.self c.in_ok-byte.field-0 _ c.at-at.result op.Else c.in_ok-byte.ensures.gives c.at-at.ensures c.in-Else.ensures so.1 so.2 in
-    x.2 ∙ else_refused c.loop-items.items.items (code_at x.0) c.args.depth c.args.may_else c.at-at.result c.byte.new.self c.if-may_else.false
+pub read_rows-returns-in-Else-clause-gives : goal.read_rows-returns-in-Else-clause-gives
+read_rows-returns-in-Else-clause-gives t c = λ turns h _.
+    let so = c.rows.invariant.reads turns h in
+    let x = c.in_ok-at.ensures.gives so.2 c.args.depth c.args.may_else so.3 in
+    let all = so.0 ++ x.0 in
+    row_joins so.0 x.0 all _ _ _ refl x.4 so.4
+    ∙ ap (λ (o : Op). front (onto all) (instr_at (code_at x.2) c.args.depth c.args.may_else c.in_ok-at.at o c.read_row.new.cursor)) c.in-Else.is
+    ∙ else_refused all (code_at x.2) c.args.depth c.args.may_else c.in_ok-at.at c.read_row.new.cursor c.if-may_else.false
 
-pub read_code-returns-in_err-instr-in_default : goal.read_code-returns-in_err-instr-in_default
-read_code-returns-in_err-instr-in_default t c =
+pub read_rows-returns-in_err-instr-in_default : goal.read_rows-returns-in_err-instr-in_default
+read_rows-returns-in_err-instr-in_default t c =
     let p = err_from_is_err_and c.from_residual-in_err-instr-in_default.result c.from_residual-in_err-instr-in_default.ensures.1 in
     rw (p.1, p.2) (record {
       gives = λ turns h other.
-          let so = c.loop-items.invariant.reads turns h in
-          let x = turn c.loop-items.items.items so.0 c.args.depth c.args.may_else c.loop-items.cursor c.byte.new.self c.in_ok-byte.field-0 _ c.at-at.result c.of-op.result c.in_ok-byte.ensures.gives c.at-at.ensures c.of-op.ensures so.1 so.2 in
-          x.2 ∙ ap (front (onto c.loop-items.items.items)) (c.in_err-instr-in_default.ensures.gives x.0 c.args.may_else x.1 other);
+          let so = c.rows.invariant.reads turns h in
+          let x = c.in_ok-at.ensures.gives so.2 c.args.depth c.args.may_else so.3 in
+          let all = so.0 ++ x.0 in
+          row_joins so.0 x.0 all _ _ _ refl x.4 so.4
+          ∙ ap (front (onto all)) (c.in_err-instr-in_default.ensures.gives x.2 c.args.may_else x.3 other);
       shorter = tt;
     })
 
-pub read_code-loop-items-preserved : goal.read_code-loop-items-preserved
-read_code-loop-items-preserved t c = record {
+pub read_rows-rows-preserved : goal.read_rows-rows-preserved
+read_rows-rows-preserved t c = record {
   reads = λ turns h.
-      let so = c.loop-items.invariant.reads turns h in
-      let x = turn c.loop-items.items.items so.0 c.args.depth c.args.may_else c.loop-items.cursor c.byte.new.self c.in_ok-byte.field-0 _ c.at-at.result c.of-op.result c.in_ok-byte.ensures.gives c.at-at.ensures c.of-op.ensures so.1 so.2 in
-      let left = code_at x.0 c.args.depth c.args.may_else c.read_instr.new.cursor in (
-        x.0,
-        omega (arith, c.in_ok-instr-in_default.ensures.shorter, x.1),
-        ap (λ (is : List Instr). front (onto is) left) c.in_ok-push-in_default.ensures.items
-            ∙ sym (front_push c.loop-items.items.items c.in_ok-instr-in_default.instr left)
-            ∙ ap (front (onto c.loop-items.items.items)) (sym (c.in_ok-instr-in_default.ensures.gives x.0 c.args.may_else x.1))
-            ∙ sym x.2,
+      let so = c.rows.invariant.reads turns h in
+      let x = c.in_ok-at.ensures.gives so.2 c.args.depth c.args.may_else so.3 in
+      let all = so.0 ++ x.0 in
+      let i = c.in_ok-instr-in_default.instr in
+      let left = code_at x.2 c.args.depth c.args.may_else c.read_instr.new.cursor in (
+        all ++ i ∷ [],
+        behind c.args.stack.now.items all (i ∷ []) _ _ (c.in_ok-instr-in_default.ensures.held ∙ behind c.args.stack.now.items so.0 x.0 _ _ so.1 x.1) c.in_ok-push-in_default.ensures.items,
+        x.2,
+        omega (arith, c.in_ok-instr-in_default.ensures.shorter, x.3),
+        sym (front_push all i left)
+            ∙ ap (front (onto all)) (sym (c.in_ok-instr-in_default.ensures.gives x.2 c.args.may_else x.3))
+            ∙ sym (row_joins so.0 x.0 all _ _ _ refl x.4 so.4),
       );
-  shorter = omega (arith, c.in_ok-instr-in_default.ensures.shorter, c.in_ok-byte.ensures.shorter, c.loop-items.invariant.shorter);
+  shorter = omega (arith, c.in_ok-instr-in_default.ensures.shorter, c.in_ok-at.ensures.shorter, c.rows.invariant.shorter);
 }
+
+pub read_code-returns-in_err-is_else-clause-gives : goal.read_code-returns-in_err-is_else-clause-gives
+read_code-returns-in_err-is_else-clause-gives t c =
+    let p = err_from_is_err_and c.from_residual.result c.from_residual.ensures.1 in
+    rw (p.1, p.2) (λ turns h other. c.in_err-is_else.ensures.gives turns h other)
+
+pub read_code-split_off-requires : goal.read_code-split_off-requires
+read_code-split_off-requires t c =
+    let x = c.in_ok-is_else.ensures.gives (length c.args.cursor.now.left) (omega arith) in
+    let more = longer c.args.stack.now.items x.0 c.read_rows.new.stack.items x.1 in
+    omega (arith, c.len-start.ensures, c.args.stack.now.ok.0, c.read_rows.new.stack.ok.0, more)
+
+pub read_code-returns-clause-gives : goal.read_code-returns-clause-gives
+read_code-returns-clause-gives t c = λ turns h.
+    let x = c.in_ok-is_else.ensures.gives turns h in
+    x.2 ∙ ap (λ (is : List Instr). sequence is c.in_ok-is_else.is_else c.read_rows.new.cursor)
+    (sym (cut_off c.args.stack.now.items x.0 c.read_rows.new.stack.items c.in_ok-items.items.items c.len-start.result (c.len-start.ensures ∙ c.args.stack.now.ok.0) x.1 c.in_ok-items.ensures.tail))
+
+pub read_code-returns-clause-held : goal.read_code-returns-clause-held
+read_code-returns-clause-held t c =
+    let x = c.in_ok-is_else.ensures.gives (length c.args.cursor.now.left) (omega arith) in
+    c.in_ok-items.ensures.items ∙ left_over c.args.stack.now.items x.0 c.read_rows.new.stack.items c.len-start.result (c.len-start.ensures ∙ c.args.stack.now.ok.0) x.1
 
 pub read_instr-returns-in_err-ty-in-Block-clause-gives : goal.read_instr-returns-in_err-ty-in-Block-clause-gives
 read_instr-returns-in_err-ty-in-Block-clause-gives t c =
@@ -133,6 +175,9 @@ read_instr-returns-in_ok-choice-in-If-clause-gives t c = λ turns may_else h.
     ∙ ap (λ (r : Sequence). r >>= λ other. front (Choice c.in_ok-ty-in-If.ty (code_of c.in_ok-one-in-If.one.items) other.0.0) (code_at turns c.args.depth may_else other.1)) (c.in_ok-other-in-If.ensures.gives turns (omega (arith, c.in_ok-ty-in-If.ensures.shorter, c.in_ok-one-in-If.ensures.shorter, h))).1
     ∙ puts (Choice c.in_ok-ty-in-If.ty (code_of c.in_ok-one-in-If.one.items) (code_of c.in_ok-other-in-If.other.items)) c.in_ok-choice-in-If.field-0 (code_at turns c.args.depth may_else c.read_other.new.cursor) (λ rest. sym (c.in_ok-choice-in-If.ensures rest))
 
+pub read_instr-returns-in_ok-choice-in-If-clause-held : goal.read_instr-returns-in_ok-choice-in-If-clause-held
+read_instr-returns-in_ok-choice-in-If-clause-held t c = c.in_ok-other-in-If.ensures.held ∙ c.in_ok-one-in-If.ensures.held
+
 pub read_instr-returns-in_err-read_plain-in_default : goal.read_instr-returns-in_err-read_plain-in_default
 read_instr-returns-in_err-read_plain-in_default t c =
     let p = err_from_is_err_and c.from_residual-in_err-read_plain-in_default.result c.from_residual-in_err-read_plain-in_default.ensures.1 in
@@ -141,6 +186,7 @@ read_instr-returns-in_err-read_plain-in_default t c =
           plain_instr (code_at turns) c.args.depth c.args.at may_else c.args.op c.args.cursor.now c.in_default.not-Block c.in_default.not-Loop c.in_default.not-If c.requires.no_end c.requires.no_else
           ∙ ap (λ (r : Read Plain). r >>= λ p. front (Then p.0) (code_at turns c.args.depth may_else p.1)) (c.in_err-read_plain-in_default.ensures.gives other);
       shorter = tt;
+      held = tt;
     })
 
 pub read_instr-returns-in_ok-read_plain-in_default : goal.read_instr-returns-in_ok-read_plain-in_default
@@ -151,4 +197,5 @@ read_instr-returns-in_ok-read_plain-in_default t c = record {
       ∙ ap (λ (r : Read Plain). r >>= λ p. front (Then p.0) (code_at turns c.args.depth may_else p.1)) c.in_ok-read_plain-in_default.ensures.gives
       ∙ puts (Then p) (instr.Plain p) (code_at turns c.args.depth may_else c.read_plain.new.cursor) (λ rest. sym (put_plain (instr.Plain p) p rest refl));
   shorter = c.in_ok-read_plain-in_default.ensures.shorter;
+  held = refl;
 }
