@@ -16,10 +16,6 @@ use Rattle.nr_entries.proofs.Sums.{sum_insert}
 abbrev pub one_each : {K X : Type 0} → K × X → ℕ
 one_each e = 1
 
-pub count_of_list : {K X : Type 0} (es : List (K × X)) → sum_by one_each es ≡ length es
-count_of_list [] = refl
-count_of_list (e ∷ es) = omega (arith, sum_by-cons one_each e es, count_of_list es)
-
 -- no key stands twice
 abbrev pub AreApart : {K X : Type 0} → (K → K → Ordering) → List (K × X) → Type 0
 AreApart R [] = Unit {0}

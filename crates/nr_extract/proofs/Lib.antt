@@ -1,4 +1,3 @@
 -- Lemmas behind the answers.
 mod Nearing
-mod Taking
 mod Chunks

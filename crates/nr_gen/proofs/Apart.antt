@@ -63,13 +63,6 @@ each_passes test (x ∷ xs) h = let two = both_true (test x) (list_all test xs) 
 abbrev pub AreOthers : (List ℕ → ℕ) → List ℕ → List GenesisEntry → Type 0
 AreOthers f id es = AllByRecursion (λ e. f (owner e) ≢ f id) es
 
-pub no_account : (f : List ℕ → ℕ) (id : List ℕ) (es : List GenesisEntry) → AreOthers f id es → is_account es id ≡ false
-no_account f id [] others = refl
-no_account f id (kind.Account i account ∷ es) others = λ k. other_text f i id others.0 k || no_account f id es others.1 k
-no_account f id (kind.Code i code ∷ es) others = no_account f id es others.1
-no_account f id (kind.Key i key access ∷ es) others = no_account f id es others.1
-no_account f id (kind.Datum i key value ∷ es) others = no_account f id es others.1
-
 pub no_usage : (c : Config) (f : List ℕ → ℕ) (id : List ℕ) (es : List GenesisEntry) → AreOthers f id es → usage_in c es id ≡ 0
 no_usage c f id [] others = refl
 no_usage c f id (e ∷ es) others =

@@ -1,5 +1,5 @@
 -- The text of a proof is read back as the proof.
-use Rattle.std.proofs.Common.{◌≡◌, ℕ, zero, suc, ◌+◌, ◌/◌, ◌%◌, ◌^◌, ◌<◌, ◌≤◌, ◌==◌, ◌&&◌, ◌⊎◌, inl, inr, Bool, true, false, cond, not, List, [], ◌∷◌, ◌++◌, length, get_or, slice_index, Some, Ok, refl, sym, ap, ◌∙◌, arith, append_assoc}
+use Rattle.std.proofs.Common.{◌≡◌, ℕ, zero, suc, ◌+◌, ◌/◌, ◌%◌, ◌^◌, ◌<◌, ◌≤◌, ◌==◌, ◌&&◌, ◌⊎◌, inl, inr, Bool, true, false, not, List, [], ◌∷◌, ◌++◌, length, get_or, slice_index, Some, Ok, refl, sym, ap, ◌∙◌, arith, append_assoc}
 use Rattle.std.specs.Prelude.{codes, decimal, nat_le}
 use Rattle.std.specs.List.{flat_map, list_all, onto_first, AllByRecursion}
 use Rattle.std.proofs.lemmas.Bool.{and_from, and_parts, le-leb, leb-true, ne_eqb, eq-eqb, cases_lt}
@@ -106,10 +106,6 @@ all_lower (b ∷ bytes) fits =
 hex_back : (bytes : List ℕ) → IsBytes bytes → hex_in (encode_lower bytes) ≡ Some bytes
 unfolding hex_in
 hex_back bytes fits = let all = all_lower bytes fits in let back = decode_of-encode_lower bytes fits in rw (all, back) refl
-
-or_parts : (x y : Bool) → cond x true y ≡ true → (x ≡ true) ⊎ (y ≡ true)
-or_parts true y e = inl refl
-or_parts false y e = inr e
 
 lower_plain : (b : ℕ) → is_hex_digit b ≡ true → plain b ≡ true
 lower_plain b h = by (is_digit b) (nat_le 97 b) refl refl h

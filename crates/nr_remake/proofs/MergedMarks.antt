@@ -380,7 +380,3 @@ same_below searched ps new r place h =
 
 pub kept_merged : (searched : List Searched) (ks : List Kept) (ps new : Paths) → IsKept searched ps ks → CanWalk new → AreReplaced searched ps new → Spreads new (merge (marks_of ks) (marked (searched_in searched new))) new
 kept_merged searched ks ps new h w r = merged_all searched ps new (same_below searched ps new r) ks (others_of searched ps) new w.order r h
-
-pub merged : (searched : List Searched) (gains : List Gain) (ps new : Paths) → Shows searched ps gains ps → CanWalk new → AreReplaced searched ps new
-    → Spreads new (merge (marks_of (kept_in gains)) (marked (searched_in searched new))) new
-merged searched gains ps new h w r = merged_all searched ps new (same_below searched ps new r) (kept_in gains) (others_of searched ps) new w.order r (shows_beside searched ps gains ps h)

@@ -227,9 +227,6 @@ Read = Result (List Block) BlocksFault
 abbrev AreSpelled : ℕ → List ℕ → List Block → Type 0
 AreSpelled shards bytes bs = (version : Version) × AreBlocks version shards bs × (bytes ≡ blocks_spelling version bs)
 
-inner : (f g : BlocksFault) → Blocks f ≡ Blocks g → f ≡ g
-inner f g e = cc
-
 module _ (shards : ℕ) (bytes : List ℕ) (r : Read) (is : begins bytes ≡ false) where
   gives_plain : (answer : Read) → Gives blocks.Memory r answer → Gives memory (plain_of r) (plain_of answer)
   gives_plain answer = go r

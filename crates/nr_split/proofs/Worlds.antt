@@ -4,7 +4,7 @@ use Rattle.std.proofs.Common.{None, Ordering, refl, sym, ◌∙◌, arith}
 use Rattle.std.specs.Prelude.{filter}
 use Rattle.std.specs.Cmp.{IsTotalOrder}
 use Rattle.std.specs.Cmp.Lexicographic.{nat_list_cmp_total}
-use Rattle.std.specs.FinMap.{FinMap, IsAntisymmetric, empty, get, get-empty, retain_keys}
+use Rattle.std.specs.FinMap.{FinMap, IsAntisymmetric, get, retain_keys}
 use Rattle.std.specs.List.{AllByRecursion, flat_map}
 use Rattle.std.proofs.lemmas.Map.Lookups.{exact_bytes}
 use Rattle.nr_cut.proofs.Maps.{either, get-joined, get-part}
@@ -22,9 +22,6 @@ use Rattle.nr_state.proofs.Worlds.{none_fits as fits_none}
 -- ---- what holds of each entry of a map
 abbrev Each : {K X : Type 0} {R : K → K → Ordering} → (K → X → Type 0) → FinMap R X → Type 0
 Each {K} {X} P m = (k : K) (v : X) → get m k ≡ Some v → P k v
-
-each_none : {K X : Type 0} (R : K → K → Ordering) (P : K → X → Type 0) → Each P (empty {X = X} {R = R})
-each_none {X = X} R P k v e = absurd (let no : ◌≡◌ {A = Option X} None (Some v) = sym (get-empty R k) ∙ e in cc)
 
 module _ {K X : Type 0} {R : K → K → Ordering} (o : IsTotalOrder R) (exact : IsAntisymmetric R) (P : K → X → Type 0)
   where

@@ -194,16 +194,6 @@ pub is_some-map : {A B : Type 0} (f : A → B) (o : Option A) → is_some (optio
 is_some-map f None = refl
 is_some-map f (Some x) = refl
 
-pub HasSlot-is_some : (es : List (Text × Option Text)) (q : List ℕ) → is_some (lookup (is_at (at_bytes q)) es) ≡ true → HasSlot es q
-HasSlot-is_some es q h = ap is_some (lookup-keyed es q) ∙ is_some-map text_of _ ∙ h
-
-none_of : {A : Type 0} (o : Option A) → is_some o ≡ false → o ≡ None
-none_of None h = refl
-none_of (Some x) h = absurd (false≢true (sym h))
-
-pub get-not_held : (es : List (Text × Option Text)) (q : List ℕ) → is_some (lookup (is_at (at_bytes q)) es) ≡ false → get (held_in es) q ≡ None
-get-not_held es q h = get-held_in es q ∙ ap (λ o. joined (option_map text_of o)) (none_of _ h)
-
 -- ---- what a change found
 pub value_found : (es : List (Text × Option Text)) (u : Undo) (k : List ℕ) → option_map text_of u.before ≡ slot_at es k → value_before u ≡ get (held_in es) k
 value_found es u k e = joined_map u.before ∙ ap joined e ∙ sym (get-held (keyed es) k)

@@ -22,13 +22,6 @@ trie_one n [] p len is = absurd (omega arith)
 trie_one n (q ∷ []) p len is = ap (λ r. Some (summary (leaf r))) (sym is)
 trie_one n (q ∷ r ∷ ps) p len is = absurd (omega arith)
 
-pub trie_zero : (n : ℕ) (ps : Paths) → n ≡ 0 → 2 ≤ length ps → trie n ps ≡ None
-unfolding trie
-trie_zero n [] is len = absurd (omega arith)
-trie_zero n (p ∷ []) is len = absurd (omega arith)
-trie_zero zero (p ∷ q ∷ ps) is len = refl
-trie_zero (suc n) (p ∷ q ∷ ps) is len = absurd (omega arith)
-
 abbrev pub joined : List ℕ → Paths → List (Option Summary) → Summary
 joined shared rest below = with_front shared (summary (branch (value_here rest) below))
 

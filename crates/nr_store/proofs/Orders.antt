@@ -81,10 +81,6 @@ all_at P [] i d lt h = absurd (omega arith)
 all_at P (p ∷ ps) zero d lt h = h.0
 all_at P (p ∷ ps) (suc i) d lt h = all_at P ps i d (omega arith) h.1
 
--- each key of a list, without its first nibbles
-abbrev pub goes_on : ℕ → Path → List ℕ
-goes_on o p = drop o p.0
-
 at_behind : (o : ℕ) (es : Paths) (i : ℕ) (d : Path) → get_or (behind o es) i (drop o d.0, d.1) ≡ (drop o (get_or es i d).0, (get_or es i d).1)
 at_behind o es i d = get_or-map (λ (p : Path). (drop o p.0, p.1)) es i d
 

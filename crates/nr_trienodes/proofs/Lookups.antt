@@ -132,10 +132,6 @@ find_front : (p q : List ℕ) (ps : Paths) → find R q (in_front p ps) ≡ look
 find_front p q [] = elim (stripped p q) as (λ m. None ≡ looked m []) [ None ↦ refl | Some key ↦ refl ]
 find_front p q (e ∷ ps) = (λ i. cond (eq_front p q e.0 i) (Some e.1) (find_front p q ps i)) ∙ sym (looked_cons (stripped p q) e ps)
 
-or_else : Option (List ℕ) → Option (List ℕ) → Option (List ℕ)
-or_else None b = b
-or_else (Some a) b = Some a
-
 find_append : (q : List ℕ) (ps qs : Paths) → find R q ps ≡ None → find R q (ps ++ qs) ≡ find R q qs
 find_append q [] qs e = refl
 find_append q (p ∷ ps) qs e =

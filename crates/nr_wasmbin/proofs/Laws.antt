@@ -125,21 +125,6 @@ mapped_law {X} {Y} to from r g back there law = record {
       ap (λ (m : Read X). m >>= λ n. Ok (to n.0, n.1)) (law.again (from v) text at rest t) ∙ ap (λ (y : Y). answer (y, behind text at rest)) (there v);
 }
 
--- a value that is made of others, and may not determine them
-abbrev pub Image : {X Y : Type 0} → (X → Y) → (X → Language) → Y → Language
-Image {X} to g y text = (x : X) × g x text × (to x ≡ y)
-
-pub image_law : {X Y : Type 0} (to : X → Y) (r : Input → Read X) (g : X → Language) → Law r g → Law (mapped to r) (Image to g)
-image_law {X} {Y} to r g law = record {
-  taken = λ s p e.
-      let x = bind_ok (r s) (λ m. Ok (to m.0, m.1)) p e in
-      let made : Y × Input = (to x.0.0, x.0.1) in
-      let one = law.taken s x.0 x.1 in
-      subst (λ (p : Y × Input). Takes s (Image to g p.0) p.1) (ok_is made p x.2) (one.0, one.1, (x.0.0, one.2, refl));
-  again = λ v text at rest t.
-      ap (λ (m : Read X). m >>= λ n. Ok (to n.0, n.1)) (law.again t.0 text at rest t.1) ∙ ap (λ (y : Y). answer (y, behind text at rest)) t.2;
-}
-
 -- the same reading, where the grammar is written otherwise
 pub law_where : {X : Type 0} (r : Input → Read X) (g h : X → Language) → ((v : X) (text : List ℕ) → g v text → h v text) → ((v : X) (text : List ℕ) → h v text → g v text) → Law r g → Law r h
 law_where r g h there back law = record {

@@ -209,9 +209,6 @@ all_rest =
 abbrev parts : Module → Language
 parts m text = (length m.bodies ≡ length m.funcs) × (grammar.front m ▸ grammar.middle m ▸ grammar.back m) text
 
-front_of_module : Module → Front
-front_of_module m = record { types = m.types; imports = m.imports; funcs = m.funcs }
-
 parts_are : (m : Module) (text : List ℕ) → all_language m text → parts m text
 parts_are m text h =
     let f = h.0 in

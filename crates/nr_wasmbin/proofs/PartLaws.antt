@@ -55,9 +55,6 @@ and_nothing P text h = (text, [], sym (append-nil text), h, refl)
 pub takes_nothing : (s : Input) → Takes s nothing s
 takes_nothing s = ([], refl, refl)
 
-abbrev Arm : {X : Type 0} → (X → ℕ) → (X → Language) → ℕ → Input → X × Input → Type 0
-Arm tag inner n s p = (n ≡ tag p.0) × Takes s (inner p.0) p.1
-
 -- the byte says what follows
 pub byte_law : {X : Type 0} (body : ℕ → ℕ × Input → Read X) (tag : X → ℕ) (inner : X → Language)
     → ((at n : ℕ) (s : Input) (p : X × Input) → body at (n, s) ≡ Ok p → (n ≡ tag p.0) × Takes s (inner p.0) p.1)

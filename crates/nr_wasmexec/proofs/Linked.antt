@@ -162,9 +162,6 @@ less a b h = grind (arith)
 not_less : (a b : ℕ) → b ≤ a → nat_lt a b ≡ false
 not_less a b h = grind (arith)
 
-less_is : (a b : ℕ) → nat_lt a b ≡ true → a < b
-less_is a b h = grind (arith)
-
 coded_is : (sig : Option FuncType) (body : Option Body) (func : Func) → coded sig body ≡ Some func → (s : FuncType) × (b : Body) × (sig ≡ Some s) × (body ≡ Some b) × (func ≡ Coded s b)
 coded_is None body func e = cc
 coded_is (Some s) None func e = cc

@@ -23,14 +23,7 @@ pub not_true : (a : Bool) → (a ≡ true → ⊥) → a ≡ false
 not_true true h = absurd (h refl)
 not_true false h = refl
 
-pub false_true : {A : Type 0} (a : Bool) → a ≡ false → a ≡ true → A
-false_true true e f = absurd (let no : true ≡ false = e in cc)
-false_true false e f = absurd (let no : false ≡ true = f in cc)
-
 -- ---- pairs of bytes
-pub Key : Type 0
-Key = List ℕ × List ℕ
-
 pub pair_is : (j k : List ℕ × List ℕ) → same_pair j k ≡ true → j ≡ k
 pair_is j k h = λ i. ((bytes_eq-Decides j.0 k.0).0 (left _ _ h) i, (bytes_eq-Decides j.1 k.1).0 (right _ _ h) i)
 
