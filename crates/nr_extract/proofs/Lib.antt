@@ -1,3 +1,4 @@
 -- Lemmas behind the answers.
 mod Nearing
+mod Taking
 mod Chunks
