@@ -2,7 +2,7 @@
 use Rattle.std.proofs.Common.{◌≡◌, ℕ, ◌<◌, List, ◌++◌, map, Option, sym, ap, subst, ◌∙◌}
 use Rattle.std.specs.Prelude.{replicate}
 use Rattle.std.specs.List.{flat_map, range_with_len}
-use Rattle.nr_chunk.specs.Chain.{Chain, rules_of}
+use Rattle.nr_chunk.specs.Chain.{rules_of}
 use Rattle.nr_chunk.specs.Runs.{chain_in}
 use Rattle.nr_chunk.specs.Store.{StateStore}
 use Rattle.nr_chunk.specs.declared.chain.ChainRun.{ChainRun}

@@ -1,10 +1,9 @@
 -- Tokens and receipts of a course add up.
-use Rattle.std.proofs.Common.{◌≡◌, ℕ, suc, ◌+◌, List, [], ◌∷◌, length, Option, Some, None, refl, ap, ◌∙◌, arith}
+use Rattle.std.proofs.Common.{◌≡◌, ℕ, ◌+◌, List, [], ◌∷◌, length, Option, Some, None, refl, ap, ◌∙◌, arith}
 use Rattle.std.specs.Prelude.{slice_index, sum_by}
 use Rattle.std.proofs.lemmas.List.Sums.{sum_by-cons}
 use Rattle.nr_chunk.specs.Chain.{Chain, IsChain, rules_of}
 use Rattle.nr_chunk.specs.Start.{start_tokens}
-use Rattle.nr_chunk.specs.declared.tally.Tally.{Tally}
 use Rattle.nr_course.proofs.Ends.{goes_behind}
 use Rattle.nr_course.specs.Course.{AreLegs, CanRun, Course, second}
 use Rattle.nr_course.specs.Totals.{AddUp, AddsUp, receipts_at_first, tally_by, totals_behind}
@@ -13,7 +12,7 @@ use Rattle.nr_legs.proofs.Ends.{goes_on}
 use Rattle.nr_legs.specs.Legs.{CanGoOn, GoesOn, cut_start}
 use Rattle.nr_outcome.proofs.Adding.{alike}
 use Rattle.nr_outcome.specs.Totals.{totals_at, totals_of}
-use Rattle.nr_overlap.specs.Run.{ending, opening, run_of}
+use Rattle.nr_overlap.specs.Run.{ending}
 use Rattle.nr_overlap.specs.declared.position.Position.{Position}
 use Rattle.nr_places.proofs.Replay.{end_holds, replay_holds}
 use Rattle.nr_places.specs.Moments.{delayed, flying, postponed}

@@ -1,24 +1,19 @@
 -- What the entries of each column count, in the map that is read of them.
-use Rattle.std.proofs.Common.{◌≡◌, ℕ, ◌+◌, Bool, true, false, cond, List, [], ◌∷◌, ◌++◌, ◌&&◌, length, suc, Option, Some, None, refl, sym, ap, subst, ◌∙◌, inl, inr, ◌⊎◌, arith}
-use Rattle.std.specs.Prelude.{◌==◌, count_by, sum_by}
-use Rattle.std.specs.FinMap.{FinMap, entries}
-use Rattle.std.specs.List.{AllByRecursion, list_all}
+use Rattle.std.proofs.Common.{◌≡◌, ℕ, ◌+◌, Bool, true, false, cond, List, [], ◌∷◌, ◌++◌, suc, refl, sym, ap, subst, ◌∙◌, inl, inr, ◌⊎◌, arith}
+use Rattle.std.specs.Prelude.{◌==◌, sum_by}
+use Rattle.std.specs.FinMap.{entries}
+use Rattle.std.specs.List.{AllByRecursion}
 use Rattle.std.specs.Ordering.{eq_by_cmp}
-use Rattle.std.specs.Str.{bytes_eq}
 use Rattle.std.proofs.lemmas.Bool.{eqb-true}
 use Rattle.std.proofs.lemmas.Bool.Decides.{nat_tests}
 use Rattle.std.proofs.lemmas.List.Sums.{sum_by-cons}
 use Rattle.nr_bytes.specs.Numbers.{IsBytes, little}
-use Rattle.nr_ids.specs.Keys.{key_bytes}
-use Rattle.nr_ids.specs.declared.key.PublicKey.{PublicKey}
-use Rattle.nr_records.specs.AccessKeys.{access_key_bytes}
-use Rattle.nr_records.specs.declared.access_key.AccessKey.{AccessKey}
 use Rattle.nr_columns.specs.Entries.{contents_of}
 use Rattle.nr_columns.specs.Orders.{bytes_cmp}
 use Rattle.nr_columns.specs.Tables.{Table, part}
-use Rattle.nr_columns.specs.View.{awaited_table, data_table, delayed_table, keys_table, missing_table}
+use Rattle.nr_columns.specs.View.{awaited_table, delayed_table, missing_table}
 use Rattle.nr_columns.specs.declared.entry.Entry.{Entry}
-use Rattle.nr_columns.proofs.Laid.{awaited_law, data_law, delayed_law, keys_law, missing_law, other_head}
+use Rattle.nr_columns.proofs.Laid.{awaited_law, delayed_law, missing_law, other_head}
 use Rattle.nr_columns.proofs.Tables.{IsTable}
 use Rattle.nr_entries.specs.Counting.{count_in, is_in}
 use Rattle.nr_entries.specs.Order.{rises}

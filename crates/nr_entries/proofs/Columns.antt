@@ -1,6 +1,6 @@
 -- An entry that is told is one of its column's table.
-use Rattle.std.proofs.Common.{◌≡◌, ℕ, suc, ◌+◌, ◌<◌, ◌^◌, Bool, true, false, cond, eqb, List, [], ◌∷◌, ◌++◌, ◌&&◌, length, Option, Some, None, refl, sym, ap, subst, ◌∙◌, arith}
-use Rattle.std.specs.Prelude.{◌==◌, is_some, is_none, slice_index}
+use Rattle.std.proofs.Common.{◌≡◌, ℕ, suc, ◌+◌, ◌^◌, Bool, true, false, cond, List, [], ◌∷◌, ◌++◌, Option, Some, None, refl, sym, ap, subst, ◌∙◌}
+use Rattle.std.specs.Prelude.{◌==◌, is_some}
 use Rattle.std.specs.Option.{option_map, option_and_then}
 use Rattle.std.proofs.lemmas.Bool.{eq-eqb, eqb-true}
 use Rattle.nr_bytes.proofs.Fields.{blob_law, nat_law}
@@ -12,7 +12,6 @@ use Rattle.nr_bytes.specs.Reading.{Input}
 use Rattle.nr_bytes.specs.Spelling.{Below, Both, IsCounted, IsRead}
 use Rattle.nr_bytes.specs.Writing.{counted_bytes}
 use Rattle.nr_ids.specs.Keys.{IsHash, IsKey, hash_bytes, key_bytes}
-use Rattle.nr_ids.specs.declared.key.Hash32.{Hash32}
 use Rattle.nr_ids.specs.declared.key.PublicKey.{PublicKey}
 use Rattle.nr_records.specs.AccessKeyLaws.{access_key_law}
 use Rattle.nr_records.specs.AccessKeys.{IsAccessKey, access_key_at, access_key_bytes}
@@ -26,16 +25,14 @@ use Rattle.nr_records.specs.Options.{IsOption, option_at, option_bytes}
 use Rattle.nr_records.specs.Reading.{Read, all_of, blob_at, nat_at}
 use Rattle.nr_records.specs.ReceiptLaws.{receipt_law}
 use Rattle.nr_records.specs.Receipts.{IsReceipt, receipt_at, receipt_bytes}
-use Rattle.nr_records.specs.declared.access_key.AccessKey.{AccessKey}
-use Rattle.nr_records.specs.declared.account.Account.{Account}
 use Rattle.nr_records.specs.declared.receipt.Receipt.{Receipt}
 use Rattle.nr_columns.specs.Columns.{queue_bytes}
 use Rattle.nr_columns.specs.Tables.{Table, key_of, read_of}
-use Rattle.nr_columns.specs.View.{at_first, grown, with_key, spelled_key, key_of_rest, queue_at, queue_of, count_of}
+use Rattle.nr_columns.specs.View.{at_first, grown, with_key, spelled_key, key_of_rest, queue_at, queue_of}
 use Rattle.nr_columns.specs.View.{pair_table, text_table, accounts_table, keys_table, code_table, data_table, received_table, awaited_table, missing_table, postponed_table, delayed_table}
 use Rattle.nr_columns.proofs.SpelledKeys.{read_ok}
 use Rattle.nr_columns.proofs.Tables.{spells}
-use Rattle.nr_entries.specs.Told.{is_told_in, is_owned, is_owned_key, is_received, is_kept, is_queued}
+use Rattle.nr_entries.specs.Told.{is_told_in, is_owned, is_owned_key, is_received, is_kept}
 use Rattle.nr_entries.proofs.Rising.{left, right}
 
 -- an entry of a table

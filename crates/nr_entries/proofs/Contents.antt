@@ -1,9 +1,8 @@
 -- What entries that are told stand for.
-use Rattle.std.proofs.Common.{◌≡◌, ℕ, Bool, true, false, cond, List, [], ◌∷◌, ◌&&◌, Option, Some, None, refl, sym, ap, subst, ◌∙◌}
+use Rattle.std.proofs.Common.{◌≡◌, ℕ, Bool, true, false, cond, List, [], ◌∷◌, Option, Some, None, refl, sym, ap, subst, ◌∙◌}
 use Rattle.std.specs.Prelude.{◌==◌}
 use Rattle.std.specs.Option.{option_map, option_and_then}
-use Rattle.std.specs.FinMap.{FinMap, empty, insert, get, from_entries, get-empty, get-insert, get-from_entries, same_map}
-use Rattle.std.specs.List.{AllByRecursion, list_all}
+use Rattle.std.specs.FinMap.{FinMap, empty, insert, get, get-empty, get-insert, get-from_entries, same_map}
 use Rattle.std.specs.Ordering.{eq_by_cmp}
 use Rattle.std.specs.Cmp.Lexicographic.{nat_list_cmp_total}
 use Rattle.std.proofs.lemmas.Bool.{eqb-true}
@@ -14,12 +13,12 @@ use Rattle.nr_columns.specs.Columns.{Columns, queue_bytes}
 use Rattle.nr_columns.specs.Entries.{AreLaidEntries, contents_of, pairs_of}
 use Rattle.nr_columns.specs.Orders.{bytes_cmp}
 use Rattle.nr_columns.specs.Tables.{Table, key_of, part}
-use Rattle.nr_columns.specs.View.{columns_in, IsLaid, queue_of}
+use Rattle.nr_columns.specs.View.{IsLaid, queue_of}
 use Rattle.nr_columns.specs.declared.entry.Entry.{Entry}
 use Rattle.nr_columns.proofs.Empty.{is_laid_empty}
 use Rattle.nr_columns.proofs.Laid.{canon, laid_insert}
 use Rattle.nr_columns.proofs.Steps.{IsColumn, accounts_column, keys_column, code_column, data_column, received_column, awaited_column, missing_column, postponed_column, delayed_column}
-use Rattle.nr_columns.proofs.Tables.{IsTable, back, claim, claimed, over, there, get_part_none, get_part_valid, valid}
+use Rattle.nr_columns.proofs.Tables.{IsTable, back, claimed, over, there, get_part_none, get_part_valid, valid}
 use Rattle.nr_entries.specs.Order.{rises}
 use Rattle.nr_entries.specs.Told.{AreBytes, are_told, is_told, is_told_in}
 use Rattle.nr_entries.proofs.Columns.{IsOf, account_of, code_of, key_of_entry, received_of, awaited_of, missing_of, postponed_of, delayed_of, queue_entry, datum_of, tail_bytes}

@@ -1,7 +1,7 @@
 -- Entries whose keys rise.
-use Rattle.std.proofs.Common.{◌≡◌, ℕ, Bool, true, false, cond, List, [], ◌∷◌, ◌&&◌, ◌||◌, Option, Some, None, Ordering, refl, sym, ap, subst, ◌∙◌}
+use Rattle.std.proofs.Common.{◌≡◌, ℕ, Bool, true, false, cond, List, [], ◌∷◌, ◌&&◌, Option, Some, None, Ordering, refl, sym, ap, subst, ◌∙◌}
 use Rattle.std.specs.Prelude.{T}
-use Rattle.std.specs.FinMap.{get, entries, from_entries, from_sorted, entries-from_sorted, get-from_entries, get-from_sorted, same_map}
+use Rattle.std.specs.FinMap.{get, entries, from_sorted, entries-from_sorted, get-from_entries, get-from_sorted, same_map}
 use Rattle.std.specs.FinMap.Entries.{find, is_sorted, below_all}
 use Rattle.std.specs.List.{AllByRecursion, list_all}
 use Rattle.std.specs.Ordering.{eq_by_cmp, is_lt}

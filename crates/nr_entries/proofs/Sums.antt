@@ -1,6 +1,6 @@
 -- Sums over entries, and over the part of them that a column reads.
-use Rattle.std.proofs.Common.{◌≡◌, ℕ, ◌+◌, Bool, true, false, cond, List, [], ◌∷◌, Option, Some, None, Ordering, refl, sym, ap, subst, ◌∙◌, inl, inr, ◌⊎◌, arith}
-use Rattle.std.specs.Prelude.{T, ◌&&◌, sum_by}
+use Rattle.std.proofs.Common.{◌≡◌, ℕ, ◌+◌, true, false, cond, List, [], ◌∷◌, Option, Some, None, Ordering, sym, ap, ◌∙◌, inl, inr, ◌⊎◌, arith}
+use Rattle.std.specs.Prelude.{sum_by}
 use Rattle.std.specs.declared.cmp.Ordering.TheVariants.{Less, Equal, Greater}
 use Rattle.std.specs.FinMap.{FinMap, insert, get, entries, entries-insert, get-entries, get-insert}
 use Rattle.std.specs.FinMap.Entries.{find, put, by_order}
@@ -10,13 +10,12 @@ use Rattle.std.specs.Ordering.{eq_by_cmp, is_eq}
 use Rattle.std.specs.Cmp.{IsTotalOrder}
 use Rattle.std.specs.Cmp.Lexicographic.{nat_list_cmp_total}
 use Rattle.std.proofs.lemmas.List.Sums.{sum_by-cons}
-use Rattle.nr_columns.specs.Columns.{Columns}
 use Rattle.nr_columns.specs.Entries.{contents_of, pairs_of}
 use Rattle.nr_columns.specs.Orders.{bytes_cmp}
 use Rattle.nr_columns.specs.Tables.{Table, key_of, part}
 use Rattle.nr_columns.specs.declared.entry.Entry.{Entry}
 use Rattle.nr_columns.proofs.Empty.{entries_empty, part_empty}
-use Rattle.nr_columns.proofs.Tables.{IsTable, back, find_below, first, get_part, part_insert, part_same, second}
+use Rattle.nr_columns.proofs.Tables.{IsTable, back, find_below, first, get_part, part_insert, part_same}
 use Rattle.nr_entries.specs.Order.{rises}
 use Rattle.nr_entries.proofs.Columns.{IsOf}
 use Rattle.nr_entries.proofs.Contents.{no_more, one_more}

@@ -1,12 +1,11 @@
 -- What the access keys and the data of an owner count, in the maps that are read of the entries.
-use Rattle.std.proofs.Common.{◌≡◌, ℕ, suc, ◌+◌, Bool, true, false, cond, List, [], ◌∷◌, ◌++◌, ◌&&◌, length, Option, Some, None, refl, sym, ap, subst, ◌∙◌, inl, inr, ◌⊎◌, arith}
+use Rattle.std.proofs.Common.{◌≡◌, ℕ, ◌+◌, Bool, true, false, cond, List, [], ◌∷◌, ◌++◌, length, Option, Some, None, refl, sym, ap, subst, ◌∙◌, inl, inr, ◌⊎◌, arith}
 use Rattle.std.specs.Prelude.{◌==◌, sum_by}
-use Rattle.std.specs.FinMap.{FinMap, entries}
+use Rattle.std.specs.FinMap.{entries}
 use Rattle.std.specs.List.{AllByRecursion}
 use Rattle.std.specs.Option.{option_map, option_and_then}
-use Rattle.std.specs.Ordering.{eq_by_cmp}
 use Rattle.std.specs.Str.{bytes_eq}
-use Rattle.std.proofs.lemmas.Bool.{eq-eqb, eqb-true}
+use Rattle.std.proofs.lemmas.Bool.{eqb-true}
 use Rattle.std.proofs.lemmas.Bool.Decides.{nat_tests}
 use Rattle.std.proofs.lemmas.List.Sums.{sum_by-cons}
 use Rattle.nr_bytes.specs.Numbers.{IsBytes}
@@ -17,12 +16,11 @@ use Rattle.nr_records.specs.IdLaws.{key_law}
 use Rattle.nr_records.specs.Ids.{key_at}
 use Rattle.nr_records.specs.declared.access_key.AccessKey.{AccessKey}
 use Rattle.nr_columns.specs.Entries.{contents_of}
-use Rattle.nr_columns.specs.Orders.{bytes_cmp}
-use Rattle.nr_columns.specs.Tables.{Table, key_of, part}
+use Rattle.nr_columns.specs.Tables.{part}
 use Rattle.nr_columns.specs.View.{at_first, data_table, key_of_rest, keys_table, spelled_key, with_key}
 use Rattle.nr_columns.specs.declared.entry.Entry.{Entry}
 use Rattle.nr_columns.proofs.Laid.{data_law, keys_law, other_head}
-use Rattle.nr_columns.proofs.Tables.{IsTable, unchecked}
+use Rattle.nr_columns.proofs.Tables.{unchecked}
 use Rattle.nr_entries.specs.Counting.{entry_bytes, owned_bytes, owned_part, part_bytes}
 use Rattle.nr_entries.specs.Order.{rises}
 use Rattle.nr_entries.specs.Told.{AreBytes, are_told, is_told, is_told_in}

@@ -22,7 +22,7 @@ use Rattle.nr_overlap.proofs.DueLemmas.{first_small}
 use Rattle.nr_overlap.proofs.Ended.{is_ending}
 use Rattle.nr_overlap.proofs.Reaching.{becomes, keeps_reached}
 use Rattle.nr_overlap.proofs.Running.{tries_made}
-use Rattle.nr_extract.specs.Reaching.{AreBehind, HavePublished, IsNextUpTo, IsUpTo, LagsOne, Nears}
+use Rattle.nr_extract.specs.Reaching.{AreBehind, IsNextUpTo, IsUpTo, LagsOne, Nears}
 
 -- a step of a shard below the height doesn't pass it
 below_up : (h n : ℕ) (t : Stage) → n < h → IsUpTo h t n

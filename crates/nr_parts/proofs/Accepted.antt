@@ -11,7 +11,7 @@ use Rattle.std.proofs.lemmas.Slice.Eq.{bytes_eq-Decides}
 use Rattle.nr_bytes.proofs.Steps.{bind_ok}
 use Rattle.nr_ids.specs.declared.key.Hash32.{Hash32}
 use Rattle.nr_triedef.specs.Node.{digest, node_text, usage_of}
-use Rattle.nr_triedef.specs.Root.{Contents, paths, depth, trie, usage_below, no_root, summary_of, root_of, root_of_entries}
+use Rattle.nr_triedef.specs.Root.{Contents, paths, depth, trie, usage_below, no_root, summary_of, root_of_entries}
 use Rattle.nr_triedef.specs.declared.hash.Summary.{Summary}
 use Rattle.nr_columns.specs.declared.entry.Entry.{Entry}
 use Rattle.nr_walk.specs.declared.fault.WalkFault.{WalkFault}
@@ -24,7 +24,7 @@ use Rattle.nr_parts.specs.Offsets.{tops_usage, entry_in, entries_in, share_of, p
 use Rattle.nr_parts.specs.Walking.{claim, claim_at, walk_from, walk_below, walked, most_nodes}
 use Rattle.nr_parts.specs.Checking.{memory_fault, lifted, same_hash, is_zeros, is_claimed, first_other, entries_or_fault, is_numbered, claims_of, compared, checked}
 use Rattle.nr_walk.specs.Shown.{IsOf}
-use Rattle.nr_parts.specs.Agreeing.{AgreesWithPart, IsPartOfEach}
+use Rattle.nr_parts.specs.Agreeing.{IsPartOfEach}
 use Rattle.nr_parts.specs.declared.part.Part.{Part}
 use Rattle.nr_parts.specs.declared.share.Share.{Share}
 use Rattle.nr_parts.specs.declared.walking.Claim.{Claim}

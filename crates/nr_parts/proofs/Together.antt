@@ -9,7 +9,7 @@ use Rattle.nr_bytes.specs.Numbers.{IsBytes}
 use Rattle.nr_bytes.specs.Reading.{◌>>=◌}
 use Rattle.nr_bytes.proofs.Steps.{bind_ok}
 use Rattle.nr_ids.specs.declared.key.Hash32.{Hash32}
-use Rattle.nr_triedef.specs.Root.{Contents, root_of}
+use Rattle.nr_triedef.specs.Root.{Contents}
 use Rattle.nr_columns.specs.declared.entry.Entry.{Entry}
 use Rattle.nr_parts.specs.Offsets.{part_of, part_of_entries}
 use Rattle.nr_columns.specs.Entries.{pairs_of}

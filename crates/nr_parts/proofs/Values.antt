@@ -17,8 +17,7 @@ use Rattle.nr_columns.specs.declared.entry.Entry.{Entry}
 use Rattle.nr_walk.specs.Texts.{texts_of}
 use Rattle.nr_walk.specs.Tries.{Agrees, IsOwn}
 use Rattle.nr_walk.proofs.Placing.{all-append, values_behind}
-use Rattle.nr_parts.specs.Offsets.{owned, placed, has, entry_list, entry_in, entries_in, share_of, part_of_entries, part_of}
-use Rattle.nr_parts.specs.Agreeing.{AgreesWithPart}
+use Rattle.nr_parts.specs.Offsets.{owned, placed, has, entry_list, entry_in, part_of_entries}
 use Rattle.nr_parts.specs.declared.part.Part.{Part}
 use Rattle.nr_parts.specs.declared.share.Share.{Share}
 

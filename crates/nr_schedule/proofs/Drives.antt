@@ -21,8 +21,8 @@ use Rattle.nr_overlap.specs.declared.event.StepFault.TheVariants.{NotEnabled}
 use Rattle.nr_overlap.specs.declared.event.Why.{Why}
 use Rattle.nr_overlap.specs.declared.position.Position.{Position}
 use Rattle.nr_places.specs.Totals.{nothing}
-use Rattle.nr_overlap.proofs.Running.{tries_made, tries_not}
-use Rattle.nr_schedule.specs.Checking.{Standing, by_event, crossed, first_standing, in_leg, names_there, ok_line, why_line, with_text}
+use Rattle.nr_overlap.proofs.Running.{tries_made}
+use Rattle.nr_schedule.specs.Checking.{by_event, crossed, first_standing, in_leg, names_there, ok_line, why_line, with_text}
 use Rattle.nr_schedule.specs.Driving.{HasNext, IsDriven, IsWithin, shown_text, standing_of}
 use Rattle.nr_schedule.specs.Moments.{IsMoment}
 use Rattle.nr_schedule.specs.declared.checking.Driven.{Driven}

@@ -1,5 +1,5 @@
 -- A core at its moments, and what it shows there.
-use Rattle.std.proofs.Common.{◌≡◌, ℕ, ◌^◌, ◌<◌, ◌≤◌, true, false, List, [], Option, Some, None, refl, sym, ap, subst}
+use Rattle.std.proofs.Common.{◌≡◌, ℕ, ◌^◌, ◌<◌, ◌≤◌, true, false, List, [], Some, None, refl, sym, subst}
 use Rattle.nr_chunk.specs.Chain.{Chain, IsChain, IsCountable, AreBounded, rules_of, working_tokens}
 use Rattle.nr_chunk.specs.GoodReceipts.{are_bounded}
 use Rattle.nr_chunk.specs.Lasting.{IsGoodMoment, countable as can_count, good_during, reached_by, tried_reached}

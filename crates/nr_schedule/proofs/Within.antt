@@ -1,6 +1,6 @@
 -- The heights that refusals name, and the shards that events name, are there.
-use Rattle.std.proofs.Common.{◌≡◌, ℕ, ◌+◌, ◌<◌, ◌≤◌, ◌↔◌, ◌&&◌, IsTrue, Bool, true, false, cond, List, Option, Some, None, length, refl, sym, ap, subst, ◌∙◌, arith}
-use Rattle.std.specs.Prelude.{nat_le, nat_lt, not, ◌==◌, position, slice_get}
+use Rattle.std.proofs.Common.{◌≡◌, ℕ, ◌<◌, ◌≤◌, ◌↔◌, ◌&&◌, IsTrue, Bool, true, false, cond, List, Option, Some, None, refl, sym, ap, subst, arith}
+use Rattle.std.specs.Prelude.{nat_le, nat_lt, not, ◌==◌, position}
 use Rattle.std.proofs.lemmas.Bool.{and_parts}
 use Rattle.std.proofs.lemmas.List.Quantifiers.{position-Some}
 use Rattle.nr_chunk.specs.Chain.{Chain}
@@ -8,8 +8,8 @@ use Rattle.nr_ids.specs.declared.number.Height.{Height}
 use Rattle.nr_ids.specs.declared.number.ShardId.{ShardId}
 use Rattle.nr_overlap.specs.Held.{IsReached, IsInChunk}
 use Rattle.nr_overlap.specs.Inside.{IsInside, actor}
-use Rattle.nr_overlap.specs.Moves.{fits, is_pair, left_over, list_refusal_by, moved, moved_by, named, next_due, refusal, wrong_list}
-use Rattle.nr_overlap.specs.Outcome.{behind, behind_at, behind_by}
+use Rattle.nr_overlap.specs.Moves.{fits, is_pair, left_over, list_refusal_by, moved, moved_by, next_due, refusal, wrong_list}
+use Rattle.nr_overlap.specs.Outcome.{behind, behind_by}
 use Rattle.nr_overlap.specs.Positions.{at, start, stage_number}
 use Rattle.nr_overlap.specs.Rules.{Rules}
 use Rattle.nr_overlap.specs.declared.event.Event.{Event}

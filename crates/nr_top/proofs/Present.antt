@@ -1,5 +1,5 @@
 -- Which chunks the run to the end has results of.
-use Rattle.std.proofs.Common.{◌≡◌, ℕ, zero, suc, ◌+◌, ◌<◌, ◌≤◌, Bool, true, false, cond, length, Option, Some, None, inl, inr, refl, sym, ap, subst, ◌∙◌, arith, add-one}
+use Rattle.std.proofs.Common.{◌≡◌, ℕ, zero, suc, ◌<◌, ◌≤◌, Bool, true, false, cond, length, Option, Some, None, inl, inr, refl, sym, ap, subst, ◌∙◌, arith, add-one}
 use Rattle.std.specs.Prelude.{IsSome, is_some, nat_le, nat_lt, ◌&&◌, option_map, slice_get}
 use Rattle.std.specs.Option.{option_and_then}
 use Rattle.std.proofs.lemmas.Bool.{and_parts, cases_lt}
@@ -15,7 +15,7 @@ use Rattle.nr_overlap.specs.Serial.{sealing_at}
 use Rattle.nr_overlap.specs.declared.position.Position.{Position}
 use Rattle.nr_overlap.proofs.Basics.{is_le, is_lt, lt_of}
 use Rattle.nr_overlap.proofs.Flights.{chunk_or_not, shown_past}
-use Rattle.nr_overlap.proofs.SerialLemmas.{sealing_first, sealing_there}
+use Rattle.nr_overlap.proofs.SerialLemmas.{sealing_there}
 use Rattle.nr_top.specs.Chunks.{has_chunk, result_at}
 use Rattle.nr_outcome.proofs.Cells.{past_places}
 

@@ -1,6 +1,5 @@
 -- Branches that wait for a child, what is left to do, and which nodes were listed.
 use Rattle.std.proofs.Common.{◌≡◌, ◌<◌, ◌≤◌, ◌+◌, ◌-◌, ◌*◌, ℕ, suc, Bool, true, false, cond, List, [], ◌∷◌, ◌++◌, length, drop, map, Option, refl, ap, sym, subst, ◌∙◌, inl, inr, arith, length-drop, eq-eqb, append_assoc, append-nil}
-use mathlib.Core.Bool.{false≢true}
 use Rattle.std.specs.Prelude.{reverse, Result, Ok, Err, IfOk, OnOk}
 use Rattle.std.specs.List.{flat_map, range_with_len}
 use Rattle.std.proofs.lemmas.List.{reverse-append}

@@ -34,7 +34,7 @@ use Rattle.nr_wasmexec.specs.Reduction.{effect, Step, To, Over, Branching, Retur
 use Rattle.nr_wasmexec.specs.Reduction.{call_of, behind_call, reduce, has_instr, is_too_large, paid, stepped, Config}
 use Rattle.nr_wasmexec.specs.Reduction.{Outcome, Halted, NeverFits, turn, runs, run_in, run_by}
 use Rattle.nr_wasmexec.specs.Place as place
-use Rattle.nr_wasmexec.specs.Place.{Place, InLabel, InFrame, whole_of, onward, branched, returned, left, arrived, Led, Leads, Halts, Nowhere, with_store, given, asked, led}
+use Rattle.nr_wasmexec.specs.Place.{Place, InLabel, InFrame, whole_of, onward, branched, returned, arrived, Led, Leads, Halts, Nowhere, with_store, asked, led}
 use Rattle.nr_wasmexec.specs.Making.{is_method}
 use Rattle.nr_wasmexec.specs.Standing.{FuncFits, IsSound, IsGuest, IsBody, Round, Stands}
 use Rattle.nr_wasmexec.proofs.Branches.{some_is}

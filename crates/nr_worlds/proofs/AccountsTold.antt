@@ -1,8 +1,8 @@
 -- Accounts are counted as what they own, and what is owned has its account, exactly where the entries pass.
 use Rattle.std.proofs.Common.{◌≡◌, ℕ, ◌+◌, Bool, true, false, cond, List, [], ◌∷◌, ◌++◌, ◌&&◌, length, Option, Some, None, refl, sym, ap, subst, ◌∙◌, arith}
-use Rattle.std.specs.Prelude.{◌==◌, IsSome, is_none, is_some, not, sum_by}
-use Rattle.std.specs.FinMap.{FinMap, entries, get}
-use Rattle.std.specs.List.{AllByRecursion, list_all}
+use Rattle.std.specs.Prelude.{◌==◌, is_some, not, sum_by}
+use Rattle.std.specs.FinMap.{entries, get}
+use Rattle.std.specs.List.{list_all}
 use Rattle.std.specs.Option.{option_map, option_and_then}
 use Rattle.std.specs.Str.{bytes_eq}
 use Rattle.std.proofs.lemmas.Bool.{eq-eqb, eqb-true}
@@ -13,13 +13,11 @@ use Rattle.nr_ids.specs.Grammar.{is_system}
 use Rattle.nr_ids.specs.Keys.{key_bytes}
 use Rattle.nr_ids.specs.declared.key.Hash32.{Hash32}
 use Rattle.nr_ids.specs.declared.key.PublicKey.{PublicKey}
-use Rattle.nr_records.specs.AccessKeys.{access_key_bytes}
 use Rattle.nr_records.specs.declared.access_key.AccessKey.{AccessKey}
 use Rattle.nr_records.specs.declared.account.Account.{Account}
 use Rattle.nr_triedef.specs.Root.{Contents}
 use Rattle.nr_columns.specs.Columns.{Columns}
 use Rattle.nr_columns.specs.Entries.{contents_of}
-use Rattle.nr_columns.specs.Orders.{key_cmp, pair_cmp}
 use Rattle.nr_columns.specs.Tables.{Table, key_of, part}
 use Rattle.nr_columns.specs.View.{accounts_table, at_first, code_table, columns_in, data_table, key_of_rest, keys_table, spelled_key, with_key}
 use Rattle.nr_columns.specs.declared.entry.Entry.{Entry}
@@ -31,14 +29,14 @@ use Rattle.nr_entries.specs.Told.{AreBytes, are_told, is_id, is_owned, is_owned_
 use Rattle.nr_entries.proofs.Columns.{IsOf, account_of, datum_of, key_of_entry, tail_bytes}
 use Rattle.nr_entries.proofs.Contents.{read_from}
 use Rattle.nr_entries.proofs.Rising.{all_pass, both, found_holds, holds_found, left, pass_all, right}
-use Rattle.nr_entries.proofs.UsageSums.{datum_counts, key_counts, usage_sum}
-use Rattle.nr_state.specs.Changes.{or_none, usage_of_code}
+use Rattle.nr_entries.proofs.UsageSums.{usage_sum}
+use Rattle.nr_state.specs.Changes.{or_none}
 use Rattle.nr_state.specs.Usage.{datum_usage, key_usage}
 use Rattle.nr_state.specs.Valid.{AreAccounts, hash_of_code, owned_usage, usage_in}
 use Rattle.nr_state.specs.View.{world_in}
 use Rattle.nr_state.specs.World.{World}
 use Rattle.nr_worlds.specs.Tests.{account_told, account_told_as, accounts_told, code_bytes, entry_fits, entry_fits_in, has_owner, is_owner}
-use Rattle.nr_worlds.specs.Valid.{account_fits, accounts_fit, is_account}
+use Rattle.nr_worlds.specs.Valid.{account_fits, accounts_fit}
 use Rattle.nr_worlds.proofs.Tested.{each_of, same_test}
 
 turned : (a b : List ℕ) → bytes_eq a b ≡ bytes_eq b a

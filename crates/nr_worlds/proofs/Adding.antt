@@ -1,12 +1,11 @@
 -- Tokens that are added, and whether they are too many.
-use Rattle.std.proofs.Common.{◌≡◌, ◌⊎◌, ℕ, ◌+◌, ◌<◌, ◌≤◌, ◌^◌, Bool, true, false, ◌&&◌, List, [], ◌∷◌, length, Option, Some, None, refl, sym, ap, ◌∙◌, inl, inr, arith}
+use Rattle.std.proofs.Common.{◌≡◌, ℕ, ◌+◌, ◌<◌, ◌≤◌, ◌^◌, Bool, true, false, ◌&&◌, List, [], ◌∷◌, length, Some, None, refl, sym, ap, ◌∙◌, inl, inr, arith}
 use Rattle.std.specs.Prelude.{nat_le, sum_by}
 use Rattle.std.specs.List.{list_all}
 use Rattle.std.proofs.lemmas.Bool.Decides.{nat_tests}
 use Rattle.nr_config.specs.Config.{Config}
 use Rattle.nr_records.specs.declared.account.Account.{Account}
 use Rattle.nr_records.specs.declared.receipt.Receipt.{Receipt}
-use Rattle.nr_state.specs.Tokens.{list_tokens}
 use Rattle.nr_state.specs.World.{account_tokens}
 use Rattle.nr_worlds.specs.Tests.{Adds, are_bounded, tokens_of}
 use Rattle.nr_worlds.specs.Valid.{is_bounded}

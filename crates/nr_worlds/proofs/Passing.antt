@@ -1,6 +1,6 @@
 -- The entries of a valid world pass the tests.
-use Rattle.std.proofs.Common.{◌≡◌, ℕ, ◌+◌, ◌<◌, ◌≤◌, ◌^◌, Bool, true, false, cond, List, [], ◌∷◌, ◌&&◌, ◌||◌, length, Option, Some, None, refl, sym, ap, subst, ◌∙◌, inl, inr, ◌⊎◌, arith}
-use Rattle.std.specs.Prelude.{◌==◌, IsSome, is_none, is_some, not, nat_le, nat_lt}
+use Rattle.std.proofs.Common.{◌≡◌, ℕ, ◌<◌, ◌≤◌, Bool, true, false, List, [], ◌∷◌, ◌&&◌, ◌||◌, length, Some, None, refl, sym, ap, subst, ◌∙◌, inl, inr, arith}
+use Rattle.std.specs.Prelude.{is_none, is_some, not, nat_le, nat_lt}
 use Rattle.std.specs.FinMap.{get, entries}
 use Rattle.std.specs.List.{AllByRecursion, list_all, list_any}
 use Rattle.std.specs.Str.{bytes_eq}
@@ -9,7 +9,7 @@ use Rattle.std.proofs.lemmas.Bool.{eq-eqb, or_cases}
 use Rattle.std.proofs.lemmas.Bool.Decides.{nat_tests}
 use Rattle.std.proofs.lemmas.Slice.Eq.{bytes_eq-Decides}
 use Rattle.nr_config.specs.Config.{Config}
-use Rattle.nr_ids.specs.Grammar.{id_fault, is_system}
+use Rattle.nr_ids.specs.Grammar.{id_fault}
 use Rattle.nr_ids.specs.declared.key.Hash32.{Hash32}
 use Rattle.nr_records.specs.declared.receipt.Receipt.{Receipt}
 use Rattle.nr_columns.specs.Entries.{pairs_of}
@@ -26,7 +26,7 @@ use Rattle.nr_state.specs.World.{World}
 use Rattle.nr_state.specs.Worlds.{IsWorld}
 use Rattle.nr_state.proofs.EntryWorlds.{entries_again}
 use Rattle.nr_worlds.specs.Judging.{is_queue, is_world, queue_of}
-use Rattle.nr_worlds.specs.Valid.{account_fits, accounts_fit, each, inputs_apart, is_account, is_bounded, is_valid_world, names_fit, numbers_fit, postponed_fits, shares_input, waiting_fits}
+use Rattle.nr_worlds.specs.Valid.{account_fits, accounts_fit, each, inputs_apart, is_bounded, is_valid_world, names_fit, numbers_fit, postponed_fits, shares_input, waiting_fits}
 use Rattle.nr_worlds.proofs.Sound.{none_postponed}
 use Rattle.nr_worlds.proofs.Tested.{each_of, lists_so, same_so}
 

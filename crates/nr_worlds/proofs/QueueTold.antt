@@ -1,21 +1,19 @@
 -- Entries are those of a delayed queue exactly where their keys begin with its byte and its numbers are told.
-use Rattle.std.proofs.Common.{◌≡◌, ℕ, ◌+◌, Bool, true, false, cond, List, [], ◌∷◌, ◌++◌, ◌&&◌, length, Option, Some, None, Ordering, refl, sym, ap, subst, ◌∙◌}
-use Rattle.std.specs.Prelude.{T, ◌==◌, is_some}
+use Rattle.std.proofs.Common.{◌≡◌, ℕ, Bool, true, false, List, [], ◌∷◌, ◌&&◌, Option, Some, None, Ordering, refl, sym, ap, subst, ◌∙◌}
+use Rattle.std.specs.Prelude.{T, ◌==◌}
 use Rattle.std.specs.FinMap.{FinMap, empty, entries, entries_sorted, get, get-empty, same_map}
 use Rattle.std.specs.FinMap.Entries.{is_sorted}
-use Rattle.std.specs.List.{AllByRecursion, list_all}
 use Rattle.std.specs.Option.{option_map}
 use Rattle.nr_bytes.specs.Numbers.{IsBytes}
 use Rattle.std.proofs.lemmas.Bool.{eqb-true}
-use Rattle.nr_ids.specs.Keys.{key_bytes}
 use Rattle.nr_ids.specs.declared.key.Hash32.{Hash32}
 use Rattle.nr_records.specs.declared.receipt.Receipt.{Receipt}
 use Rattle.nr_triedef.specs.Root.{Contents}
 use Rattle.nr_columns.specs.Columns.{Columns}
-use Rattle.nr_columns.specs.Entries.{contents_of, pairs_of}
+use Rattle.nr_columns.specs.Entries.{contents_of}
 use Rattle.nr_columns.specs.Orders.{bytes_cmp, pair_cmp}
 use Rattle.nr_columns.specs.Tables.{Table, part}
-use Rattle.nr_columns.specs.View.{ColumnsView, accounts_table, awaited_table, code_table, columns_in, data_table, keys_table, missing_table, postponed_table, received_table}
+use Rattle.nr_columns.specs.View.{ColumnsView, columns_in}
 use Rattle.nr_columns.specs.declared.entry.Entry.{Entry}
 use Rattle.nr_columns.proofs.Laid.{accounts_law, awaited_law, canon, canon_of, code_law, data_law, keys_law, missing_law, postponed_law, received_law}
 use Rattle.nr_columns.proofs.Tables.{IsTable}
@@ -26,7 +24,7 @@ use Rattle.nr_entries.proofs.Columns.{IsOf, account_of, awaited_of, code_of, dat
 use Rattle.nr_entries.proofs.Contents.{other_byte, read_from}
 use Rattle.nr_entries.proofs.Rising.{all_pass, both, found_holds, holds_found, left, pass_all, right, rises_of}
 use Rattle.nr_state.specs.Flat.{awaited_in, flat, missing_in, missing_inputs}
-use Rattle.nr_state.specs.FromEntries.{AreWholeEntries, world_from}
+use Rattle.nr_state.specs.FromEntries.{world_from}
 use Rattle.nr_state.specs.View.{ArePostponed, world_in}
 use Rattle.nr_state.specs.World.{World}
 use Rattle.nr_state.proofs.Awaiting.{Key, pair_exact, pair_total, waiter}

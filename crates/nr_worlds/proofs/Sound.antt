@@ -1,23 +1,19 @@
 -- Entries that pass the tests of a world are those of one.
-use Rattle.std.proofs.Common.{◌≡◌, ℕ, ◌+◌, ◌<◌, ◌≤◌, ◌^◌, Bool, true, false, cond, List, [], ◌∷◌, ◌++◌, ◌&&◌, ◌||◌, length, Option, Some, None, refl, sym, ap, subst, ◌∙◌, inl, inr, arith}
-use Rattle.std.specs.Prelude.{◌==◌, IsSome, is_none, is_some, not, nat_le, nat_lt}
+use Rattle.std.proofs.Common.{◌≡◌, ℕ, ◌+◌, ◌<◌, ◌≤◌, ◌^◌, Bool, true, false, List, [], ◌∷◌, ◌++◌, ◌&&◌, ◌||◌, length, Option, Some, None, refl, sym, ap, subst, ◌∙◌, inl, inr, arith}
+use Rattle.std.specs.Prelude.{◌==◌, IsSome, is_none, not, nat_le, nat_lt}
 use Rattle.std.specs.FinMap.{get, entries, get-empty}
 use Rattle.std.specs.List.{AllByRecursion, flat_map, list_all, list_any, range_with_len}
 use Rattle.std.specs.Option.{option_to_list}
 use Rattle.std.specs.Str.{bytes_eq}
-use Rattle.std.specs.Cmp.Lexicographic.{nat_list_cmp_total}
-use Rattle.std.proofs.lemmas.Bool.{eq-eqb, eqb-true, or_cases}
+use Rattle.std.proofs.lemmas.Bool.{eqb-true, or_cases}
 use Rattle.std.proofs.lemmas.Bool.Decides.{nat_tests}
-use Rattle.std.proofs.lemmas.Map.Lookups.{exact_bytes}
 use Rattle.std.proofs.lemmas.Slice.Eq.{bytes_eq-Decides}
-use Rattle.nr_bytes.proofs.Fields.{blob_law}
 use Rattle.nr_bytes.specs.Numbers.{IsBytes}
 use Rattle.nr_bytes.specs.Spelling.{IsCounted}
 use Rattle.nr_bytes.specs.Writing.{counted_bytes}
 use Rattle.nr_config.specs.Config.{Config}
 use Rattle.nr_ids.specs.Grammar.{id_fault, is_system}
 use Rattle.nr_ids.specs.Keys.{IsKey}
-use Rattle.nr_ids.specs.declared.fault.IdFault.{IdFault}
 use Rattle.nr_ids.specs.declared.key.Hash32.{Hash32}
 use Rattle.nr_ids.specs.declared.key.PublicKey.{PublicKey}
 use Rattle.nr_ids.specs.declared.key.PublicKey.TheVariants.{Ed25519, Secp256k1}
@@ -38,16 +34,15 @@ use Rattle.nr_columns.specs.Entries.{contents_of, pairs_of}
 use Rattle.nr_columns.specs.View.{columns_in}
 use Rattle.nr_columns.specs.declared.entry.Entry.{Entry}
 use Rattle.nr_columns.proofs.Laid.{accounts_law, code_law, data_law, delayed_law, keys_law, postponed_law, received_law}
-use Rattle.nr_entries.specs.Told.{AreBytes, is_id, is_id_and_hash, is_key, same_pair}
+use Rattle.nr_entries.specs.Told.{AreBytes, is_id, is_id_and_hash, is_key}
 use Rattle.nr_entries.proofs.Columns.{received_law as received_read, taken}
 use Rattle.nr_entries.proofs.Contents.{read_from}
 use Rattle.nr_entries.proofs.Rising.{both, holds_found, left, right}
-use Rattle.nr_state.specs.Entries.{IsReadBack}
-use Rattle.nr_state.specs.Flat.{columns_of, flat, inputs_of}
-use Rattle.nr_state.specs.FromEntries.{AreWholeEntries, world_from}
+use Rattle.nr_state.specs.Flat.{flat, inputs_of}
+use Rattle.nr_state.specs.FromEntries.{world_from}
 use Rattle.nr_state.specs.Tokens.{world_tokens}
 use Rattle.nr_state.specs.Valid.{AreAccounts, AreWaiting, IsBounded, IsValidWorld, code_hash_in, usage_in}
-use Rattle.nr_state.specs.View.{ArePostponed, IsWhole, delayed_in, has_input, repeats_input, world_in}
+use Rattle.nr_state.specs.View.{ArePostponed, has_input}
 use Rattle.nr_state.specs.World.{World}
 use Rattle.nr_state.specs.Worlds.{IsWorld}
 use Rattle.nr_state.proofs.EntryWorlds.{entries_again, entries_whole}

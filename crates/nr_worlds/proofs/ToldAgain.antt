@@ -1,33 +1,28 @@
 -- The entries of a world are told by their columns.
-use Rattle.std.proofs.Common.{◌≡◌, ℕ, suc, Bool, true, false, cond, List, [], ◌∷◌, ◌++◌, ◌&&◌, length, Option, Some, None, refl, sym, ap, subst, ◌∙◌}
-use Rattle.std.specs.Prelude.{◌==◌, is_none, is_some}
-use Rattle.std.specs.FinMap.{FinMap, get}
-use Rattle.std.specs.List.{list_all}
-use Rattle.std.specs.Option.{option_map, option_and_then}
+use Rattle.std.proofs.Common.{◌≡◌, ℕ, Bool, true, false, cond, List, [], ◌∷◌, length, Option, Some, None, refl, sym, ap, subst, ◌∙◌}
+use Rattle.std.specs.Prelude.{◌==◌, is_some}
+use Rattle.std.specs.FinMap.{get}
+use Rattle.std.specs.Option.{option_map}
 use Rattle.std.specs.Ordering.{eq_by_cmp}
 use Rattle.std.proofs.lemmas.Bool.{eq-eqb, eqb-true}
 use Rattle.nr_bytes.proofs.Numbers.{length-little}
 use Rattle.nr_bytes.specs.Numbers.{little, number}
-use Rattle.nr_ids.specs.Keys.{key_bytes}
-use Rattle.nr_ids.specs.declared.key.PublicKey.{PublicKey}
-use Rattle.nr_records.specs.declared.receipt.Receipt.{Receipt}
 use Rattle.nr_triedef.specs.Root.{Contents}
-use Rattle.nr_columns.specs.Columns.{Columns, queue_bytes}
+use Rattle.nr_columns.specs.Columns.{queue_bytes}
 use Rattle.nr_columns.specs.Entries.{contents_of}
 use Rattle.nr_columns.specs.Orders.{bytes_cmp}
-use Rattle.nr_columns.specs.Tables.{Table, checked, key_of, part}
+use Rattle.nr_columns.specs.Tables.{Table, checked, key_of}
 use Rattle.nr_columns.specs.View.{accounts_table, at_first, awaited_table, code_table, columns_in, data_table, delayed_table, key_of_rest, keys_table, missing_table, postponed_table, queue_of, received_table}
 use Rattle.nr_columns.specs.declared.entry.Entry.{Entry}
 use Rattle.nr_columns.specs.Keys.{queue_key}
 use Rattle.nr_ids.specs.Grammar.{id_fault}
-use Rattle.nr_columns.proofs.Laid.{other_head, accounts_law, awaited_law, canon, canon_of, code_law, data_law, delayed_law, keys_law, missing_law, postponed_law, received_law}
-use Rattle.nr_columns.proofs.Tables.{IsTable, back, claim, claimed, over, unchecked}
-use Rattle.nr_entries.specs.Told.{are_told, is_id, is_id_and_hash, is_kept, is_owned, is_owned_key, is_received, is_told, is_told_in, same_pair}
+use Rattle.nr_columns.proofs.Laid.{other_head, accounts_law, canon, code_law, data_law, keys_law, postponed_law, received_law}
+use Rattle.nr_columns.proofs.Tables.{back, claim, claimed, over, unchecked}
+use Rattle.nr_entries.specs.Told.{is_kept, is_owned, is_owned_key, is_received, is_told, is_told_in}
 use Rattle.nr_entries.proofs.Columns.{IsOf}
 use Rattle.nr_entries.proofs.Names.{key_fits}
-use Rattle.nr_entries.proofs.Rising.{both, found_holds, pass_all, rises_of}
+use Rattle.nr_entries.proofs.Rising.{both}
 use Rattle.nr_state.specs.View.{ArePostponed, world_in}
-use Rattle.nr_state.specs.World.{World}
 use Rattle.nr_state.specs.Worlds.{IsWorld}
 use Rattle.nr_worlds.proofs.AccountsTold.{in_map}
 use Rattle.nr_worlds.proofs.Passing.{hash_so, id_so}

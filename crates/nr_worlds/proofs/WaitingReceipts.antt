@@ -1,14 +1,12 @@
 -- Postponed receipts that wait for inputs of their own, told by the columns of who waits and of how many inputs are missing.
-use Rattle.std.proofs.Common.{◌≡◌, ℕ, suc, ◌+◌, Bool, true, false, cond, T, List, [], ◌∷◌, ◌++◌, ◌&&◌, ◌||◌, length, map, Option, Some, None, Ordering, refl, sym, ap, subst, ◌∙◌, inl, inr, arith}
-use Rattle.std.specs.Prelude.{◌==◌, bytes_eq, is_some, nat_lt, not, sum_by}
-use Rattle.std.specs.FinMap.{FinMap, entries, entries_sorted, find, from_entries, get, get-entries, is_sorted, values}
+use Rattle.std.proofs.Common.{◌≡◌, ℕ, suc, ◌+◌, Bool, true, false, cond, T, List, [], ◌∷◌, ◌++◌, ◌&&◌, ◌||◌, length, map, Option, Some, None, refl, sym, ap, subst, ◌∙◌, arith}
+use Rattle.std.specs.Prelude.{bytes_eq, not}
+use Rattle.std.specs.FinMap.{FinMap, find, get, is_sorted}
 use Rattle.std.specs.FinMap.Entries.{below_all}
-use Rattle.std.specs.List.{AllByRecursion, flat_map, list_all, list_any}
-use Rattle.std.specs.Option.{option_map}
-use Rattle.std.specs.Ordering.{eq_by_cmp, is_lt}
-use Rattle.std.specs.declared.cmp.Ordering.TheVariants.{Less, Equal, Greater}
-use Rattle.std.specs.Cmp.{eq_by_cmp_equiv, tied_itself}
-use Rattle.std.proofs.lemmas.Bool.{eq-eqb, eqb-true, or_cases}
+use Rattle.std.specs.List.{AllByRecursion, list_all, list_any}
+use Rattle.std.specs.Ordering.{is_lt}
+use Rattle.std.specs.Cmp.{tied_itself}
+use Rattle.std.proofs.lemmas.Bool.{eq-eqb, eqb-true}
 use Rattle.std.proofs.lemmas.List.{length-append}
 use Rattle.std.proofs.lemmas.List.Sums.{sum_by-cons}
 use Rattle.std.proofs.lemmas.Slice.Eq.{bytes_eq-Decides}
@@ -16,23 +14,14 @@ use Rattle.nr_ids.specs.declared.key.Hash32.{Hash32}
 use Rattle.nr_records.specs.declared.receipt.Receipt.{Receipt}
 use Rattle.nr_columns.specs.Columns.{Columns}
 use Rattle.nr_columns.specs.Orders.{pair_cmp}
-use Rattle.nr_columns.specs.declared.entry.Entry.{Entry}
-use Rattle.nr_columns.proofs.Laid.{postponed_law}
 use Rattle.nr_columns.proofs.Tables.{first, second}
-use Rattle.nr_entries.specs.Counting.{count_in}
-use Rattle.nr_entries.proofs.Listed.{AreApart, counted, listed_map, one_each, rising_apart}
-use Rattle.nr_entries.proofs.Rising.{both, left, right}
-use Rattle.nr_state.specs.Flat.{awaited_in, awaits, inputs_of, missing_in, missing_inputs}
-use Rattle.nr_state.specs.Queues.{is_act}
+use Rattle.nr_entries.proofs.Listed.{AreApart}
+use Rattle.nr_entries.proofs.Rising.{left, right}
+use Rattle.nr_state.specs.Flat.{awaits, inputs_of}
 use Rattle.nr_state.specs.Repeats.{has_repeat}
-use Rattle.nr_state.specs.View.{ArePostponed, has_input, repeats_input, world_in}
-use Rattle.nr_state.specs.World.{World}
-use Rattle.nr_state.proofs.Awaiting.{Held, Key, either, all_awaits, find-both, has_waits, key_is, no_waiter, one_waiter, pair_exact, pair_total, same_key, waiter}
-use Rattle.nr_state.proofs.Missing.{missing_at}
-use Rattle.nr_state.proofs.OwnInputs.{waits_lacking}
-use Rattle.nr_worlds.specs.Tests.{are_all, are_awaited, inputs_count, is_hash, is_lacking, is_number, is_waiting, waiting_told}
-use Rattle.nr_worlds.specs.Valid.{each}
-use Rattle.nr_worlds.proofs.Tested.{each_of, each_so}
+use Rattle.nr_state.specs.View.{repeats_input}
+use Rattle.nr_state.proofs.Awaiting.{Held, Key, either, all_awaits, find-both, key_is, pair_total, same_key}
+use Rattle.nr_worlds.specs.Tests.{are_awaited, inputs_count, is_hash, is_number}
 
 -- ---- tests
 pub is_hash_so : (id : Hash32) (o : Option Hash32) → is_hash id o ≡ true → o ≡ Some id

@@ -1,7 +1,7 @@
 -- The columns of who waits and of what is missing are those of the postponed receipts exactly where the tests pass.
-use Rattle.std.proofs.Common.{◌≡◌, ℕ, ◌+◌, Bool, true, false, cond, List, [], ◌∷◌, ◌&&◌, ◌||◌, length, map, Option, Some, None, refl, sym, ap, subst, ◌∙◌, inl, inr}
-use Rattle.std.specs.Prelude.{◌==◌, bytes_eq, nat_lt, not, sum_by}
-use Rattle.std.specs.FinMap.{FinMap, entries, entries_sorted, from_entries, get, values}
+use Rattle.std.proofs.Common.{◌≡◌, ℕ, Bool, true, false, List, [], ◌∷◌, ◌||◌, length, map, Option, Some, None, refl, sym, ap, subst, ◌∙◌, inl, inr}
+use Rattle.std.specs.Prelude.{bytes_eq, not, sum_by}
+use Rattle.std.specs.FinMap.{FinMap, entries, entries_sorted, get, values}
 use Rattle.std.specs.List.{AllByRecursion, list_all, list_any}
 use Rattle.std.specs.Option.{option_map}
 use Rattle.std.proofs.lemmas.Bool.{eq-eqb, eqb-true, or_cases}
@@ -11,19 +11,18 @@ use Rattle.nr_records.specs.declared.receipt.Receipt.{Receipt}
 use Rattle.nr_columns.specs.Columns.{Columns}
 use Rattle.nr_columns.specs.Orders.{pair_cmp}
 use Rattle.nr_columns.specs.declared.entry.Entry.{Entry}
-use Rattle.nr_columns.proofs.Laid.{postponed_law}
 use Rattle.nr_entries.specs.Counting.{count_in}
 use Rattle.nr_entries.proofs.Listed.{counted, listed_map, one_each, rising_apart}
 use Rattle.nr_entries.proofs.Rising.{both, left, right}
 use Rattle.nr_state.specs.Flat.{awaited_in, inputs_of, missing_in, missing_inputs}
 use Rattle.nr_state.specs.Queues.{is_act}
 use Rattle.nr_state.specs.Valid.{Waits}
-use Rattle.nr_state.specs.View.{ArePostponed, has_input, repeats_input, world_in}
+use Rattle.nr_state.specs.View.{ArePostponed, has_input, world_in}
 use Rattle.nr_state.specs.World.{World}
 use Rattle.nr_state.proofs.Awaiting.{Held, Key, all_awaits, has_waits, no_waiter, one_waiter, pair_exact, pair_total, waiter, waits}
 use Rattle.nr_state.proofs.Missing.{missing_at}
 use Rattle.nr_state.proofs.OwnInputs.{waits_lacking}
-use Rattle.nr_worlds.specs.Tests.{are_all, are_awaited, inputs_count, is_hash, is_lacking, is_waiting, waiting_told}
+use Rattle.nr_worlds.specs.Tests.{inputs_count, is_hash, is_waiting, waiting_told}
 use Rattle.nr_worlds.specs.Valid.{each}
 use Rattle.nr_worlds.proofs.Tested.{each_of, each_so, entries_all}
 use Rattle.nr_worlds.proofs.WaitingReceipts.{Good, all_found, awaited_all, awaits_apart, is_hash_of, is_hash_so, is_number_of, is_number_so, length_awaits, length_mapped, not_is, values_each}

@@ -1,9 +1,9 @@
 -- Entries are those of a valid world exactly where all tests pass.
-use Rattle.std.proofs.Common.{◌≡◌, ℕ, ◌+◌, ◌-◌, ◌<◌, ◌≤◌, ◌^◌, Bool, true, false, cond, List, [], ◌∷◌, ◌++◌, ◌&&◌, length, Option, Some, None, refl, sym, ap, subst, ◌∙◌, arith}
-use Rattle.std.specs.Prelude.{T, ◌==◌, IsSome, is_some, nat_le, nat_lt, not, sum_by}
-use Rattle.std.specs.FinMap.{FinMap, entries, entries_sorted, get, values}
+use Rattle.std.proofs.Common.{◌≡◌, ℕ, ◌+◌, ◌<◌, ◌≤◌, ◌^◌, Bool, true, false, List, ◌∷◌, ◌++◌, ◌&&◌, length, Option, Some, None, refl, sym, ap, subst, ◌∙◌, arith}
+use Rattle.std.specs.Prelude.{T, IsSome, nat_le, nat_lt, not}
+use Rattle.std.specs.FinMap.{entries, entries_sorted, get, values}
 use Rattle.std.specs.FinMap.Entries.{is_sorted}
-use Rattle.std.specs.List.{AllByRecursion, list_all}
+use Rattle.std.specs.List.{list_all}
 use Rattle.std.specs.Option.{option_and_then}
 use Rattle.std.proofs.lemmas.Bool.{eqb-true}
 use Rattle.std.proofs.lemmas.Bool.Decides.{nat_tests}
@@ -16,7 +16,7 @@ use Rattle.nr_ids.specs.declared.key.PublicKey.{PublicKey}
 use Rattle.nr_records.specs.declared.receipt.Receipt.{Receipt}
 use Rattle.nr_triedef.specs.Root.{Contents}
 use Rattle.nr_columns.specs.Columns.{Columns, queue_bytes}
-use Rattle.nr_columns.specs.Entries.{contents_of, pairs_of}
+use Rattle.nr_columns.specs.Entries.{contents_of}
 use Rattle.nr_columns.specs.Keys.{queue_key}
 use Rattle.nr_columns.specs.Orders.{bytes_cmp}
 use Rattle.nr_columns.specs.View.{ColumnsView, at_first, columns_in, data_table, key_of_rest, keys_table, postponed_table, queue_at, queue_of, received_table}
@@ -24,21 +24,21 @@ use Rattle.nr_columns.specs.declared.entry.Entry.{Entry}
 use Rattle.nr_columns.proofs.Laid.{accounts_law, canon, canon_of, code_law, data_law, keys_law, postponed_law, received_law}
 use Rattle.nr_columns.proofs.Tables.{unchecked}
 use Rattle.nr_entries.specs.Order.{rises}
-use Rattle.nr_entries.specs.Told.{AreBytes, are_told, is_id, is_id_and_hash, is_kept, is_key, is_owned, is_owned_key, is_received, is_told, is_told_in, same_pair}
+use Rattle.nr_entries.specs.Told.{AreBytes, are_told, is_id, is_id_and_hash, is_kept, is_key, is_owned, is_owned_key, is_received, is_told, is_told_in}
 use Rattle.nr_entries.proofs.ColumnSums.{awaited_count, delayed_count, missing_count}
 use Rattle.nr_entries.proofs.Columns.{queue_law, taken}
 use Rattle.nr_entries.proofs.Contents.{laid_entries, read_from}
 use Rattle.nr_entries.proofs.Rising.{all_pass, both, found_holds, holds_found, left, pass_all, right, rises_of}
-use Rattle.nr_state.specs.Flat.{awaited_in, columns_of, flat, missing_in}
-use Rattle.nr_state.specs.FromEntries.{AreWholeEntries, world_from}
-use Rattle.nr_state.specs.Tokens.{list_tokens, world_tokens}
+use Rattle.nr_state.specs.Flat.{awaited_in, missing_in}
+use Rattle.nr_state.specs.FromEntries.{AreWholeEntries}
+use Rattle.nr_state.specs.Tokens.{world_tokens}
 use Rattle.nr_state.specs.View.{ArePostponed, delayed_in, served_in, waiting_in, world_in}
-use Rattle.nr_state.specs.World.{World, account_tokens}
+use Rattle.nr_state.specs.World.{World}
 use Rattle.nr_state.proofs.Awaiting.{Key, pair_exact, pair_total}
 use Rattle.nr_state.proofs.EntryWorlds.{pairs_again}
 use Rattle.nr_worlds.specs.Judging.{is_world}
 use Rattle.nr_worlds.specs.Tests.{StandsFor, accounts_told, numbers_told, passes, queue_told, tokens_of, tokens_told, waiting_told}
-use Rattle.nr_worlds.specs.Valid.{accounts_fit, each, is_bounded, is_valid_world, names_fit, numbers_fit, postponed_fits, waiting_fits}
+use Rattle.nr_worlds.specs.Valid.{each, is_bounded, names_fit, numbers_fit, postponed_fits}
 use Rattle.nr_worlds.proofs.AccountsTold.{accounts_fit_so, accounts_told_so}
 use Rattle.nr_worlds.proofs.Passing.{all_bounded_so, apart_of, bounded_so, most_so}
 use Rattle.nr_worlds.proofs.Queues.{delayed_is, queue_is, queue_so}
@@ -46,7 +46,7 @@ use Rattle.nr_worlds.proofs.Sound.{id_is, sound, world_fits}
 use Rattle.nr_worlds.proofs.Tested.{each_of, each_so, lists_so, not_true, pair_is, same_so, same_test}
 use Rattle.nr_worlds.proofs.ToldAgain.{told_by}
 use Rattle.nr_worlds.proofs.WaitingReceipts.{values_each}
-use Rattle.nr_worlds.proofs.WaitingTold.{act_so, awaited_is, missing_is, postponed_is, waiting_again, waits_each, waits_so}
+use Rattle.nr_worlds.proofs.WaitingTold.{act_so, awaited_is, missing_is, postponed_is, waiting_again, waits_so}
 
 most_is : (a b : ℕ) → nat_le a b ≡ true → a ≤ b
 most_is a b h = grind (arith, nat_tests)
