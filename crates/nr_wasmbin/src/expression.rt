@@ -1,6 +1,6 @@
 //! Sequences of instructions.
 
-ghost use Rattle.std.specs.Prelude.{◌≡◌, ◌≢◌, ◌+◌, ◌≤◌, ◌<◌, ℕ, Bool, false, OnOk, length};
+ghost use Rattle.std.specs.Prelude.{◌≢◌, ◌+◌, ◌≤◌, ◌<◌, ℕ, Bool, false, OnOk, length};
 ghost use Rattle.nr_wasmbin.specs.Expressions.{code_at, instr_at, expression_at, other_side, GivesCode, GivesOther};
 ghost use Rattle.nr_wasmbin.specs.Expressions.{StepsOn, GivesExpression};
 ghost use Rattle.nr_wasmtypes.specs.declared.opcode.Op.TheVariants as op;
