@@ -159,9 +159,6 @@ module _ (x : Chain) (is : IsChain x) (can : CanGoOn x) where
   whole : IsWholeRun r e
   whole = whole_run r e refl
 
-  working_end : (s : ℕ) → s < n → working_at r s (at e s) ≡ None
-  working_end s l = ap (working_at r s) (at_end s l)
-
   -- nothing is carried behind the last chunk
   carried_end : (s : ℕ) → s < n → (w_of s).carried ≡ []
   carried_end s l =

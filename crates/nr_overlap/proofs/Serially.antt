@@ -106,9 +106,6 @@ module _ {W K L R : Type 0} (r : Rules W K L R) where
   step_sums : (x y : Shards W K L R) (e : Event) → IsSerial r x → y.positions.items ≡ moved x.positions.items e → IsInside r.shards e → refusal r x.positions.items e ≡ None → Sums y.positions.items
   step_sums x y e is is_moved inside n one_each m laws = subst (AddsUp r m) (sym is_moved) (keeps_sums r m x.positions.items e is.kept.reached inside n one_each laws (is.kept.sums one_each m laws))
 
-  at_place : (A : Position → Type 0) (ps : List Position) (i s : ℕ) (p : Position) → at ps i ≡ p → s ≡ i → A p → A (at ps s)
-  at_place A ps i s p e f a = subst A (sym e ∙ ap (at ps) (sym f)) a
-
   pub keep_kept : (x y : Shards W K L R) → IsKept r x → y.positions.items ≡ x.positions.items → length y.held.items ≡ length x.held.items → length y.dues.items ≡ length x.dues.items → length y.rows.items ≡ length x.rows.items
       → ((s : ℕ) → s < r.shards → length (row_of y.rows.items s) ≡ length (row_of x.rows.items s))
       → ((s h : ℕ) → s < r.shards → row_report (entry y.rows.items s h) ≡ row_report (entry x.rows.items s h)) → IsKept r y

@@ -68,18 +68,6 @@ cut_texts es count number share nodes walk is e =
     ∙ ap (λ (l : List Node). once empty (map node_text l)) (looked_root (share_of (root_of_entries es).usage count number) (root_of_entries es) (forest_of es) (map_top es) (grown_pairs es walk))
     ∙ ap (once empty) (map_map (looked_from_root (share_of (root_of_entries es).usage count number) (forest_of es)))
 
--- ---- the whole part
-pub usage_top : (s : Summary) (g : Forest) → TopOf s g → IsGrown g → (t : Stood) (below beside : Forest) → g ≡ tree t below beside → tops_usage g ≡ s.usage
-usage_top s bare top h t below beside e = absurd (bare_is t below beside e)
-  where
-    is_bare : Forest → Type 0
-    is_bare bare = Unit {0}
-    is_bare (tree t below beside) = ⊥
-
-    bare_is : (t : Stood) (below beside : Forest) → bare ≡ tree t below beside → ⊥
-    bare_is t below beside e = subst is_bare e tt
-usage_top s (tree u under others) top h t below beside e = let none : tops_usage others ≡ 0 = ap tops_usage top.1 in omega (arith, top.0.usage, none)
-
 -- ---- facts of the list of all nodes
 some_whole : (ps : Paths) (s : Summary) → Some s ≡ whole ps → summary_of (trie (depth ps) ps) ≡ s
 unfolding whole
