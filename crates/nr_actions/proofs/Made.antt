@@ -1,10 +1,12 @@
 -- The receipts that a call and a deletion make: their tokens and their bounds.
-use Rattle.std.proofs.Common.{◌≡◌, ℕ, ◌+◌, ◌*◌, ◌^◌, ◌<◌, Bool, true, false, List, [], ◌∷◌, ◌++◌, refl, ap, ◌∙◌, arith}
+use Rattle.std.proofs.Common.{◌≡◌, ℕ, ◌+◌, ◌*◌, ◌^◌, ◌<◌, true, false, List, [], ◌∷◌, ◌++◌, refl, ap, ◌∙◌, arith}
 use Rattle.std.specs.Prelude.{◌||◌}
 use Rattle.std.specs.List.{AllByRecursion, list_any}
 use Rattle.std.specs.Str.{bytes_eq}
 use Rattle.std.proofs.lemmas.List.Folds.{list_any-append}
 use Rattle.std.proofs.lemmas.List.Sums.{sum_by-cons}
+use mathlib.Core.Bool.{or-true}
+use Rattle.std.proofs.lemmas.Bool.{or_left}
 use Rattle.nr_actions.specs.Refunds.{deposit_refund}
 use Rattle.nr_config.specs.Config.{Config}
 use Rattle.nr_fees.specs.Fees.{deposits, prepaid_gas, body_tokens, body_gas, body_price, receipt_tokens}
@@ -78,21 +80,13 @@ pub refund_bounded : (c : Config) (receiver : List ℕ) (id : Hash32) (amount : 
 refund_bounded c receiver id amount = record { price = omega arith; gas = rw system_is (omega arith) }
 
 -- ---- a returned promise is still among the receipts made
-or_true : (b : Bool) → (b || true) ≡ true
-or_true true = refl
-or_true false = refl
-
-or_more : (b d : Bool) → b ≡ true → (b || d) ≡ true
-or_more true d e = refl
-or_more false d e = absurd cc
-
 pub returned_before : (made more : List Receipt) (r : Returned) → IsReturned made r → IsReturned (made ++ more) r
 returned_before made more (Value bytes) h = tt
 returned_before made more (Promise id) h =
-    list_any-append (λ (r : Receipt). bytes_eq r.receipt_id.0 id.0) made more ∙ or_more (list_any (λ (r : Receipt). bytes_eq r.receipt_id.0 id.0) made) (list_any (λ (r : Receipt). bytes_eq r.receipt_id.0 id.0) more) h
+    list_any-append (λ (r : Receipt). bytes_eq r.receipt_id.0 id.0) made more ∙ or_left (list_any (λ (r : Receipt). bytes_eq r.receipt_id.0 id.0) made) (list_any (λ (r : Receipt). bytes_eq r.receipt_id.0 id.0) more) h
 
 pub returned_behind : (made more : List Receipt) (r : Returned) → IsReturned more r → IsReturned (made ++ more) r
 returned_behind made more (Value bytes) h = tt
 returned_behind made more (Promise id) h =
     list_any-append (λ (r : Receipt). bytes_eq r.receipt_id.0 id.0) made more
-    ∙ ap (λ b. list_any (λ (r : Receipt). bytes_eq r.receipt_id.0 id.0) made || b) h ∙ or_true (list_any (λ (r : Receipt). bytes_eq r.receipt_id.0 id.0) made)
+    ∙ ap (λ b. list_any (λ (r : Receipt). bytes_eq r.receipt_id.0 id.0) made || b) h ∙ or-true (list_any (λ (r : Receipt). bytes_eq r.receipt_id.0 id.0) made)

@@ -1,5 +1,5 @@
 -- The records of a column in the order of their keys.
-use Rattle.std.proofs.Common.{◌≡◌, ℕ, Bool, true, false, cond, List, [], ◌∷◌, ◌++◌, ◌&&◌, ◌||◌, drop, map, Option, Some, None, Ordering, refl, sym, ap, subst, ◌∙◌, arith}
+use Rattle.std.proofs.Common.{◌≡◌, ℕ, Bool, true, false, cond, List, [], ◌∷◌, ◌++◌, ◌&&◌, drop, map, Option, Some, None, Ordering, refl, sym, ap, subst, ◌∙◌, arith}
 use Rattle.std.specs.Prelude.{T, ◌==◌, nat_le, is_some, IsSome, filter, filter_map}
 use Rattle.std.specs.List.{AllByRecursion, cons_option, flat_map, list_any}
 use Rattle.std.specs.Option.{option_map, option_and_then, option_to_list}
@@ -9,6 +9,7 @@ use Rattle.std.specs.Ordering.{eq_by_cmp, is_lt, ordering_then, nat_cmp}
 use Rattle.std.specs.declared.cmp.Ordering.TheVariants.{Less, Equal, Greater}
 use Rattle.std.proofs.lemmas.Bool.Decides.{nat_tests}
 use Rattle.std.proofs.lemmas.List.Folds.{list_any_none}
+use Rattle.std.proofs.lemmas.Bool.{or_parts}
 use Rattle.nr_ids.proofs.Ids.{id_bytes}
 use Rattle.nr_ids.specs.Grammar.{id_fault, is_id_byte}
 use Rattle.nr_triedef.specs.Root.{Contents}
@@ -179,15 +180,11 @@ all_above id h = list_any_none (λ b. nat_le b 44) id (λ k d lt. above _ (id_by
 high : (a : ℕ) → nat_le a 44 ≡ false → nat_cmp a 44 ≡ Greater
 high a h = grind (arith, nat_tests)
 
-any_first : (a b : Bool) → (a || b) ≡ false → (a ≡ false) × (b ≡ false)
-any_first true b h = absurd cc
-any_first false b h = (refl, h)
-
 by_receiver : (a b x y : List ℕ) → list_any (λ b. nat_le b 44) a ≡ false → list_any (λ b. nat_le b 44) b ≡ false → T (is_lt (bytes_cmp (a ++ 44 ∷ x) (b ++ 44 ∷ y))) → T (is_lt (pair_cmp (a, x) (b, y)))
 by_receiver [] [] x y p q h = h
 by_receiver [] (b ∷ bs) x y p q h = tt
-by_receiver (a ∷ rest_a) [] x y p q h = absurd (subst (λ r. T (is_lt (ordering_then r (bytes_cmp (rest_a ++ 44 ∷ x) y)))) (high a (any_first _ _ p).0) h)
-by_receiver (a ∷ rest_a) (b ∷ bs) x y p q h = by (nat_cmp a b) h (by_receiver rest_a bs x y (any_first _ _ p).1 (any_first _ _ q).1)
+by_receiver (a ∷ rest_a) [] x y p q h = absurd (subst (λ r. T (is_lt (ordering_then r (bytes_cmp (rest_a ++ 44 ∷ x) y)))) (high a (or_parts _ _ p).0) h)
+by_receiver (a ∷ rest_a) (b ∷ bs) x y p q h = by (nat_cmp a b) h (by_receiver rest_a bs x y (or_parts _ _ p).1 (or_parts _ _ q).1)
   where
     by : (r : Ordering) → T (is_lt (ordering_then r (bytes_cmp (rest_a ++ 44 ∷ x) (bs ++ 44 ∷ y)))) → (T (is_lt (bytes_cmp (rest_a ++ 44 ∷ x) (bs ++ 44 ∷ y))) → T (is_lt (ordering_then (bytes_cmp rest_a bs) (bytes_cmp x y))))
         → T (is_lt (ordering_then (ordering_then r (bytes_cmp rest_a bs)) (bytes_cmp x y)))

@@ -1,6 +1,6 @@
 -- Finite maps side by side, and the part of one whose keys pass a test: what is found in them, and sums over them.
 use Rattle.std.proofs.Common.{◌≡◌, ℕ, zero, suc, ◌+◌, ◌<◌, ◌≤◌, Bool, true, false, cond, List, [], ◌∷◌, ◌++◌}
-use Rattle.std.proofs.Common.{Option, Some, None, Ordering, inl, inr, ◌⊎◌, eqb, rules, refl, sym, ap, ◌∙◌, arith}
+use Rattle.std.proofs.Common.{Option, Some, None, Ordering, inl, inr, rules, refl, sym, ap, ◌∙◌, arith}
 use Rattle.std.specs.Prelude.{T, ◌&&◌, ◌==◌, sum_by, filter, is_some, IsSome}
 use Rattle.std.specs.declared.cmp.Ordering.TheVariants.{Less, Equal, Greater}
 use Rattle.std.specs.FinMap.{FinMap, IsAntisymmetric, empty, get, retain_keys, entries, from_entries, entries_sorted}
@@ -11,6 +11,7 @@ use Rattle.std.specs.Cmp.{IsTotalOrder, tied_itself}
 use Rattle.std.specs.List.{range_with_len}
 use Rattle.std.proofs.lemmas.List.{nil_from_length}
 use Rattle.std.proofs.lemmas.List.Sums.{sum_by-cons, sum_by-append}
+use Rattle.std.proofs.lemmas.Bool.{cases_eq}
 use Rattle.nr_cut.specs.Cut.{joined}
 use Rattle.nr_state.proofs.ValidSums.{at_key, sum-insert, entries-retain_keys}
 pub use Rattle.nr_state.proofs.ValidSums.{sum_of_values}
@@ -64,13 +65,6 @@ test_other m n ne = search rules
 pub test_of : (m n : ℕ) → (m == n) ≡ true → m ≡ n
 test_of m n e = search rules
 
-pub same_or_not : (m n : ℕ) → (m ≡ n) ⊎ (m ≡ n → ⊥)
-same_or_not m n = by (eqb m n) refl
-  where
-    by : (b : Bool) → eqb m n ≡ b → (m ≡ n) ⊎ (m ≡ n → ⊥)
-    by true e = inl (search rules)
-    by false e = inr (search rules)
-
 -- ---- spread over numbers: each counts at one of them
 missed : (n a k v : ℕ) → k < a → sum_by (λ s. cond (k == s) v 0) (range_with_len a n) ≡ 0
 missed zero a k v l = refl
@@ -82,7 +76,7 @@ met : (n a k v : ℕ) → a ≤ k → k < a + n → sum_by (λ s. cond (k == s) 
 met zero a k v l m = absurd (omega (arith, l, m))
 met (suc n) a k v l m =
     sum_by-cons (λ s. cond (k == s) v 0) a (range_with_len (a + 1) n)
-    ∙ elim (same_or_not k a) [
+    ∙ elim (cases_eq k a) [
       | inl e ↦ (λ i. cond (test_same k a e i) v 0 + missed n (a + 1) k v (omega (arith, e)) i) ∙ plus_none v
       | inr ne ↦ (λ i. cond (test_other k a ne i) v 0 + met n (a + 1) k v (omega (arith, l, ne)) (omega (arith, m)) i)
           ∙ none_plus v

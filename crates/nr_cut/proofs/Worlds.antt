@@ -10,6 +10,7 @@ use Rattle.std.specs.Cmp.{IsTotalOrder}
 use Rattle.std.specs.Cmp.Lexicographic.{nat_list_cmp_total}
 use Rattle.std.proofs.lemmas.List.Sums.{sum_by-cons, sum_by-append}
 use Rattle.std.proofs.lemmas.Map.Lookups.{exact_bytes}
+use Rattle.std.proofs.lemmas.Bool.{not-true}
 use Rattle.nr_config.specs.Config.{Config}
 use Rattle.nr_cut.specs.Cut.{joined, beside, HasOnly}
 use Rattle.nr_cut.proofs.Maps.{HasOwners, either, none_left, sum_of_values, get-joined, sum-joined, retained_twice}
@@ -33,10 +34,6 @@ use Rattle.nr_state.proofs.ValidOwned.{key_total, pair_total, exact_keys, exact_
 use Rattle.nr_state.proofs.ValidQueues.{nobody}
 
 -- ---- tests and lists
-pub to_false : (b : Bool) → not b ≡ true → b ≡ false
-to_false true h = absurd (let x : false ≡ true = h in cc)
-to_false false h = refl
-
 pub each_kept : {A : Type 0} (P : A → Type 0) (test : A → Bool) (xs : List A) → AllByRecursion P xs
     → AllByRecursion P (filter test xs)
 each_kept P test [] all = tt
@@ -289,13 +286,13 @@ module _ (c : Config) (test : List ℕ → Bool) (a b : World) (ia : Owned test 
       usage = λ id account h. elim (account_of id account h) [
         | inl s ↦ va.accounts.usage id account s ∙ sym (usage_first id (ia.accounts id (ap is_some s)))
         | inr s ↦ vb.accounts.usage id account s
-            ∙ sym (usage_second id (to_false (test id) (ib.accounts id (ap is_some s))))
+            ∙ sym (usage_second id (not-true (test id) (ib.accounts id (ap is_some s))))
       ];
       code_hash = λ id account h. elim (account_of id account h) [
         | inl s ↦ va.accounts.code_hash id account s
             ∙ sym (ap hash_of_code (code_first id (ia.accounts id (ap is_some s))))
         | inr s ↦ vb.accounts.code_hash id account s
-            ∙ sym (ap hash_of_code (code_second id (to_false (test id) (ib.accounts id (ap is_some s)))))
+            ∙ sym (ap hash_of_code (code_second id (not-true (test id) (ib.accounts id (ap is_some s)))))
       ];
     }
 
@@ -318,7 +315,7 @@ module _ (c : Config) (test : List ℕ → Bool) (a b : World) (ia : Owned test 
     pub receiver_second : (k : List ℕ × List ℕ) (r : Receipt) → get b.postponed k ≡ Some r → test r.receiver ≡ false
     receiver_second k r s =
         ap (λ (x : List ℕ × List ℕ). test x.0) (sym (vb.waiting.postponed.each k r s).keyed)
-        ∙ to_false (test k.0) (ib.postponed k (ap is_some s))
+        ∙ not-true (test k.0) (ib.postponed k (ap is_some s))
 
     not_both : (q r : Receipt) → test q.receiver ≡ true → test r.receiver ≡ false → q.receiver ≡ r.receiver → ⊥
     not_both q r one two e = let x : true ≡ false = sym one ∙ ap test e ∙ two in cc

@@ -8,15 +8,12 @@ use Rattle.std.specs.Ordering.{eq_by_cmp, is_lt}
 use Rattle.std.specs.declared.cmp.Ordering.TheVariants.{Less, Equal, Greater}
 use Rattle.std.specs.Cmp.Lexicographic.{nat_list_cmp_total}
 use Rattle.std.proofs.lemmas.Map.Lookups.{exact_bytes}
+use Rattle.std.proofs.lemmas.Bool.{and_from}
 use Rattle.nr_columns.specs.Entries.{contents_of, pairs_of}
 use Rattle.nr_columns.specs.Orders.{bytes_cmp}
 use Rattle.nr_columns.specs.declared.entry.Entry.{Entry}
 use Rattle.nr_columns.proofs.Tables.{bytes_tested, same_bytes, find_below, first, second}
 use Rattle.nr_entries.specs.Order.{is_below, rises}
-
-pub both : (a b : Bool) → a ≡ true → b ≡ true → (a && b) ≡ true
-both true b e f = f
-both false b e f = absurd (let no : false ≡ true = e in cc)
 
 pub left : (a b : Bool) → (a && b) ≡ true → a ≡ true
 left true b e = refl
@@ -42,20 +39,20 @@ less Greater e = absurd (let no : false ≡ true = e in cc)
 -- below the first of keys that rise, below all of them
 below_more : (k : List ℕ) (es : List Entry) → is_below k es ≡ true → is_sorted bytes_cmp (pairs_of es) ≡ true → below_all bytes_cmp k (pairs_of es) ≡ true
 below_more k [] h s = refl
-below_more k (e ∷ es) h s = both _ _ h (all (pairs_of es) (left _ _ s))
+below_more k (e ∷ es) h s = and_from _ _ h (all (pairs_of es) (left _ _ s))
   where
     one : (q : List ℕ) → is_lt (bytes_cmp e.key q) ≡ true → is_lt (bytes_cmp k q) ≡ true
     one q t = ap is_lt (nat_list_cmp_total.trans k e.key q (less _ h) (less _ t))
 
     all : (ps : List (List ℕ × List ℕ)) → below_all bytes_cmp e.key ps ≡ true → below_all bytes_cmp k ps ≡ true
     all [] t = refl
-    all (p ∷ ps) t = both _ _ (one p.0 (left _ _ t)) (all ps (right _ _ t))
+    all (p ∷ ps) t = and_from _ _ (one p.0 (left _ _ t)) (all ps (right _ _ t))
 
 sorted_so : (es : List Entry) → rises es ≡ true → is_sorted bytes_cmp (pairs_of es) ≡ true
 sorted_so [] h = refl
 sorted_so (e ∷ es) h =
     let rest = sorted_so es (right _ _ h) in
-    both _ _ (below_more e.key es (left _ _ h) rest) rest
+    and_from _ _ (below_more e.key es (left _ _ h) rest) rest
 
 pub sorted_of : (es : List Entry) → rises es ≡ true → T (is_sorted bytes_cmp (pairs_of es))
 sorted_of es h = holds _ (sorted_so es h)
@@ -66,7 +63,7 @@ below_first k (e ∷ es) h = left _ _ h
 
 rises_so : (es : List Entry) → is_sorted bytes_cmp (pairs_of es) ≡ true → rises es ≡ true
 rises_so [] h = refl
-rises_so (e ∷ es) h = both _ _ (below_first e.key es (left _ _ h)) (rises_so es (right _ _ h))
+rises_so (e ∷ es) h = and_from _ _ (below_first e.key es (left _ _ h)) (rises_so es (right _ _ h))
 
 pub rises_of : (es : List Entry) → T (is_sorted bytes_cmp (pairs_of es)) → rises es ≡ true
 rises_of es h = rises_so es (true_of _ h)
@@ -122,4 +119,4 @@ all_pass test (e ∷ es) h = (left _ _ h, all_pass test es (right _ _ h))
 
 pub pass_all : (test : List ℕ → List ℕ → Bool) (es : List Entry) → AllByRecursion (λ e. test e.key e.value ≡ true) es → list_all (λ e. test e.key e.value) es ≡ true
 pass_all test [] h = refl
-pass_all test (e ∷ es) h = both _ _ h.0 (pass_all test es h.1)
+pass_all test (e ∷ es) h = and_from _ _ h.0 (pass_all test es h.1)

@@ -2,6 +2,7 @@
 use Rattle.std.proofs.Common.{◌≡◌, ℕ, ◌+◌, ◌<◌, ◌≤◌, Bool, true, false, cond, List, Option, Some, None, length, inl, inr, refl, sym, ap, subst, ◌∙◌, arith}
 use Rattle.std.specs.Prelude.{replicate}
 use Rattle.std.proofs.lemmas.List.{length-replicate, get_or-replicate}
+use Rattle.std.proofs.lemmas.Bool.{cases_eq}
 use Rattle.nr_overlap.specs.CoreView.{CoreView}
 use Rattle.nr_overlap.specs.Held.{HasTaken, IsReached}
 use Rattle.nr_overlap.specs.Inside.{IsInside, actor}
@@ -17,7 +18,7 @@ use Rattle.nr_overlap.specs.declared.event.Event.TheVariants.{OpenChunk, TakeLis
 use Rattle.nr_overlap.specs.declared.position.Position.{Position}
 use Rattle.nr_overlap.specs.declared.position.Stage.{Stage}
 use Rattle.nr_overlap.specs.declared.position.Stage.TheVariants.{Idle, Opened, Sealed}
-use Rattle.nr_overlap.proofs.Basics.{lt_of, same_or_not}
+use Rattle.nr_overlap.proofs.Basics.{lt_of}
 use Rattle.nr_overlap.proofs.DueLemmas.{first_small}
 use Rattle.nr_overlap.proofs.Ended.{is_ending}
 use Rattle.nr_overlap.proofs.Reaching.{becomes, keeps_reached}
@@ -112,7 +113,7 @@ module _ {W K L R P : Type 0} (r : Rules W K L R) (h : ℕ) where
       let up : IsUpTo h p.stage p.number = moved_up h e (at ps a) (steps_below r h ps e nears.reached.count next.0 next.1) in
       let here : IsUpTo h (at (moved ps e) a).stage (at (moved ps e) a).number = subst (λ (q : Position). IsUpTo h q.stage q.number) (sym be.here) up in
       let each : (s : ℕ) → s < r.shards → IsUpTo h (at (moved ps e) s).stage (at (moved ps e) s).number =
-      λ s l. elim (same_or_not s a) [
+      λ s l. elim (cases_eq s a) [
         | inl same ↦ subst (λ k. IsUpTo h (at (moved ps e) k).stage (at (moved ps e) k).number) (sym same) here
         | inr other ↦ subst (λ (q : Position). IsUpTo h q.stage q.number) (sym (be.others s other)) (nears.places s l)
       ] in

@@ -7,6 +7,7 @@ use Rattle.std.specs.declared.alloc.Global.{Global}
 use Rattle.std.specs.Option.{option_map}
 use Rattle.std.proofs.lemmas.List.Sums.{fails_before_first, position_or_len_is}
 use Rattle.std.proofs.lemmas.List.{append-nil, get_or-replicate}
+use Rattle.std.proofs.lemmas.Bool.{cases_eq}
 use Rattle.nr_ids.specs.declared.number.Height.{Height}
 use Rattle.nr_ids.specs.declared.number.ShardId.{ShardId}
 use Rattle.nr_overlap.specs.Held.{IsSerial, IsReached, IsHeld, cell, held_world, row_of, row_entry, row_report, row_slot}
@@ -21,7 +22,7 @@ use Rattle.nr_overlap.specs.declared.shards.Held.{Held}
 use Rattle.nr_overlap.specs.declared.shards.Held.TheVariants.{World, Working, Nothing}
 use Rattle.nr_overlap.specs.declared.shards.Row.{Row}
 use Rattle.nr_overlap.specs.declared.shards.Shards.{Shards}
-use Rattle.nr_overlap.proofs.Basics.{eq_other, eq_same, is_lt, not_lt, same_or_not}
+use Rattle.nr_overlap.proofs.Basics.{eq_other, eq_same, is_lt, not_lt}
 use Rattle.nr_overlap.proofs.Ended.{whole_run}
 use Rattle.nr_overlap.proofs.Ending.{is_ended, none_ended}
 use Rattle.nr_overlap.proofs.Onward.{no_place}
@@ -144,7 +145,7 @@ module _ {W K L R : Type 0} (r : Rules W K L R) where
   is_over ps reached none = by (position lacks ps) refl none
     where
       by : (o : Option ℕ) → position lacks ps ≡ o → behind_by r ps o ≡ None → ps ≡ ending r
-      by None f e = all_over ps reached (λ j l. elim (same_or_not (at ps j).number r.heights) [
+      by None f e = all_over ps reached (λ j l. elim (cases_eq (at ps j).number r.heights) [
         | inl same ↦ same
         | inr ne ↦ absurd (bools (sym (lacks_some (at ps j) ne) ∙ fails_before_first lacks ps j start (omega (arith, l, no_place lacks ps f))))
       ])

@@ -5,11 +5,12 @@ use Rattle.std.proofs.Common.{sym, ap, ◌∙◌, arith, inl, inr}
 use Rattle.std.specs.List.{range_with_len}
 use Rattle.std.proofs.lemmas.List.FromFn.{length-map-range_with_len}
 use Rattle.std.proofs.lemmas.List.Sums.{sum_by-cons, sum_by-append}
+use Rattle.std.proofs.lemmas.Bool.{cases_eq}
 use Rattle.nr_overlap.specs.Rules.{Rules}
 use Rattle.nr_overlap.specs.Lawful.{AreLawful}
 use Rattle.nr_overlap.specs.Balance.{IsKeptBy, sum_below}
 use Rattle.nr_overlap.specs.Serial.{work, due_after, world_after, list_to, sealing_at, with_list}
-use Rattle.nr_overlap.proofs.Basics.{same_or_not, eq_same, eq_other, le_of}
+use Rattle.nr_overlap.proofs.Basics.{eq_same, eq_other, le_of}
 use Rattle.nr_overlap.proofs.SerialLemmas.{work_first, work_next}
 use Rattle.nr_overlap.proofs.Bounds.{bound}
 use Rattle.nr_overlap_tests.specs.Amounts.{tokens, receipts, times}
@@ -40,7 +41,7 @@ module _ (f : ℕ → ℕ) (n : ℕ) where
   hit zero a x xs l m = absurd (omega arith)
   hit (suc k) a x xs l m =
       sum_by-cons (sum_by f) (out_to n a (x ∷ xs)) (part (a + 1) k (x ∷ xs))
-      ∙ elim (same_or_not (x % n) a) [
+      ∙ elim (cases_eq (x % n) a) [
         | inl e ↦ (λ i. sum_by f (cond (eq_same (x % n) a e i) (x ∷ out_to n a xs) (out_to n a xs)) + miss k
             (a + 1) x xs (omega (arith, e)) i)
             ∙ ap (λ t. t + all (part (a + 1) k xs)) (sum_by-cons f x (out_to n a xs)) ∙ regroup (f x)

@@ -4,7 +4,7 @@ use Rattle.std.specs.Prelude.{Result, Option, nat_lt}
 use Rattle.std.specs.List.{AllByRecursion, slice_get, flat_map, list_all}
 use Rattle.std.specs.Option.{ok_or}
 use Rattle.std.proofs.lemmas.Bool.{ltb-false}
-use Rattle.nr_bytes.proofs.Items.{all_with_one}
+use Rattle.std.proofs.ByRecursion.{All-push}
 use Rattle.nr_bytes.specs.Reading.{◌>>=◌}
 use Rattle.nr_promises.proofs.Changed.{length_changed, all_changed}
 use Rattle.nr_promises.proofs.MadeAfter.{made_length, made_own}
@@ -78,7 +78,7 @@ book_with_receipt b receiver waited is = record {
   promises =
       let len = made_length b.origin receiver waited [] b.made b.next_ordinal in
       rw len
-      (all_with_one (IsPromise (length b.made + 1)) b.promises (Single (length b.made))
+      (All-push (IsPromise (length b.made + 1)) b.promises (Single (length b.made))
       (all_as (IsPromise (length b.made)) (IsPromise (length b.made + 1)) (more_made (length b.made) (length b.made + 1) (omega arith)) b.promises is.promises)
       (record { few = omega arith; made_before = (omega arith, tt) }));
   made = made_own b.origin receiver waited [] b.made b.next_ordinal is.made;
@@ -86,7 +86,7 @@ book_with_receipt b receiver waited is = record {
 
 pub book_with_joined : (b : Book) (indices : List ℕ) → length (all_places b.promises indices) ≤ most_inputs → IsBook b → IsBook (record b { promises = b.promises ++ Joined (all_places b.promises indices) ∷ [] })
 book_with_joined b indices few is = record {
-  promises = all_with_one (IsPromise (length b.made)) b.promises (Joined (all_places b.promises indices)) is.promises
+  promises = All-push (IsPromise (length b.made)) b.promises (Joined (all_places b.promises indices)) is.promises
       (record { few = few; made_before = all_places_stand (length b.made) b.promises indices is.promises });
   made = is.made;
 }

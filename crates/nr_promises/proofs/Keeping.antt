@@ -1,12 +1,13 @@
 -- What the calls of a book add, and what holds of its receipts.
-use Rattle.std.proofs.Common.{◌≡◌, ℕ, zero, suc, ◌+◌, ◌*◌, ◌<◌, ◌≤◌, Bool, true, false, cond, List, [], ◌∷◌, ◌++◌, length, ap, refl, sym, ◌∙◌, subst, arith, length-append, Ok, Err}
-use Rattle.std.specs.Prelude.{sum_by, nat_lt, ◌||◌}
+use Rattle.std.proofs.Common.{◌≡◌, ℕ, zero, suc, ◌+◌, ◌*◌, ◌<◌, ◌≤◌, true, false, cond, List, [], ◌∷◌, ◌++◌, length, ap, refl, sym, ◌∙◌, subst, arith, length-append, Ok, Err}
+use Rattle.std.specs.Prelude.{sum_by, nat_lt}
 use Rattle.std.specs.List.{AllByRecursion, flat_map, list_any, list_all}
 use Rattle.std.specs.Str.{bytes_eq}
 use Rattle.std.proofs.lemmas.List.Folds.{list_any-append}
 use Rattle.std.proofs.lemmas.List.Sums.{sum_by-append, sum_by-cons}
 use Rattle.std.proofs.lemmas.Bool.{ltb-false}
 use Rattle.std.proofs.Math.Nat.{suc-mul}
+use mathlib.Core.Bool.{or-true}
 use Rattle.nr_bytes.specs.Reading.{◌>>=◌}
 use Rattle.nr_config.specs.Config.{Config}
 use Rattle.nr_fees.specs.Fees.{body_gas, deposit_of, attached, action_fee}
@@ -31,10 +32,6 @@ use Rattle.nr_state.specs.Calls.{HasPrice, IsMade, IsReturned, body_deposits, ma
 use Rattle.nr_state.specs.declared.calls.CallContext.{CallContext}
 use Rattle.nr_state.specs.declared.calls.Returned.{Returned}
 use Rattle.nr_state.specs.declared.calls.Returned.TheVariants as end
-
-or_true : (b : Bool) → (b || true) ≡ true
-or_true true = refl
-or_true false = refl
 
 -- ---- what was returned stays among the receipts made
 pub still_returned : (made more : List Receipt) (r : Returned) → IsReturned made r → IsReturned (made ++ more) r
@@ -122,7 +119,7 @@ adds_acted c b d index action is h =
 pub id_among : (made : List Receipt) (at : ℕ) → at < length made → list_any (λ r. bytes_eq r.receipt_id.0 (id_at made at).0) made ≡ true
 id_among [] at lt = absurd (omega arith)
 id_among (r ∷ rs) zero lt = rw (itself r.receipt_id.0) refl
-id_among (r ∷ rs) (suc at) lt = let less : at < length rs = omega arith in rw (id_among rs at less) (or_true _)
+id_among (r ∷ rs) (suc at) lt = let less : at < length rs = omega arith in rw (id_among rs at less) (or-true _)
 
 pub stands_for_made : (b : Book) (index : ℕ) (id : Hash32) → IsBook b → receipt_of b index ≡ Ok id → IsReturned b.made (end.Promise id)
 stands_for_made b index id is h =

@@ -1,7 +1,7 @@
 -- The heights that refusals name, and the shards that events name, are there.
-use Rattle.std.proofs.Common.{◌≡◌, ℕ, ◌<◌, ◌≤◌, ◌↔◌, ◌&&◌, IsTrue, Bool, true, false, cond, List, Option, Some, None, refl, sym, ap, subst, arith}
+use Rattle.std.proofs.Common.{◌≡◌, ℕ, ◌<◌, ◌≤◌, ◌↔◌, IsTrue, Bool, true, false, cond, List, Option, Some, None, refl, sym, ap, subst, arith}
 use Rattle.std.specs.Prelude.{nat_le, nat_lt, not, ◌==◌, position}
-use Rattle.std.proofs.lemmas.Bool.{and_parts}
+use Rattle.std.proofs.lemmas.Bool.{and_parts, and_from}
 use Rattle.std.proofs.lemmas.List.Quantifiers.{position-Some}
 use Rattle.nr_chunk.specs.Chain.{Chain}
 use Rattle.nr_ids.specs.declared.number.Height.{Height}
@@ -27,13 +27,9 @@ use Rattle.nr_schedule.specs.Checking.{in_leg, names_there}
 use Rattle.nr_schedule.specs.Driving.{HasNext, IsWithin}
 
 -- ---- the shards of an event
-both : (a b : Bool) → a ≡ true → b ≡ true → (a && b) ≡ true
-both true b e f = f
-both false b e f = absurd cc
-
 pub inside_there : (n : ℕ) (e : Event) → IsInside n e → names_there n e ≡ true
 inside_there n (OpenChunk s) l = is_lt s.0 n l
-inside_there n (TakeList d s h) l = both (nat_lt d.0 n) (nat_lt s.0 n) (is_lt d.0 n l.0) (is_lt s.0 n l.1)
+inside_there n (TakeList d s h) l = and_from (nat_lt d.0 n) (nat_lt s.0 n) (is_lt d.0 n l.0) (is_lt s.0 n l.1)
 inside_there n (SealChunk s) l = is_lt s.0 n l
 inside_there n (PublishLists s) l = is_lt s.0 n l
 

@@ -1,5 +1,5 @@
 -- Which changes leave a world one that a state can show.
-use Rattle.std.proofs.Common.{◌≡◌, ℕ, ◌+◌, ◌^◌, ◌<◌, Bool, true, false, cond, List, [], ◌∷◌, ◌++◌, length, Option, Some, None, Ordering, refl, sym, ap, subst, ◌∙◌, arith}
+use Rattle.std.proofs.Common.{◌≡◌, ℕ, ◌+◌, ◌^◌, ◌<◌, Bool, true, false, cond, List, [], ◌∷◌, length, Option, Some, None, Ordering, refl, sym, ap, subst, ◌∙◌, arith}
 use Rattle.std.specs.Prelude.{not}
 use Rattle.std.specs.FinMap.{FinMap, IsAntisymmetric, empty, insert, remove, retain_keys, get, get-empty, get-insert, get-remove, get-retain_keys}
 use Rattle.std.specs.List.{AllByRecursion}
@@ -9,6 +9,7 @@ use Rattle.std.specs.Cmp.{IsTotalOrder}
 use Rattle.std.specs.Cmp.Lexicographic.{nat_list_cmp_total}
 use Rattle.std.proofs.lemmas.List.{length-append}
 use Rattle.std.proofs.lemmas.Map.Lookups.{exact_bytes}
+use Rattle.std.proofs.ByRecursion.{All-push}
 use Rattle.nr_ids.specs.declared.key.Hash32.{Hash32}
 use Rattle.nr_ids.specs.declared.key.PublicKey.{PublicKey}
 use Rattle.nr_records.specs.AccessKeys.{IsAccessKey}
@@ -55,10 +56,6 @@ module _ {K X : Type 0} {R : K → K → Ordering} (o : IsTotalOrder R) (same : 
   each-retain_keys p q x =
       rw (get-retain_keys m p q (λ y t. ap p (sym (same q y t))))
       (elim (p q) as (λ b. cond b (get m q) None ≡ Some x → P q x) [ true ↦ λ h. all q x h | false ↦ λ h. absurd (none≢some x h) ])
-
-all_push : {A : Type 0} (P : A → Type 0) (xs : List A) (y : A) → AllByRecursion P xs → P y → AllByRecursion P (xs ++ y ∷ [])
-all_push P [] y all here = (here, tt)
-all_push P (x ∷ xs) y all here = (all.0, all_push P xs y all.1 here)
 
 -- ---- the empty world
 pub none_fits : IsWorld no_world
@@ -145,7 +142,7 @@ module _ (w : World) (is : IsWorld w) where
 
   pub delayed_fits : (r : Receipt) → IsReceipt r → w.served + length w.delayed + 1 < 2 ^ 64 → IsWorld (with_delayed w r)
   delayed_fits r fits room =
-      record { accounts = is.accounts; keys = is.keys; code = is.code; data_of = is.data_of; received = is.received; postponed = is.postponed; delayed = all_push IsReceipt w.delayed r is.delayed fits; served = omega (arith, length-append w.delayed (r ∷ []), room) }
+      record { accounts = is.accounts; keys = is.keys; code = is.code; data_of = is.data_of; received = is.received; postponed = is.postponed; delayed = All-push IsReceipt w.delayed r is.delayed fits; served = omega (arith, length-append w.delayed (r ∷ []), room) }
 
   pub served_fits : IsWorld (served_front w w.delayed)
   served_fits = by w.delayed is.delayed is.served

@@ -17,13 +17,14 @@ use Rattle.nr_overlap.specs.declared.event.Event.TheVariants.{OpenChunk, TakeLis
 use Rattle.nr_overlap.specs.declared.position.Position.{Position}
 use Rattle.nr_overlap.specs.declared.position.Stage.{Stage}
 use Rattle.nr_overlap.specs.declared.position.Stage.TheVariants.{Idle, Opened, Sealed}
-use Rattle.nr_overlap.proofs.Basics.{gt_of, same_or_not, true_or_false}
+use Rattle.nr_overlap.proofs.Basics.{gt_of, true_or_false}
 use Rattle.nr_overlap.proofs.Ended.{whole_run}
 use Rattle.nr_overlap.proofs.Founding.{at_replicate, first_reached}
 use Rattle.nr_overlap.proofs.Reaching.{becomes, keeps_reached}
 use Rattle.nr_overlap.proofs.Running.{tries_made}
 use Rattle.nr_overlap.proofs.SerialLemmas.{sealing_there}
 use Rattle.std.proofs.lemmas.List.{length-replicate}
+use Rattle.std.proofs.lemmas.Bool.{cases_eq}
 use Rattle.nr_top.specs.Arriving.{IsChunk, IsNextBefore, IsUpTo, Nears}
 
 number_top : (t : Stage) (n : ℕ) → n ≤ top_at t n
@@ -74,7 +75,7 @@ module _ {W K L R : Type 0} (r : Rules W K L R) (s h : ℕ) where
       → actor e < length ps → IsUpTo h (at (moved ps e) s).stage (at (moved ps e) s).number
   step_up ps e reached is none up inside =
       let be = becomes ps (actor e) (moved_by e (at ps (actor e))) inside in
-      elim (same_or_not s (actor e)) [
+      elim (cases_eq s (actor e)) [
         | inl same ↦ subst (λ k. IsUpTo h (at (moved ps e) k).stage (at (moved ps e) k).number) (sym same)
             (subst (λ (p : Position). IsUpTo h p.stage p.number) (sym be.here)
             (moved_up h e (at ps (actor e)) (subst (λ k. top (at ps k) < h) same (not_sealed ps is none))))

@@ -1,5 +1,5 @@
 -- The queue of nodes whose hashes are to be made: how it is gathered, and how it is worked off from its end.
-use Rattle.std.proofs.Common.{◌≡◌, ◌≢◌, ◌==◌, ◌<◌, ◌≤◌, ◌+◌, ◌-◌, ◌++◌, ℕ, zero, suc, Bool, true, false, cond, not, List, [], ◌∷◌, length, take, drop, get_or, map, Option, Some, None, refl, ap, sym, ◌∙◌, subst, add-one, length-append, append_assoc, inl, inr, arith}
+use Rattle.std.proofs.Common.{◌≡◌, ◌≢◌, ◌==◌, ◌<◌, ◌≤◌, ◌+◌, ◌-◌, ◌++◌, ℕ, zero, suc, Bool, true, false, cond, List, [], ◌∷◌, length, take, drop, get_or, map, Option, Some, None, refl, ap, sym, ◌∙◌, subst, add-one, length-append, append_assoc, inl, inr, arith}
 use Rattle.std.specs.Prelude.{is_some, sum_by}
 use Rattle.std.specs.Option.{option_map}
 use Rattle.std.proofs.lemmas.Bool.{eqb-true, cases_lt}
@@ -316,7 +316,3 @@ root_warm old now root queue g lt w all = by_hash (is_hashed old root) refl
     by_hash : (b : Bool) → is_hashed old root ≡ b → is_hashed now root ≡ true
     by_hash true e = w.more root lt e
     by_hash false e = let k = g.top e in ap (is_hashed now) (sym k.1.1) ∙ all k.0 k.1.0
-
-pub by_not : (b : Bool) → not b ≡ false → b ≡ true
-by_not true e = refl
-by_not false e = absurd cc

@@ -15,6 +15,7 @@ use Rattle.std.proofs.lemmas.Map.Views.{any-filter_same}
 use Rattle.std.proofs.lemmas.List.{nil_from_length, drop_more, length-map}
 use Rattle.std.proofs.lemmas.List.Folds.{list_any-append}
 use Rattle.std.proofs.lemmas.List.Sums.{sum_by-cons}
+use Rattle.std.proofs.lemmas.Option.{same_Some}
 use Rattle.nr_triedef.specs.Node.{nibbles}
 use Rattle.nr_triedef.specs.Root.{Contents}
 use Rattle.nr_triedef.specs.Stores.{most_entries, keys_below, IsSizedEntry, IsSized}
@@ -101,13 +102,10 @@ over_put p m k held = same (over (insert p k held) m) (with_value (over p m) k (
     ∙ sym (get-with_value (over p m) k (kept held) q))
 
 -- ---- the sizes
-same_value : {A : Type 0} (x y : A) → Some x ≡ Some y → x ≡ y
-same_value x y e = cc
-
 shorter : (held w : List ℕ) → kept held ≡ Some w → length w ≤ length held
 shorter [] w e = absurd (false≢true (ap is_some e))
 shorter (zero ∷ v) w e = absurd (false≢true (ap is_some e))
-shorter (suc n ∷ v) w e = let same : length v ≡ length w = ap length (same_value v w e) in omega arith
+shorter (suc n ∷ v) w e = let same : length v ≡ length w = ap length (same_Some v w e) in omega arith
 
 pub sized_over : (p m : Contents) → IsSized p → IsSized m → length (entries (over p m)) ≤ most_entries → IsSized (over p m)
 sized_over p m h i few = record { few = few; each = λ q w e. each q w (get p q) refl (sym (get-over p m q) ∙ e) }

@@ -6,6 +6,7 @@ use Rattle.std.specs.List.{list_any, starts_with}
 use Rattle.std.proofs.lemmas.Bool.{eqb-true}
 use Rattle.std.proofs.lemmas.Map.Keys.{any_passes_from_place}
 use Rattle.std.proofs.lemmas.Option.{slice_get_read}
+use mathlib.Core.Bool.{or-true}
 use Rattle.nr_walk.specs.declared.searched.Searched.{Searched}
 use Rattle.nr_walk.specs.declared.sought.Step.{Step}
 use Rattle.nr_walk.specs.Searched.{is_met, is_found, looks, finds}
@@ -74,11 +75,7 @@ met_below one place k c =
     let on = longer one.path place k (right_true one.below (starts_with ◌==◌ place one.path) c) in
     ap (λ b. starts_with ◌==◌ one.path (place ++ k) || (b && starts_with ◌==◌ (place ++ k) one.path)) below
     ∙ ap (λ b. starts_with ◌==◌ one.path (place ++ k) || b) on
-    ∙ or_last (starts_with ◌==◌ one.path (place ++ k))
-  where
-    or_last : (b : Bool) → (b || true) ≡ true
-    or_last true = refl
-    or_last false = refl
+    ∙ or-true (starts_with ◌==◌ one.path (place ++ k))
 
 found_below : (one : Searched) (place k : List ℕ) → covers place one ≡ true → is_found (place ++ k) one ≡ true
 found_below one place k c =

@@ -5,7 +5,7 @@ use Rattle.std.specs.FinMap.{entries, get}
 use Rattle.std.specs.List.{list_all}
 use Rattle.std.specs.Option.{option_map, option_and_then}
 use Rattle.std.specs.Str.{bytes_eq}
-use Rattle.std.proofs.lemmas.Bool.{eq-eqb, eqb-true}
+use Rattle.std.proofs.lemmas.Bool.{eq-eqb, eqb-true, and_from}
 use Rattle.std.proofs.lemmas.Slice.Eq.{bytes_eq-Decides}
 use Rattle.nr_bytes.specs.Numbers.{IsBytes}
 use Rattle.nr_config.specs.Config.{Config, account_bytes_entry, extra_record_bytes}
@@ -28,7 +28,7 @@ use Rattle.nr_entries.specs.Order.{rises}
 use Rattle.nr_entries.specs.Told.{AreBytes, are_told, is_id, is_owned, is_owned_key, is_told, is_told_in}
 use Rattle.nr_entries.proofs.Columns.{IsOf, account_of, datum_of, key_of_entry, tail_bytes}
 use Rattle.nr_entries.proofs.Contents.{read_from}
-use Rattle.nr_entries.proofs.Rising.{all_pass, both, found_holds, holds_found, left, pass_all, right}
+use Rattle.nr_entries.proofs.Rising.{all_pass, found_holds, holds_found, left, pass_all, right}
 use Rattle.nr_entries.proofs.UsageSums.{usage_sum}
 use Rattle.nr_state.specs.Changes.{or_none}
 use Rattle.nr_state.specs.Usage.{datum_usage, key_usage}
@@ -118,12 +118,12 @@ module _ (c : Config) (es : List Entry) (bytes : AreBytes es) (order : rises es 
         let A : Bool = not (is_system id) in
         let B : Bool = a.storage_usage == account_bytes_entry c + code_bytes (get k.code id) + owned id in
         let C : Bool = bytes_eq a.code_hash.0 (hash_of_code (get k.code id)).0 in
-        both _ _ (both _ _ (left A B (left (A && B) C t)) (ap (λ n. a.storage_usage == n) (sym (sums id)) ∙ right A B (left (A && B) C t))) (right (A && B) C t)
+        and_from _ _ (and_from _ _ (left A B (left (A && B) C t)) (ap (λ n. a.storage_usage == n) (sym (sums id)) ∙ right A B (left (A && B) C t))) (right (A && B) C t)
 
     pub accounts_fit_so : accounts_fit c w ≡ true
     unfolding entry_fits
     accounts_fit_so =
-        both _ _ (both _ _ (both _ _
+        and_from _ _ (and_from _ _ (and_from _ _
         (each_of accounts_law.total accounts_law.exact w.accounts (account_fits c w) account_fits_so)
         (each_of keys_law.total keys_law.exact w.keys _ (λ q a is.
         let one = read_from keys_law contents q a is in
@@ -149,16 +149,16 @@ module _ (c : Config) (es : List Entry) (bytes : AreBytes es) (order : rises es 
             let is : get k.accounts one.key ≡ Some one.value = in_map accounts_law contents (0 ∷ rest) v one there in
             let same : one.key ≡ rest = (let h : 0 ∷ rest ≡ 0 ∷ one.key = back accounts_table (0 ∷ rest) one.key one.at in sym (ap tail h)) in
             let at_id : get k.accounts rest ≡ Some one.value = subst (λ id. get k.accounts id ≡ Some one.value) same is in
-            both _ _ (left _ _ t)
+            and_from _ _ (left _ _ t)
             (ap (account_told_as c k (owned rest) rest) one.read
-            ∙ both _ _ (both _ _ (ap not (are.no_system rest (ap is_some at_id)))
+            ∙ and_from _ _ (and_from _ _ (ap not (are.no_system rest (ap is_some at_id)))
             (eq-eqb _ _ (are.usage rest one.value at_id ∙ sym (sums rest))))
             ((bytes_eq-Decides _ _).1 (ap (λ (hash : Hash32). hash.0) (are.code_hash rest one.value at_id))))
 
         code : get contents (1 ∷ rest) ≡ Some v → is_told_in 1 rest v ≡ true → is_owner k rest ≡ true
         code there t =
             let is : get k.code rest ≡ Some v = get_part code_law contents rest (spells code_table rest refl) ∙ ap (option_and_then code_table.read) there in
-            both _ _ t (are.code rest (ap is_some is))
+            and_from _ _ t (are.code rest (ap is_some is))
 
         key_id : (o : Option (List ℕ × PublicKey)) (q : List ℕ × PublicKey) → o ≡ Some q → is_owned_key o ≡ true → is_id q.0 ≡ true
         key_id o q e h = left _ _ (subst (λ o. is_owned_key o ≡ true) e h)
@@ -172,14 +172,14 @@ module _ (c : Config) (es : List Entry) (bytes : AreBytes es) (order : rises es 
             let is : get k.keys one.key ≡ Some one.value = in_map keys_law contents (2 ∷ rest) v one there in
             let at : key_of_rest rest ≡ Some one.key = unchecked keys_table (2 ∷ rest) (key_of_rest rest) one.key one.at in
             key_owner k one.key (at_first 2 rest) at
-            ∙ both _ _ (key_id (key_of_rest rest) one.key at (left _ _ t)) (are.keys one.key (ap is_some is))
+            ∙ and_from _ _ (key_id (key_of_rest rest) one.key at (left _ _ t)) (are.keys one.key (ap is_some is))
 
         datum : get contents (9 ∷ rest) ≡ Some v → is_told_in 9 rest v ≡ true → has_owner k (at_first 44 rest) ≡ true
         datum there t =
             let one = datum_of rest v t in
             let is : get k.data_of one.key ≡ Some one.value = in_map data_law contents (9 ∷ rest) v one there in
             let at : at_first 44 rest ≡ Some one.key = unchecked data_table (9 ∷ rest) (at_first 44 rest) one.key one.at in
-            ap (has_owner k) at ∙ both _ _ (owned_id (at_first 44 rest) one.key at t) (are.data_of one.key (ap is_some is))
+            ap (has_owner k) at ∙ and_from _ _ (owned_id (at_first 44 rest) one.key at t) (are.data_of one.key (ap is_some is))
 
         at_9 : (b : Bool) → (n == 9) ≡ b → cond b (has_owner k (at_first 44 rest)) true ≡ true
         at_9 true e = datum (subst (λ j. get contents (j ∷ rest) ≡ Some v) (eqb-true n 9 e) there) (subst (λ j. is_told_in j rest v ≡ true) (eqb-true n 9 e) t)

@@ -6,7 +6,7 @@ use Rattle.std.specs.FinMap.Entries.{find}
 use Rattle.std.specs.List.{AllByRecursion, flat_map, range_with_len}
 use Rattle.std.specs.Option.{option_to_list}
 use Rattle.std.specs.Ordering.{eq_by_cmp, nat_cmp}
-use Rattle.std.proofs.lemmas.Bool.{eq-eqb, eqb-true}
+use Rattle.std.proofs.lemmas.Bool.{eq-eqb, eqb-true, and_from}
 use Rattle.std.proofs.lemmas.Bool.Decides.{nat_tests}
 use Rattle.nr_records.specs.declared.receipt.Receipt.{Receipt}
 use Rattle.nr_columns.specs.Columns.{Columns}
@@ -15,7 +15,7 @@ use Rattle.nr_columns.proofs.Laid.{delayed_law}
 use Rattle.nr_columns.proofs.Tables.{tested}
 use Rattle.nr_entries.specs.Counting.{count_in}
 use Rattle.nr_entries.proofs.Listed.{AreApart, counted, listed_map, one_each}
-use Rattle.nr_entries.proofs.Rising.{both, left, right}
+use Rattle.nr_entries.proofs.Rising.{left, right}
 use Rattle.nr_state.specs.Flat.{numbered, queue_in}
 use Rattle.nr_state.specs.View.{delayed_in, served_in, waiting_in, world_in}
 use Rattle.nr_worlds.specs.Tests.{numbers_told, queue_told}
@@ -80,7 +80,7 @@ are_numbers s n q served e = by ((s + n) == 0) refl e
     by true t e = subst (λ q. AreNumbers q n) e (record { told = refl; waiting = grind (arith, nat_tests) })
     by false t e =
         subst (λ q. AreNumbers q n) e (record {
-          told = both _ _ (let h : nat_lt 0 (s + n) ≡ true = grind (arith, nat_tests) in h) (let h : nat_le s (s + n) ≡ true = grind (arith, nat_tests) in h);
+          told = and_from _ _ (let h : nat_lt 0 (s + n) ≡ true = grind (arith, nat_tests) in h) (let h : nat_le s (s + n) ≡ true = grind (arith, nat_tests) in h);
           waiting = omega arith;
         })
 
@@ -104,4 +104,4 @@ module _ (k : Columns) (es : List Entry) (count : count_in 7 es ≡ sum_by one_e
       count ∙ ap (λ (m : FinMap nat_cmp Receipt). sum_by one_each (entries m)) (sym delayed)
       ∙ counted delayed_law.total delayed_law.exact (numbered (served_in k.queue) (delayed_in k)) (numbered_apart (served_in k.queue) (delayed_in k))
       ∙ length_numbered (served_in k.queue) (delayed_in k) in
-      both _ _ (both _ _ n.told (eq-eqb _ _ (all ∙ n.waiting))) (eq-eqb _ _ n.waiting)
+      and_from _ _ (and_from _ _ n.told (eq-eqb _ _ (all ∙ n.waiting))) (eq-eqb _ _ n.waiting)

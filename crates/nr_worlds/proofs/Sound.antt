@@ -5,7 +5,7 @@ use Rattle.std.specs.FinMap.{get, entries, get-empty}
 use Rattle.std.specs.List.{AllByRecursion, flat_map, list_all, list_any, range_with_len}
 use Rattle.std.specs.Option.{option_to_list}
 use Rattle.std.specs.Str.{bytes_eq}
-use Rattle.std.proofs.lemmas.Bool.{eqb-true, or_cases}
+use Rattle.std.proofs.lemmas.Bool.{eqb-true, or_cases, and_from, not-true}
 use Rattle.std.proofs.lemmas.Bool.Decides.{nat_tests}
 use Rattle.std.proofs.lemmas.Slice.Eq.{bytes_eq-Decides}
 use Rattle.nr_bytes.specs.Numbers.{IsBytes}
@@ -37,7 +37,7 @@ use Rattle.nr_columns.proofs.Laid.{accounts_law, code_law, data_law, delayed_law
 use Rattle.nr_entries.specs.Told.{AreBytes, is_id, is_id_and_hash, is_key}
 use Rattle.nr_entries.proofs.Columns.{received_law as received_read, taken}
 use Rattle.nr_entries.proofs.Contents.{read_from}
-use Rattle.nr_entries.proofs.Rising.{both, holds_found, left, right}
+use Rattle.nr_entries.proofs.Rising.{holds_found, left, right}
 use Rattle.nr_state.specs.Flat.{flat, inputs_of}
 use Rattle.nr_state.specs.FromEntries.{world_from}
 use Rattle.nr_state.specs.Tokens.{world_tokens}
@@ -69,10 +69,6 @@ below_is a b h = grind (arith, nat_tests)
 
 most_is : (a b : ℕ) → nat_le a b ≡ true → a ≤ b
 most_is a b h = grind (arith, nat_tests)
-
-not_is : (a : Bool) → not a ≡ true → a ≡ false
-not_is true h = absurd (let no : false ≡ true = h in cc)
-not_is false h = refl
 
 -- ---- what is read from bytes fits
 module _ (es : List Entry) (bytes : AreBytes es) where
@@ -203,7 +199,7 @@ module _ (c : Config) (w : World) (h : accounts_fit c w ≡ true) where
         code = λ id has. owner_of id (get w.code id) has (code_owned id);
         data_of = λ k has. owner_of k.0 (get w.data_of k) has (datum_owned k);
         no_system = λ id has. not_system id (get w.accounts id) has (λ a is.
-            not_is (is_system id) (left (not (is_system id)) (a.storage_usage == usage_in c w id) (left (not (is_system id) && a.storage_usage == usage_in c w id) (bytes_eq a.code_hash.0 (code_hash_in w id).0) (one_fits id a is))));
+            not-true (is_system id) (left (not (is_system id)) (a.storage_usage == usage_in c w id) (left (not (is_system id) && a.storage_usage == usage_in c w id) (bytes_eq a.code_hash.0 (code_hash_in w id).0) (one_fits id a is))));
         usage = λ id a is.
             eqb-true _ _ (right (not (is_system id)) (a.storage_usage == usage_in c w id) (left (not (is_system id) && a.storage_usage == usage_in c w id) (bytes_eq a.code_hash.0 (code_hash_in w id).0) (one_fits id a is)));
         code_hash = λ id a is.
@@ -229,15 +225,15 @@ postponed_are c w h apart =
           let upto_distinct = left _ _ (left _ _ fits) in
           record {
             keyed = pair_is k (r.receiver, r.receipt_id.0) (left _ _ (left _ _ upto_distinct));
-            distinct = not_is _ (right _ _ upto_distinct);
+            distinct = not-true _ (right _ _ upto_distinct);
           };
       apart = λ j k q r id e f same p g.
           let one = each_so postponed_law.total postponed_law.exact w.postponed _ (each_so postponed_law.total postponed_law.exact w.postponed _ apart j q e) k r f in
           elim (or_cases _ _ one) [
             | inl t ↦ pair_is j k t
             | inr t ↦
-                let shares : shares_input q r ≡ true = both _ _ ((bytes_eq-Decides q.receiver r.receiver).1 same) (input_shared q r id p g) in
-                absurd (let no : true ≡ false = sym shares ∙ not_is _ t in cc)
+                let shares : shares_input q r ≡ true = and_from _ _ ((bytes_eq-Decides q.receiver r.receiver).1 same) (input_shared q r id p g) in
+                absurd (let no : true ≡ false = sym shares ∙ not-true _ t in cc)
           ];
     }
 

@@ -7,9 +7,10 @@ use Rattle.std.specs.List.{AllByRecursion, list_all}
 use Rattle.std.specs.Ordering.{eq_by_cmp, is_eq}
 use Rattle.std.specs.declared.cmp.Ordering.TheVariants.{Less, Equal, Greater}
 use Rattle.std.proofs.lemmas.Slice.Eq.{bytes_eq-Decides}
+use Rattle.std.proofs.lemmas.Bool.{and_from}
 use Rattle.nr_columns.proofs.Tables.{find_below, first, second}
 use Rattle.nr_entries.specs.Told.{same_pair}
-use Rattle.nr_entries.proofs.Rising.{both, left, right}
+use Rattle.nr_entries.proofs.Rising.{left, right}
 use Rattle.nr_worlds.specs.Valid.{each}
 
 -- ---- tests
@@ -18,16 +19,12 @@ same_test true b f g = sym (f refl)
 same_test false true f g = g refl
 same_test false false f g = refl
 
-pub not_true : (a : Bool) → (a ≡ true → ⊥) → a ≡ false
-not_true true h = absurd (h refl)
-not_true false h = refl
-
 -- ---- pairs of bytes
 pub pair_is : (j k : List ℕ × List ℕ) → same_pair j k ≡ true → j ≡ k
 pair_is j k h = λ i. ((bytes_eq-Decides j.0 k.0).0 (left _ _ h) i, (bytes_eq-Decides j.1 k.1).0 (right _ _ h) i)
 
 pub pair_itself : (k : List ℕ × List ℕ) → same_pair k k ≡ true
-pair_itself k = both _ _ ((bytes_eq-Decides k.0 k.0).1 refl) ((bytes_eq-Decides k.1 k.1).1 refl)
+pair_itself k = and_from _ _ ((bytes_eq-Decides k.0 k.0).1 refl) ((bytes_eq-Decides k.1 k.1).1 refl)
 
 pub same_so : (j k : List ℕ × List ℕ) → j ≡ k → same_pair j k ≡ true
 same_so j k e = subst (λ x. same_pair j x ≡ true) e (pair_itself j)
@@ -40,7 +37,7 @@ lists_are (x ∷ xs) (y ∷ ys) h = λ i. pair_is x y (left _ _ h) i ∷ lists_a
 
 lists_itself : (xs : List (List ℕ × List ℕ)) → pointwise same_pair xs xs ≡ true
 lists_itself [] = refl
-lists_itself (x ∷ xs) = both _ _ (pair_itself x) (lists_itself xs)
+lists_itself (x ∷ xs) = and_from _ _ (pair_itself x) (lists_itself xs)
 
 pub lists_so : (xs ys : List (List ℕ × List ℕ)) → xs ≡ ys → pointwise same_pair xs ys ≡ true
 lists_so xs ys e = subst (λ l. pointwise same_pair xs l ≡ true) e (lists_itself xs)
@@ -71,7 +68,7 @@ module _ {K X : Type 0} {R : K → K → Ordering} (o : IsTotalOrder R) (exact :
       go : (es : List (K × X)) → T (is_sorted R es) → ((k : K) (x : X) → find R k es ≡ Some x → test k x ≡ true) → list_all (λ (e : K × X). test e.0 e.1) es ≡ true
       go [] s all = refl
       go (e ∷ es) s all =
-          both _ _ (all e.0 e.1 (ap (λ b. cond b (Some e.1) (find R e.0 es)) ((eq_by_cmp_equiv o).refl e.0)))
+          and_from _ _ (all e.0 e.1 (ap (λ b. cond b (Some e.1) (find R e.0 es)) ((eq_by_cmp_equiv o).refl e.0)))
           (go es (second _ _ s) (λ k x is. all k x (later k x is (eq_by_cmp R k e.0) refl)))
         where
           later : (k : K) (x : X) → find R k es ≡ Some x → (t : Bool) → eq_by_cmp R k e.0 ≡ t → cond t (Some e.1) (find R k es) ≡ Some x

@@ -1,6 +1,6 @@
 -- Postponed receipts that wait for inputs of their own, told by the columns of who waits and of how many inputs are missing.
 use Rattle.std.proofs.Common.{◌≡◌, ℕ, suc, ◌+◌, Bool, true, false, cond, T, List, [], ◌∷◌, ◌++◌, ◌&&◌, ◌||◌, length, map, Option, Some, None, refl, sym, ap, subst, ◌∙◌, arith}
-use Rattle.std.specs.Prelude.{bytes_eq, not}
+use Rattle.std.specs.Prelude.{bytes_eq}
 use Rattle.std.specs.FinMap.{FinMap, find, get, is_sorted}
 use Rattle.std.specs.FinMap.Entries.{below_all}
 use Rattle.std.specs.List.{AllByRecursion, list_all, list_any}
@@ -37,10 +37,6 @@ is_number_so n (Some m) h = ap (λ x. Some x) (eqb-true m n h)
 
 pub is_number_of : (n : ℕ) (o : Option ℕ) → o ≡ Some n → is_number n o ≡ true
 is_number_of n o e = ap (is_number n) e ∙ eq-eqb n n refl
-
-pub not_is : (a : Bool) → not a ≡ true → a ≡ false
-not_is true h = absurd (let no : false ≡ true = h in cc)
-not_is false h = refl
 
 -- a test of the values is one of the entries
 pub values_each : {K X : Type 0} (p : X → Bool) (es : List (K × X)) → list_all p (map (λ (e : K × X). e.1) es) ≡ list_all (λ (e : K × X). p e.1) es

@@ -4,7 +4,7 @@ use Rattle.std.specs.Prelude.{bytes_eq, not, sum_by}
 use Rattle.std.specs.FinMap.{FinMap, entries, entries_sorted, get, values}
 use Rattle.std.specs.List.{AllByRecursion, list_all, list_any}
 use Rattle.std.specs.Option.{option_map}
-use Rattle.std.proofs.lemmas.Bool.{eq-eqb, eqb-true, or_cases}
+use Rattle.std.proofs.lemmas.Bool.{eq-eqb, eqb-true, or_cases, and_from, not-true}
 use Rattle.std.proofs.lemmas.Slice.Eq.{bytes_eq-Decides}
 use Rattle.nr_ids.specs.declared.key.Hash32.{Hash32}
 use Rattle.nr_records.specs.declared.receipt.Receipt.{Receipt}
@@ -13,7 +13,7 @@ use Rattle.nr_columns.specs.Orders.{pair_cmp}
 use Rattle.nr_columns.specs.declared.entry.Entry.{Entry}
 use Rattle.nr_entries.specs.Counting.{count_in}
 use Rattle.nr_entries.proofs.Listed.{counted, listed_map, one_each, rising_apart}
-use Rattle.nr_entries.proofs.Rising.{both, left, right}
+use Rattle.nr_entries.proofs.Rising.{left, right}
 use Rattle.nr_state.specs.Flat.{awaited_in, inputs_of, missing_in, missing_inputs}
 use Rattle.nr_state.specs.Queues.{is_act}
 use Rattle.nr_state.specs.Valid.{Waits}
@@ -25,7 +25,7 @@ use Rattle.nr_state.proofs.OwnInputs.{waits_lacking}
 use Rattle.nr_worlds.specs.Tests.{inputs_count, is_hash, is_waiting, waiting_told}
 use Rattle.nr_worlds.specs.Valid.{each}
 use Rattle.nr_worlds.proofs.Tested.{each_of, each_so, entries_all}
-use Rattle.nr_worlds.proofs.WaitingReceipts.{Good, all_found, awaited_all, awaits_apart, is_hash_of, is_hash_so, is_number_of, is_number_so, length_awaits, length_mapped, not_is, values_each}
+use Rattle.nr_worlds.proofs.WaitingReceipts.{Good, all_found, awaited_all, awaits_apart, is_hash_of, is_hash_so, is_number_of, is_number_so, length_awaits, length_mapped, values_each}
 
 -- a test of all inputs is one of each
 picked : (p : Hash32 → Bool) (id : Hash32) (ids : List Hash32) → list_all p ids ≡ true → list_any (λ input. bytes_eq input.0 id.0) ids ≡ true → p id ≡ true
@@ -38,7 +38,7 @@ picked p id (i ∷ ids) h any = elim (or_cases _ _ any) [
 all_picked : (p : Hash32 → Bool) (ids : List Hash32) → ((id : Hash32) → list_any (λ input. bytes_eq input.0 id.0) ids ≡ true → p id ≡ true) → list_all p ids ≡ true
 all_picked p [] h = refl
 all_picked p (i ∷ ids) h =
-    both _ _ (h i (ap (λ b. b || list_any (λ input. bytes_eq input.0 i.0) ids) ((bytes_eq-Decides i.0 i.0).1 refl)))
+    and_from _ _ (h i (ap (λ b. b || list_any (λ input. bytes_eq input.0 i.0) ids) ((bytes_eq-Decides i.0 i.0).1 refl)))
     (all_picked p ids (λ id e. h id (later (bytes_eq i.0 id.0) e)))
   where
     later : {c : Bool} (b : Bool) → c ≡ true → (b || c) ≡ true
@@ -69,7 +69,7 @@ module _ (k : Columns) (es : List Entry)
         let t = waits_each q r is in
         record {
           keyed = keyed q r is;
-          distinct = not_is _ (right _ _ (left _ _ (left _ _ t)));
+          distinct = not-true _ (right _ _ (left _ _ (left _ _ t)));
           awaited = awaited_all k r (inputs_of r.body) (right _ _ t);
         }
 
@@ -140,8 +140,8 @@ module _ (k : Columns) (es : List Entry)
     waiting_one q r is =
         let count : get k.missing (r.receiver, r.receipt_id.0) ≡ Some (missing_inputs w r) =
         ap (get k.missing) (sym (keyed q r is)) ∙ ap (λ m. get m q) (sym missing) ∙ missing_at w q ∙ ap (option_map (missing_inputs w)) is in
-        both _ _ (both _ _ (both _ _ (acts q r is) (ap not (are.each q r is).distinct))
-        (both _ _ (waits_lacking w r ∙ waiting q r is) (is_number_of (missing_inputs w r) _ count)))
+        and_from _ _ (and_from _ _ (and_from _ _ (acts q r is) (ap not (are.each q r is).distinct))
+        (and_from _ _ (waits_lacking w r ∙ waiting q r is) (is_number_of (missing_inputs w r) _ count)))
         (all_picked (λ input. is_hash r.receipt_id (get k.awaited (r.receiver, input.0))) (inputs_of r.body)
         (λ id has. is_hash_of r.receipt_id _ (awaits_it q r id is has)))
 
@@ -168,4 +168,4 @@ module _ (k : Columns) (es : List Entry)
         ∙ length_mapped lacks ps ∙ sym (length_mapped (λ (e : Key × Receipt). e.1) ps)
 
     pub waiting_again : waiting_told k es ≡ true
-    waiting_again = both _ _ (both _ _ (eq-eqb _ _ missing_counted) (eq-eqb _ _ awaited_counted)) all_waiting
+    waiting_again = and_from _ _ (and_from _ _ (eq-eqb _ _ missing_counted) (eq-eqb _ _ awaited_counted)) all_waiting

@@ -5,7 +5,7 @@ use Rattle.std.specs.FinMap.{entries, entries_sorted, get, values}
 use Rattle.std.specs.FinMap.Entries.{is_sorted}
 use Rattle.std.specs.List.{list_all}
 use Rattle.std.specs.Option.{option_and_then}
-use Rattle.std.proofs.lemmas.Bool.{eqb-true}
+use Rattle.std.proofs.lemmas.Bool.{eqb-true, and_from, false_from_ne_true}
 use Rattle.std.proofs.lemmas.Bool.Decides.{nat_tests}
 use Rattle.nr_bytes.specs.Numbers.{IsBytes}
 use Rattle.nr_bytes.specs.Spelling.{Below, Both}
@@ -28,7 +28,7 @@ use Rattle.nr_entries.specs.Told.{AreBytes, are_told, is_id, is_id_and_hash, is_
 use Rattle.nr_entries.proofs.ColumnSums.{awaited_count, delayed_count, missing_count}
 use Rattle.nr_entries.proofs.Columns.{queue_law, taken}
 use Rattle.nr_entries.proofs.Contents.{laid_entries, read_from}
-use Rattle.nr_entries.proofs.Rising.{all_pass, both, found_holds, holds_found, left, pass_all, right, rises_of}
+use Rattle.nr_entries.proofs.Rising.{all_pass, found_holds, holds_found, left, pass_all, right, rises_of}
 use Rattle.nr_state.specs.Flat.{awaited_in, missing_in}
 use Rattle.nr_state.specs.FromEntries.{AreWholeEntries}
 use Rattle.nr_state.specs.Tokens.{world_tokens}
@@ -43,7 +43,7 @@ use Rattle.nr_worlds.proofs.AccountsTold.{accounts_fit_so, accounts_told_so}
 use Rattle.nr_worlds.proofs.Passing.{all_bounded_so, apart_of, bounded_so, most_so}
 use Rattle.nr_worlds.proofs.Queues.{delayed_is, queue_is, queue_so}
 use Rattle.nr_worlds.proofs.Sound.{id_is, sound, world_fits}
-use Rattle.nr_worlds.proofs.Tested.{each_of, each_so, lists_so, not_true, pair_is, same_so, same_test}
+use Rattle.nr_worlds.proofs.Tested.{each_of, each_so, lists_so, pair_is, same_so, same_test}
 use Rattle.nr_worlds.proofs.ToldAgain.{told_by}
 use Rattle.nr_worlds.proofs.WaitingReceipts.{values_each}
 use Rattle.nr_worlds.proofs.WaitingTold.{act_so, awaited_is, missing_is, postponed_is, waiting_again, waits_so}
@@ -84,7 +84,7 @@ module _ (es : List Entry) (bytes : AreBytes es) (order : rises es ≡ true) (to
 
   pub names_told : names_fit w ≡ true
   names_told =
-      both _ _ (both _ _ (both _ _ (both _ _ (both _ _
+      and_from _ _ (and_from _ _ (and_from _ _ (and_from _ _ (and_from _ _
       (each_of accounts_law.total accounts_law.exact w.accounts _ (λ id a is.
       let one = read_from accounts_law contents id a is in
       left _ _ (byte_told 0 id one.value one.there)))
@@ -176,11 +176,11 @@ module _ (es : List Entry) (bytes : AreBytes es) (order : rises es ≡ true) (to
         let are = postponed_is k es keyed_told count4 count5 waiting in
         let whole = whole_told queue (awaited_is k es keyed_told count4 count5 waiting) (missing_is k es keyed_told count4 count5 waiting) are in
         let bounded = each_so pair_total pair_exact k.postponed (λ q r. is_bounded c r) (sym (values_each (is_bounded c) (entries k.postponed)) ∙ left P D (left (P && D) N tokens)) in
-        both _ _ (both _ _ (both _ _ (lists_so _ _ (pairs_again es whole)) names_told) (numbers_told_fit queue))
-        (both _ _ (both _ _ (accounts_fit_so c es bytes order told accounts)
-        (both _ _ (both _ _
+        and_from _ _ (and_from _ _ (and_from _ _ (lists_so _ _ (pairs_again es whole)) names_told) (numbers_told_fit queue))
+        (and_from _ _ (and_from _ _ (accounts_fit_so c es bytes order told accounts)
+        (and_from _ _ (and_from _ _
         (each_of postponed_law.total postponed_law.exact w.postponed (postponed_fits c w) (λ q r is.
-        both _ _ (both _ _ (both _ _ (both _ _ (same_so q _ (keyed_told q r is)) (act_so k es keyed_told count4 count5 waiting q r is))
+        and_from _ _ (and_from _ _ (and_from _ _ (and_from _ _ (same_so q _ (keyed_told q r is)) (act_so k es keyed_told count4 count5 waiting q r is))
         (ap not (are.each q r is).distinct)) (waits_so k es keyed_told count4 count5 waiting q r is)) (bounded q r is)))
         (apart_of w are)) (right P D (left (P && D) N tokens))))
         (ap (λ n. nat_le n (2 ^ 127)) (sym tokens_alike) ∙ right (P && D) N tokens))
@@ -203,12 +203,12 @@ module _ (c : Config) (es : List Entry) (bytes : AreBytes es) (h : is_world c es
       let o = sound c es bytes h in
       let derived = o.whole.whole.derived in
       let waiting = o.valid.waiting in
-      both _ _ (both _ _ (both _ _
+      and_from _ _ (and_from _ _ (and_from _ _
       (queue_so k es (delayed_count es bytes world_rises world_are_told) (ap (λ j. j.queue) derived) (ap (λ j. j.delayed) derived))
       (waiting_again k es (λ q r is. (waiting.postponed.each q r is).keyed) (awaited_count es bytes world_rises world_are_told) (missing_count es bytes world_rises world_are_told)
       (ap (λ j. j.awaited) derived) (ap (λ j. j.missing) derived) waiting.postponed waiting.actions waiting.waits))
       (accounts_told_so c es bytes world_rises world_are_told o.valid.accounts))
-      (both _ _ (both _ _
+      (and_from _ _ (and_from _ _
       (values_each (is_bounded c) (entries k.postponed) ∙ each_of pair_total pair_exact k.postponed (λ q r. is_bounded c r) (λ q r is. bounded_so c r (waiting.bounded q r is)))
       (all_bounded_so c (delayed_in k) waiting.delayed))
       (ap (λ n. nat_le n (2 ^ 127)) (tokens_alike es bytes world_rises world_are_told c) ∙ most_so _ _ o.valid.tokens))
@@ -218,8 +218,8 @@ pub passes_is : (c : Config) (es : List Entry) → AreBytes es → (rises es && 
 passes_is c es bytes told = same_test _ _ (world_told es bytes (left _ _ told) (right _ _ told) c) (world_passes c es bytes)
 
 pub untold_is : (c : Config) (es : List Entry) → AreBytes es → (rises es && are_told es) ≡ false → false ≡ is_world c es
-untold_is c es bytes untold = sym (not_true (is_world c es) (λ h.
-    let no : true ≡ false = sym (both _ _ (world_rises c es bytes h) (world_are_told c es bytes h)) ∙ untold in cc))
+untold_is c es bytes untold = sym (false_from_ne_true (is_world c es) (λ h.
+    let no : true ≡ false = sym (and_from _ _ (world_rises c es bytes h) (world_are_told c es bytes h)) ∙ untold in cc))
 
 pub passes_as : (c : Config) (es : List Entry) (v : ColumnsView) → AreBytes es → StandsFor es (Some v) → passes c v.columns es ≡ is_world c es
 passes_as c es v bytes stands = ap (λ k. passes c k es) stands.1 ∙ passes_is c es bytes stands.0
