@@ -1,5 +1,5 @@
 -- What the phases of a chunk make of a world that lives in its shard.
-use Rattle.std.proofs.Common.{◌≡◌, ℕ, zero, suc, ◌+◌, ◌<◌, Bool, true, false, cond, List, [], ◌∷◌, map, length}
+use Rattle.std.proofs.Common.{◌≡◌, ℕ, zero, suc, ◌+◌, ◌<◌, Bool, true, false, cond, List, [], ◌∷◌, ◌++◌, map, length}
 use Rattle.std.proofs.Common.{Some, None, Ok, Err, refl, sym, ap, subst, ◌∙◌, arith}
 use Rattle.std.specs.Prelude.{fold, slice_get, slice_index_or, sum_by, unwrap_or}
 use Rattle.std.specs.Cmp.Lexicographic.{nat_list_cmp_total}
@@ -7,7 +7,6 @@ use Rattle.std.specs.FinMap.{get}
 use Rattle.std.specs.List.{AllByRecursion, range_with_len}
 use Rattle.std.proofs.lemmas.List.Sums.{sum_by-cons}
 use Rattle.std.proofs.lemmas.Map.Lookups.{exact_bytes}
-use Rattle.std.proofs.ByRecursion.{All-push}
 use Rattle.nr_apart.proofs.Only.{only_world}
 use Rattle.nr_apart.specs.Apart.{AreTo, StartsApart, StaysApart}
 use Rattle.nr_chunk.proofs.Localized.{valid_keyed}
@@ -51,6 +50,10 @@ use Rattle.nr_txconvert.specs.declared.converted.Converted.{Converted}
 record Lives (x : List ℕ → Bool) (w : World) : Type 0 where
   only : HasOnly x w
   stays : Stays x w
+
+push : {A : Type 0} (P : A → Type 0) (xs : List A) (y : A) → AllByRecursion P xs → P y → AllByRecursion P (xs ++ y ∷ [])
+push P [] y all here = (here, tt)
+push P (x ∷ xs) y all here = (all.0, push P xs y all.1 here)
 
 -- the world of a conversion that is put together from two
 came_over : (p : Scope) (w : World) (made : World × Converted) → Ok made ≡ over_conversion p w (Ok made)
@@ -101,7 +104,7 @@ module _ (c : Config) (call : World → CallContext → Called) (local : IsLocal
 
   aside : (b : Bool) (k : Working) (list : List Receipt) (r : Receipt) → (b ≡ true → IsFor x r) → Lives x k.world
       → AllByRecursion (IsFor x) list → Opens (put_aside b k list r)
-  aside true k list r here h all = record { lives = h; listed = All-push (IsFor x) list r all (here refl) }
+  aside true k list r here h all = record { lives = h; listed = push (IsFor x) list r all (here refl) }
   aside false k list r here h all = record { lives = h; listed = all }
 
   by_came : (o : Opening) (tx : Transaction) (came : Conversion) → x tx.signer ≡ true → Opens o

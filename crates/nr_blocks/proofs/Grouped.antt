@@ -1,10 +1,11 @@
 -- Entries that stand behind their accounts: that each has an owner is seen without a set of ids.
-use Rattle.std.proofs.Common.{◌≡◌, ℕ, zero, suc, ◌+◌, ◌<◌, Bool, true, false, List, [], ◌∷◌, drop, length, get_or, Option, Some, None, Ok, Err, refl, sym, ap, subst, ◌∙◌}
+use Rattle.std.proofs.Common.{◌≡◌, ℕ, zero, suc, ◌+◌, ◌<◌, Bool, true, false, List, [], ◌∷◌, drop, length, get_or, Some, None, Ok, Err, refl, sym, ap, subst, ◌∙◌}
 use Rattle.std.specs.Prelude.{◌&&◌, ◌||◌, ◌==◌, not, if◌then◌else◌}
 use Rattle.std.specs.Str.{bytes_eq}
 use Rattle.std.proofs.lemmas.Option.{same_Some}
 use mathlib.Core.Bool.{or-true}
 use Rattle.std.proofs.lemmas.Bool.{and_from}
+use Rattle.nr_bytes.proofs.Basics.{none≢some}
 use Rattle.nr_ids.specs.Grammar.{is_system}
 use Rattle.nr_records.specs.declared.account.Account.{Account}
 use Rattle.nr_state.proofs.ValidOwned.{same_id, itself}
@@ -15,9 +16,6 @@ use Rattle.nr_blocks.specs.Groups.{again, grouped, is_again, known_after}
 use Rattle.nr_blocks.specs.declared.fault.GenesisFault.TheVariants.{NoOwner}
 use Rattle.nr_blocks.specs.declared.genesis_entry.GenesisEntry.{GenesisEntry}
 use Rattle.nr_blocks.specs.declared.genesis_entry.GenesisEntry.TheVariants as kind
-
-none≢some : {A : Type 0} (x : A) → ◌≡◌ {A = Option A} None (Some x) → ⊥
-none≢some x e = cc
 
 -- ---- an account of the list
 more : (x : GenesisEntry) (es : List GenesisEntry) (q : List ℕ) → is_account es q ≡ true → is_account (x ∷ es) q ≡ true

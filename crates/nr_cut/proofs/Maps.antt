@@ -1,7 +1,7 @@
 -- Finite maps side by side, and the part of one whose keys pass a test: what is found in them, and sums over them.
 use Rattle.std.proofs.Common.{◌≡◌, ℕ, zero, suc, ◌+◌, ◌<◌, ◌≤◌, Bool, true, false, cond, List, [], ◌∷◌, ◌++◌}
 use Rattle.std.proofs.Common.{Option, Some, None, Ordering, inl, inr, rules, refl, sym, ap, ◌∙◌, arith}
-use Rattle.std.specs.Prelude.{T, ◌&&◌, ◌==◌, sum_by, filter, is_some, IsSome}
+use Rattle.std.specs.Prelude.{T, ◌==◌, sum_by, filter, is_some, IsSome}
 use Rattle.std.specs.declared.cmp.Ordering.TheVariants.{Less, Equal, Greater}
 use Rattle.std.specs.FinMap.{FinMap, IsAntisymmetric, empty, get, retain_keys, entries, from_entries, entries_sorted}
 use Rattle.std.specs.FinMap.{get-entries, get-from_entries, get-retain_keys, len-empty, len-entries, same_map}
@@ -12,6 +12,7 @@ use Rattle.std.specs.List.{range_with_len}
 use Rattle.std.proofs.lemmas.List.{nil_from_length}
 use Rattle.std.proofs.lemmas.List.Sums.{sum_by-cons, sum_by-append}
 use Rattle.std.proofs.lemmas.Bool.{cases_eq}
+use Rattle.nr_bytes.proofs.Basics.{left_of, right_of}
 use Rattle.nr_cut.specs.Cut.{joined}
 use Rattle.nr_state.proofs.ValidSums.{at_key, sum-insert, entries-retain_keys}
 pub use Rattle.nr_state.proofs.ValidSums.{sum_of_values}
@@ -99,14 +100,6 @@ sum_spread f to n within (x ∷ xs) =
     ∙ sym (sum_by-cons f x xs)
 
 -- ---- what is found
-first_of_both : (a b : Bool) → T (a && b) → T a
-first_of_both true b p = tt
-first_of_both false b p = absurd p
-
-second_of_both : (a b : Bool) → T (a && b) → T b
-second_of_both true b p = p
-second_of_both false b p = absurd p
-
 less : (o : Ordering) → T (is_lt o) → is_eq o ≡ false
 less Less p = refl
 less Equal p = absurd p
@@ -128,8 +121,8 @@ module _ {K X : Type 0} (R : K → K → Ordering) where
   find_below : (q : K) (es : List (K × X)) → T (below_all R q es) → find R q es ≡ None
   find_below q [] h = refl
   find_below q (e ∷ es) h =
-      ap (λ b. cond b (Some e.1) (find R q es)) (less (R q e.0) (first_of_both _ _ h))
-      ∙ find_below q es (second_of_both _ _ h)
+      ap (λ b. cond b (Some e.1) (find R q es)) (less (R q e.0) (left_of _ _ h))
+      ∙ find_below q es (right_of _ _ h)
 
   -- no key stands twice
   abbrev Once : List (K × X) → Type 0
@@ -139,7 +132,7 @@ module _ {K X : Type 0} (R : K → K → Ordering) where
   once_sorted : (es : List (K × X)) → T (is_sorted R es) → Once es
   once_sorted [] h = tt
   once_sorted (e ∷ es) h =
-      (find_below e.0 es (first_of_both _ _ h), once_sorted es (second_of_both _ _ h))
+      (find_below e.0 es (left_of _ _ h), once_sorted es (right_of _ _ h))
 
 module _ {K X : Type 0} {R : K → K → Ordering} (o : IsTotalOrder R) (same : IsAntisymmetric R) where
   found_first : (e : K × X) (es : List (K × X)) → IsSome (find R e.0 (e ∷ es))

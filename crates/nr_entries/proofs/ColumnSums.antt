@@ -7,6 +7,7 @@ use Rattle.std.specs.Ordering.{eq_by_cmp}
 use Rattle.std.proofs.lemmas.Bool.{eqb-true}
 use Rattle.std.proofs.lemmas.Bool.Decides.{nat_tests}
 use Rattle.std.proofs.lemmas.List.Sums.{sum_by-cons}
+use Rattle.nr_bytes.proofs.Basics.{left_true, right_true}
 use Rattle.nr_bytes.specs.Numbers.{IsBytes, little}
 use Rattle.nr_columns.specs.Entries.{contents_of}
 use Rattle.nr_columns.specs.Orders.{bytes_cmp}
@@ -20,7 +21,6 @@ use Rattle.nr_entries.specs.Order.{rises}
 use Rattle.nr_entries.specs.Told.{AreBytes, are_told, is_told, is_told_in}
 use Rattle.nr_entries.proofs.Columns.{IsOf, awaited_of, delayed_of, missing_of}
 use Rattle.nr_entries.proofs.Listed.{one_each}
-use Rattle.nr_entries.proofs.Rising.{left, right}
 use Rattle.nr_entries.proofs.Sums.{Counts, CountsNothing, sum_told}
 
 -- one for each entry of a column
@@ -79,7 +79,7 @@ module _ {K X : Type 0} {t : Table K X} (is : IsTable t) (column : ℕ)
 
   all_cases : (es : List Entry) → AreBytes es → are_told es ≡ true → AllByRecursion (λ e. Case e.key e.value) es
   all_cases [] bytes h = tt
-  all_cases (e ∷ es) bytes h = (one_case e.key e.value bytes.0.0 bytes.0.1 (left _ _ h), all_cases es bytes.1 (right _ _ h))
+  all_cases (e ∷ es) bytes h = (one_case e.key e.value bytes.0.0 bytes.0.1 (left_true _ _ h), all_cases es bytes.1 (right_true _ _ h))
 
   column_count : (es : List Entry) → AreBytes es → rises es ≡ true → are_told es ≡ true → count_in column es ≡ sum_by one_each (entries (part t (contents_of es)))
   column_count es bytes order told = count_is_sum column es ∙ sum_told is one_each (one_in column) es order (all_cases es bytes told)

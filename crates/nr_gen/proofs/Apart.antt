@@ -30,14 +30,6 @@ other_text f a b apart = go (bytes_eq a b) refl
     go false h = h
 
 -- ---- what holds of all
-pub all_both : {X : Type 0} (P : X → Type 0) (xs ys : List X) → AllByRecursion P xs → AllByRecursion P ys → AllByRecursion P (xs ++ ys)
-all_both P [] ys p q = q
-all_both P (x ∷ xs) ys p q = (p.0, all_both P xs ys p.1 q)
-
-pub all_so : {X : Type 0} (P Q : X → Type 0) → ((x : X) → P x → Q x) → (xs : List X) → AllByRecursion P xs → AllByRecursion Q xs
-all_so P Q so [] p = tt
-all_so P Q so (x ∷ xs) p = (so x p.0, all_so P Q so xs p.1)
-
 pub all_two : {X : Type 0} (P Q : X → Type 0) (xs : List X) → AllByRecursion P xs → AllByRecursion Q xs → AllByRecursion (λ x. P x × Q x) xs
 all_two P Q [] p q = tt
 all_two P Q (x ∷ xs) p q = ((p.0, q.0), all_two P Q xs p.1 q.1)

@@ -1,8 +1,8 @@
 -- The serial run as steps, the slowest shard first: a property that steps keep holds at each of its moments.
 use Rattle.std.proofs.Common.{◌≡◌, ℕ, zero, suc, ◌+◌, ◌<◌, ◌≤◌, true, List, Some, None, length, inl, inr, ◌⊎◌, sym, refl, ap, ◌∙◌, subst, arith, add-one}
-use Rattle.std.specs.Prelude.{slice_get, nat_lt, ◌&&◌}
-use Rattle.std.proofs.lemmas.Option.{slice_get_cases}
+use Rattle.std.specs.Prelude.{nat_lt, ◌&&◌}
 use Rattle.std.proofs.lemmas.Bool.{cases_eq}
+use Rattle.nr_bytes.proofs.Basics.{within_some}
 use Rattle.nr_overlap.specs.Rules.{Rules}
 use Rattle.nr_overlap.specs.Serial.{due_after}
 use Rattle.nr_overlap.specs.Inside.{IsInside, actor}
@@ -140,9 +140,6 @@ module _ {W K L R : Type 0} (r : Rules W K L R) (Q : List Position → Type 0)
           ];
         },
       )
-
-  within_some : {A : Type 0} (xs : List A) (i : ℕ) → i < length xs → (a : A) × (slice_get xs i ≡ Some a)
-  within_some xs i l = elim ((slice_get_cases xs i).1) [ inl p ↦ (p.0, p.2) | inr p ↦ absurd (omega (arith, p.0, l)) ]
 
   to_taken : (s h n : ℕ) (ps : List Position) → s < r.shards → h < r.heights → n ≤ length (due_after r s h) → IsOpen s h 0 ps → (qs : List Position) × IsOpen s h n qs
   to_taken s h zero ps l below few is = (ps, is)

@@ -2,9 +2,9 @@
 use Rattle.std.proofs.Common.{◌≡◌, ℕ, ◌+◌, ◌-◌, ◌<◌, ◌≤◌, Bool, true, false, cond, List, [], ◌∷◌, Option, Some, None, length, inl, inr, sym, refl, ap, ◌∙◌, subst, arith}
 use Rattle.std.specs.Prelude.{slice_get, nat_lt, ◌||◌}
 use Rattle.std.specs.Option.{option_map}
-use Rattle.std.proofs.lemmas.Option.{slice_get_cases}
 use Rattle.std.proofs.lemmas.List.{get_or_past}
 use Rattle.std.proofs.lemmas.Bool.{false_from_ne_true, cases_eq}
+use Rattle.nr_bytes.proofs.Basics.{within_some}
 use Rattle.nr_overlap.specs.Cut.{Cut, IsSerialCut, CutsAreSerial, put, first_cut, took_value, sealed_value, list_for, stepped, stepped_if, cut_of}
 use Rattle.nr_overlap.specs.Rules.{Rules, Sealing}
 use Rattle.nr_overlap.specs.Serial.{due_after, last_work, list_to, sealing_at, with_list, work, world_after}
@@ -274,9 +274,6 @@ module _ {W K L R : Type 0} (r : Rules W K L R) where
 
   -- ---- a list is taken
   module _ (one_each : (k : K) → length (r.seals k).lists ≡ r.shards) where
-    within_some : {A : Type 0} (xs : List A) (i : ℕ) → i < length xs → (a : A) × (slice_get xs i ≡ Some a)
-    within_some xs i l = elim ((slice_get_cases xs i).1) [ inl p ↦ (p.0, p.2) | inr p ↦ absurd (omega (arith, p.0, l)) ]
-
     -- the list of a due pair
     due_list : (i n k : ℕ) (pair : ℕ × ℕ) → i < r.shards → slice_get (due_after r i n) k ≡ Some pair → (list : L) × (list_to r (sealing_at r pair.1 pair.0) i ≡ Some list)
     due_list i n k pair l next =

@@ -4,6 +4,7 @@ use Rattle.std.specs.Prelude.{slice_get, slice_set, ◌==◌}
 use Rattle.std.proofs.lemmas.List.{get_or-set_same, get_or-set_other}
 use Rattle.std.proofs.lemmas.Option.{slice_get_within, slice_get_cases}
 use Rattle.std.proofs.lemmas.Bool.{cases_eq, or_cases}
+use Rattle.nr_bytes.proofs.Basics.{left_true, right_true}
 use Rattle.nr_overlap.specs.Rules.{Rules}
 use Rattle.nr_overlap.specs.Serial.{due_after}
 use Rattle.nr_overlap.specs.Positions.{at, start}
@@ -16,7 +17,7 @@ use Rattle.nr_overlap.specs.declared.event.Event.TheVariants.{OpenChunk, TakeLis
 use Rattle.nr_overlap.specs.declared.position.Stage.{Stage}
 use Rattle.nr_overlap.specs.declared.position.Stage.TheVariants.{Opened}
 use Rattle.nr_overlap.specs.declared.position.Position.{Position}
-use Rattle.nr_overlap.proofs.Basics.{and_left, and_right, eq_of}
+use Rattle.nr_overlap.proofs.Basics.{eq_of}
 use Rattle.nr_overlap.proofs.Enabled.{can_open, can_take, can_seal, can_publish}
 use Rattle.nr_overlap.proofs.Claims.{took_open, took_take, took_seal, took_publish, took_missing}
 
@@ -91,8 +92,8 @@ module _ {W K L R : Type 0} (r : Rules W K L R) where
     where
       same_pair : (h t : ℕ) (pair : ℕ × ℕ) (g u : ℕ) → pair.0 ≡ g → pair.1 ≡ u → is_pair h t pair ≡ true → g ≤ (at ps u).number → h ≤ (at ps t).number
       same_pair h t pair g u a b e l =
-          let p : pair.0 ≡ h = eq_of pair.0 h (and_left (pair.0 == h) (pair.1 == t) e) in
-          let q : pair.1 ≡ t = eq_of pair.1 t (and_right (pair.0 == h) (pair.1 == t) e) in
+          let p : pair.0 ≡ h = eq_of pair.0 h (left_true (pair.0 == h) (pair.1 == t) e) in
+          let q : pair.1 ≡ t = eq_of pair.1 t (right_true (pair.0 == h) (pair.1 == t) e) in
           subst (λ w. h ≤ (at ps w).number) (sym b ∙ q) (subst (λ w. w ≤ (at ps u).number) (sym a ∙ p) l)
   keeps_reached ps (SealChunk x) is inside n =
       let s : ℕ = x.0 in

@@ -4,9 +4,10 @@ use Rattle.std.specs.Prelude.{slice_get, slice_set, ◌||◌, Vec, unwrap_or, Re
 use Rattle.std.specs.declared.alloc.Global.{Global}
 use Rattle.std.specs.declared.alloc.AllocError.{AllocError}
 use Rattle.std.specs.Option.{option_map}
-use Rattle.std.proofs.lemmas.Option.{slice_get_within, slice_get_cases, slice_get_read, get_or_from_slice_get}
+use Rattle.std.proofs.lemmas.Option.{slice_get_within, slice_get_read, get_or_from_slice_get}
 use Rattle.std.specs.Global.{Box}
 use Rattle.std.proofs.lemmas.Bool.{false_from_ne_true, cases_eq}
+use Rattle.nr_bytes.proofs.Basics.{within_some}
 use Rattle.nr_overlap.specs.Rules.{Rules}
 use Rattle.nr_overlap.specs.Lawful.{AreLawful}
 use Rattle.nr_overlap.specs.Serial.{due_after, list_to, with_list, sealing_at, work, world_after}
@@ -434,9 +435,6 @@ module _ {W K L R : Type 0} (r : Rules W K L R) where
   taken_list x d s h q is in_d in_s next =
       is.lists s h d in_s in_d ∙ flight_due r x.positions.items d s h next.free (omega (arith, next.published, number_top (at x.positions.items s).stage (at x.positions.items s).number))
       ∙ (λ i. list_to r (sealing_at r (sym next.source i) (sym next.height i)) d)
-
-  within_some : {A : Type 0} (xs : List A) (i : ℕ) → i < length xs → (a : A) × (slice_get xs i ≡ Some a)
-  within_some xs i l = elim ((slice_get_cases xs i).1) [ inl p ↦ (p.0, p.2) | inr p ↦ absurd (omega (arith, p.0, l)) ]
 
   -- and it is there
   some_list : (x : Shards W K L R) (d s h : ℕ) (q : Position) → ((k : K) → length (r.seals k).lists ≡ r.shards) → d < r.shards → (next : IsNext x d s h q) → (list : L) × (list_to r (sealing_at r next.pair.1 next.pair.0) d ≡ Some list)

@@ -3,8 +3,8 @@ use Rattle.std.proofs.Common.{◌≡◌, ℕ, zero, suc, ◌+◌, ◌-◌, ◌<�
 use Rattle.std.specs.Prelude.{slice_get, nat_le, ◌||◌, sum_by}
 use Rattle.std.specs.Option.{option_map}
 use Rattle.std.proofs.lemmas.List.Sums.{sum_by-cons}
-use Rattle.std.proofs.lemmas.Option.{slice_get_cases}
 use Rattle.std.proofs.lemmas.Bool.{false_from_ne_true, cases_eq}
+use Rattle.nr_bytes.proofs.Basics.{within_some}
 use Rattle.nr_overlap.specs.Rules.{Rules, Sealing}
 use Rattle.nr_overlap.specs.Serial.{last_work, due_after, list_to, world_after, sealing_at, work, past_after}
 use Rattle.nr_overlap.specs.Positions.{at, top, top_at, start}
@@ -188,9 +188,6 @@ module _ {W K L R : Type 0} (r : Rules W K L R) (m : Amount W K L R) where
   number_top Idle n = omega arith
   number_top Opened n = omega arith
   number_top Sealed n = omega arith
-
-  within_some : {A : Type 0} (xs : List A) (i : ℕ) → i < length xs → (a : A) × (slice_get xs i ≡ Some a)
-  within_some xs i l = elim ((slice_get_cases xs i).1) [ inl p ↦ (p.0, p.2) | inr p ↦ absurd (omega (arith, p.0, l)) ]
 
   abbrev pub holds_in : ℕ → Stage → ℕ → ℕ → ℕ
   holds_in s t n k = if_some m.world (world_in r s t n) + if_some (m.working s n k) (working_in r s t n k)

@@ -2,6 +2,7 @@
 use Rattle.std.proofs.Common.{◌≡◌, ◌+◌, ℕ, zero, suc, List, [], ◌∷◌, ◌++◌, map, Some, None, refl, ap, sym, subst, ◌∙◌, arith, append-nil}
 use Rattle.std.specs.List.{AllByRecursion}
 use Rattle.std.specs.FinMap.{empty}
+use Rattle.nr_bytes.proofs.Basics.{all_both}
 use Rattle.nr_bytes.specs.Numbers.{IsBytes}
 use Rattle.nr_triedef.specs.Node.{nibbles, IsNibbles, node_text, IsNode}
 use Rattle.nr_triedef.specs.Root.{Paths, paths, depth, trie, usage_below, summary_of, no_root, root_of_entries}
@@ -19,7 +20,6 @@ use Rattle.nr_parts.specs.Sweeping.{swept_entries, swept_nodes, owns}
 use Rattle.nr_parts.specs.declared.share.Share.{Share}
 use Rattle.nr_ids.specs.declared.key.Hash32.{Hash32}
 use Rattle.nr_store.proofs.Levels.{whole_one, whole_several, stands}
-use Rattle.nr_walk.proofs.Placing.{all-append}
 use Rattle.nr_parts.proofs.Grown.{IsGrown, usage_forest, grown_forest}
 use Rattle.nr_trielist.proofs.Branches.{nodes_in, nodes_tree, nodes_forest}
 use Rattle.nr_parts.proofs.Accepted.{map_top, TopOf}
@@ -86,7 +86,7 @@ owns_pairs es s nodes walk e n = ap owns (n ∙ sym (nodes_pairs es)) ∙ owns_g
 
 all_form : (g : Forest) → IsGrown g → AllByRecursion IsNode (nodes_in g)
 all_form bare h = tt
-all_form (tree top below beside) h = subst (AllByRecursion IsNode) (sym (nodes_tree top below beside)) (h.0.form, all-append IsNode (nodes_in below) (nodes_in beside) (all_form below h.1) (all_form beside h.2))
+all_form (tree top below beside) h = subst (AllByRecursion IsNode) (sym (nodes_tree top below beside)) (h.0.form, all_both IsNode (nodes_in below) (nodes_in beside) (all_form below h.1) (all_form beside h.2))
 
 pub form_pairs : (es : List (List ℕ × List ℕ)) (nodes : List Node) → CanWalk (paths es) → nodes ≡ all_nodes (paths es) → AllByRecursion IsNode nodes
 form_pairs es nodes walk e = subst (AllByRecursion IsNode) (nodes_pairs es ∙ sym e) (all_form (forest_of es) (grown_pairs es walk))

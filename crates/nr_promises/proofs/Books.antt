@@ -4,7 +4,7 @@ use Rattle.std.specs.Prelude.{Result, Option, nat_lt}
 use Rattle.std.specs.List.{AllByRecursion, slice_get, flat_map, list_all}
 use Rattle.std.specs.Option.{ok_or}
 use Rattle.std.proofs.lemmas.Bool.{ltb-false}
-use Rattle.std.proofs.ByRecursion.{All-push}
+use Rattle.nr_bytes.proofs.Basics.{all_push, all_weaker, all_both}
 use Rattle.nr_bytes.specs.Reading.{◌>>=◌}
 use Rattle.nr_promises.proofs.Changed.{length_changed, all_changed}
 use Rattle.nr_promises.proofs.MadeAfter.{made_length, made_own}
@@ -40,28 +40,20 @@ found_in None e x h = absurd (cc)
 found_in (Some y) e x h = cc
 
 -- ---- lists
-pub all_as : {X : Type 0} (P Q : X → Type 0) → ((x : X) → P x → Q x) → (xs : List X) → AllByRecursion P xs → AllByRecursion Q xs
-all_as P Q to [] h = tt
-all_as P Q to (x ∷ xs) h = (to x h.0, all_as P Q to xs h.1)
-
 pub all_at : {X : Type 0} (P : X → Type 0) (xs : List X) (n : ℕ) (x : X) → AllByRecursion P xs → slice_get xs n ≡ Some x → P x
 all_at P [] n x h e = absurd (cc)
 all_at P (w ∷ ws) zero x h e = let same : w ≡ x = cc in subst P same h.0
 all_at P (w ∷ ws) (suc n) x h e = all_at P ws n x h.1 e
 
-pub all_joined : {X : Type 0} (P : X → Type 0) (xs ys : List X) → AllByRecursion P xs → AllByRecursion P ys → AllByRecursion P (xs ++ ys)
-all_joined P [] ys h k = k
-all_joined P (x ∷ xs) ys h k = (h.0, all_joined P xs ys h.1 k)
-
 pub all_flat : {X Y : Type 0} (P : Y → Type 0) (f : X → List Y) → ((x : X) → AllByRecursion P (f x)) → (xs : List X) → AllByRecursion P (flat_map f xs)
 all_flat P f each [] = tt
-all_flat P f each (x ∷ xs) = all_joined P (f x) (flat_map f xs) (each x) (all_flat P f each xs)
+all_flat P f each (x ∷ xs) = all_both P (f x) (flat_map f xs) (each x) (all_flat P f each xs)
 
 -- ---- places
 pub more_made : (n m : ℕ) → n ≤ m → (promise : Promise) → IsPromise n promise → IsPromise m promise
 more_made n m le promise h = record {
   few = h.few;
-  made_before = all_as (λ at. at < n) (λ at. at < m) (λ at lt. omega arith) (places promise) h.made_before;
+  made_before = all_weaker (λ at. at < n) (λ at. at < m) (λ at lt. omega arith) (places promise) h.made_before;
 }
 
 pub places_stand : (n : ℕ) (promises : List Promise) → AllByRecursion (IsPromise n) promises → (index : ℕ) → AllByRecursion (λ at. at < n) (places_at promises index)
@@ -78,15 +70,15 @@ book_with_receipt b receiver waited is = record {
   promises =
       let len = made_length b.origin receiver waited [] b.made b.next_ordinal in
       rw len
-      (All-push (IsPromise (length b.made + 1)) b.promises (Single (length b.made))
-      (all_as (IsPromise (length b.made)) (IsPromise (length b.made + 1)) (more_made (length b.made) (length b.made + 1) (omega arith)) b.promises is.promises)
+      (all_push (IsPromise (length b.made + 1)) b.promises (Single (length b.made))
+      (all_weaker (IsPromise (length b.made)) (IsPromise (length b.made + 1)) (more_made (length b.made) (length b.made + 1) (omega arith)) b.promises is.promises)
       (record { few = omega arith; made_before = (omega arith, tt) }));
   made = made_own b.origin receiver waited [] b.made b.next_ordinal is.made;
 }
 
 pub book_with_joined : (b : Book) (indices : List ℕ) → length (all_places b.promises indices) ≤ most_inputs → IsBook b → IsBook (record b { promises = b.promises ++ Joined (all_places b.promises indices) ∷ [] })
 book_with_joined b indices few is = record {
-  promises = All-push (IsPromise (length b.made)) b.promises (Joined (all_places b.promises indices)) is.promises
+  promises = all_push (IsPromise (length b.made)) b.promises (Joined (all_places b.promises indices)) is.promises
       (record { few = few; made_before = all_places_stand (length b.made) b.promises indices is.promises });
   made = is.made;
 }

@@ -8,6 +8,7 @@ use Rattle.std.proofs.lemmas.List.Sums.{sum_by-append, sum_by-cons}
 use Rattle.std.proofs.lemmas.Bool.{ltb-false}
 use Rattle.std.proofs.Math.Nat.{suc-mul}
 use mathlib.Core.Bool.{or-true}
+use Rattle.nr_bytes.proofs.Basics.{all_weaker}
 use Rattle.nr_bytes.specs.Reading.{◌>>=◌}
 use Rattle.nr_config.specs.Config.{Config}
 use Rattle.nr_fees.specs.Fees.{body_gas, deposit_of, attached, action_fee}
@@ -15,7 +16,7 @@ use Rattle.nr_fees.specs.declared.table.Payment.TheVariants.{Execute}
 use Rattle.nr_ids.specs.declared.key.Hash32.{Hash32}
 use Rattle.nr_promises.proofs.Changed.{sum_raised, any_kept}
 use Rattle.nr_promises.proofs.MadeAfter.{made_by, made_gas_after, made_deposits_after}
-use Rattle.nr_promises.proofs.Books.{all_as, step_of, first_of_ok, ok_is, joined_is, place_stands, chosen, book_with_receipt, book_with_joined, book_with_action}
+use Rattle.nr_promises.proofs.Books.{step_of, first_of_ok, ok_is, joined_is, place_stands, chosen, book_with_receipt, book_with_joined, book_with_action}
 use Rattle.nr_promises.specs.Book.{IsBook, IsOwn, places, promise_at, place_of, next_index, most_inputs, with_receipt, with_promise, all_places, create, then, join, act, changed, with_action, body_with_action, with_output, body_actions, actions_of_receipt, count_at, id_at, receipt_of}
 use Rattle.nr_promises.specs.Keeping.{Adds, receipt_gas, action_gas}
 use Rattle.nr_promises.specs.declared.contents.Book.{Book}
@@ -143,4 +144,4 @@ gas_of_made c o (r ∷ rs) all =
 
 pub made_by_call : (x : CallContext) (b : Book) → IsBook b → b.origin.current ≡ x.current → b.origin.gas_price ≡ x.gas_price → AllByRecursion (IsMade x) b.made
 made_by_call x b is current price =
-    all_as (IsOwn b.origin) (IsMade x) (λ r own. record { predecessor = own.predecessor ∙ current; price = subst (λ (n : ℕ). HasPrice n r.body) price own.price }) b.made is.made
+    all_weaker (IsOwn b.origin) (IsMade x) (λ r own. record { predecessor = own.predecessor ∙ current; price = subst (λ (n : ℕ). HasPrice n r.body) price own.price }) b.made is.made

@@ -3,6 +3,7 @@ use Rattle.std.proofs.Common.{◌≡◌, ℕ, ◌+◌, ◌*◌, ◌^◌, ◌<◌
 use Rattle.std.specs.List.{AllByRecursion}
 use Rattle.std.proofs.lemmas.List.Sums.{sum_by-cons, sum_by-append}
 use Rattle.std.proofs.lemmas.Nat.{mul-le}
+use Rattle.nr_bytes.proofs.Basics.{all_both}
 use Rattle.nr_actions.specs.Actions.{Acted, Acts, Fails, act}
 use Rattle.nr_actions.specs.Calling.{price_of}
 use Rattle.nr_actions.specs.Keeping.{IsDone}
@@ -11,7 +12,7 @@ use Rattle.nr_config.specs.Config.{Config}
 use Rattle.nr_fees.specs.Fees.{attached, attached_gas, deposit_of, deposits, receipt_tokens}
 use Rattle.nr_receipt.specs.Keeping.{HasSmallCalls}
 use Rattle.nr_receipt.specs.Running.{Ran, Done, Broken, fails_storage, go_on, is_last, run_from, with_burnt}
-use Rattle.nr_receipt.proofs.Lists.{all_both, distributes}
+use Rattle.nr_receipt.proofs.Lists.{distributes}
 use Rattle.nr_receipt.proofs.Small.{AddsSmall, adds_small}
 use Rattle.nr_records.specs.declared.action.Action.{Action}
 use Rattle.nr_records.specs.declared.receipt.Receipt.{Receipt}

@@ -6,8 +6,8 @@ use Rattle.std.specs.Str.{bytes_eq}
 use Rattle.std.proofs.Math.Bool.{true≢false}
 use Rattle.std.proofs.lemmas.Bool.{eqb-true}
 use mathlib.Core.Bool.{or-false, and-false}
+use Rattle.nr_bytes.proofs.Basics.{same_test}
 use Rattle.nr_chunk.specs.Locality.{is_in}
-use Rattle.nr_columns.proofs.Tables.{same_test}
 use Rattle.nr_columns.specs.View.{at_first, grown}
 use Rattle.nr_ids.proofs.Ids.{lacks_any}
 use Rattle.nr_records.specs.Ids.{IsId}

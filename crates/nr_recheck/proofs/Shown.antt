@@ -4,6 +4,7 @@ use Rattle.std.specs.Prelude.{◌&&◌, length, nat_le, nat_lt, if◌then◌else
 use Rattle.std.specs.FinMap.{entries}
 use Rattle.std.specs.List.{AllByRecursion}
 use Rattle.std.proofs.lemmas.Bool.{leb-true, ltb-true}
+use Rattle.nr_bytes.proofs.Basics.{left_true, right_true}
 use Rattle.nr_bytes.specs.Numbers.{IsBytes}
 use Rattle.nr_bytes.specs.Reading.{◌>>=◌}
 use Rattle.nr_chunk.specs.Goodness.{AreGood, IsGood}
@@ -42,7 +43,6 @@ use Rattle.nr_recheck.specs.Rechecking.{Found, entries_of, is_placed, prepared, 
 use Rattle.nr_recheck.specs.Running.{CanRun}
 use Rattle.nr_recheck.proofs.Prepared.{passed}
 use Rattle.nr_recheck.proofs.Replaced.{pairs_entries}
-use Rattle.nr_recheck.proofs.Sums.{left_true, right_true}
 
 -- ---- what the answer of the first part allows
 good_one : (c : Config) (r : Receipt) → is_bounded c r ≡ true → HasSmallCalls r.body → IsGood c r

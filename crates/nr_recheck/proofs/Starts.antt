@@ -1,10 +1,11 @@
 -- The chain of one block on which the chunk is run again: it is sound, and its chunk is the chunk.
-use Rattle.std.proofs.Common.{◌≡◌, ◌+◌, ◌-◌, ◌<◌, ℕ, zero, suc, Bool, true, false, List, [], ◌∷◌, ◌++◌, length, map, Option, Some, None, refl, sym, ap, subst, ◌∙◌, arith}
-use Rattle.std.specs.Prelude.{◌&&◌, is_some, nat_lt, replicate, slice_get, slice_index_or, sum_by, unwrap_or}
+use Rattle.std.proofs.Common.{◌≡◌, ◌+◌, ◌-◌, ◌<◌, ℕ, zero, suc, true, List, [], ◌∷◌, ◌++◌, length, map, Option, Some, None, refl, sym, ap, subst, ◌∙◌, arith}
+use Rattle.std.specs.Prelude.{is_some, nat_lt, replicate, slice_get, slice_index_or, sum_by, unwrap_or}
 use Rattle.std.specs.List.{AllByRecursion}
 use Rattle.std.specs.FinMap.{values}
 use Rattle.std.proofs.lemmas.Bool.{ltb-true}
 use Rattle.std.proofs.lemmas.List.Sums.{sum_by-cons}
+use Rattle.nr_bytes.proofs.Basics.{left_true, right_true}
 use Rattle.nr_chunk.specs.Chain.{Chain, chunk_at, place_at, rules_of, shards_of}
 use Rattle.nr_chunk.specs.Chunk.{begun, open_chunk, seal_chunk, take_list}
 use Rattle.nr_chunk.specs.Goodness.{AreGood, IsSmall}
@@ -94,14 +95,6 @@ none_tokens c =
     omega (arith, accounts, postponed)
 
 -- ---- where the chunk stands
-left_true : (a b : Bool) → (a && b) ≡ true → a ≡ true
-left_true true b h = refl
-left_true false b h = h
-
-right_true : (a b : Bool) → (a && b) ≡ true → b ≡ true
-right_true true b h = h
-right_true false b h = absurd cc
-
 pub some_height : (g : Gathered) → is_placed g ≡ true → 0 < g.height.0
 some_height g h = ltb-true 0 g.height.0 (left_true (nat_lt 0 g.height.0) (nat_lt g.shard.0 (shards_in g)) h)
 

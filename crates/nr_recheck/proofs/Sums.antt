@@ -15,14 +15,6 @@ use Rattle.std.specs.List.{AllByRecursion}
 use Rattle.nr_worlds.specs.Valid.{is_bounded}
 use Rattle.nr_recheck.specs.Bounds.{Counts, are_bounded, are_within, room}
 
-pub left_true : (a b : Bool) → (a && b) ≡ true → a ≡ true
-left_true true b h = refl
-left_true false b h = h
-
-pub right_true : (a b : Bool) → (a && b) ≡ true → b ≡ true
-right_true true b h = h
-right_true false b h = absurd cc
-
 -- ---- receipts within their bounds
 bounded_one : (c : Config) (r : Receipt) → IsBounded c r → is_bounded c r ≡ true
 bounded_one c r h = λ i. lt-ltb (price_of r) (2 ^ 64) h.price i && lt-ltb (gas_of c r) (2 ^ 64) h.gas i

@@ -7,8 +7,8 @@ use Rattle.std.specs.Cmp.Lexicographic.{nat_list_cmp_total}
 use Rattle.std.specs.FinMap.{FinMap, IsAntisymmetric, get, retain_keys}
 use Rattle.std.specs.List.{AllByRecursion, flat_map}
 use Rattle.std.proofs.lemmas.Map.Lookups.{exact_bytes}
+use Rattle.nr_bytes.proofs.Basics.{all_both}
 use Rattle.nr_cut.proofs.Maps.{either, get-joined, get-part}
-use Rattle.nr_cut.proofs.Worlds.{each_both}
 use Rattle.nr_cut.specs.Cut.{all_beside, beside, joined}
 use Rattle.nr_records.specs.Receipts.{IsReceipt}
 use Rattle.nr_records.specs.declared.receipt.Receipt.{Receipt}
@@ -90,7 +90,7 @@ pub all_receipts : (ws : List World) → AllByRecursion IsWorld ws
     → AllByRecursion IsReceipt (flat_map (λ w. w.delayed) ws)
 all_receipts [] all = tt
 all_receipts (w ∷ ws) all =
-    each_both IsReceipt w.delayed (flat_map (λ w. w.delayed) ws) all.0.delayed (all_receipts ws all.1)
+    all_both IsReceipt w.delayed (flat_map (λ w. w.delayed) ws) all.0.delayed (all_receipts ws all.1)
 
 pub fewer : {A : Type 0} (test : A → Bool) (xs : List A) (m : ℕ) → length xs < m → length (filter test xs) < m
 fewer test xs m l = omega (arith, l, less test xs)

@@ -5,7 +5,7 @@ use Rattle.std.specs.FinMap.{FinMap, empty, get, insert, remove, entries, values
 use Rattle.std.specs.List.{AllByRecursion, list_any}
 use Rattle.std.specs.Ordering.{eq_by_cmp}
 use Rattle.std.proofs.lemmas.List.{nil_from_length}
-use Rattle.std.proofs.ByRecursion.{All-push}
+use Rattle.nr_bytes.proofs.Basics.{all_push}
 use Rattle.nr_config.specs.Config.{Config}
 use Rattle.nr_fees.specs.Fees.{receipt_tokens}
 use Rattle.nr_ids.specs.declared.key.Hash32.{Hash32}
@@ -122,7 +122,7 @@ module _ (c : Config) (w : World) (v : IsValidWorld c w) where
     delayed_kept bounded tokens =
         let l = v.waiting in record {
           accounts = accounts_same _ _ _ _;
-          waiting = record { postponed = record { each = l.postponed.each; apart = l.postponed.apart }; actions = l.actions; waits = l.waits; bounded = l.bounded; delayed = All-push (IsBounded c) w.delayed r l.delayed bounded };
+          waiting = record { postponed = record { each = l.postponed.each; apart = l.postponed.apart }; actions = l.actions; waits = l.waits; bounded = l.bounded; delayed = all_push (IsBounded c) w.delayed r l.delayed bounded };
           tokens = tokens;
         }
 

@@ -9,7 +9,7 @@ use Rattle.std.specs.Cmp.{IsTotalOrder}
 use Rattle.std.specs.Cmp.Lexicographic.{nat_list_cmp_total}
 use Rattle.std.proofs.lemmas.List.{length-append}
 use Rattle.std.proofs.lemmas.Map.Lookups.{exact_bytes}
-use Rattle.std.proofs.ByRecursion.{All-push}
+use Rattle.nr_bytes.proofs.Basics.{all_push, none≢some}
 use Rattle.nr_ids.specs.declared.key.Hash32.{Hash32}
 use Rattle.nr_ids.specs.declared.key.PublicKey.{PublicKey}
 use Rattle.nr_records.specs.AccessKeys.{IsAccessKey}
@@ -31,9 +31,6 @@ use Rattle.nr_state.proofs.ValidOwned.{key_total, pair_total, exact_keys, exact_
 -- ---- what holds of each entry of a map
 abbrev Each : {K X : Type 0} {R : K → K → Ordering} → (K → X → Type 0) → FinMap R X → Type 0
 Each {K} {X} P m = (k : K) (x : X) → get m k ≡ Some x → P k x
-
-none≢some : {A : Type 0} (x : A) → ◌≡◌ {A = Option A} None (Some x) → ⊥
-none≢some x e = cc
 
 each_none : {K X : Type 0} (R : K → K → Ordering) (P : K → X → Type 0) → Each P (empty {X = X} {R = R})
 each_none R P k x e = absurd (none≢some x (sym (get-empty R k) ∙ e))
@@ -142,7 +139,7 @@ module _ (w : World) (is : IsWorld w) where
 
   pub delayed_fits : (r : Receipt) → IsReceipt r → w.served + length w.delayed + 1 < 2 ^ 64 → IsWorld (with_delayed w r)
   delayed_fits r fits room =
-      record { accounts = is.accounts; keys = is.keys; code = is.code; data_of = is.data_of; received = is.received; postponed = is.postponed; delayed = All-push IsReceipt w.delayed r is.delayed fits; served = omega (arith, length-append w.delayed (r ∷ []), room) }
+      record { accounts = is.accounts; keys = is.keys; code = is.code; data_of = is.data_of; received = is.received; postponed = is.postponed; delayed = all_push IsReceipt w.delayed r is.delayed fits; served = omega (arith, length-append w.delayed (r ∷ []), room) }
 
   pub served_fits : IsWorld (served_front w w.delayed)
   served_fits = by w.delayed is.delayed is.served

@@ -18,6 +18,7 @@ use Rattle.std.proofs.lemmas.Map.Keys.{IsDistinct-from_sorted}
 use Rattle.std.proofs.lemmas.Map.Lookups.{exact_bytes}
 use Rattle.nr_triedef.specs.Root.{Contents}
 use Rattle.std.specs.Prelude.{IsNone}
+use Rattle.nr_bytes.proofs.Basics.{equal_of}
 use Rattle.nr_store.specs.Plain.{Text, text_of, keyed, put_back, held, held_in, slot_at, value_before, HasSlot}
 use Rattle.nr_store.specs.declared.slots.Undo.{Undo}
 
@@ -137,12 +138,7 @@ sorted-keyed (e ∷ es) h = (below_keyed e.0.items es h.0, sorted-keyed es h.1)
 
 -- ---- the four changes
 one_key : (k x y : List ℕ) → is_at (R k) x ≡ true → is_at (R k) y ≡ eq_by_cmp R x y
-one_key k x y h = ap (λ z. is_eq (R z y)) (exact_bytes k x (equal _ h))
-  where
-    equal : (r : Ordering) → is_eq r ≡ true → r ≡ Equal
-    equal Less h = absurd (cc)
-    equal Equal h = refl
-    equal Greater h = absurd (cc)
+one_key k x y h = ap (λ z. is_eq (R z y)) (exact_bytes k x (equal_of _ h))
 
 turned : (k q : List ℕ) {A : Type 0} (x y : A) → cond (is_at (R k) q) x y ≡ cond (eq_by_cmp R q k) x y
 turned k q x y = ap (λ b. cond b x y) ((eq_by_cmp_equiv nat_list_cmp_total).symm k q)

@@ -10,7 +10,7 @@ use Rattle.std.proofs.lemmas.Map.Lookups.{exact_bytes}
 use Rattle.nr_triedef.specs.Root.{Contents}
 use Rattle.std.specs.List.{AllByRecursion}
 use Rattle.std.specs.Prelude.{IsNone}
-use Rattle.std.proofs.ByRecursion.{All-push}
+use Rattle.nr_bytes.proofs.Basics.{all_push}
 use Rattle.nr_store.specs.Plain.{Text, value_before, put_back, rewound, HasSlot, NeedsSlot, HaveSlots, IsApart, AreApart, seen, InOrder}
 use Rattle.nr_store.specs.declared.slots.Undo.{Undo}
 use Rattle.nr_store.proofs.Held.{R, get-put_back}
@@ -50,7 +50,7 @@ all_last P (v ∷ us) u h = let r = all_last P us u h.1 in ((h.0, r.0), r.1)
 
 AreApart-push : (us : List Undo) (u : Undo) → AreApart us → AllByRecursion (IsApart u) us → AreApart (us ++ u ∷ [])
 AreApart-push [] u p q = (tt, tt)
-AreApart-push (v ∷ us) u p q = (All-push (λ w. IsApart w v) us u p.0 q.0, AreApart-push us u p.1 q.1)
+AreApart-push (v ∷ us) u p q = (all_push (λ w. IsApart w v) us u p.0 q.0, AreApart-push us u p.1 q.1)
 
 pub AreApart-last : (us : List Undo) (u : Undo) → AreApart (us ++ u ∷ []) → AreApart us × AllByRecursion (IsApart u) us
 AreApart-last [] u p = (tt, tt)

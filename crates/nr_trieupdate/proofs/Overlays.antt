@@ -16,6 +16,7 @@ use Rattle.std.proofs.lemmas.List.{nil_from_length, drop_more, length-map}
 use Rattle.std.proofs.lemmas.List.Folds.{list_any-append}
 use Rattle.std.proofs.lemmas.List.Sums.{sum_by-cons}
 use Rattle.std.proofs.lemmas.Option.{same_Some}
+use Rattle.nr_bytes.proofs.Basics.{left_of, right_of}
 use Rattle.nr_triedef.specs.Node.{nibbles}
 use Rattle.nr_triedef.specs.Root.{Contents}
 use Rattle.nr_triedef.specs.Stores.{most_entries, keys_below, IsSizedEntry, IsSized}
@@ -57,14 +58,6 @@ no_later q (e ∷ es) h =
       | Equal ↦ λ i. absurd i
       | Greater ↦ λ i. absurd i
     ] h
-
-left_of : (a b : Bool) → T (a && b) → T a
-left_of true b h = tt
-left_of false b h = h
-
-right_of : (a b : Bool) → T (a && b) → T b
-right_of true b h = h
-right_of false b h = absurd h
 
 get-merged : (es : List (List ℕ × List ℕ)) (m : Contents) (q : List ℕ) → T (is_sorted R es) → get (merged (map change_of es) m) q ≡ picked (find R q es) (get m q)
 get-merged [] m q s = refl

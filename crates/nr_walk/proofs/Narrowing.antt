@@ -7,12 +7,12 @@ use Rattle.std.proofs.lemmas.Bool.{eqb-true}
 use Rattle.std.proofs.lemmas.Map.Keys.{any_passes_from_place}
 use Rattle.std.proofs.lemmas.Option.{slice_get_read}
 use mathlib.Core.Bool.{or-true}
+use Rattle.nr_bytes.proofs.Basics.{all_both, left_true, right_true}
 use Rattle.nr_walk.specs.declared.searched.Searched.{Searched}
 use Rattle.nr_walk.specs.declared.sought.Step.{Step}
 use Rattle.nr_walk.specs.Searched.{is_met, is_found, looks, finds}
 use Rattle.nr_walk.specs.Sought.{AreSteps, Decides, IsStep, covers}
-use Rattle.nr_walk.proofs.Placing.{all-append}
-use Rattle.nr_walk.proofs.Searches.{left_true, right_true, met_shorter, met_on_way}
+use Rattle.nr_walk.proofs.Searches.{met_shorter, met_on_way}
 
 -- ---- lists
 -- what a second test passes is among what the first one does
@@ -138,7 +138,7 @@ popped_met searched old new r e h = parted new r (subst (λ (xs : List Step). Ar
 
 pub met_more : (searched : List Searched) (steps more : List Step) (step : Step) → more ≡ steps ++ step ∷ [] → IsStep searched step → AreSteps searched steps → AreSteps searched more
 met_more searched steps more step e m h =
-    subst (λ (xs : List Step). AreSteps searched xs) (sym e) (all-append (IsStep searched) steps (step ∷ []) h (m, tt))
+    subst (λ (xs : List Step). AreSteps searched xs) (sym e) (all_both (IsStep searched) steps (step ∷ []) h (m, tt))
 
 some_is : (a b : Step) → Some a ≡ Some b → a ≡ b
 some_is a b e = cc

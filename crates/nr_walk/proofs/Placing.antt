@@ -57,10 +57,6 @@ pub flat-append : {A B : Type 0} (f : A → List B) (xs ys : List A) → flat_ma
 flat-append f [] ys = refl
 flat-append f (x ∷ xs) ys = ap (λ zs. f x ++ zs) (flat-append f xs ys) ∙ sym (append_assoc (f x) (flat_map f xs) (flat_map f ys))
 
-pub all-append : {A : Type 0} (P : A → Type 0) (xs ys : List A) → AllByRecursion P xs → AllByRecursion P ys → AllByRecursion P (xs ++ ys)
-all-append P [] ys h g = g
-all-append P (x ∷ xs) ys h g = (h.0, all-append P xs ys h.1 g)
-
 -- ---- what holds of each value
 pub values_behind : (V : List ℕ → Type 0) (n : ℕ) (ps : Paths) → AllByRecursion (λ (p : Path). V p.1) ps → AllByRecursion (λ (p : Path). V p.1) (behind n ps)
 values_behind V n [] h = tt

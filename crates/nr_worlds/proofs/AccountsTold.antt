@@ -7,6 +7,7 @@ use Rattle.std.specs.Option.{option_map, option_and_then}
 use Rattle.std.specs.Str.{bytes_eq}
 use Rattle.std.proofs.lemmas.Bool.{eq-eqb, eqb-true, and_from}
 use Rattle.std.proofs.lemmas.Slice.Eq.{bytes_eq-Decides}
+use Rattle.nr_bytes.proofs.Basics.{left_true, right_true, same_test}
 use Rattle.nr_bytes.specs.Numbers.{IsBytes}
 use Rattle.nr_config.specs.Config.{Config, account_bytes_entry, extra_record_bytes}
 use Rattle.nr_ids.specs.Grammar.{is_system}
@@ -28,7 +29,7 @@ use Rattle.nr_entries.specs.Order.{rises}
 use Rattle.nr_entries.specs.Told.{AreBytes, are_told, is_id, is_owned, is_owned_key, is_told, is_told_in}
 use Rattle.nr_entries.proofs.Columns.{IsOf, account_of, datum_of, key_of_entry, tail_bytes}
 use Rattle.nr_entries.proofs.Contents.{read_from}
-use Rattle.nr_entries.proofs.Rising.{all_pass, found_holds, holds_found, left, pass_all, right}
+use Rattle.nr_entries.proofs.Rising.{all_pass, found_holds, holds_found, pass_all}
 use Rattle.nr_entries.proofs.UsageSums.{usage_sum}
 use Rattle.nr_state.specs.Changes.{or_none}
 use Rattle.nr_state.specs.Usage.{datum_usage, key_usage}
@@ -37,7 +38,7 @@ use Rattle.nr_state.specs.View.{world_in}
 use Rattle.nr_state.specs.World.{World}
 use Rattle.nr_worlds.specs.Tests.{account_told, account_told_as, accounts_told, code_bytes, entry_fits, entry_fits_in, has_owner, is_owner}
 use Rattle.nr_worlds.specs.Valid.{account_fits, accounts_fit}
-use Rattle.nr_worlds.proofs.Tested.{each_of, same_test}
+use Rattle.nr_worlds.proofs.Tested.{each_of}
 
 turned : (a b : List ℕ) → bytes_eq a b ≡ bytes_eq b a
 turned a b = same_test (bytes_eq a b) (bytes_eq b a)
@@ -114,11 +115,11 @@ module _ (c : Config) (es : List Entry) (bytes : AreBytes es) (order : rises es 
     unfolding entry_fits account_told
     account_fits_so id a is =
         let one = read_from accounts_law contents id a is in
-        let t : account_told_as c k (owned id) id (Some a) ≡ true = subst (λ o. account_told_as c k (owned id) id o ≡ true) one.read (right _ _ (fits_found (0 ∷ id) one.value one.there)) in
+        let t : account_told_as c k (owned id) id (Some a) ≡ true = subst (λ o. account_told_as c k (owned id) id o ≡ true) one.read (right_true _ _ (fits_found (0 ∷ id) one.value one.there)) in
         let A : Bool = not (is_system id) in
         let B : Bool = a.storage_usage == account_bytes_entry c + code_bytes (get k.code id) + owned id in
         let C : Bool = bytes_eq a.code_hash.0 (hash_of_code (get k.code id)).0 in
-        and_from _ _ (and_from _ _ (left A B (left (A && B) C t)) (ap (λ n. a.storage_usage == n) (sym (sums id)) ∙ right A B (left (A && B) C t))) (right (A && B) C t)
+        and_from _ _ (and_from _ _ (left_true A B (left_true (A && B) C t)) (ap (λ n. a.storage_usage == n) (sym (sums id)) ∙ right_true A B (left_true (A && B) C t))) (right_true (A && B) C t)
 
     pub accounts_fit_so : accounts_fit c w ≡ true
     unfolding entry_fits
@@ -128,14 +129,14 @@ module _ (c : Config) (es : List Entry) (bytes : AreBytes es) (order : rises es 
         (each_of keys_law.total keys_law.exact w.keys _ (λ q a is.
         let one = read_from keys_law contents q a is in
         let rest : List ℕ = q.0 ++ 2 ∷ key_bytes q.1 in
-        right _ _ (sym (key_owner k q (at_first 2 rest) (unchecked keys_table (2 ∷ rest) (key_of_rest rest) q one.at)) ∙ fits_found (2 ∷ rest) one.value one.there))))
+        right_true _ _ (sym (key_owner k q (at_first 2 rest) (unchecked keys_table (2 ∷ rest) (key_of_rest rest) q one.at)) ∙ fits_found (2 ∷ rest) one.value one.there))))
         (each_of code_law.total code_law.exact w.code _ (λ id v is.
         let one = read_from code_law contents id v is in
-        right _ _ (fits_found (1 ∷ id) one.value one.there))))
+        right_true _ _ (fits_found (1 ∷ id) one.value one.there))))
         (each_of data_law.total data_law.exact w.data_of _ (λ q v is.
         let one = read_from data_law contents q v is in
         let rest : List ℕ = q.0 ++ 44 ∷ q.1 in
-        right _ _ (ap (has_owner k) (sym (unchecked data_table (9 ∷ rest) (at_first 44 rest) q one.at)) ∙ fits_found (9 ∷ rest) one.value one.there)))
+        right_true _ _ (ap (has_owner k) (sym (unchecked data_table (9 ∷ rest) (at_first 44 rest) q one.at)) ∙ fits_found (9 ∷ rest) one.value one.there)))
 
   -- ---- the accounts fit
   module _ (are : AreAccounts c w) where
@@ -149,7 +150,7 @@ module _ (c : Config) (es : List Entry) (bytes : AreBytes es) (order : rises es 
             let is : get k.accounts one.key ≡ Some one.value = in_map accounts_law contents (0 ∷ rest) v one there in
             let same : one.key ≡ rest = (let h : 0 ∷ rest ≡ 0 ∷ one.key = back accounts_table (0 ∷ rest) one.key one.at in sym (ap tail h)) in
             let at_id : get k.accounts rest ≡ Some one.value = subst (λ id. get k.accounts id ≡ Some one.value) same is in
-            and_from _ _ (left _ _ t)
+            and_from _ _ (left_true _ _ t)
             (ap (account_told_as c k (owned rest) rest) one.read
             ∙ and_from _ _ (and_from _ _ (ap not (are.no_system rest (ap is_some at_id)))
             (eq-eqb _ _ (are.usage rest one.value at_id ∙ sym (sums rest))))
@@ -161,7 +162,7 @@ module _ (c : Config) (es : List Entry) (bytes : AreBytes es) (order : rises es 
             and_from _ _ t (are.code rest (ap is_some is))
 
         key_id : (o : Option (List ℕ × PublicKey)) (q : List ℕ × PublicKey) → o ≡ Some q → is_owned_key o ≡ true → is_id q.0 ≡ true
-        key_id o q e h = left _ _ (subst (λ o. is_owned_key o ≡ true) e h)
+        key_id o q e h = left_true _ _ (subst (λ o. is_owned_key o ≡ true) e h)
 
         owned_id : (o : Option (List ℕ × List ℕ)) (q : List ℕ × List ℕ) → o ≡ Some q → is_owned o ≡ true → is_id q.0 ≡ true
         owned_id o q e h = subst (λ o. is_owned o ≡ true) e h
@@ -172,7 +173,7 @@ module _ (c : Config) (es : List Entry) (bytes : AreBytes es) (order : rises es 
             let is : get k.keys one.key ≡ Some one.value = in_map keys_law contents (2 ∷ rest) v one there in
             let at : key_of_rest rest ≡ Some one.key = unchecked keys_table (2 ∷ rest) (key_of_rest rest) one.key one.at in
             key_owner k one.key (at_first 2 rest) at
-            ∙ and_from _ _ (key_id (key_of_rest rest) one.key at (left _ _ t)) (are.keys one.key (ap is_some is))
+            ∙ and_from _ _ (key_id (key_of_rest rest) one.key at (left_true _ _ t)) (are.keys one.key (ap is_some is))
 
         datum : get contents (9 ∷ rest) ≡ Some v → is_told_in 9 rest v ≡ true → has_owner k (at_first 44 rest) ≡ true
         datum there t =

@@ -9,6 +9,7 @@ use Rattle.std.proofs.lemmas.Bool.{eq-eqb, or_cases, and_from, or_left}
 use Rattle.std.proofs.lemmas.Bool.Decides.{nat_tests}
 use Rattle.std.proofs.lemmas.Slice.Eq.{bytes_eq-Decides}
 use mathlib.Core.Bool.{or-true}
+use Rattle.nr_bytes.proofs.Basics.{left_true, right_true}
 use Rattle.nr_config.specs.Config.{Config}
 use Rattle.nr_ids.specs.Grammar.{id_fault}
 use Rattle.nr_ids.specs.declared.key.Hash32.{Hash32}
@@ -18,7 +19,6 @@ use Rattle.nr_columns.specs.declared.entry.Entry.{Entry}
 use Rattle.nr_columns.proofs.Laid.{accounts_law, code_law, data_law, keys_law, postponed_law, received_law}
 use Rattle.nr_entries.specs.Told.{is_id, is_id_and_hash, same_pair}
 use Rattle.nr_entries.proofs.Names.{key_fits}
-use Rattle.nr_entries.proofs.Rising.{left, right}
 use Rattle.nr_state.specs.Flat.{flat, inputs_of}
 use Rattle.nr_state.specs.FromEntries.{world_from}
 use Rattle.nr_state.specs.Valid.{AreAccounts, AreWaiting, IsBounded, IsValidWorld}
@@ -89,8 +89,8 @@ apart_of w are =
     by : (j k : List ℕ × List ℕ) (q r : Receipt) → get w.postponed j ≡ Some q → get w.postponed k ≡ Some r → (b : Bool) → shares_input q r ≡ b → (same_pair j k || not b) ≡ true
     by j k q r e f false is = or-true (same_pair j k)
     by j k q r e f true is =
-        let one = shared_input r (inputs_of q.body) (right _ _ is) in
-        or_left _ _ (same_so j k (are.apart j k q r one.0 e f ((bytes_eq-Decides q.receiver r.receiver).0 (left _ _ is)) one.1.0 one.1.1))
+        let one = shared_input r (inputs_of q.body) (right_true _ _ is) in
+        or_left _ _ (same_so j k (are.apart j k q r one.0 e f ((bytes_eq-Decides q.receiver r.receiver).0 (left_true _ _ is)) one.1.0 one.1.1))
 
 waiting_of : (c : Config) (w : World) → AreWaiting c w → waiting_fits c w ≡ true
 waiting_of c w h =

@@ -6,6 +6,7 @@ use Rattle.std.specs.FinMap.Entries.{is_sorted}
 use Rattle.std.specs.Option.{option_map}
 use Rattle.nr_bytes.specs.Numbers.{IsBytes}
 use Rattle.std.proofs.lemmas.Bool.{eqb-true, and_from, false_from_ne_true}
+use Rattle.nr_bytes.proofs.Basics.{left_true, right_true, none≢some, same_test}
 use Rattle.nr_ids.specs.declared.key.Hash32.{Hash32}
 use Rattle.nr_records.specs.declared.receipt.Receipt.{Receipt}
 use Rattle.nr_triedef.specs.Root.{Contents}
@@ -22,7 +23,7 @@ use Rattle.nr_entries.specs.Told.{AreBytes, are_told, is_told, is_told_in}
 use Rattle.nr_entries.proofs.ColumnSums.{delayed_count}
 use Rattle.nr_entries.proofs.Columns.{IsOf, account_of, awaited_of, code_of, datum_of, key_of_entry, missing_of, postponed_of, received_of, tail_bytes}
 use Rattle.nr_entries.proofs.Contents.{other_byte, read_from}
-use Rattle.nr_entries.proofs.Rising.{all_pass, found_holds, holds_found, left, pass_all, right, rises_of}
+use Rattle.nr_entries.proofs.Rising.{all_pass, found_holds, holds_found, pass_all, rises_of}
 use Rattle.nr_state.specs.Flat.{awaited_in, flat, missing_in, missing_inputs}
 use Rattle.nr_state.specs.FromEntries.{world_from}
 use Rattle.nr_state.specs.View.{ArePostponed, world_in}
@@ -35,12 +36,9 @@ use Rattle.nr_worlds.specs.Tests.{StandsFor, are_of_queue, is_of_queue, queue_to
 use Rattle.nr_worlds.proofs.AccountsTold.{in_map}
 use Rattle.nr_worlds.proofs.Queues.{queue_so}
 use Rattle.nr_worlds.proofs.Sound.{none_postponed, sound_queue}
-use Rattle.nr_worlds.proofs.Tested.{lists_so, same_test}
+use Rattle.nr_worlds.proofs.Tested.{lists_so}
 use Rattle.nr_worlds.proofs.ToldAgain.{told_by}
 use Rattle.nr_worlds.proofs.WorldTold.{numbers_told_fit, whole_told}
-
-none≢some : {A : Type 0} (x : A) → ◌≡◌ {A = Option A} None (Some x) → ⊥
-none≢some x e = cc
 
 -- nothing is found in a map without entries
 not_in : {K X : Type 0} {R : K → K → Ordering} (m : FinMap R X) (key : K) (x : X) → m ≡ empty → get m key ≡ Some x → ⊥
@@ -190,7 +188,7 @@ module _ (es : List Entry) (bytes : AreBytes es) (h : is_queue es ≡ true) wher
 
 -- ---- the answers
 pub queue_told_is : (es : List Entry) → AreBytes es → are_of_queue es ≡ true → (rises es && are_told es) ≡ true → queue_told (columns_in (contents_of es)) es ≡ is_queue es
-queue_told_is es bytes of_queue told = same_test _ _ (queue_passes es bytes (left _ _ told) (right _ _ told) of_queue) (queue_numbers es bytes)
+queue_told_is es bytes of_queue told = same_test _ _ (queue_passes es bytes (left_true _ _ told) (right_true _ _ told) of_queue) (queue_numbers es bytes)
 
 pub queue_untold_is : (es : List Entry) → AreBytes es → (rises es && are_told es) ≡ false → is_queue es ≡ false
 queue_untold_is es bytes untold = false_from_ne_true (is_queue es) (λ h.

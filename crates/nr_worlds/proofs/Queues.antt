@@ -8,6 +8,7 @@ use Rattle.std.specs.Option.{option_to_list}
 use Rattle.std.specs.Ordering.{eq_by_cmp, nat_cmp}
 use Rattle.std.proofs.lemmas.Bool.{eq-eqb, eqb-true, and_from}
 use Rattle.std.proofs.lemmas.Bool.Decides.{nat_tests}
+use Rattle.nr_bytes.proofs.Basics.{left_true, right_true}
 use Rattle.nr_records.specs.declared.receipt.Receipt.{Receipt}
 use Rattle.nr_columns.specs.Columns.{Columns}
 use Rattle.nr_columns.specs.declared.entry.Entry.{Entry}
@@ -15,7 +16,6 @@ use Rattle.nr_columns.proofs.Laid.{delayed_law}
 use Rattle.nr_columns.proofs.Tables.{tested}
 use Rattle.nr_entries.specs.Counting.{count_in}
 use Rattle.nr_entries.proofs.Listed.{AreApart, counted, listed_map, one_each}
-use Rattle.nr_entries.proofs.Rising.{left, right}
 use Rattle.nr_state.specs.Flat.{numbered, queue_in}
 use Rattle.nr_state.specs.View.{delayed_in, served_in, waiting_in, world_in}
 use Rattle.nr_worlds.specs.Tests.{numbers_told, queue_told}
@@ -87,15 +87,15 @@ are_numbers s n q served e = by ((s + n) == 0) refl e
 -- ---- the columns of a queue
 module _ (k : Columns) (es : List Entry) (count : count_in 7 es ≡ sum_by one_each (entries k.delayed)) where
   pub queue_is : queue_told k es ≡ true → queue_in (world_in k) ≡ k.queue
-  queue_is h = numbers_are k.queue (length (delayed_in k)) (left _ _ (left _ _ h)) (eqb-true _ _ (right _ _ h))
+  queue_is h = numbers_are k.queue (length (delayed_in k)) (left_true _ _ (left_true _ _ h)) (eqb-true _ _ (right_true _ _ h))
 
   pub delayed_is : queue_told k es ≡ true → from_entries (numbered (served_in k.queue) (delayed_in k)) ≡ k.delayed
   delayed_is h =
-      let len : length (delayed_in k) ≡ waiting_in k.queue = eqb-true _ _ (right _ _ h) in
+      let len : length (delayed_in k) ≡ waiting_in k.queue = eqb-true _ _ (right_true _ _ h) in
       sym (listed_map delayed_law.total delayed_law.exact (numbered (served_in k.queue) (delayed_in k)) k.delayed
       (numbered_apart (served_in k.queue) (delayed_in k))
       (all_found k.delayed (served_in k.queue) (waiting_in k.queue) len)
-      (sym count ∙ eqb-true _ _ (right _ _ (left _ _ h)) ∙ sym len ∙ sym (length_numbered (served_in k.queue) (delayed_in k))))
+      (sym count ∙ eqb-true _ _ (right_true _ _ (left_true _ _ h)) ∙ sym len ∙ sym (length_numbered (served_in k.queue) (delayed_in k))))
 
   pub queue_so : queue_in (world_in k) ≡ k.queue → from_entries (numbered (served_in k.queue) (delayed_in k)) ≡ k.delayed → queue_told k es ≡ true
   queue_so queue delayed =

@@ -5,6 +5,7 @@ use Rattle.std.specs.FinMap.{get}
 use Rattle.std.specs.Option.{option_map}
 use Rattle.std.specs.Ordering.{eq_by_cmp}
 use Rattle.std.proofs.lemmas.Bool.{eq-eqb, eqb-true, and_from}
+use Rattle.nr_bytes.proofs.Basics.{none≢some}
 use Rattle.nr_bytes.proofs.Numbers.{length-little}
 use Rattle.nr_bytes.specs.Numbers.{little, number}
 use Rattle.nr_triedef.specs.Root.{Contents}
@@ -26,9 +27,6 @@ use Rattle.nr_state.specs.Worlds.{IsWorld}
 use Rattle.nr_worlds.proofs.AccountsTold.{in_map}
 use Rattle.nr_worlds.proofs.Passing.{hash_so, id_so}
 use Rattle.nr_worlds.proofs.Tested.{same_so}
-
-none≢some : {A : Type 0} (x : A) → ◌≡◌ {A = Option A} None (Some x) → ⊥
-none≢some x e = cc
 
 over_none : (o : Option (List ℕ)) → over o None ≡ o
 over_none None = refl

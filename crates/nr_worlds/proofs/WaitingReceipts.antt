@@ -10,13 +10,12 @@ use Rattle.std.proofs.lemmas.Bool.{eq-eqb, eqb-true}
 use Rattle.std.proofs.lemmas.List.{length-append}
 use Rattle.std.proofs.lemmas.List.Sums.{sum_by-cons}
 use Rattle.std.proofs.lemmas.Slice.Eq.{bytes_eq-Decides}
+use Rattle.nr_bytes.proofs.Basics.{left_of, right_of, left_true, right_true, all_both}
 use Rattle.nr_ids.specs.declared.key.Hash32.{Hash32}
 use Rattle.nr_records.specs.declared.receipt.Receipt.{Receipt}
 use Rattle.nr_columns.specs.Columns.{Columns}
 use Rattle.nr_columns.specs.Orders.{pair_cmp}
-use Rattle.nr_columns.proofs.Tables.{first, second}
 use Rattle.nr_entries.proofs.Listed.{AreApart}
-use Rattle.nr_entries.proofs.Rising.{left, right}
 use Rattle.nr_state.specs.Flat.{awaits, inputs_of}
 use Rattle.nr_state.specs.Repeats.{has_repeat}
 use Rattle.nr_state.specs.View.{repeats_input}
@@ -42,10 +41,6 @@ is_number_of n o e = ap (is_number n) e ∙ eq-eqb n n refl
 pub values_each : {K X : Type 0} (p : X → Bool) (es : List (K × X)) → list_all p (map (λ (e : K × X). e.1) es) ≡ list_all (λ (e : K × X). p e.1) es
 values_each p [] = refl
 values_each p (e ∷ es) = ap (λ b. p e.1 && b) (values_each p es)
-
-all_both : {A : Type 0} (P : A → Type 0) (xs ys : List A) → AllByRecursion P xs → AllByRecursion P ys → AllByRecursion P (xs ++ ys)
-all_both P [] ys h g = g
-all_both P (x ∷ xs) ys h g = (h.0, all_both P xs ys h.1 g)
 
 -- ---- entries under keys that stand once
 abbrev pub Found : {X : Type 0} → FinMap pair_cmp X → Key × X → Type 0
@@ -91,7 +86,7 @@ pub record Good (k : Columns) (e : Key × Receipt) : Type 0 where
 module _ (k : Columns) where
   pub awaited_all : (r : Receipt) (ids : List Hash32) → are_awaited k r ids ≡ true → AllByRecursion (Found k.awaited) (map (λ (input : Hash32). ((r.receiver, input.0), r.receipt_id)) ids)
   awaited_all r [] h = tt
-  awaited_all r (id ∷ ids) h = (is_hash_so r.receipt_id _ (left _ _ h), awaited_all r ids (right _ _ h))
+  awaited_all r (id ∷ ids) h = (is_hash_so r.receipt_id _ (left_true _ _ h), awaited_all r ids (right_true _ _ h))
 
   pub all_found : (ps : Held) → AllByRecursion (Good k) ps → AllByRecursion (Found k.awaited) (all_awaits ps)
   all_found [] all = tt
@@ -123,11 +118,11 @@ module _ (k : Columns) where
       split : (find pair_cmp x (all_awaits ps) ≡ Some by → Own x by ps) → (o : Option Hash32) → find pair_cmp x (awaits p.1) ≡ o → either o (find pair_cmp x (all_awaits ps)) ≡ Some by → Own x by (p ∷ ps)
       split rest None e h =
           let later = rest h in
-          record { found = later.found; below = λ key t. later.below key (second _ _ t) }
+          record { found = later.found; below = λ key t. later.below key (right_of _ _ t) }
       split rest (Some a) e h =
           let one = found_one x p.1 (inputs_of p.1.body) by all.0.awaited (e ∙ h) in
           let same : ◌≡◌ {A = Key} p.0 (x.0, by.0) = all.0.keyed ∙ (λ i. (one.1.0 i, (one.1.1 i).0)) in
-          record { found = one.0; below = λ key t. subst (λ (q : Key). T (is_lt (pair_cmp key q))) same (first _ _ t) }
+          record { found = one.0; below = λ key t. subst (λ (q : Key). T (is_lt (pair_cmp key q))) same (left_of _ _ t) }
 
   no_less : (q : Key) → T (is_lt (pair_cmp q q)) → ⊥
   no_less q h = subst (λ r. T (is_lt r)) (tied_itself pair_total q) h
@@ -150,8 +145,8 @@ module _ (k : Columns) where
   pub awaits_apart : (ps : Held) → T (is_sorted pair_cmp ps) → AllByRecursion (Good k) ps → AreApart pair_cmp (all_awaits ps)
   awaits_apart [] sorted all = tt
   awaits_apart (p ∷ ps) sorted all =
-      apart_both (awaits p.1) (all_awaits ps) (inputs_apart p.1.receiver p.1.receipt_id (inputs_of p.1.body) all.0.distinct) (awaits_apart ps (second _ _ sorted) all.1)
-      (none_later p ps all.0 all.1 (first _ _ sorted) (inputs_of p.1.body) all.0.awaited)
+      apart_both (awaits p.1) (all_awaits ps) (inputs_apart p.1.receiver p.1.receipt_id (inputs_of p.1.body) all.0.distinct) (awaits_apart ps (right_of _ _ sorted) all.1)
+      (none_later p ps all.0 all.1 (left_of _ _ sorted) (inputs_of p.1.body) all.0.awaited)
 
 -- ---- how many inputs there are
 pub length_awaits : (ps : Held) → length (all_awaits ps) ≡ inputs_count (map (λ (e : Key × Receipt). e.1) ps)
