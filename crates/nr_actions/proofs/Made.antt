@@ -1,5 +1,5 @@
 -- The receipts that a call and a deletion make: their tokens and their bounds.
-use Rattle.std.proofs.Common.{◌≡◌, ℕ, ◌+◌, ◌*◌, ◌^◌, ◌<◌, true, false, List, [], ◌∷◌, ◌++◌, refl, ap, ◌∙◌, arith}
+use Rattle.std.proofs.Common.{◌≡◌, ℕ, ◌+◌, ◌*◌, ◌^◌, ◌<◌, true, false, List, [], ◌∷◌, ◌++◌, refl, ap, ◌∙◌, arith, add-mul}
 use Rattle.std.specs.Prelude.{◌||◌}
 use Rattle.std.specs.List.{AllByRecursion, list_any}
 use Rattle.std.specs.Str.{bytes_eq}
@@ -23,9 +23,6 @@ use Rattle.nr_state.specs.Valid.{IsBounded}
 use Rattle.nr_state.specs.declared.calls.CallContext.{CallContext}
 use Rattle.nr_state.specs.declared.calls.Returned.{Returned}
 use Rattle.nr_state.specs.declared.calls.Returned.TheVariants.{Value, Promise}
-
-distributes : (g h p : ℕ) → (g + h) * p ≡ g * p + h * p
-distributes g h p = grind arith
 
 -- ---- receipts of a call
 held_by : (c : Config) (price : ℕ) (b : Body) → HasPrice price b → body_tokens c false b ≡ body_deposits b + body_gas c false b * price
@@ -55,7 +52,7 @@ module _ (c : Config) (x : CallContext) (plain : is_system x.current ≡ false) 
   all_held [] h = omega arith
   all_held (r ∷ rs) h =
       let gas : made_gas c (r ∷ rs) * x.gas_price ≡ body_gas c false r.body * x.gas_price + made_gas c rs * x.gas_price =
-      ap (λ n. n * x.gas_price) (sum_by-cons (λ (q : Receipt). body_gas c false q.body) r rs) ∙ distributes (body_gas c false r.body) (made_gas c rs) x.gas_price in
+      ap (λ n. n * x.gas_price) (sum_by-cons (λ (q : Receipt). body_gas c false q.body) r rs) ∙ add-mul (body_gas c false r.body) (made_gas c rs) x.gas_price in
       omega (arith, gas, sum_by-cons (receipt_tokens c) r rs, sum_by-cons (λ (q : Receipt). body_deposits q.body) r rs, held r h.0, all_held rs h.1)
 
   pub all_bounded : (made : List Receipt) → AllByRecursion (IsMade x) made → x.gas_price < 2 ^ 64 → made_gas c made < 2 ^ 64 → AllByRecursion (IsBounded c) made

@@ -7,6 +7,7 @@ use Rattle.std.proofs.Math.Seq.{take-append_seam}
 use Rattle.std.proofs.lemmas.Bool.{leb-true, and_from, and_parts}
 use Rattle.std.proofs.lemmas.List.{length-append, map-append}
 use Rattle.std.proofs.lemmas.List.Folds.{list_any-append}
+use Rattle.nr_bytes.proofs.Basics.{bind_ok}
 use Rattle.nr_bytes.specs.Reading.{◌>>=◌}
 use Rattle.nr_config.specs.Config.{Config}
 use Rattle.nr_state.proofs.ValidOwned.{turned}
@@ -19,10 +20,6 @@ use Rattle.nr_blocks.specs.declared.fault.GenesisFault.TheVariants.{Duplicate, S
 use Rattle.nr_blocks.specs.declared.genesis.Genesis.{Genesis}
 use Rattle.nr_blocks.specs.declared.genesis_entry.GenesisEntry.{GenesisEntry}
 use Rattle.nr_blocks.specs.declared.genesis_entry.GenesisEntry.TheVariants as kind
-
-pub bound : {A B F : Type 0} (r : Result A F) (f : A → Result B F) (y : B) → (r >>= f) ≡ Ok y → (x : A) × (r ≡ Ok x) × (f x ≡ Ok y)
-bound (Ok x) f y e = (x, refl, e)
-bound (Err d) f y e = absurd cc
 
 -- a test that passed, and what comes behind it
 abbrev pub through : {F : Type 0} → Bool → F → Result (Unit {0}) F
@@ -119,11 +116,11 @@ pub is_sound : (c : Config) (g : Genesis) → IsGenesis c g → IsSoundGenesis c
 unfolding founded
 is_sound c g fits =
     let es = g.entries in
-    let one = bound (each (is_first es) es) _ g.supply fits.founded in
-    let two = bound (each (has_owner es) es) _ g.supply one.2 in
-    let three = bound (each (states_usage (usage_in c es)) es) _ g.supply two.2 in
-    let four = bound (bounded_supply es) _ g.supply three.2 in
-    let five = bound (each (states_hash (code_hash_in es)) es) _ g.supply four.2 in
+    let one = bind_ok (each (is_first es) es) _ g.supply fits.founded in
+    let two = bind_ok (each (has_owner es) es) _ g.supply one.2 in
+    let three = bind_ok (each (states_usage (usage_in c es)) es) _ g.supply two.2 in
+    let four = bind_ok (bounded_supply es) _ g.supply three.2 in
+    let five = bind_ok (each (states_hash (code_hash_in es)) es) _ g.supply four.2 in
     let same : four.0 ≡ g.supply = given four.0 g.supply five.2 in
     let tokens = bounded es four.0 four.1 in
     record {

@@ -1,10 +1,11 @@
 -- Small lemmas that many crates use: tests of two parts, options, and what holds of each item of a list.
-use Rattle.std.proofs.Common.{◌≡◌, ℕ, zero, suc, ◌<◌, Bool, true, false, ◌&&◌, List, [], ◌∷◌, ◌++◌, length, Option, Some, None, Ordering, refl, sym, arith}
+use Rattle.std.proofs.Common.{◌≡◌, ℕ, zero, suc, ◌<◌, Bool, true, false, ◌&&◌, List, [], ◌∷◌, ◌++◌, length, Option, Some, None, Result, Ok, Err, Ordering, refl, sym, arith}
 use Rattle.std.specs.Prelude.{T, slice_get}
 use Rattle.std.specs.List.{AllByRecursion}
 use Rattle.std.specs.Ordering.{is_eq}
 use Rattle.std.specs.declared.cmp.Ordering.TheVariants.{Less, Equal, Greater}
 use mathlib.Core.Bool.{false≢true}
+use Rattle.nr_bytes.specs.Reading.{◌>>=◌}
 
 -- ---- tests
 pub left_true : (a b : Bool) → (a && b) ≡ true → a ≡ true
@@ -33,7 +34,7 @@ equal_of Less h = absurd (false≢true h)
 equal_of Equal h = refl
 equal_of Greater h = absurd (false≢true h)
 
--- ---- options
+-- ---- options and results
 pub none≢some : {A : Type 0} (x : A) → ◌≡◌ {A = Option A} None (Some x) → ⊥
 none≢some x e = cc
 
@@ -41,6 +42,10 @@ pub within_some : {A : Type 0} (xs : List A) (i : ℕ) → i < length xs → (x 
 within_some [] i lt = absurd (omega arith)
 within_some (x ∷ xs) zero lt = (x, refl)
 within_some (x ∷ xs) (suc i) lt = within_some xs i (omega arith)
+
+pub bind_ok : {A B F : Type 0} (r : Result A F) (f : A → Result B F) (y : B) → (r >>= f) ≡ Ok y → (x : A) × (r ≡ Ok x) × (f x ≡ Ok y)
+bind_ok (Ok x) f y e = (x, refl, e)
+bind_ok (Err d) f y e = absurd cc
 
 -- ---- each item of a list
 pub all_push : {A : Type 0} (P : A → Type 0) (xs : List A) (x : A) → AllByRecursion P xs → P x → AllByRecursion P (xs ++ x ∷ [])

@@ -1,5 +1,5 @@
 -- The first worlds have together the tokens that the entries of a genesis state, and nothing waits in them.
-use Rattle.std.proofs.Common.{◌≡◌, ℕ, zero, suc, ◌+◌, ◌<◌, ◌≤◌, true, false, cond, List, [], ◌∷◌, length, map, inl, inr}
+use Rattle.std.proofs.Common.{◌≡◌, ℕ, zero, suc, ◌+◌, ◌<◌, ◌≤◌, true, false, cond, List, [], ◌∷◌, length, map, inl, inr, add_assoc}
 use Rattle.std.proofs.Common.{refl, sym, ap, ◌∙◌, arith}
 use Rattle.std.specs.Prelude.{◌==◌, sum_by}
 use Rattle.std.specs.FinMap.{empty, entries, values, len-empty, len-entries}
@@ -67,14 +67,11 @@ more_within (suc n) k a g l = elim (cases_eq k n) [
   | inl e ↦ (λ i. more_past n k a g (omega (arith, e)) i + cond (eq_same k n e i) (a + g n) (g n))
       ∙ regroup a (sum_below n g) (g n)
   | inr ne ↦ (λ i. more_within n k a g (omega (arith, l, ne)) i + cond (eq_other k n ne i) (a + g n) (g n))
-      ∙ group a (sum_below n g) (g n)
+      ∙ add_assoc a (sum_below n g) (g n)
 ]
   where
     regroup : (a b c : ℕ) → b + (a + c) ≡ a + (b + c)
     regroup a b c = omega arith
-
-    group : (a b c : ℕ) → (a + b) + c ≡ a + (b + c)
-    group a b c = omega arith
 
 sum_alike : (n : ℕ) (f g : ℕ → ℕ) → ((s : ℕ) → f s ≡ g s) → sum_below n f ≡ sum_below n g
 sum_alike zero f g e = refl

@@ -1,5 +1,5 @@
 -- The lists of a seal have together what went out.
-use Rattle.std.proofs.Common.{◌≡◌, ℕ, zero, suc, ◌+◌, ◌<◌, ◌≤◌, Bool, true, false, cond, List, [], ◌∷◌, length, inl}
+use Rattle.std.proofs.Common.{◌≡◌, ℕ, zero, suc, ◌+◌, ◌<◌, ◌≤◌, Bool, true, false, cond, List, [], ◌∷◌, length, inl, add_assoc}
 use Rattle.std.proofs.Common.{inr, refl, sym, ap, ◌∙◌, arith}
 use Rattle.std.specs.Prelude.{◌==◌, filter, map, sum_by}
 use Rattle.std.specs.List.{AllByRecursion, range_with_len}
@@ -37,16 +37,13 @@ module _ (f : Receipt → ℕ) (bs : List (List ℕ)) where
         | inl e ↦ (λ i. sum_by f (cond (eq_same (to x) a e i) (x ∷ out_to bs a xs) (out_to bs a xs)) + miss k (a + 1) x
             xs (omega (arith, e)) i)
             ∙ ap (λ t. t + all (part (a + 1) k xs)) (sum_by-cons f x (out_to bs a xs))
-            ∙ regroup (f x) (sum_by f (out_to bs a xs)) (all (part (a + 1) k xs))
+            ∙ add_assoc (f x) (sum_by f (out_to bs a xs)) (all (part (a + 1) k xs))
         | inr ne ↦ (λ i. sum_by f (cond (eq_other (to x) a ne i) (x ∷ out_to bs a xs) (out_to bs a xs)) + hit k (a + 1)
             x xs (omega (arith, l, ne)) (omega (arith, m)) i)
             ∙ swap (f x) (sum_by f (out_to bs a xs)) (all (part (a + 1) k xs))
       ]
       ∙ ap (λ t. f x + t) (sym (sum_by-cons (sum_by f) (out_to bs a xs) (part (a + 1) k xs)))
     where
-      regroup : (a b c : ℕ) → (a + b) + c ≡ a + (b + c)
-      regroup a b c = omega arith
-
       swap : (a b c : ℕ) → b + (a + c) ≡ a + (b + c)
       swap a b c = omega arith
 

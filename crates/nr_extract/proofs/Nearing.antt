@@ -3,9 +3,10 @@ use Rattle.std.proofs.Common.{◌≡◌, ℕ, ◌+◌, ◌<◌, ◌≤◌, Bool,
 use Rattle.std.specs.Prelude.{replicate}
 use Rattle.std.proofs.lemmas.List.{length-replicate, get_or-replicate}
 use Rattle.std.proofs.lemmas.Bool.{cases_eq}
+use Rattle.nr_overlap.proofs.Refusing.{actor_inside}
 use Rattle.nr_overlap.specs.CoreView.{CoreView}
 use Rattle.nr_overlap.specs.Held.{HasTaken, IsReached}
-use Rattle.nr_overlap.specs.Inside.{IsInside, actor}
+use Rattle.nr_overlap.specs.Inside.{actor}
 use Rattle.nr_overlap.specs.Moves.{moved, moved_by, next_due}
 use Rattle.nr_overlap.specs.Next.{IsNext, event_at, take_or_seal}
 use Rattle.nr_overlap.specs.Positions.{at, end_at, start}
@@ -36,12 +37,6 @@ moved_up h (OpenChunk s) p l = l
 moved_up h (TakeList d s k) p l = below_up h p.number p.stage l
 moved_up h (SealChunk s) p l = l
 moved_up h (PublishLists s) p l = omega (arith, l)
-
-actor_inside : (n : ℕ) (e : Event) → IsInside n e → actor e < n
-actor_inside n (OpenChunk s) is = is
-actor_inside n (TakeList d s h) is = is.0
-actor_inside n (SealChunk s) is = is
-actor_inside n (PublishLists s) is = is
 
 -- ---- which shard steps
 actor_begins : (b : Bool) (s : ℕ) → actor (cond b (OpenChunk (record { 0 = s })) (PublishLists (record { 0 = s }))) ≡ s

@@ -4,7 +4,7 @@ use Rattle.std.specs.Prelude.{Result, Option, nat_lt}
 use Rattle.std.specs.List.{AllByRecursion, slice_get, flat_map, list_all}
 use Rattle.std.specs.Option.{ok_or}
 use Rattle.std.proofs.lemmas.Bool.{ltb-false}
-use Rattle.nr_bytes.proofs.Basics.{all_push, all_weaker, all_both}
+use Rattle.nr_bytes.proofs.Basics.{all_push, all_weaker, all_both, bind_ok}
 use Rattle.nr_bytes.specs.Reading.{◌>>=◌}
 use Rattle.nr_promises.proofs.Changed.{length_changed, all_changed}
 use Rattle.nr_promises.proofs.MadeAfter.{made_length, made_own}
@@ -20,10 +20,6 @@ use Rattle.nr_records.specs.declared.receipt.Body.TheVariants.{Act, Datum}
 use Rattle.nr_state.specs.Calls.{HasPrice}
 
 -- ---- a chain that succeeds
-pub step_of : {A B F : Type 0} (r : Result A F) (f : A → Result B F) (y : B) → (r >>= f) ≡ Ok y → (x : A) × (r ≡ Ok x) × (f x ≡ Ok y)
-step_of (Ok x) f y h = (x, refl, h)
-step_of (Err e) f y h = absurd (cc)
-
 pub first_of_ok : {A B F : Type 0} (a x : A) (b y : B) → ◌≡◌ {A = Result (A × B) F} (Ok (a, b)) (Ok (x, y)) → x ≡ a
 first_of_ok {A = A} {B = B} a x b y h = let e : (a, b) ≡ (x, y) = cc in ap (λ (p : A × B). p.0) (sym e)
 
@@ -100,7 +96,7 @@ place_within n at (Joined all) is h = absurd (cc)
 
 pub place_stands : (b : Book) (index at : ℕ) → IsBook b → place_of b index ≡ Ok at → at < length b.made
 place_stands b index at is h =
-    let p = step_of (promise_at b index) place_in at h in
+    let p = bind_ok (promise_at b index) place_in at h in
     place_within (length b.made) at p.0 (all_at (IsPromise (length b.made)) b.promises index p.0 is.promises (found_in (slice_get b.promises index) _ p.0 p.1)) p.2
 
 pub chosen : {A F : Type 0} (test : Bool) (x y : A) (e : F) → cond test (Ok x) (Err e) ≡ Ok y → y ≡ x
@@ -110,14 +106,14 @@ chosen false x y e h = absurd (cc)
 -- ---- the same of each call
 pub book_created : (b d : Book) (receiver : List ℕ) (index : ℕ) → create b receiver ≡ Ok (d, index) → IsBook b → IsBook d
 book_created b d receiver index h is =
-    let s = step_of (next_index b) (λ i. Ok (with_receipt b receiver [], i)) (d, index) h in
+    let s = bind_ok (next_index b) (λ i. Ok (with_receipt b receiver [], i)) (d, index) h in
     let e : d ≡ with_receipt b receiver [] = first_of_ok _ _ _ _ s.2 in
     subst IsBook (sym e) (book_with_receipt b receiver [] is)
 
 pub book_chained : (b d : Book) (after : ℕ) (receiver : List ℕ) (index : ℕ) → then b after receiver ≡ Ok (d, index) → IsBook b → IsBook d
 book_chained b d after receiver index h is =
-    let p = step_of (promise_at b after) (λ promise. next_index b >>= λ i. Ok (with_receipt b receiver (places promise), i)) (d, index) h in
-    let s = step_of (next_index b) (λ i. Ok (with_receipt b receiver (places p.0), i)) (d, index) p.2 in
+    let p = bind_ok (promise_at b after) (λ promise. next_index b >>= λ i. Ok (with_receipt b receiver (places promise), i)) (d, index) h in
+    let s = bind_ok (next_index b) (λ i. Ok (with_receipt b receiver (places p.0), i)) (d, index) p.2 in
     let e : d ≡ with_receipt b receiver (places p.0) = first_of_ok _ _ _ _ s.2 in
     subst IsBook (sym e) (book_with_receipt b receiver (places p.0) is)
 
@@ -125,12 +121,12 @@ pub book_joined : (b d : Book) (indices : List ℕ) (index : ℕ) → join b ind
 book_joined b d indices index h is =
     let all = all_places b.promises indices in
     let j = joined_is (nat_lt most_inputs (length all)) (list_all (λ i. nat_lt i (length b.promises)) indices) _ _ (with_promise b (Joined all)) (d, index) h in
-    let s = step_of (next_index b) (λ i. Ok (record b { promises = b.promises ++ Joined all ∷ [] }, i)) (d, index) j.1 in
+    let s = bind_ok (next_index b) (λ i. Ok (record b { promises = b.promises ++ Joined all ∷ [] }, i)) (d, index) j.1 in
     let e : d ≡ record b { promises = b.promises ++ Joined all ∷ [] } = first_of_ok _ _ _ _ s.2 in
     subst IsBook (sym e) (book_with_joined b indices (ltb-false most_inputs (length all) j.0) is)
 
 pub book_acted : (b d : Book) (index : ℕ) (action : Action) → act b index action ≡ Ok d → IsBook b → IsBook d
 book_acted b d index action h is =
-    let p = step_of (place_of b index) (λ at. cond (nat_lt (count_at b.made at) b.max_actions) (Ok (record b { made = changed (with_action action) b.made at })) (Err TooManyActions)) d h in
+    let p = bind_ok (place_of b index) (λ at. cond (nat_lt (count_at b.made at) b.max_actions) (Ok (record b { made = changed (with_action action) b.made at })) (Err TooManyActions)) d h in
     let e : d ≡ record b { made = changed (with_action action) b.made p.0 } = chosen _ _ _ _ p.2 in
     subst IsBook (sym e) (book_with_action b p.0 action is)

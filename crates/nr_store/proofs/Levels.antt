@@ -42,7 +42,7 @@ pub children_stand : (n : ℕ) (ps : Paths) (nibble : ℕ) → CanStand (suc n) 
 children_stand n ps nibble h =
     stands_under n nibble (cut ps) (under nibble (cut ps)) refl (subst (λ m. CanStand m (cut ps)) (sym (add-one n)) (stands_behind (suc n) ps (cut ps) (front ps) refl refl h))
 
-same_trie : (n m : ℕ) (ps : Paths) → CanStand n ps → CanStand m ps → trie n ps ≡ trie m ps
+pub same_trie : (n m : ℕ) (ps : Paths) → CanStand n ps → CanStand m ps → trie n ps ≡ trie m ps
 same_trie n m [] h g = trie_empty n [] refl ∙ sym (trie_empty m [] refl)
 same_trie n m (p ∷ []) h g = trie_one n (p ∷ []) p refl refl ∙ sym (trie_one m (p ∷ []) p refl refl)
 same_trie zero m (p ∷ q ∷ ps) h g = absurd (omega (arith, h.short.0))

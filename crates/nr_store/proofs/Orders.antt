@@ -256,7 +256,7 @@ pub cut_taken : (o : ℕ) (es : Paths) (a z : Path) (end : ℕ) → 2 ≤ length
 cut_taken o es a z end many h f g e =
     ap (λ n. behind n es) (e ∙ ap (λ (k : List ℕ). o + length k) (sym (front_parting o es a z many h f g))) ∙ sym (behind_behind o (length (front (behind o es))) es)
 
-begins_small : (s k : List ℕ) → Begins s k → IsNibbles k → IsNibbles s
+pub begins_small : (s k : List ℕ) → Begins s k → IsNibbles k → IsNibbles s
 begins_small [] k b h = λ i. omega arith
 begins_small (x ∷ s) [] b h = absurd b
 begins_small (x ∷ s) (y ∷ k) b h = more x s (let low : y < 16 = h 0 in let same : x ≡ y = b.0 in omega arith) (begins_small s k b.1 (λ i. h (suc i)))

@@ -4,7 +4,7 @@ use Rattle.std.specs.Prelude.{is_some, nat_le}
 use Rattle.std.specs.Option.{option_map}
 use Rattle.nr_overlap.specs.CoreView.{CoreView}
 use Rattle.nr_overlap.specs.Held.{IsReached}
-use Rattle.nr_overlap.specs.Inside.{IsInside, actor}
+use Rattle.nr_overlap.specs.Inside.{actor}
 use Rattle.nr_overlap.specs.Moment.{report_at}
 use Rattle.nr_overlap.specs.Moves.{moved, moved_by}
 use Rattle.nr_overlap.specs.Next.{IsNextOf}
@@ -25,6 +25,7 @@ use Rattle.nr_overlap.proofs.Running.{tries_made}
 use Rattle.nr_overlap.proofs.SerialLemmas.{sealing_there}
 use Rattle.std.proofs.lemmas.List.{length-replicate}
 use Rattle.std.proofs.lemmas.Bool.{cases_eq}
+use Rattle.nr_overlap.proofs.Refusing.{actor_inside}
 use Rattle.nr_top.specs.Arriving.{IsChunk, IsNextBefore, IsUpTo, Nears}
 
 number_top : (t : Stage) (n : ℕ) → n ≤ top_at t n
@@ -81,12 +82,6 @@ module _ {W K L R : Type 0} (r : Rules W K L R) (s h : ℕ) where
             (moved_up h e (at ps (actor e)) (subst (λ k. top (at ps k) < h) same (not_sealed ps is none))))
         | inr other ↦ subst (λ (p : Position). IsUpTo h p.stage p.number) (sym (be.others s other)) up
       ]
-
-actor_inside : (n : ℕ) (e : Event) → IsInside n e → actor e < n
-actor_inside n (OpenChunk s) is = is
-actor_inside n (TakeList d s h) is = is.0
-actor_inside n (SealChunk s) is = is
-actor_inside n (PublishLists s) is = is
 
 -- the next event, where there is one before the chunk is sealed
 pub next_before : {W K L R : Type 0} (r : Rules W K L R) (s h : ℕ) (ps : List Position) (o : Option Event) → IsChunk r s h → report_at r ps s h ≡ None → IsNextOf r ps o → IsNextBefore r s h ps o

@@ -26,7 +26,7 @@ pub placed_none : (ps : Paths) → placed [] ps ≡ ps
 placed_none [] = refl
 placed_none (p ∷ ps) = ap (λ (rs : Paths). p ∷ rs) (placed_none ps)
 
-joined_back : (s k : List ℕ) → Begins s k → s ++ drop (length s) k ≡ k
+pub joined_back : (s k : List ℕ) → Begins s k → s ++ drop (length s) k ≡ k
 joined_back [] k h = refl
 joined_back (x ∷ s) [] h = absurd h
 joined_back (x ∷ s) (y ∷ k) h =

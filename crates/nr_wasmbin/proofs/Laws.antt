@@ -3,6 +3,7 @@ use Rattle.std.proofs.Common.{◌≡◌, ℕ, zero, suc, ◌+◌, ◌≤◌, Boo
 use Rattle.std.proofs.lemmas.Bool.{ltb-false, leb-true, le-leb, le-ltb}
 use Rattle.std.proofs.lemmas.List.{append-nil, take_at, drop_at, take-append-drop, length-append, length-take}
 use Rattle.std.specs.Str.{is_utf8}
+use Rattle.nr_bytes.proofs.Basics.{bind_ok}
 use Rattle.nr_bytes.specs.Reading.{Input, past, ◌>>=◌}
 use Rattle.nr_bytes.specs.Spelling.{before, behind}
 use Rattle.nr_bytes.specs.Fields.{mapped, pair, items_at}
@@ -22,10 +23,6 @@ pub record Law {X : Type 0} (reading : Input → Read X) (grammar : X → Langua
   pub again : (v : X) (text : List ℕ) (at : ℕ) (rest : List ℕ) → grammar v text → reading (before text at rest) ≡ Ok (v, behind text at rest)
 
 -- ---- steps
-pub bind_ok : {A B F : Type 0} (r : Result A F) (f : A → Result B F) (y : B) → (r >>= f) ≡ Ok y → (x : A) × (r ≡ Ok x) × (f x ≡ Ok y)
-bind_ok (Ok x) f y e = (x, refl, e)
-bind_ok (Err d) f y e = absurd cc
-
 pub goes : {A B F : Type 0} (r : Result A F) (f : A → Result B F) (x : A) (y : Result B F) → r ≡ Ok x → f x ≡ y → (r >>= f) ≡ y
 goes r f x y e h = ap (λ r. r >>= f) e ∙ h
 
