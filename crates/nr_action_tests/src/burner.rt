@@ -1,7 +1,7 @@
 //! Calls that burn gas.
 
 ghost use Rattle.std.specs.Prelude.{◌≡◌, IfOk};
-ghost use Rattle.nr_action_tests.specs.Burning.{Comes, asked, asked_gas, asking, asks, returning};
+ghost use Rattle.nr_action_tests.specs.Burning.{Comes, asked, asking, asks, returning};
 ghost use Rattle.nr_state.specs.World.{World};
 
 use nr_bytes::{Blob, List};

@@ -1,6 +1,6 @@
 //! Receipts that are offered, and the delayed queue.
 
-ghost use Rattle.std.specs.Prelude.{◌≡◌, true, IfOk, OnOk};
+ghost use Rattle.std.specs.Prelude.{◌≡◌, true, OnOk};
 
 use crate::setting::{State, id_of};
 use nr_bytes::{Blob, List};

@@ -1,10 +1,12 @@
 -- The receipts that a call and a deletion make: their tokens and their bounds.
-use Rattle.std.proofs.Common.{◌≡◌, ℕ, ◌+◌, ◌*◌, ◌^◌, ◌<◌, Bool, true, false, List, [], ◌∷◌, ◌++◌, refl, ap, ◌∙◌, arith}
+use Rattle.std.proofs.Common.{◌≡◌, ℕ, ◌+◌, ◌*◌, ◌^◌, ◌<◌, true, false, List, [], ◌∷◌, ◌++◌, refl, ap, ◌∙◌, arith, add-mul}
 use Rattle.std.specs.Prelude.{◌||◌}
 use Rattle.std.specs.List.{AllByRecursion, list_any}
 use Rattle.std.specs.Str.{bytes_eq}
 use Rattle.std.proofs.lemmas.List.Folds.{list_any-append}
 use Rattle.std.proofs.lemmas.List.Sums.{sum_by-cons}
+use mathlib.Core.Bool.{or-true}
+use Rattle.std.proofs.lemmas.Bool.{or_left}
 use Rattle.nr_actions.specs.Refunds.{deposit_refund}
 use Rattle.nr_config.specs.Config.{Config}
 use Rattle.nr_fees.specs.Fees.{deposits, prepaid_gas, body_tokens, body_gas, body_price, receipt_tokens}
@@ -21,9 +23,6 @@ use Rattle.nr_state.specs.Valid.{IsBounded}
 use Rattle.nr_state.specs.declared.calls.CallContext.{CallContext}
 use Rattle.nr_state.specs.declared.calls.Returned.{Returned}
 use Rattle.nr_state.specs.declared.calls.Returned.TheVariants.{Value, Promise}
-
-distributes : (g h p : ℕ) → (g + h) * p ≡ g * p + h * p
-distributes g h p = grind arith
 
 -- ---- receipts of a call
 held_by : (c : Config) (price : ℕ) (b : Body) → HasPrice price b → body_tokens c false b ≡ body_deposits b + body_gas c false b * price
@@ -53,7 +52,7 @@ module _ (c : Config) (x : CallContext) (plain : is_system x.current ≡ false) 
   all_held [] h = omega arith
   all_held (r ∷ rs) h =
       let gas : made_gas c (r ∷ rs) * x.gas_price ≡ body_gas c false r.body * x.gas_price + made_gas c rs * x.gas_price =
-      ap (λ n. n * x.gas_price) (sum_by-cons (λ (q : Receipt). body_gas c false q.body) r rs) ∙ distributes (body_gas c false r.body) (made_gas c rs) x.gas_price in
+      ap (λ n. n * x.gas_price) (sum_by-cons (λ (q : Receipt). body_gas c false q.body) r rs) ∙ add-mul (body_gas c false r.body) (made_gas c rs) x.gas_price in
       omega (arith, gas, sum_by-cons (receipt_tokens c) r rs, sum_by-cons (λ (q : Receipt). body_deposits q.body) r rs, held r h.0, all_held rs h.1)
 
   pub all_bounded : (made : List Receipt) → AllByRecursion (IsMade x) made → x.gas_price < 2 ^ 64 → made_gas c made < 2 ^ 64 → AllByRecursion (IsBounded c) made
@@ -78,21 +77,13 @@ pub refund_bounded : (c : Config) (receiver : List ℕ) (id : Hash32) (amount : 
 refund_bounded c receiver id amount = record { price = omega arith; gas = rw system_is (omega arith) }
 
 -- ---- a returned promise is still among the receipts made
-or_true : (b : Bool) → (b || true) ≡ true
-or_true true = refl
-or_true false = refl
-
-or_more : (b d : Bool) → b ≡ true → (b || d) ≡ true
-or_more true d e = refl
-or_more false d e = absurd cc
-
 pub returned_before : (made more : List Receipt) (r : Returned) → IsReturned made r → IsReturned (made ++ more) r
 returned_before made more (Value bytes) h = tt
 returned_before made more (Promise id) h =
-    list_any-append (λ (r : Receipt). bytes_eq r.receipt_id.0 id.0) made more ∙ or_more (list_any (λ (r : Receipt). bytes_eq r.receipt_id.0 id.0) made) (list_any (λ (r : Receipt). bytes_eq r.receipt_id.0 id.0) more) h
+    list_any-append (λ (r : Receipt). bytes_eq r.receipt_id.0 id.0) made more ∙ or_left (list_any (λ (r : Receipt). bytes_eq r.receipt_id.0 id.0) made) (list_any (λ (r : Receipt). bytes_eq r.receipt_id.0 id.0) more) h
 
 pub returned_behind : (made more : List Receipt) (r : Returned) → IsReturned more r → IsReturned (made ++ more) r
 returned_behind made more (Value bytes) h = tt
 returned_behind made more (Promise id) h =
     list_any-append (λ (r : Receipt). bytes_eq r.receipt_id.0 id.0) made more
-    ∙ ap (λ b. list_any (λ (r : Receipt). bytes_eq r.receipt_id.0 id.0) made || b) h ∙ or_true (list_any (λ (r : Receipt). bytes_eq r.receipt_id.0 id.0) made)
+    ∙ ap (λ b. list_any (λ (r : Receipt). bytes_eq r.receipt_id.0 id.0) made || b) h ∙ or-true (list_any (λ (r : Receipt). bytes_eq r.receipt_id.0 id.0) made)

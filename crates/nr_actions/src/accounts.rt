@@ -1,10 +1,9 @@
 //! Accounts and keys that actions make or change.
 
-ghost use Rattle.std.specs.Prelude.{◌≡◌, ◌+◌, ◌<◌, ◌^◌, OnOk};
-ghost use Rattle.nr_actions.specs.Accounts.{new_account, with_deposit, implicit_key, full_key, with_implicit, raised};
+ghost use Rattle.std.specs.Prelude.{◌≡◌, ◌+◌, ◌<◌, ◌^◌};
+ghost use Rattle.nr_actions.specs.Accounts.{new_account, with_deposit, implicit_key, full_key, raised};
 ghost use Rattle.nr_keys.specs.Changed.{with_allowance};
 ghost use Rattle.nr_keys.specs.Lent.{shown_permission};
-ghost use Rattle.nr_state.specs.View.{with_world};
 
 use nr_config::Config;
 use nr_config::entries::ACCOUNT_BYTES;

@@ -1,6 +1,6 @@
 //! What an action does to its frame, and why it stops.
 
-ghost use Rattle.std.specs.Prelude.{◌≡◌, ◌++◌, ◌∷◌, [], ◌+◌, ◌≤◌, ◌^◌, OnOk};
+ghost use Rattle.std.specs.Prelude.{◌≡◌, ◌++◌, ◌+◌, ◌≤◌, ◌^◌, OnOk};
 ghost use Rattle.nr_actions.specs.Calling.{after_call};
 ghost use Rattle.nr_actions.specs.Failures.{number};
 ghost use Rattle.nr_actions.specs.Parts.{with_made, frame_after};

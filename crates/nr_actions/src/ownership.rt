@@ -1,6 +1,6 @@
 //! What an account does to its own code and keys.
 
-ghost use Rattle.std.specs.Prelude.{◌≡◌, true, not, is_some, IfOk};
+ghost use Rattle.std.specs.Prelude.{◌≡◌, true, is_some, IfOk};
 ghost use Rattle.std.specs.FinMap.{get};
 ghost use Rattle.nr_actions.specs.Actions.{is_other, deployed, key_added, key_deleted};
 ghost use Rattle.nr_actions.specs.Parts.{Performs};

@@ -7,7 +7,6 @@ ghost use Rattle.nr_actions.specs.Actions.{makes_account, is_refund, refunded, H
 ghost use Rattle.nr_actions.specs.Parts.{Performs};
 ghost use Rattle.nr_columns.specs.SpelledKeys.{key_read};
 ghost use Rattle.nr_state.specs.View.{with_world};
-ghost use Rattle.nr_state.specs.World.{with_account};
 
 use crate::accounts::{full_key, implicit_key, new_account, raised, with_deposit};
 use crate::effect::{Effect, Stop, failed};

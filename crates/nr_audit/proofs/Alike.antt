@@ -1,8 +1,8 @@
 -- A chain that is as it was.
-use Rattle.std.proofs.Common.{◌≡◌, ℕ, ◌<◌, List, ◌++◌, map, Option, sym, ap, subst, ◌∙◌}
+use Rattle.std.proofs.Common.{◌≡◌, ℕ, List, ◌++◌, Option, sym, ap, subst, ◌∙◌}
 use Rattle.std.specs.Prelude.{replicate}
-use Rattle.std.specs.List.{flat_map, range_with_len}
-use Rattle.nr_chunk.specs.Chain.{Chain, rules_of}
+use Rattle.std.specs.List.{flat_map}
+use Rattle.nr_chunk.specs.Chain.{rules_of}
 use Rattle.nr_chunk.specs.Runs.{chain_in}
 use Rattle.nr_chunk.specs.Store.{StateStore}
 use Rattle.nr_chunk.specs.declared.chain.ChainRun.{ChainRun}
@@ -13,25 +13,12 @@ use Rattle.nr_overlap.specs.declared.position.Position.{Position}
 use Rattle.nr_state.specs.declared.calls.Caller.{Ghosts}
 use Rattle.nr_tar.specs.Archive.{file_bytes}
 use Rattle.nr_audit.proofs.Files.{files_behind}
-use Rattle.nr_audit.specs.Archive.{chunk_bytes, height_files, leg_files, turn_files}
+use Rattle.nr_audit.specs.Archive.{height_files, leg_files, turn_files}
 
 module _ {C : Type 0} {g : Ghosts C StateStore} (p q : ChainRun C g) (same : q ≡ p) where
   pub places_same : (n : ℕ) (ps : List Position) → ps ≡ replicate (rules_of (chain_in q)).shards (end_at n)
       → ps ≡ replicate (rules_of (chain_in p)).shards (end_at n)
   places_same n ps is = is ∙ ap (λ (c : ChainRun C g). replicate (rules_of (chain_in c)).shards (end_at n)) same
-
-  pub places_there : (n : ℕ) (ps : List Position) → ps ≡ replicate (rules_of (chain_in p)).shards (end_at n)
-      → ps ≡ replicate (rules_of (chain_in q)).shards (end_at n)
-  places_there n ps is = is ∙ ap (λ (c : ChainRun C g). replicate (rules_of (chain_in c)).shards (end_at n)) (sym same)
-
-  pub within_there : (below : ℕ) → below < (rules_of (chain_in p)).heights → below < (rules_of (chain_in q)).heights
-  within_there below within = subst (λ (c : ChainRun C g). below < (rules_of (chain_in c)).heights) (sym same) within
-
-  pub files_there : (below : ℕ) (files : List (Option (List ℕ)))
-      → files ≡ map (λ shard. chunk_bytes (chain_in p) shard below) (range_with_len 0 (rules_of (chain_in p)).shards)
-      → files ≡ map (λ shard. chunk_bytes (chain_in q) shard below) (range_with_len 0 (rules_of (chain_in q)).shards)
-  files_there below files is =
-      is ∙ ap (λ (c : ChainRun C g). map (λ shard. chunk_bytes (chain_in c) shard below) (range_with_len 0 (rules_of (chain_in c)).shards)) (sym same)
 
   pub height_same : (below : ℕ) (mid new : List ℕ) → new ≡ mid ++ flat_map file_bytes (height_files (chain_in q) below)
       → new ≡ mid ++ flat_map file_bytes (height_files (chain_in p) below)

@@ -1,6 +1,6 @@
 //! The files of the chunks of a height.
 
-ghost use Rattle.std.specs.Prelude.{◌≡◌, ◌<◌, ◌+◌, ◌++◌, ◌∷◌, [], false, length, map, replicate, IfOk, OnOk};
+ghost use Rattle.std.specs.Prelude.{◌≡◌, ◌<◌, ◌+◌, ◌++◌, false, map, replicate, IfOk, OnOk};
 ghost use Rattle.std.specs.List.{flat_map, range_with_len};
 ghost use Rattle.nr_audit.specs.Archive.{chunk_bytes, chunk_file, chunk_files, height_files, lines_file};
 ghost use Rattle.nr_chunk.specs.Chain.{rules_of};

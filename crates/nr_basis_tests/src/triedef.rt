@@ -1,7 +1,7 @@
 //! Nibbles, parts, texts and hashes of nodes by examples.
 
-ghost use Rattle.std.specs.Prelude.{◌≡◌, ◌<◌, ◌+◌, IfOk};
-ghost use Rattle.nr_triedef.specs.Node.{IsNode, digest};
+ghost use Rattle.std.specs.Prelude.{◌≡◌, ◌<◌};
+ghost use Rattle.nr_triedef.specs.Node.{digest};
 
 use nr_bytes::Blob;
 use nr_ids::Hash32;

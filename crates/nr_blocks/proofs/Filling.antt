@@ -1,10 +1,12 @@
 -- The entries of a shard, laid one after the other into an empty world, make the world of the genesis.
 use Rattle.std.proofs.Common.{◌≡◌, ℕ, Bool, true, false, cond, List, [], ◌∷◌, Option, Some, refl, sym, ap, ◌∙◌}
-use Rattle.std.specs.Prelude.{◌&&◌, ◌||◌, ◌==◌, not, is_some}
+use Rattle.std.specs.Prelude.{◌||◌, ◌==◌, not, is_some}
 use Rattle.std.specs.FinMap.Entries.{find}
 use Rattle.std.specs.Ordering.{eq_by_cmp}
 use Rattle.std.specs.List.{list_any, list_all}
 use Rattle.std.specs.Str.{bytes_eq}
+use Rattle.std.proofs.lemmas.Bool.{and_parts}
+use mathlib.Core.Bool.{or-true}
 use Rattle.nr_ids.specs.Grammar.{is_system}
 use Rattle.nr_layout.specs.Layout.{shard_of}
 use Rattle.nr_records.specs.declared.account.Account.{Account}
@@ -16,10 +18,6 @@ use Rattle.nr_blocks.specs.Filling.{laid, with_entry}
 use Rattle.nr_blocks.specs.Genesis.{entries_of, genesis_world, is_account, is_owned, lives_in, owner}
 use Rattle.nr_blocks.specs.declared.genesis_entry.GenesisEntry.{GenesisEntry}
 use Rattle.nr_blocks.specs.declared.genesis_entry.GenesisEntry.TheVariants as kind
-
-pub both_true : (a b : Bool) → (a && b) ≡ true → (a ≡ true) × (b ≡ true)
-both_true true b h = (refl, h)
-both_true false b h = absurd cc
 
 -- ---- entries that are written as they are make the world of the genesis
 is_filled : (es : List GenesisEntry) → laid with_entry no_world es ≡ genesis_world es
@@ -59,19 +57,15 @@ any_kept boundaries shard (e ∷ es) q h =
             | true ↦ λ u _. (ap (λ x. shard_of boundaries x == shard) (sym (same_id (owner e) q u)) ∙ t, refl)
             | false ↦ λ u h. any_kept boundaries shard es q h
           ] refl
-      | false ↦ λ t h. let x = any_kept boundaries shard es q h in (x.0, ap (λ b. is_owner q e || b) x.1 ∙ or_true (is_owner q e))
+      | false ↦ λ t h. let x = any_kept boundaries shard es q h in (x.0, ap (λ b. is_owner q e || b) x.1 ∙ or-true (is_owner q e))
     ] refl h
-  where
-    or_true : (b : Bool) → (b || true) ≡ true
-    or_true true = refl
-    or_true false = refl
 
 owner_known : (all es : List GenesisEntry) (q : List ℕ) → list_all (is_owned all) es ≡ true → list_any (is_owner q) es ≡ true → is_account all q ≡ true
 owner_known all [] q owned h = absurd cc
 owner_known all (e ∷ es) q owned h =
-    let two = both_true (is_owned all e) (list_all (is_owned all) es) owned in
+    let two = and_parts (is_owned all e) (list_all (is_owned all) es) owned in
     elim (is_owner q e) as (λ b. is_owner q e ≡ b → (b || list_any (is_owner q) es) ≡ true → is_account all q ≡ true) [
-      | true ↦ λ t _. ap (is_account all) (sym (same_id (owner e) q t)) ∙ (both_true (is_account all (owner e)) (not (is_system (owner e))) two.0).0
+      | true ↦ λ t _. ap (is_account all) (sym (same_id (owner e) q t)) ∙ (and_parts (is_account all (owner e)) (not (is_system (owner e))) two.0).0
       | false ↦ λ t h. owner_known all es q two.1 h
     ] refl h
 

@@ -1,8 +1,11 @@
 -- Entries that stand behind their accounts: that each has an owner is seen without a set of ids.
-use Rattle.std.proofs.Common.{◌≡◌, ℕ, zero, suc, ◌+◌, ◌<◌, Bool, true, false, List, [], ◌∷◌, drop, length, get_or, Option, Some, None, Ok, Err, refl, sym, ap, subst, ◌∙◌}
+use Rattle.std.proofs.Common.{◌≡◌, ℕ, zero, suc, ◌+◌, ◌<◌, Bool, true, false, List, [], ◌∷◌, drop, length, get_or, Some, None, Ok, Err, refl, sym, ap, subst, ◌∙◌}
 use Rattle.std.specs.Prelude.{◌&&◌, ◌||◌, ◌==◌, not, if◌then◌else◌}
 use Rattle.std.specs.Str.{bytes_eq}
 use Rattle.std.proofs.lemmas.Option.{same_Some}
+use mathlib.Core.Bool.{or-true}
+use Rattle.std.proofs.lemmas.Bool.{and_from}
+use Rattle.nr_bytes.proofs.Basics.{none≢some}
 use Rattle.nr_ids.specs.Grammar.{is_system}
 use Rattle.nr_records.specs.declared.account.Account.{Account}
 use Rattle.nr_state.proofs.ValidOwned.{same_id, itself}
@@ -14,19 +17,9 @@ use Rattle.nr_blocks.specs.declared.fault.GenesisFault.TheVariants.{NoOwner}
 use Rattle.nr_blocks.specs.declared.genesis_entry.GenesisEntry.{GenesisEntry}
 use Rattle.nr_blocks.specs.declared.genesis_entry.GenesisEntry.TheVariants as kind
 
-none≢some : {A : Type 0} (x : A) → ◌≡◌ {A = Option A} None (Some x) → ⊥
-none≢some x e = cc
-
-or_true : (b : Bool) → (b || true) ≡ true
-or_true true = refl
-or_true false = refl
-
-both : (a b : Bool) → a ≡ true → b ≡ true → (a && b) ≡ true
-both a b h k = ap (λ c. c && b) h ∙ k
-
 -- ---- an account of the list
 more : (x : GenesisEntry) (es : List GenesisEntry) (q : List ℕ) → is_account es q ≡ true → is_account (x ∷ es) q ≡ true
-more (kind.Account id account) es q h = ap (λ b. bytes_eq id q || b) h ∙ or_true (bytes_eq id q)
+more (kind.Account id account) es q h = ap (λ b. bytes_eq id q || b) h ∙ or-true (bytes_eq id q)
 more (kind.Code id code) es q h = h
 more (kind.Key id key access) es q h = h
 more (kind.Datum id key value) es q h = h
@@ -67,7 +60,7 @@ known_on es n (kind.Account id account) known next h is made before = go (is_sys
     go : (b : Bool) → is_system id ≡ b → Some next ≡ (if b then None else Some id) → (is_known es id ≡ true) × IsKnown es next
     go true t m = absurd (none≢some next (sym m))
     go false t m =
-        let owned : is_known es id ≡ true = both (is_account es id) (not (is_system id)) (account_there es n id account h is) (ap not t) in
+        let owned : is_known es id ≡ true = and_from (is_account es id) (not (is_system id)) (account_there es n id account h is) (ap not t) in
         (owned, λ _. subst (λ (q : List ℕ). is_known es q ≡ true) (sym (same_Some next id m)) owned)
 known_on es n (kind.Code id code) known next h is made before = again_known es id known next made before
 known_on es n (kind.Key id key access) known next h is made before = again_known es id known next made before

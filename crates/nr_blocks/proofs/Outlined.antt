@@ -41,9 +41,6 @@ IsOutlined outline reading other = (s : Input) → IsBytes s.left → other s �
 abbrev pub answered : {X : Type 0} → X × Input → Read X
 answered p = Ok p
 
-abbrev pub refused : {X : Type 0} → RecordFault → Read X
-refused e = Err e
-
 abbrev made : {X : Type 0} → X → Result X RecordFault
 made x = Ok x
 

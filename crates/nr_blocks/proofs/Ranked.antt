@@ -9,7 +9,7 @@ use Rattle.std.specs.declared.cmp.Ordering.TheVariants.{Less, Equal, Greater}
 use Rattle.std.specs.Cmp.{tied_itself}
 use Rattle.std.specs.Cmp.Lexicographic.{nat_list_cmp_total}
 use Rattle.std.proofs.Math.Seq.{take-append_seam}
-use Rattle.std.proofs.lemmas.Bool.{eq-eqb}
+use Rattle.std.proofs.lemmas.Bool.{and_parts, eq-eqb, or_parts}
 use Rattle.std.proofs.lemmas.List.{length-append, map-append}
 use Rattle.std.proofs.lemmas.List.Folds.{list_any-append}
 use Rattle.std.proofs.lemmas.Option.{some_pair_parts}
@@ -22,8 +22,6 @@ use Rattle.nr_state.specs.Repeats.{has_repeat}
 use Rattle.nr_state.specs.World.{bytes_cmp}
 use Rattle.nr_state.proofs.ValidOwned.{itself, same_id, turned}
 use Rattle.nr_blocks.proofs.Entries.{account_more}
-use Rattle.nr_blocks.proofs.Filling.{both_true}
-use Rattle.nr_blocks.proofs.Founded.{neither}
 use Rattle.nr_blocks.specs.Apart.{AreValid, all_go_on, are_new, goes_on, in_turn, is_behind, is_new_to, opens}
 use Rattle.nr_blocks.specs.Genesis.{is_account, owner, trie_key}
 use Rattle.nr_blocks.specs.Judging.{each, each_from, is_first}
@@ -121,21 +119,21 @@ owner_on : (b e : GenesisEntry) (q : List ℕ) → goes_on b e ≡ true → byte
     → bytes_eq (owner e) q ≡ false
 owner_on b (kind.Account id account) q g no gone = gone
 owner_on b (kind.Code id code) q g no gone =
-    let two = both_true (bytes_eq (owner b) id) (is_behind b (kind.Code id code)) g in
+    let two = and_parts (bytes_eq (owner b) id) (is_behind b (kind.Code id code)) g in
     ap (λ (o : List ℕ). bytes_eq o q) (sym (same_id (owner b) id two.0)) ∙ no
 owner_on b (kind.Key id key access) q g no gone =
-    let two = both_true (bytes_eq (owner b) id) (is_behind b (kind.Key id key access)) g in
+    let two = and_parts (bytes_eq (owner b) id) (is_behind b (kind.Key id key access)) g in
     ap (λ (o : List ℕ). bytes_eq o q) (sym (same_id (owner b) id two.0)) ∙ no
 owner_on b (kind.Datum id key value) q g no gone =
-    let two = both_true (bytes_eq (owner b) id) (is_behind b (kind.Datum id key value)) g in
+    let two = and_parts (bytes_eq (owner b) id) (is_behind b (kind.Datum id key value)) g in
     ap (λ (o : List ℕ). bytes_eq o q) (sym (same_id (owner b) id two.0)) ∙ no
 
 others : (b : GenesisEntry) (es : List GenesisEntry) (q : List ℕ) → all_go_on (b ∷ es) ≡ true → bytes_eq (owner b) q ≡ false → is_account es q ≡ false
     → AllByRecursion (λ e. bytes_eq (owner e) q ≡ false) es
 others b [] q go no gone = tt
 others b (e ∷ es) q go no gone =
-    let two = both_true (goes_on b e) (all_go_on (e ∷ es)) go in
-    let parts = neither (is_account_of q e) (is_account es q) (account_more e es q ∙ gone) in
+    let two = and_parts (goes_on b e) (all_go_on (e ∷ es)) go in
+    let parts = or_parts (is_account_of q e) (is_account es q) (account_more e es q ∙ gone) in
     let here : bytes_eq (owner e) q ≡ false = owner_on b e q two.0 no parts.0 in
     (here, others e es q two.1 here parts.1)
 
@@ -161,25 +159,25 @@ above : (b : GenesisEntry) (es : List GenesisEntry) → all_go_on (b ∷ es) ≡
 above b [] go gone = tt
 above b (kind.Account id account ∷ es) go gone =
     let n : GenesisEntry = kind.Account id account in
-    let two = both_true (goes_on b n) (all_go_on (n ∷ es)) go in
-    let parts = neither (bytes_eq id (owner b)) (is_account es (owner b)) gone in
+    let two = and_parts (goes_on b n) (all_go_on (n ∷ es)) go in
+    let parts = or_parts (bytes_eq id (owner b)) (is_account es (owner b)) gone in
     (λ same. absurd (not_same id (owner b) same parts.0), not_its b es (others n es (owner b) two.1 parts.0 parts.1))
 above b (kind.Code id code ∷ es) go gone =
     let n : GenesisEntry = kind.Code id code in
-    let two = both_true (goes_on b n) (all_go_on (n ∷ es)) go in
-    let on = both_true (bytes_eq (owner b) id) (is_behind b n) two.0 in
+    let two = and_parts (goes_on b n) (all_go_on (n ∷ es)) go in
+    let on = and_parts (bytes_eq (owner b) id) (is_behind b n) two.0 in
     let own : owner b ≡ id = same_id (owner b) id on.0 in
     one_more b n es own on.1 (above n es two.1 (ap (is_account es) (sym own) ∙ gone))
 above b (kind.Key id key access ∷ es) go gone =
     let n : GenesisEntry = kind.Key id key access in
-    let two = both_true (goes_on b n) (all_go_on (n ∷ es)) go in
-    let on = both_true (bytes_eq (owner b) id) (is_behind b n) two.0 in
+    let two = and_parts (goes_on b n) (all_go_on (n ∷ es)) go in
+    let on = and_parts (bytes_eq (owner b) id) (is_behind b n) two.0 in
     let own : owner b ≡ id = same_id (owner b) id on.0 in
     one_more b n es own on.1 (above n es two.1 (ap (is_account es) (sym own) ∙ gone))
 above b (kind.Datum id key value ∷ es) go gone =
     let n : GenesisEntry = kind.Datum id key value in
-    let two = both_true (goes_on b n) (all_go_on (n ∷ es)) go in
-    let on = both_true (bytes_eq (owner b) id) (is_behind b n) two.0 in
+    let two = and_parts (goes_on b n) (all_go_on (n ∷ es)) go in
+    let on = and_parts (bytes_eq (owner b) id) (is_behind b n) two.0 in
     let own : owner b ≡ id = same_id (owner b) id on.0 in
     one_more b n es own on.1 (above n es two.1 (ap (is_account es) (sym own) ∙ gone))
 
@@ -205,21 +203,21 @@ gone_on : (b n : GenesisEntry) (es : List GenesisEntry) → goes_on b n ≡ true
     → is_account es (owner n) ≡ false
 gone_on b (kind.Account id account) es g new gone = not_so (is_account es id) new
 gone_on b (kind.Code id code) es g new gone =
-    let on = both_true (bytes_eq (owner b) id) (is_behind b (kind.Code id code)) g in
+    let on = and_parts (bytes_eq (owner b) id) (is_behind b (kind.Code id code)) g in
     ap (is_account es) (sym (same_id (owner b) id on.0)) ∙ gone
 gone_on b (kind.Key id key access) es g new gone =
-    let on = both_true (bytes_eq (owner b) id) (is_behind b (kind.Key id key access)) g in
+    let on = and_parts (bytes_eq (owner b) id) (is_behind b (kind.Key id key access)) g in
     ap (is_account es) (sym (same_id (owner b) id on.0)) ∙ gone
 gone_on b (kind.Datum id key value) es g new gone =
-    let on = both_true (bytes_eq (owner b) id) (is_behind b (kind.Datum id key value)) g in
+    let on = and_parts (bytes_eq (owner b) id) (is_behind b (kind.Datum id key value)) g in
     ap (is_account es) (sym (same_id (owner b) id on.0)) ∙ gone
 
 none_twice : (b : GenesisEntry) (es : List GenesisEntry) → AreValid (b ∷ es) → all_go_on (b ∷ es) ≡ true → are_new es ≡ true → is_account es (owner b) ≡ false
     → has_repeat (map trie_key (b ∷ es)) ≡ false
 none_twice b [] valid go new gone = refl
 none_twice b (n ∷ es) valid go new gone =
-    let two = both_true (goes_on b n) (all_go_on (n ∷ es)) go in
-    let news = both_true (is_new_to (is_account es) n) (are_new es) new in
+    let two = and_parts (goes_on b n) (all_go_on (n ∷ es)) go in
+    let news = and_parts (is_new_to (is_account es) n) (are_new es) new in
     let here : list_any (bytes_eq (trie_key b)) (map trie_key (n ∷ es)) ≡ false =
     none_alike b (n ∷ es) valid.0 valid.1 (above b (n ∷ es) go gone) in
     let later : has_repeat (map trie_key (n ∷ es)) ≡ false =
@@ -235,8 +233,8 @@ gone_first (kind.Datum id key value) es o new = absurd (let no : false ≡ true 
 no_repeat : (es : List GenesisEntry) → in_turn es ≡ true → AreValid es → are_new es ≡ true → has_repeat (map trie_key es) ≡ false
 no_repeat [] turn valid new = refl
 no_repeat (e ∷ es) turn valid new =
-    let two = both_true (opens e) (all_go_on (e ∷ es)) turn in
-    let news = both_true (is_new_to (is_account es) e) (are_new es) new in
+    let two = and_parts (opens e) (all_go_on (e ∷ es)) turn in
+    let news = and_parts (is_new_to (is_account es) e) (are_new es) new in
     none_twice e es valid two.1 news.1 (gone_first e es two.0 news.0)
 
 -- ---- then each entry is the first with its trie key
@@ -254,7 +252,7 @@ all_new : (before : List GenesisEntry) (x : GenesisEntry) (es : List GenesisEntr
     → list_any (bytes_eq (trie_key x)) (map trie_key es) ≡ false → AllByRecursion (IsNew (before ++ x ∷ [])) es
 all_new before x [] new none = tt
 all_new before x (e ∷ es) new none =
-    let two = neither (bytes_eq (trie_key x) (trie_key e)) (list_any (bytes_eq (trie_key x)) (map trie_key es)) none in
+    let two = or_parts (bytes_eq (trie_key x) (trie_key e)) (list_any (bytes_eq (trie_key x)) (map trie_key es)) none in
     (new_behind before x e new.0 two.0, all_new before x es new.1 two.1)
 
 none_before : (es : List GenesisEntry) → AllByRecursion (IsNew []) es
@@ -273,7 +271,7 @@ pass_from all before (x ∷ es) whole new apart =
     let front : take n all ≡ before = ap (take n) whole ∙ take-append_seam before (x ∷ es) in
     let fresh : list_any (bytes_eq (trie_key x)) (map trie_key (take n all)) ≡ false =
     ap (λ (l : List GenesisEntry). list_any (bytes_eq (trie_key x)) (map trie_key l)) front ∙ new.0 in
-    let two = neither (list_any (bytes_eq (trie_key x)) (map trie_key es)) (has_repeat (map trie_key es)) apart in
+    let two = or_parts (list_any (bytes_eq (trie_key x)) (map trie_key es)) (has_repeat (map trie_key es)) apart in
     let later = pass_from all (before ++ x ∷ []) es (whole ∙ sym (append_assoc before (x ∷ []) es)) (all_new before x es new.1 two.0) two.1 in
     ap (λ (t : Bool). answer n t >>= λ (u : Unit {0}). each_from (is_first all) (n + 1) es) fresh
     ∙ ap (λ (m : ℕ). each_from (is_first all) m es) (sym (length-append before (x ∷ [])))

@@ -1,9 +1,10 @@
 -- A loop over a list, up to the item that it stands at: what is tried so far, and what is still to try.
-use Rattle.std.proofs.Common.{◌≡◌, ℕ, ◌+◌, ◌<◌, ◌≤◌, Bool, true, false, List, [], ◌∷◌, ◌++◌, length, drop, take, map, Ok, Err, sym, refl, ap, ◌∙◌, get_or}
+use Rattle.std.proofs.Common.{◌≡◌, ℕ, ◌+◌, ◌<◌, ◌≤◌, Bool, List, [], ◌∷◌, ◌++◌, length, drop, take, map, Ok, Err, sym, refl, ap, ◌∙◌, get_or}
 use Rattle.std.specs.Prelude.{◌||◌}
 use Rattle.std.specs.List.{list_any}
 use Rattle.std.proofs.lemmas.List.{drop_more, drop_all, take_more, map-append}
 use Rattle.std.proofs.lemmas.List.Folds.{list_any-append}
+use mathlib.Core.Bool.{or-false, or_comm}
 use Rattle.nr_bytes.specs.Reading.{◌>>=◌}
 use Rattle.nr_blocks.specs.Judging.{Check, each, each_from}
 
@@ -32,19 +33,10 @@ unfolding each_from
 each_ends check xs n h left = left ∙ ap (each_from check n) (drop_all n xs h)
 
 -- ---- what was seen among the first n items
-or_none : (a : Bool) → (a || false) ≡ a
-or_none true = refl
-or_none false = refl
-
-or_turned : (a b : Bool) → (a || b) ≡ (b || a)
-or_turned true true = refl
-or_turned true false = refl
-or_turned false b = sym (or_none b)
-
 pub any_more : {X Y : Type 0} (test : Y → Bool) (name : X → Y) (xs : List X) (n : ℕ) (x : X) → n < length xs → x ≡ get_or xs n x → list_any test (map name (take (n + 1) xs)) ≡ (test (name x) || list_any test (map name (take n xs)))
 any_more test name xs n x h is =
     ap (λ l. list_any test (map name l)) (take_more xs n x h ∙ ap (λ y. take n xs ++ y ∷ []) (sym is))
     ∙ ap (list_any test) (map-append name (take n xs) (x ∷ []))
     ∙ list_any-append test (map name (take n xs)) (name x ∷ [])
-    ∙ ap (λ b. list_any test (map name (take n xs)) || b) (or_none (test (name x)))
-    ∙ or_turned (list_any test (map name (take n xs))) (test (name x))
+    ∙ ap (λ b. list_any test (map name (take n xs)) || b) (or-false (test (name x)))
+    ∙ or_comm (list_any test (map name (take n xs))) (test (name x))

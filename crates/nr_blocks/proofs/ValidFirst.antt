@@ -8,10 +8,11 @@ use Rattle.std.specs.Cmp.Lexicographic.{nat_list_cmp_total}
 use Rattle.std.specs.Ordering.{eq_by_cmp}
 use Rattle.std.specs.List.{list_any, list_all}
 use Rattle.std.specs.Str.{bytes_eq}
-use Rattle.std.proofs.lemmas.Bool.{eqb-true}
+use Rattle.std.proofs.lemmas.Bool.{eqb-true, and_parts, or_parts}
 use Rattle.std.proofs.lemmas.List.{nil_from_length}
 use Rattle.std.proofs.lemmas.List.Sums.{sum_by-cons}
 use Rattle.std.proofs.lemmas.Map.Lookups.{exact_bytes}
+use mathlib.Core.Bool.{or-true}
 use Rattle.nr_config.specs.Config.{Config, account_bytes_entry}
 use Rattle.nr_ids.specs.declared.key.PublicKey.{PublicKey}
 use Rattle.nr_layout.specs.Layout.{shard_of}
@@ -30,8 +31,8 @@ use Rattle.nr_state.proofs.ValidQueues.{empty_valid}
 use Rattle.nr_state.proofs.ValidSums.{at_key, sum-insert, equal}
 use Rattle.nr_state.proofs.ValidOwned.{key_total, pair_total, exact_keys, exact_data, same_id, itself, turned, get_written}
 use Rattle.nr_blocks.proofs.Entries.{ties_back}
-use Rattle.nr_blocks.proofs.Filling.{AreOwned, are_owned, both_true, account_found, is_owner}
-use Rattle.nr_blocks.proofs.Founded.{neither, other_account, account_known, apart_in, shard_tokens, few_tokens, no_system_in}
+use Rattle.nr_blocks.proofs.Filling.{AreOwned, are_owned, account_found, is_owner}
+use Rattle.nr_blocks.proofs.Founded.{other_account, account_known, apart_in, shard_tokens, few_tokens, no_system_in}
 use Rattle.nr_blocks.specs.Genesis.{AreSoundEntries, accounts_in, code_in, key_in, datum_in, code_hash_in, entries_of, entry_usage, genesis_world, has_code_hash, has_usage, hash_in, is_account, lives_in, owner, trie_key, usage_if_owned, usage_in}
 use Rattle.nr_blocks.specs.declared.genesis_entry.GenesisEntry.{GenesisEntry}
 use Rattle.nr_blocks.specs.declared.genesis_entry.GenesisEntry.TheVariants as kind
@@ -91,7 +92,7 @@ test_passed : (boundaries : List (List ℕ)) (shard : ℕ) (test : List ℕ × A
     → find bytes_cmp id (accounts_in (entries_of boundaries shard es)) ≡ Some account → (test (id, account) ≡ true) × ((shard_of boundaries id == shard) ≡ true)
 test_passed boundaries shard test [] id account all h = absurd cc
 test_passed boundaries shard test (kind.Account i a ∷ es) id account all h =
-    let two = both_true (test (i, a)) (list_all test (accounts_in es)) all in
+    let two = and_parts (test (i, a)) (list_all test (accounts_in es)) all in
     let kept = entries_of boundaries shard es in
     elim (lives_in boundaries shard (kind.Account i a)) as (λ b. (shard_of boundaries i == shard) ≡ b → find bytes_cmp id (accounts_in (cond b (kind.Account i a ∷ kept) kept)) ≡ Some account → (test (id, account) ≡ true) × ((shard_of boundaries id == shard) ≡ true)) [
       | true ↦ λ here.
@@ -118,30 +119,30 @@ differ R same name k j h =
 
 other_key : (k : List ℕ × PublicKey) (es : List GenesisEntry) → list_any (bytes_eq (access_key_key k)) (map trie_key es) ≡ false → find key_cmp k (filter_map key_in es) ≡ None
 other_key k [] h = refl
-other_key k (kind.Account i account ∷ es) h = other_key k es (neither (bytes_eq (access_key_key k) (account_key i)) _ h).1
-other_key k (kind.Code i code ∷ es) h = other_key k es (neither (bytes_eq (access_key_key k) (code_key i)) _ h).1
+other_key k (kind.Account i account ∷ es) h = other_key k es (or_parts (bytes_eq (access_key_key k) (account_key i)) _ h).1
+other_key k (kind.Code i code ∷ es) h = other_key k es (or_parts (bytes_eq (access_key_key k) (code_key i)) _ h).1
 other_key k (kind.Key i key access ∷ es) h =
-    let two = neither (bytes_eq (access_key_key k) (access_key_key (i, key))) _ h in
+    let two = or_parts (bytes_eq (access_key_key k) (access_key_key (i, key))) _ h in
     ap (λ b. cond b (Some access) (find key_cmp k (filter_map key_in es))) (differ key_cmp exact_keys access_key_key k (i, key) two.0) ∙ other_key k es two.1
-other_key k (kind.Datum i key value ∷ es) h = other_key k es (neither (bytes_eq (access_key_key k) (datum_key (i, key))) _ h).1
+other_key k (kind.Datum i key value ∷ es) h = other_key k es (or_parts (bytes_eq (access_key_key k) (datum_key (i, key))) _ h).1
 
 other_datum : (k : List ℕ × List ℕ) (es : List GenesisEntry) → list_any (bytes_eq (datum_key k)) (map trie_key es) ≡ false → find pair_cmp k (filter_map datum_in es) ≡ None
 other_datum k [] h = refl
-other_datum k (kind.Account i account ∷ es) h = other_datum k es (neither (bytes_eq (datum_key k) (account_key i)) _ h).1
-other_datum k (kind.Code i code ∷ es) h = other_datum k es (neither (bytes_eq (datum_key k) (code_key i)) _ h).1
-other_datum k (kind.Key i key access ∷ es) h = other_datum k es (neither (bytes_eq (datum_key k) (access_key_key (i, key))) _ h).1
+other_datum k (kind.Account i account ∷ es) h = other_datum k es (or_parts (bytes_eq (datum_key k) (account_key i)) _ h).1
+other_datum k (kind.Code i code ∷ es) h = other_datum k es (or_parts (bytes_eq (datum_key k) (code_key i)) _ h).1
+other_datum k (kind.Key i key access ∷ es) h = other_datum k es (or_parts (bytes_eq (datum_key k) (access_key_key (i, key))) _ h).1
 other_datum k (kind.Datum i key value ∷ es) h =
-    let two = neither (bytes_eq (datum_key k) (datum_key (i, key))) _ h in
+    let two = or_parts (bytes_eq (datum_key k) (datum_key (i, key))) _ h in
     ap (λ b. cond b (Some value) (find pair_cmp k (filter_map datum_in es))) (differ pair_cmp exact_data datum_key k (i, key) two.0) ∙ other_datum k es two.1
 
 other_code : (id : List ℕ) (es : List GenesisEntry) → list_any (bytes_eq (code_key id)) (map trie_key es) ≡ false → find bytes_cmp id (filter_map code_in es) ≡ None
 other_code id [] h = refl
-other_code id (kind.Account i account ∷ es) h = other_code id es (neither (bytes_eq (code_key id) (account_key i)) _ h).1
+other_code id (kind.Account i account ∷ es) h = other_code id es (or_parts (bytes_eq (code_key id) (account_key i)) _ h).1
 other_code id (kind.Code i code ∷ es) h =
-    let two = neither (bytes_eq (code_key id) (code_key i)) _ h in
+    let two = or_parts (bytes_eq (code_key id) (code_key i)) _ h in
     ap (λ b. cond b (Some code) (find bytes_cmp id (filter_map code_in es))) (differ bytes_cmp exact_bytes code_key id i two.0) ∙ other_code id es two.1
-other_code id (kind.Key i key access ∷ es) h = other_code id es (neither (bytes_eq (code_key id) (access_key_key (i, key))) _ h).1
-other_code id (kind.Datum i key value ∷ es) h = other_code id es (neither (bytes_eq (code_key id) (datum_key (i, key))) _ h).1
+other_code id (kind.Key i key access ∷ es) h = other_code id es (or_parts (bytes_eq (code_key id) (access_key_key (i, key))) _ h).1
+other_code id (kind.Datum i key value ∷ es) h = other_code id es (or_parts (bytes_eq (code_key id) (datum_key (i, key))) _ h).1
 
 -- ---- what the entries of an account are counted as, in the world that they make
 no_sum : {K X : Type 0} (R : K → K → Ordering) (f : K × X → ℕ) → sum_by f (entries (empty {X = X} {R = R})) ≡ 0
@@ -194,25 +195,21 @@ counted c [] id h =
     let none : code_usage [] id ≡ 0 = ap (λ (o : Option (List ℕ)). or_none (option_map (λ code. length code) o)) (get-empty {X = List ℕ} bytes_cmp id) in
     omega (arith, no_sum key_cmp (if_owned id (key_usage c)), none, no_sum pair_cmp (if_owned id (datum_usage c)))
 counted c (kind.Account i account ∷ es) id h =
-    let two = neither (list_any (bytes_eq (account_key i)) (map trie_key es)) (has_repeat (map trie_key es)) h in
+    let two = or_parts (list_any (bytes_eq (account_key i)) (map trie_key es)) (has_repeat (map trie_key es)) h in
     omega (arith, sum_by-cons (usage_if_owned c id) (kind.Account i account) es, base_more c i account es id two.0, counted c es id two.1)
 counted c (kind.Code i code ∷ es) id h =
-    let two = neither (list_any (bytes_eq (code_key i)) (map trie_key es)) (has_repeat (map trie_key es)) h in
+    let two = or_parts (list_any (bytes_eq (code_key i)) (map trie_key es)) (has_repeat (map trie_key es)) h in
     omega (arith, sum_by-cons (usage_if_owned c id) (kind.Code i code) es, code_more i code es id two.0, counted c es id two.1)
 counted c (kind.Key i key access ∷ es) id h =
-    let two = neither (list_any (bytes_eq (access_key_key (i, key))) (map trie_key es)) (has_repeat (map trie_key es)) h in
+    let two = or_parts (list_any (bytes_eq (access_key_key (i, key))) (map trie_key es)) (has_repeat (map trie_key es)) h in
     omega (arith, sum_by-cons (usage_if_owned c id) (kind.Key i key access) es, owned_more key_total exact_keys (key_usage c) (filter_map key_in es) i key access id (other_key (i, key) es two.0), counted c es id two.1)
 counted c (kind.Datum i key value ∷ es) id h =
-    let two = neither (list_any (bytes_eq (datum_key (i, key))) (map trie_key es)) (has_repeat (map trie_key es)) h in
+    let two = or_parts (list_any (bytes_eq (datum_key (i, key))) (map trie_key es)) (has_repeat (map trie_key es)) h in
     omega (arith, sum_by-cons (usage_if_owned c id) (kind.Datum i key value) es, owned_more pair_total exact_data (datum_usage c) (filter_map datum_in es) i key value id (other_datum (i, key) es two.0), counted c es id two.1)
 
 -- ---- whose keys, code and data there are
-or_true : (b : Bool) → (b || true) ≡ true
-or_true true = refl
-or_true false = refl
-
 behind : (e : GenesisEntry) (es : List GenesisEntry) (q : List ℕ) → list_any (is_owner q) es ≡ true → list_any (is_owner q) (e ∷ es) ≡ true
-behind e es q h = ap (λ b. is_owner q e || b) h ∙ or_true (is_owner q e)
+behind e es q h = ap (λ b. is_owner q e || b) h ∙ or-true (is_owner q e)
 
 before : (e : GenesisEntry) (es : List GenesisEntry) (q : List ℕ) → q ≡ owner e → list_any (is_owner q) (e ∷ es) ≡ true
 before e es q h = ap (λ b. b || list_any (is_owner q) es) (ap (bytes_eq (owner e)) h ∙ itself (owner e))

@@ -2,7 +2,6 @@
 
 ghost use Rattle.std.specs.Prelude.{◌≡◌};
 ghost use Rattle.nr_blocks.specs.Judging.{blocks_fault, genesis_fault};
-ghost use Rattle.nr_blocks.specs.declared.fault.BlocksFault.TheVariants as blocks;
 ghost use Rattle.nr_blocks.specs.declared.fault.GenesisFault.TheVariants as genesis;
 
 use nr_records::RecordFault;

@@ -1,11 +1,9 @@
 //! An entry of a genesis: its kinds, its reading and its writing.
 
-ghost use Rattle.std.specs.Prelude.{◌≡◌};
 ghost use Rattle.nr_bytes.specs.Fields.{mapped, pair};
 ghost use Rattle.nr_records.specs.Reading.{account_id_at, blob_at};
 ghost use Rattle.nr_bytes.specs.Answers.{GivesRead};
 ghost use Rattle.nr_records.specs.declared.fault.RecordFault.TheVariants.{Memory};
-ghost use Rattle.nr_records.specs.Accounts.{account_at};
 ghost use Rattle.nr_records.specs.AccessKeys.{access_key_at};
 ghost use Rattle.nr_records.specs.Ids.{key_at};
 ghost use Rattle.nr_blocks.specs.GenesisFiles.{entry_at, entry_bytes, IsEntry, key_of, datum_of};

@@ -1,6 +1,5 @@
 //! What a genesis file holds, its reading and its writing.
 
-ghost use Rattle.std.specs.Prelude.{◌≡◌};
 ghost use Rattle.nr_blocks.specs.Files.{genesis_at, genesis_bytes, IsGenesisFile};
 ghost use Rattle.nr_blocks.specs.FileLaws.{genesis_law};
 

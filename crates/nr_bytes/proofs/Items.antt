@@ -1,7 +1,6 @@
 -- Reading items one after the other, as a loop does.
 use Rattle.std.proofs.Common.{◌≡◌, ℕ, suc, ◌-◌, ◌+◌, ◌≤◌, ◌<◌, List, [], ◌∷◌, ◌++◌, Ok, Err, refl, sym, ap, ◌∙◌, append_assoc, arith}
 use Rattle.std.proofs.lemmas.List.{append-nil}
-use Rattle.std.specs.List.{AllByRecursion}
 use Rattle.nr_bytes.specs.Reading.{Input, ◌>>=◌}
 use Rattle.nr_bytes.specs.Fields.{Read, items_at}
 
@@ -35,7 +34,3 @@ is_done {F} {X} item front count i s total le so_far =
     let k : count - i ≡ 0 = omega arith in
     let one : with_front front (items_at item (count - i) s) ≡ Ok (front, s) = rw k (ap (λ (xs : List X). Ok (xs, s)) (append-nil front)) in
     sym so_far ∙ one
-
-pub all_with_one : {X : Type 0} (P : X → Type 0) (xs : List X) (x : X) → AllByRecursion P xs → P x → AllByRecursion P (xs ++ x ∷ [])
-all_with_one P [] x all one = (one, tt)
-all_with_one P (y ∷ ys) x all one = (all.0, all_with_one P ys x all.1 one)

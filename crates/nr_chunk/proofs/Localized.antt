@@ -5,6 +5,7 @@ use Rattle.std.specs.Prelude.{fold, ◌||◌}
 use Rattle.std.specs.Str.{bytes_eq}
 use Rattle.std.specs.FinMap.{get, get-retain_keys}
 use Rattle.std.specs.List.{AllByRecursion, flat_map}
+use Rattle.std.proofs.lemmas.Bool.{or_right}
 use Rattle.nr_chunk.specs.Chunk.{begun, open_chunk, take_list, seal_chunk}
 use Rattle.nr_chunk.specs.Views.{Working}
 use Rattle.nr_config.specs.Config.{Config}
@@ -119,15 +120,11 @@ chunk_is_local c call local = record {
 }
 
 -- ---- the accounts of a list hold the list
-or_true : (a b : Bool) → b ≡ true → (a || b) ≡ true
-or_true true b h = refl
-or_true false b h = h
-
 held : (ids all : List (List ℕ)) → ((id : List ℕ) → is_in ids id ≡ true → is_in all id ≡ true) → HasAll (is_in all) ids
 held [] all h = tt
 held (id ∷ ids) all h = (
   h id (ap (λ b. b || is_in ids id) (itself id)),
-  held ids all (λ other there. h other (or_true (bytes_eq other id) (is_in ids other) there)),
+  held ids all (λ other there. h other (or_right (bytes_eq other id) (is_in ids other) there)),
 )
 
 pub all_in : (ids : List (List ℕ)) → HasAll (is_in ids) ids

@@ -1,9 +1,10 @@
 -- A chunk on a world that is put together from two.
-use Rattle.std.proofs.Common.{◌≡◌, ℕ, Bool, true, false, cond, List, [], ◌∷◌, ◌++◌, Option, Ok}
+use Rattle.std.proofs.Common.{◌≡◌, ℕ, Bool, true, false, cond, List, [], ◌∷◌, Option, Ok}
 use Rattle.std.proofs.Common.{Err, refl, sym, ap, subst, ◌∙◌}
 use Rattle.std.specs.Prelude.{fold}
 use Rattle.std.specs.FinMap.{get}
 use Rattle.std.specs.List.{AllByRecursion}
+use Rattle.nr_bytes.proofs.Basics.{all_push}
 use Rattle.nr_chunk.specs.Chunk.{with_execution, told, clashed, late, has_gas, Opening, is_local, with_converted}
 use Rattle.nr_chunk.specs.Chunk.{put_aside, by_conversion, convert_next, convert_all, without_front, run, by_offer}
 use Rattle.nr_chunk.specs.Chunk.{offered_to, serve, serve_queue, serve_delayed, served_local, open_chunk}
@@ -44,10 +45,6 @@ pub record Stays (x : List ℕ → Bool) (w : World) : Type 0 where
 -- what waits outside of accounts
 abbrev waits : Scope
 waits = record { own = λ q. false; keys = λ q. false; waiting = λ q. true; queue = false }
-
-push : {A : Type 0} (P : A → Type 0) (xs : List A) (y : A) → AllByRecursion P xs → P y → AllByRecursion P (xs ++ y ∷ [])
-push P [] y all here = (here, tt)
-push P (x ∷ xs) y all here = (all.0, push P xs y all.1 here)
 
 -- ---- a world whose postponed receipts and queue are those of another
 same_waiting : (x : List ℕ → Bool) (u w : World) → u ≡ over owned u w → Stays x w → Stays x u
@@ -138,7 +135,7 @@ module _ (x : List ℕ → Bool) (v : World) (kept : IsKeyed v) (c : Config) (ca
       elim (has_gas c k) as (λ b. Stays x (cond b (offered_to c call k r (offer k.world r)) (late k r)).world) [
         | true ↦ by_offer_stays (record k { world = (offer k.world r).0 }) r (offer k.world r).1
             (offer_stays x k.world r h)
-        | false ↦ record { keyed = h.keyed; queued = push (IsFor x) k.world.delayed r h.queued here }
+        | false ↦ record { keyed = h.keyed; queued = all_push (IsFor x) k.world.delayed r h.queued here }
       ]
 
   -- ---- lists
@@ -212,7 +209,7 @@ module _ (x : List ℕ → Bool) (v : World) (kept : IsKeyed v) (c : Config) (ca
 
   aside_stays : (b : Bool) (k : Working) (list : List Receipt) (r : Receipt) → (b ≡ true → IsFor x r) → Stays x k.world
       → AllByRecursion (IsFor x) list → StaysOpen (put_aside b k list r)
-  aside_stays true k list r here h all = record { stays = h; listed = push (IsFor x) list r all (here refl) }
+  aside_stays true k list r here h all = record { stays = h; listed = all_push (IsFor x) list r all (here refl) }
   aside_stays false k list r here h all = record { stays = h; listed = all }
 
   by_conversion_stays : (o : Opening) (tx : Transaction) (came : Conversion) → x tx.signer ≡ true → StaysOpen o

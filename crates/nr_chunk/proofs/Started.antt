@@ -25,9 +25,6 @@ founded_world g s l =
 pub resumed_world : (r : Resumed) (s : ℕ) (es : List Entry) → s < length r.worlds → es ≡ get_or r.worlds s es → start_world (start_of (first.Resumed r)) s ≡ world_from es
 resumed_world r s es l at = get_or-map world_from r.worlds s es no_world l ∙ ap world_from (sym at)
 
-nothing : {A : Type 0} (a : A) → ◌≡◌ {A = Option A} None (Some a) → ⊥
-nothing a e = cc
-
 pub chunk_below : (x : Chain) (s h : ℕ) → is_some (chunk_at x s h) ≡ true → h ≤ length x.blocks
 chunk_below x s zero e = omega arith
 chunk_below x s (suc h) e = by (slice_get x.blocks h) refl e

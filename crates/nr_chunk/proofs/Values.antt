@@ -1,5 +1,5 @@
 -- What holds of each value of a map holds of all its values in order.
-use Rattle.std.proofs.Common.{◌≡◌, Bool, true, false, cond, ◌&&◌, List, [], ◌∷◌, map, Some, None, refl, ap, ◌∙◌}
+use Rattle.std.proofs.Common.{◌≡◌, Bool, true, false, cond, List, [], ◌∷◌, map, Some, None, refl, ap, ◌∙◌}
 use Rattle.std.specs.Prelude.{T}
 use Rattle.std.specs.Cmp.{IsTotalOrder, tied_itself}
 use Rattle.std.specs.FinMap.{FinMap, IsAntisymmetric, find, is_sorted, entries, entries_sorted, get, get-entries}
@@ -8,21 +8,8 @@ use Rattle.std.specs.FinMap.Entries.{below_all}
 use Rattle.std.specs.List.{AllByRecursion}
 use Rattle.std.specs.Ordering.{is_eq, eq_by_cmp}
 use Rattle.std.specs.declared.cmp.Ordering.{Ordering}
-use Rattle.std.specs.declared.cmp.Ordering.TheVariants.{Less, Equal, Greater}
+use Rattle.nr_bytes.proofs.Basics.{left_of, right_of, equal_of}
 use Rattle.nr_columns.proofs.Tables.{find_below}
-
-first : (a b : Bool) → T (a && b) → T a
-first true b p = tt
-first false b p = p
-
-second : (a b : Bool) → T (a && b) → T b
-second true b p = p
-second false b p = absurd p
-
-equal : (r : Ordering) → is_eq r ≡ true → r ≡ Equal
-equal Less e = absurd cc
-equal Equal e = refl
-equal Greater e = absurd cc
 
 module _ {K X : Type 0} (R : K → K → Ordering) (o : IsTotalOrder R) (same : IsAntisymmetric R) (P : X → Type 0) where
   itself : (k : K) → eq_by_cmp R k k ≡ true
@@ -35,7 +22,7 @@ module _ {K X : Type 0} (R : K → K → Ordering) (o : IsTotalOrder R) (same : 
     where
       by : (b : Bool) → eq_by_cmp R k e.0 ≡ b → cond b (Some e.1) (find R k es) ≡ Some v
       by true t =
-          absurd (let none : find R k es ≡ None = ap (λ (q : K). find R q es) (same k e.0 (equal (R k e.0) t))
+          absurd (let none : find R k es ≡ None = ap (λ (q : K). find R q es) (same k e.0 (equal_of (R k e.0) t))
           ∙ find_below R e.0 es below in cc)
       by false t = found
 
@@ -44,7 +31,7 @@ module _ {K X : Type 0} (R : K → K → Ordering) (o : IsTotalOrder R) (same : 
   each [] sorted h = tt
   each (e ∷ es) sorted h = (
     h e.0 e.1 (ap (λ b. cond b (Some e.1) (find R e.0 es)) (itself e.0)),
-    each es (second _ _ sorted) (λ k v found. h k v (behind e es (first _ _ sorted) k v found)),
+    each es (right_of _ _ sorted) (λ k v found. h k v (behind e es (left_of _ _ sorted) k v found)),
   )
 
   pub all_values : (m : FinMap R X) → ((k : K) (v : X) → get m k ≡ Some v → P v) → AllByRecursion P (values m)

@@ -1,10 +1,11 @@
 -- The first worlds have together the tokens that the entries of a genesis state, and nothing waits in them.
-use Rattle.std.proofs.Common.{◌≡◌, ℕ, zero, suc, ◌+◌, ◌<◌, ◌≤◌, true, false, cond, List, [], ◌∷◌, length, map, inl, inr}
+use Rattle.std.proofs.Common.{◌≡◌, ℕ, zero, suc, ◌+◌, ◌<◌, ◌≤◌, true, false, cond, List, [], ◌∷◌, length, map, inl, inr, add_assoc}
 use Rattle.std.proofs.Common.{refl, sym, ap, ◌∙◌, arith}
 use Rattle.std.specs.Prelude.{◌==◌, sum_by}
 use Rattle.std.specs.FinMap.{empty, entries, values, len-empty, len-entries}
 use Rattle.std.proofs.lemmas.List.{nil_from_length}
 use Rattle.std.proofs.lemmas.List.Sums.{sum_by-cons}
+use Rattle.std.proofs.lemmas.Bool.{cases_eq}
 use Rattle.nr_blocks.proofs.Founded.{shard_tokens}
 use Rattle.nr_blocks.specs.Genesis.{AreSoundEntries, accounts_in, entries_of, genesis_world, lives_in, owner, supply}
 use Rattle.nr_blocks.specs.Parts.{entry_tokens}
@@ -15,7 +16,7 @@ use Rattle.nr_config.specs.Config.{Config}
 use Rattle.nr_fees.specs.Fees.{receipt_tokens}
 use Rattle.nr_layout.specs.Layout.{shard_of}
 use Rattle.nr_layout.proofs.Counting.{at_most}
-use Rattle.nr_overlap.proofs.Basics.{same_or_not, eq_same, eq_other}
+use Rattle.nr_overlap.proofs.Basics.{eq_same, eq_other}
 use Rattle.nr_overlap.specs.Balance.{sum_below}
 use Rattle.nr_records.specs.declared.receipt.Receipt.{Receipt}
 use Rattle.nr_state.specs.Tokens.{world_tokens, postponed_sum, delayed_sum}
@@ -62,18 +63,15 @@ more_past (suc n) k a g l =
 more_within : (n k a : ℕ) (g : ℕ → ℕ) → k < n → sum_below n (with_more k a g) ≡ a + sum_below n g
 unfolding with_more
 more_within zero k a g l = absurd (omega (arith, l))
-more_within (suc n) k a g l = elim (same_or_not k n) [
+more_within (suc n) k a g l = elim (cases_eq k n) [
   | inl e ↦ (λ i. more_past n k a g (omega (arith, e)) i + cond (eq_same k n e i) (a + g n) (g n))
       ∙ regroup a (sum_below n g) (g n)
   | inr ne ↦ (λ i. more_within n k a g (omega (arith, l, ne)) i + cond (eq_other k n ne i) (a + g n) (g n))
-      ∙ group a (sum_below n g) (g n)
+      ∙ add_assoc a (sum_below n g) (g n)
 ]
   where
     regroup : (a b c : ℕ) → b + (a + c) ≡ a + (b + c)
     regroup a b c = omega arith
-
-    group : (a b c : ℕ) → (a + b) + c ≡ a + (b + c)
-    group a b c = omega arith
 
 sum_alike : (n : ℕ) (f g : ℕ → ℕ) → ((s : ℕ) → f s ≡ g s) → sum_below n f ≡ sum_below n g
 sum_alike zero f g e = refl

@@ -6,6 +6,7 @@ use Rattle.std.specs.Prelude.{slice_get, sum_by, nat_le}
 use Rattle.std.specs.Option.{option_map}
 use Rattle.std.proofs.lemmas.List.{get_or-replicate}
 use Rattle.std.proofs.lemmas.List.Sums.{sum_by-cons}
+use Rattle.nr_bytes.proofs.Basics.{none≢some}
 use Rattle.nr_chunk.specs.Chain.{Chain, IsChain, IsCountable, kept_tokens, rules_of, working_tokens}
 use Rattle.nr_chunk.specs.Goodness.{AreGood, IsGoodWork, IsGoodWorld}
 use Rattle.nr_chunk.specs.GoodReceipts.{are_bounded}
@@ -34,9 +35,6 @@ use Rattle.nr_overlap.proofs.SerialLemmas.{sealing_there}
 use Rattle.nr_records.specs.declared.chunk_result.ChunkResult.{ChunkResult}
 use Rattle.nr_records.specs.declared.receipt.Receipt.{Receipt}
 use Rattle.nr_state.specs.Tokens.{list_tokens}
-
-nothing : {A : Type 0} (a : A) → ◌≡◌ {A = Option A} None (Some a) → ⊥
-nothing a e = cc
 
 -- ---- positions that events lead to, and what is shown there
 module _ {W K L R : Type 0} (r : Rules W K L R) where
@@ -91,7 +89,7 @@ module _ {W K L R : Type 0} (r : Rules W K L R) where
       by : (b : Bool) → option_map (λ z. z.report) (cond b (sealing_at r s h) None) ≡ Some y
           → option_map (λ z. z.report) (sealing_at r s h) ≡ Some y
       by true e = e
-      by false e = absurd (nothing y e)
+      by false e = absurd (none≢some y e)
 
   -- it was sealed and not taken
   pub flight_is : (ps : List Position) (s h d : ℕ) (list : L) → flight_at r ps s h d ≡ Some list
@@ -101,14 +99,14 @@ module _ {W K L R : Type 0} (r : Rules W K L R) where
       by : (t b : Bool) → nat_le h (top (at ps s)) ≡ b
           → cond t None (list_to r (cond b (sealing_at r s h) None) d) ≡ Some list
           → (h ≤ top (at ps s)) × (list_to r (sealing_at r s h) d ≡ Some list)
-      by true b below e = absurd (nothing list e)
+      by true b below e = absurd (none≢some list e)
       by false true below e = (le_of h (top (at ps s)) below, e)
-      by false false below e = absurd (nothing list e)
+      by false false below e = absurd (none≢some list e)
 
 -- ---- lists of a chunk have no more than the chunk
 part_small : (f : List Receipt → ℕ) (lists : List (List Receipt)) (d : ℕ) (list : List Receipt)
     → slice_get lists d ≡ Some list → f list ≤ sum_by f lists
-part_small f [] d list e = absurd (nothing list e)
+part_small f [] d list e = absurd (none≢some list e)
 part_small f (first ∷ rest) zero list e = let same : f first ≡ f list = ap f (some_alike first list e) in
     omega (arith, same, sum_by-cons f first rest)
 part_small f (first ∷ rest) (suc d) list e = omega (arith, part_small f rest d list e, sum_by-cons f first rest)
@@ -167,7 +165,7 @@ module _ (x : Chain) where
     good_list : (s h d : ℕ) (list : List Receipt) → s < r.shards → h ≤ r.heights
         → list_to r (sealing_at r s h) d ≡ Some list → IsGoodList list
     good_list s h d list l few e = elim (chunk_or_not r s h) [
-      | inl none ↦ absurd (nothing list (ap (λ o. list_to r o d) (sym none) ∙ e))
+      | inl none ↦ absurd (none≢some list (ap (λ o. list_to r o d) (sym none) ∙ e))
       | inr there ↦
           let back : h - 1 + 1 ≡ h = omega (arith, there.0) in
           good_part s (h - 1) d list l (omega (arith, few, there.0)) (ap (r.present s) back ∙ there.1)
@@ -184,17 +182,17 @@ module _ (x : Chain) where
     good_world_in : (s : ℕ) (t : Stage) (n : ℕ) (w : Kept) → s < r.shards → IsInChunk r s t n
         → world_in r s t n ≡ Some w → IsFew w
     good_world_in s Idle n w l inside e = subst IsFew (some_alike (world_after r s n) w e) (after s n l inside)
-    good_world_in s Opened n w l inside e = absurd (nothing w e)
+    good_world_in s Opened n w l inside e = absurd (none≢some w e)
     good_world_in s Sealed n w l inside e =
         subst IsFew (some_alike (world_after r s (n + 1)) w e) (after s (n + 1) l (omega (arith, inside.0)))
 
     good_working_in : (s : ℕ) (t : Stage) (n taken : ℕ) (k : Working) → s < r.shards → IsInChunk r s t n
         → HasTaken r s t n taken → working_in r s t n taken ≡ Some k → IsGoodWork c k × (working_tokens c k ≤ 2 ^ 127)
-    good_working_in s Idle n taken k l inside has e = absurd (nothing k e)
+    good_working_in s Idle n taken k l inside has e = absurd (none≢some k e)
     good_working_in s Opened n taken k l inside has e =
         subst (λ (k : Working). IsGoodWork c k × (working_tokens c k ≤ 2 ^ 127)) (some_alike (work r s n taken) k e)
         (good_working x is s n taken l inside.0 inside.1 has)
-    good_working_in s Sealed n taken k l inside has e = absurd (nothing k e)
+    good_working_in s Sealed n taken k l inside has e = absurd (none≢some k e)
 
     pub good_during : (ps : List Position) → IsReached r ps → IsGoodMoment ps
     good_during ps reached = record {

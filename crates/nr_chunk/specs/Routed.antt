@@ -1,12 +1,13 @@
 -- The lists of a seal have together what went out.
-use Rattle.std.proofs.Common.{◌≡◌, ℕ, zero, suc, ◌+◌, ◌<◌, ◌≤◌, Bool, true, false, cond, List, [], ◌∷◌, length, inl}
+use Rattle.std.proofs.Common.{◌≡◌, ℕ, zero, suc, ◌+◌, ◌<◌, ◌≤◌, Bool, true, false, cond, List, [], ◌∷◌, length, inl, add_assoc}
 use Rattle.std.proofs.Common.{inr, refl, sym, ap, ◌∙◌, arith}
 use Rattle.std.specs.Prelude.{◌==◌, filter, map, sum_by}
 use Rattle.std.specs.List.{AllByRecursion, range_with_len}
 use Rattle.std.proofs.lemmas.List.Sums.{sum_by-cons}
+use Rattle.std.proofs.lemmas.Bool.{cases_eq}
 use Rattle.nr_layout.specs.Layout.{shard_of, out_to, parts}
 use Rattle.nr_layout.proofs.Counting.{at_most}
-use Rattle.nr_overlap.proofs.Basics.{same_or_not, eq_same, eq_other}
+use Rattle.nr_overlap.proofs.Basics.{eq_same, eq_other}
 use Rattle.nr_records.specs.declared.receipt.Receipt.{Receipt}
 
 module _ (f : Receipt → ℕ) (bs : List (List ℕ)) where
@@ -32,20 +33,17 @@ module _ (f : Receipt → ℕ) (bs : List (List ℕ)) where
   hit zero a x xs l m = absurd (omega (arith, l, m))
   hit (suc k) a x xs l m =
       sum_by-cons (sum_by f) (out_to bs a (x ∷ xs)) (part (a + 1) k (x ∷ xs))
-      ∙ elim (same_or_not (to x) a) [
+      ∙ elim (cases_eq (to x) a) [
         | inl e ↦ (λ i. sum_by f (cond (eq_same (to x) a e i) (x ∷ out_to bs a xs) (out_to bs a xs)) + miss k (a + 1) x
             xs (omega (arith, e)) i)
             ∙ ap (λ t. t + all (part (a + 1) k xs)) (sum_by-cons f x (out_to bs a xs))
-            ∙ regroup (f x) (sum_by f (out_to bs a xs)) (all (part (a + 1) k xs))
+            ∙ add_assoc (f x) (sum_by f (out_to bs a xs)) (all (part (a + 1) k xs))
         | inr ne ↦ (λ i. sum_by f (cond (eq_other (to x) a ne i) (x ∷ out_to bs a xs) (out_to bs a xs)) + hit k (a + 1)
             x xs (omega (arith, l, ne)) (omega (arith, m)) i)
             ∙ swap (f x) (sum_by f (out_to bs a xs)) (all (part (a + 1) k xs))
       ]
       ∙ ap (λ t. f x + t) (sym (sum_by-cons (sum_by f) (out_to bs a xs) (part (a + 1) k xs)))
     where
-      regroup : (a b c : ℕ) → (a + b) + c ≡ a + (b + c)
-      regroup a b c = omega arith
-
       swap : (a b c : ℕ) → b + (a + c) ≡ a + (b + c)
       swap a b c = omega arith
 

@@ -248,25 +248,6 @@ module _ (c : Config) (call : World → CallContext → Called) (p : Promise c c
         room = omega (arith, can.room, cons_tokens c r rest, one_tokens c r);
       }
 
-  -- ---- what is burnt fits in its number
-  pub run_burnt : (k : Working) (q : Receipt) (act : ActionReceipt) (inputs : List (Option (List ℕ))) (e : Execution)
-      → q.body ≡ Act act → CanServe c k (q ∷ []) → execute c call k.world q act inputs k.place ≡ e
-      → k.burnt + e.executed.outcome.burnt < 2 ^ 128
-  run_burnt k q act inputs e is can same =
-      let done = p.executed k.world q act inputs k.place can.valid is can.coming.0 (room_of k q [] can) in
-      omega (arith, done.tokens, can.room, one_tokens c q, ap (λ (x : Execution). x.executed.outcome.burnt) same)
-
-  pub clash_burnt : (k : Working) (q : Receipt) (act : ActionReceipt) (done : Executed) → q.body ≡ Act act
-      → CanServe c k (q ∷ []) → settle_clash c q act k.place ≡ done → k.burnt + done.outcome.burnt < 2 ^ 128
-  clash_burnt k q act done is can same =
-      omega (
-        arith,
-        (p.settled q act k.place is can.coming.0).tokens,
-        can.room,
-        one_tokens c q,
-        ap (λ (x : Executed). x.outcome.burnt) same,
-      )
-
   -- ---- what becomes of one that is offered
   pub offered_is : (k : Working) (r : Receipt) (after : World) (o : Offered) → CanServe c k (r ∷ [])
       → offer k.world r ≡ (after, o) → IsOffered c k.world r after o

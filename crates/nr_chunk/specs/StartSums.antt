@@ -5,6 +5,7 @@ use Rattle.std.specs.List.{AllByRecursion, range_with_len}
 use Rattle.std.proofs.lemmas.List.{length-replicate}
 use Rattle.std.proofs.lemmas.List.FromFn.{length-map-range_with_len}
 use Rattle.std.proofs.lemmas.List.Sums.{sum_by-cons}
+use Rattle.nr_overlap.proofs.Sums.{sum_front}
 use Rattle.nr_blocks.proofs.ValidFirst.{first_valid}
 use Rattle.nr_blocks.specs.Genesis.{AreSoundEntries, IsSoundGenesis, entries_of, genesis_world, supply}
 use Rattle.nr_blocks.specs.declared.genesis.Genesis.{Genesis}
@@ -18,10 +19,6 @@ use Rattle.nr_state.specs.Valid.{IsValidWorld}
 use Rattle.nr_state.specs.World.{World, no_world}
 
 -- ---- sums by number, and sums of a list
-sum_front : (n : ℕ) (f : ℕ → ℕ) → sum_below (suc n) f ≡ f 0 + sum_below n (λ s. f (suc s))
-sum_front zero f = omega arith
-sum_front (suc n) f = omega (arith, sum_front n f)
-
 pub sum_of : {A : Type 0} (f : A → ℕ) (xs : List A) (d : A) (n : ℕ) → length xs ≡ n
     → sum_below n (λ s. f (slice_index_or xs s d)) ≡ sum_by f xs
 sum_of f [] d zero e = refl

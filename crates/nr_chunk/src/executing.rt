@@ -1,14 +1,10 @@
 //! A receipt of actions in a chunk: executed, or settled where it clashes.
 
-ghost use Rattle.std.specs.Prelude.{◌≡◌, ◌+◌, ◌≤◌, ◌<◌, ◌^◌, ◌++◌, ◌∷◌, [], true, IfOk, OnOk};
+ghost use Rattle.std.specs.Prelude.{◌≡◌, ◌+◌, ◌<◌, ◌^◌, ◌∷◌, [], true, OnOk};
 ghost use Rattle.nr_chunk.specs.Chunk.{spent, with_executed, run, clashed};
 ghost use Rattle.nr_chunk.specs.Serving.{CanServe};
 ghost use Rattle.nr_chunk.specs.Works.{working_of, IsReady};
-ghost use Rattle.nr_fees.specs.Fees.{receipt_tokens};
-ghost use Rattle.nr_receipt.specs.Execution.{OfActions};
 ghost use Rattle.nr_state.specs.Queues.{is_act};
-ghost use Rattle.nr_state.specs.Tokens.{world_tokens};
-ghost use Rattle.nr_state.specs.Valid.{IsValidWorld, IsBounded};
 
 use crate::chain::ChainRun;
 use crate::lines::tell;

@@ -1,6 +1,6 @@
 //! What a chunk tells.
 
-ghost use Rattle.std.specs.Prelude.{◌≡◌, ◌++◌, ◌∷◌, [], OnOk};
+ghost use Rattle.std.specs.Prelude.{◌≡◌, OnOk};
 ghost use Rattle.nr_chunk.specs.Chunk.{with_line};
 ghost use Rattle.nr_chunk.specs.Works.{working_of};
 

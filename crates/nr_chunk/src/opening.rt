@@ -1,6 +1,6 @@
 //! Opening a chunk: its transactions, the receipts for their own signers, and the delayed queue.
 
-ghost use Rattle.std.specs.Prelude.{◌≡◌, ◌≢◌, ◌+◌, ◌<◌, ◌^◌, [], true, IfOk, OnOk, fold, length};
+ghost use Rattle.std.specs.Prelude.{◌≡◌, ◌≢◌, ◌+◌, ◌<◌, ◌^◌, [], true, IfOk, OnOk, length};
 ghost use Rattle.nr_chunk.specs.Chunk.{begun, with_line, put_aside, is_local, with_converted, convert_next};
 ghost use Rattle.nr_chunk.specs.Chunk.{convert_all, open_chunk};
 ghost use Rattle.nr_chunk.specs.Refused.{refused};

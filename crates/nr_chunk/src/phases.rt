@@ -1,6 +1,6 @@
 //! The phases of a chain's chunks.
 
-ghost use Rattle.std.specs.Prelude.{◌≡◌, ◌+◌, ◌<◌, ◌≤◌, true, IfOk, OnOk, length};
+ghost use Rattle.std.specs.Prelude.{◌≡◌, ◌+◌, ◌<◌, ◌≤◌, true, length};
 ghost use Rattle.std.specs.Option.{option_copied};
 ghost use Rattle.nr_chunk.specs.Chain.{Chain, block_at, chunk_in, chunk_at, time_of, price_in, place_at};
 ghost use Rattle.nr_chunk.specs.Runs.{chain_in};

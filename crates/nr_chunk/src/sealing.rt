@@ -2,7 +2,7 @@
 
 ghost use Rattle.std.specs.Prelude.{◌≡◌, ◌++◌, true, IfOk, map, length, ◌+◌};
 ghost use Rattle.nr_chunk.specs.Chunk.{sent, result_of};
-ghost use Rattle.nr_chunk.specs.Works.{working_of, IsReady};
+ghost use Rattle.nr_chunk.specs.Works.{working_of};
 ghost use Rattle.nr_layout.specs.Layout.{parts};
 
 use crate::root::root_of;

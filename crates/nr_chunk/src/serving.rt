@@ -1,7 +1,7 @@
 //! Receipts that a chunk serves: offered to the state while there is gas, and else delayed.
 
-ghost use Rattle.std.specs.Prelude.{◌≡◌, ◌∷◌, [], IfOk, OnOk, fold, slice_get};
-ghost use Rattle.nr_chunk.specs.Chunk.{offered_to, told, late, has_gas, serve, serve_all, serve_queue, serve_delayed};
+ghost use Rattle.std.specs.Prelude.{◌≡◌, ◌∷◌, [], IfOk, OnOk, slice_get};
+ghost use Rattle.nr_chunk.specs.Chunk.{offered_to, told, late, has_gas, serve, serve_all, serve_delayed};
 ghost use Rattle.nr_chunk.specs.Chunk.{without_front};
 ghost use Rattle.nr_chunk.specs.Serving.{CanServe, datum_of};
 ghost use Rattle.nr_chunk.specs.Works.{working_of, IsReady};

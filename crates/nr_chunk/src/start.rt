@@ -1,7 +1,6 @@
 //! From what a chain starts.
 
 ghost use Rattle.std.specs.Prelude.{◌≡◌, ◌<◌, [], true, IfOk};
-ghost use Rattle.std.specs.FinMap as map;
 ghost use Rattle.nr_blocks.specs.Genesis.{IsSoundGenesis};
 ghost use Rattle.nr_chunk.specs.Start.{IsStart, genesis_start, shards_in, start_list, start_world};
 ghost use Rattle.nr_chunk.specs.Starts.{IsSoundStart, start_of};

@@ -1,6 +1,6 @@
 //! Values from outside, and a host that only counts gas.
 
-ghost use Rattle.std.specs.Prelude.{refl, slice_index};
+ghost use Rattle.std.specs.Prelude.{refl};
 
 use nr_bytes::List;
 use nr_wasmmem::{Guest, Host, HostStop, Memory, OutOfBounds};

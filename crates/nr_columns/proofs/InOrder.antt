@@ -1,5 +1,5 @@
 -- The records of a column in the order of their keys.
-use Rattle.std.proofs.Common.{◌≡◌, ℕ, Bool, true, false, cond, List, [], ◌∷◌, ◌++◌, ◌&&◌, ◌||◌, drop, map, Option, Some, None, Ordering, refl, sym, ap, subst, ◌∙◌, arith}
+use Rattle.std.proofs.Common.{◌≡◌, ℕ, Bool, true, false, cond, List, [], ◌∷◌, ◌++◌, ◌&&◌, drop, map, Option, Some, None, Ordering, refl, sym, ap, subst, ◌∙◌, arith}
 use Rattle.std.specs.Prelude.{T, ◌==◌, nat_le, is_some, IsSome, filter, filter_map}
 use Rattle.std.specs.List.{AllByRecursion, cons_option, flat_map, list_any}
 use Rattle.std.specs.Option.{option_map, option_and_then, option_to_list}
@@ -9,6 +9,8 @@ use Rattle.std.specs.Ordering.{eq_by_cmp, is_lt, ordering_then, nat_cmp}
 use Rattle.std.specs.declared.cmp.Ordering.TheVariants.{Less, Equal, Greater}
 use Rattle.std.proofs.lemmas.Bool.Decides.{nat_tests}
 use Rattle.std.proofs.lemmas.List.Folds.{list_any_none}
+use Rattle.std.proofs.lemmas.Bool.{or_parts}
+use Rattle.nr_bytes.proofs.Basics.{none≢some, left_of, right_of}
 use Rattle.nr_ids.proofs.Ids.{id_bytes}
 use Rattle.nr_ids.specs.Grammar.{id_fault, is_id_byte}
 use Rattle.nr_triedef.specs.Root.{Contents}
@@ -20,7 +22,7 @@ use Rattle.nr_columns.proofs.Empty.{entries_empty}
 use Rattle.nr_columns.proofs.KeyLists.{begins, begins_so, begins_if}
 use Rattle.nr_columns.proofs.Laid.{canon, canon_of}
 use Rattle.nr_columns.proofs.Steps.{accounts_column, postponed_column, present}
-use Rattle.nr_columns.proofs.Tables.{IsTable, over, bytes_tested, same_bytes, first, second, find_below, claim, claimed, unchecked, back, tested}
+use Rattle.nr_columns.proofs.Tables.{IsTable, over, bytes_tested, same_bytes, find_below, claim, claimed, unchecked, back, tested}
 
 -- ---- lists whose keys rise
 both_true : (a b : Bool) → T a → T b → T (a && b)
@@ -36,17 +38,14 @@ put_first R k x (e ∷ es) h = by (R k e.0) h
     by Equal h = absurd h
     by Greater h = absurd h
 
-none≢some : {A : Type 0} (x : A) → ◌≡◌ {A = Option A} None (Some x) → ⊥
-none≢some x e = cc
-
 -- what holds of each key with its value holds of each entry
 each_entry : (P : List ℕ → List ℕ → Type 0) (es : List (List ℕ × List ℕ)) → T (is_sorted bytes_cmp es) → ((q v : List ℕ) → find bytes_cmp q es ≡ Some v → P q v) → AllByRecursion (λ e. P e.0 e.1) es
 each_entry P [] sorted h = tt
 each_entry P (e ∷ es) sorted h =
-    (h e.0 e.1 (ap (λ t. cond t (Some e.1) (find bytes_cmp e.0 es)) (same_bytes e.0)), each_entry P es (second _ _ sorted) (λ q v f. h q v (later q v (eq_by_cmp bytes_cmp q e.0) refl f)))
+    (h e.0 e.1 (ap (λ t. cond t (Some e.1) (find bytes_cmp e.0 es)) (same_bytes e.0)), each_entry P es (right_of _ _ sorted) (λ q v f. h q v (later q v (eq_by_cmp bytes_cmp q e.0) refl f)))
   where
     later : (q v : List ℕ) (t : Bool) → eq_by_cmp bytes_cmp q e.0 ≡ t → find bytes_cmp q es ≡ Some v → cond t (Some e.1) (find bytes_cmp q es) ≡ Some v
-    later q v true same f = absurd (none≢some v (sym (ap (λ k. find bytes_cmp k es) ((bytes_tested q e.0 true same).1 refl) ∙ find_below bytes_cmp e.0 es (first _ _ sorted)) ∙ f))
+    later q v true same f = absurd (none≢some v (sym (ap (λ k. find bytes_cmp k es) ((bytes_tested q e.0 true same).1 refl) ∙ find_below bytes_cmp e.0 es (left_of _ _ sorted)) ∙ f))
     later q v false same f = f
 
 each_there : (P : List ℕ → List ℕ → Type 0) (c : Contents) → ((q v : List ℕ) → get c q ≡ Some v → P q v) → AllByRecursion (λ e. P e.0 e.1) (entries c)
@@ -84,19 +83,19 @@ module _ {K X : Type 0} {t : Table K X} (is : IsTable t) where
 
     below_picked : (k : K) → Good k → (es : List (List ℕ × List ℕ)) → AreGood es → T (below_all bytes_cmp (t.key k) es) → T (below_all t.cmp k (filter_map picked es))
     below_picked k good [] all h = tt
-    below_picked k good (f ∷ fs) all h = by (key_of t f.0) refl (t.read f.1) (below_picked k good fs all.1 (second _ _ h))
+    below_picked k good (f ∷ fs) all h = by (key_of t f.0) refl (t.read f.1) (below_picked k good fs all.1 (right_of _ _ h))
       where
         by : (u : Option K) → key_of t f.0 ≡ u → (o : Option X) → T (below_all t.cmp k (filter_map picked fs)) → T (below_all t.cmp k (cons_option (both u o) (filter_map picked fs)))
         by None e o rest = rest
         by (Some j) e None rest = rest
-        by (Some j) e (Some x) rest = both_true _ _ (rises k j good (all.0 j e) (subst (λ b. T (is_lt (bytes_cmp (t.key k) b))) (back t f.0 j e) (first _ _ h))) rest
+        by (Some j) e (Some x) rest = both_true _ _ (rises k j good (all.0 j e) (subst (λ b. T (is_lt (bytes_cmp (t.key k) b))) (back t f.0 j e) (left_of _ _ h))) rest
 
     listed : (es : List (List ℕ × List ℕ)) → T (is_sorted bytes_cmp es) → AreGood es → entries (gathered t es) ≡ filter_map picked es
     listed [] sorted all = entries_empty t.cmp
-    listed (e ∷ es) sorted all = by (key_of t e.0) refl (t.read e.1) (listed es (second _ _ sorted) all.1)
+    listed (e ∷ es) sorted all = by (key_of t e.0) refl (t.read e.1) (listed es (right_of _ _ sorted) all.1)
       where
         low : (k : K) → key_of t e.0 ≡ Some k → T (below_all t.cmp k (filter_map picked es))
-        low k h = below_picked k (all.0 k h) es all.1 (subst (λ b. T (below_all bytes_cmp b es)) (back t e.0 k h) (first _ _ sorted))
+        low k h = below_picked k (all.0 k h) es all.1 (subst (λ b. T (below_all bytes_cmp b es)) (back t e.0 k h) (left_of _ _ sorted))
 
         by : (u : Option K) → key_of t e.0 ≡ u → (o : Option X) → entries (gathered t es) ≡ filter_map picked es → entries (gathered_one t u o (gathered t es)) ≡ cons_option (both u o) (filter_map picked es)
         by None h o rest = rest
@@ -179,15 +178,11 @@ all_above id h = list_any_none (λ b. nat_le b 44) id (λ k d lt. above _ (id_by
 high : (a : ℕ) → nat_le a 44 ≡ false → nat_cmp a 44 ≡ Greater
 high a h = grind (arith, nat_tests)
 
-any_first : (a b : Bool) → (a || b) ≡ false → (a ≡ false) × (b ≡ false)
-any_first true b h = absurd cc
-any_first false b h = (refl, h)
-
 by_receiver : (a b x y : List ℕ) → list_any (λ b. nat_le b 44) a ≡ false → list_any (λ b. nat_le b 44) b ≡ false → T (is_lt (bytes_cmp (a ++ 44 ∷ x) (b ++ 44 ∷ y))) → T (is_lt (pair_cmp (a, x) (b, y)))
 by_receiver [] [] x y p q h = h
 by_receiver [] (b ∷ bs) x y p q h = tt
-by_receiver (a ∷ rest_a) [] x y p q h = absurd (subst (λ r. T (is_lt (ordering_then r (bytes_cmp (rest_a ++ 44 ∷ x) y)))) (high a (any_first _ _ p).0) h)
-by_receiver (a ∷ rest_a) (b ∷ bs) x y p q h = by (nat_cmp a b) h (by_receiver rest_a bs x y (any_first _ _ p).1 (any_first _ _ q).1)
+by_receiver (a ∷ rest_a) [] x y p q h = absurd (subst (λ r. T (is_lt (ordering_then r (bytes_cmp (rest_a ++ 44 ∷ x) y)))) (high a (or_parts _ _ p).0) h)
+by_receiver (a ∷ rest_a) (b ∷ bs) x y p q h = by (nat_cmp a b) h (by_receiver rest_a bs x y (or_parts _ _ p).1 (or_parts _ _ q).1)
   where
     by : (r : Ordering) → T (is_lt (ordering_then r (bytes_cmp (rest_a ++ 44 ∷ x) (bs ++ 44 ∷ y)))) → (T (is_lt (bytes_cmp (rest_a ++ 44 ∷ x) (bs ++ 44 ∷ y))) → T (is_lt (ordering_then (bytes_cmp rest_a bs) (bytes_cmp x y))))
         → T (is_lt (ordering_then (ordering_then r (bytes_cmp rest_a bs)) (bytes_cmp x y)))

@@ -8,12 +8,13 @@ use Rattle.std.specs.Cmp.Lexicographic.{nat_list_cmp_total}
 use Rattle.std.proofs.lemmas.Bool.Decides.{Decides-eqb}
 use Rattle.std.proofs.lemmas.Map.Views.{any-filter_same}
 use Rattle.std.proofs.lemmas.Slice.Eq.{starts_is}
+use Rattle.nr_bytes.proofs.Basics.{left_of, right_of}
 use Rattle.nr_triedef.specs.Root.{Contents}
 use Rattle.nr_triedef.specs.Stores.{keys_below}
 use Rattle.nr_columns.specs.Entries.{paired, pair_at}
 use Rattle.nr_columns.specs.Orders.{bytes_cmp}
 use Rattle.nr_columns.specs.View.{IsLaid}
-use Rattle.nr_columns.proofs.Tables.{bytes_tested, same_bytes, first, second, find_below}
+use Rattle.nr_columns.proofs.Tables.{bytes_tested, same_bytes, find_below}
 use Rattle.nr_columns.proofs.Laid.{laid_without}
 
 -- ---- taken out
@@ -59,13 +60,13 @@ get_cleared c front b =
 -- entries whose keys rise are read at their keys
 read_back : (c : Contents) (es : List (List ℕ × List ℕ)) → T (is_sorted bytes_cmp es) → ((q v : List ℕ) → find bytes_cmp q es ≡ Some v → get c q ≡ Some v) → flat_map (pair_at c) (map (λ e. e.0) es) ≡ es
 read_back c [] sorted h = refl
-read_back c (e ∷ es) sorted h = λ i. ap (paired e.0) (h e.0 e.1 (ap (λ t. cond t (Some e.1) (find bytes_cmp e.0 es)) (same_bytes e.0))) i ++ read_back c es (second _ _ sorted) (λ q v f. h q v (later q v (eq_by_cmp bytes_cmp q e.0) refl f)) i
+read_back c (e ∷ es) sorted h = λ i. ap (paired e.0) (h e.0 e.1 (ap (λ t. cond t (Some e.1) (find bytes_cmp e.0 es)) (same_bytes e.0))) i ++ read_back c es (right_of _ _ sorted) (λ q v f. h q v (later q v (eq_by_cmp bytes_cmp q e.0) refl f)) i
   where
     absent : (v : List ℕ) → ◌≡◌ {A = Option (List ℕ)} None (Some v) → ⊥
     absent v e = cc
 
     later : (q v : List ℕ) (t : Bool) → eq_by_cmp bytes_cmp q e.0 ≡ t → find bytes_cmp q es ≡ Some v → cond t (Some e.1) (find bytes_cmp q es) ≡ Some v
-    later q v true same f = absurd (absent v (sym (ap (λ k. find bytes_cmp k es) ((bytes_tested q e.0 true same).1 refl) ∙ find_below bytes_cmp e.0 es (first _ _ sorted)) ∙ f))
+    later q v true same f = absurd (absent v (sym (ap (λ k. find bytes_cmp k es) ((bytes_tested q e.0 true same).1 refl) ∙ find_below bytes_cmp e.0 es (left_of _ _ sorted)) ∙ f))
     later q v false same f = f
 
 any_front : (ks : List (List ℕ)) → filter (begins []) ks ≡ ks

@@ -8,6 +8,7 @@ use Rattle.std.specs.Str.{bytes_eq}
 use Rattle.std.proofs.Math.Bool.{true≢false}
 use Rattle.std.proofs.lemmas.Bool.{eq-eqb}
 use Rattle.std.proofs.lemmas.Slice.Eq.{bytes_eq-Decides}
+use Rattle.nr_bytes.proofs.Basics.{same_test}
 use Rattle.nr_ids.specs.declared.key.PublicKey.{PublicKey}
 use Rattle.nr_ids.specs.Grammar.{id_fault, is_id_byte}
 use Rattle.nr_ids.specs.Keys.{key_bytes}
@@ -19,7 +20,7 @@ use Rattle.nr_columns.proofs.KeyLists.{begins, begins_so, begins_if, get_cleared
 use Rattle.nr_columns.proofs.Laid.{Agree, moved, keys_law, data_law}
 use Rattle.nr_columns.proofs.ReadBack.{id_there}
 use Rattle.nr_columns.proofs.Steps.{Turned}
-use Rattle.nr_columns.proofs.Tables.{same_test, some_same, some_none, unchecked, part_kept}
+use Rattle.nr_columns.proofs.Tables.{some_same, some_none, unchecked, part_kept}
 
 abbrev head : List ℕ → ℕ
 head [] = 0

@@ -10,6 +10,7 @@ use Rattle.std.specs.declared.cmp.Ordering.TheVariants.{Less, Equal, Greater}
 use Rattle.std.specs.Cmp.{IsTotalOrder, eq_by_cmp_equiv}
 use Rattle.std.specs.Cmp.Lexicographic.{nat_list_cmp_total}
 use Rattle.std.proofs.lemmas.Map.Lookups.{exact_bytes, CmpEqualImpliesEq}
+use Rattle.nr_bytes.proofs.Basics.{equal_of, same_test, left_of, right_of}
 use Rattle.nr_triedef.specs.Root.{Contents}
 use Rattle.nr_columns.specs.Orders.{bytes_cmp}
 use Rattle.nr_columns.specs.Tables.{Table, checked, key_of, gathered_one, gathered, part, laid}
@@ -20,11 +21,6 @@ pub record IsTable {K X : Type 0} (t : Table K X) : Type 0 where
   pub exact : CmpEqualImpliesEq t.cmp
 
 -- ---- tests of keys
-equal_of : (r : Ordering) → is_eq r ≡ true → r ≡ Equal
-equal_of Less h = absurd (false≢true h)
-equal_of Equal h = refl
-equal_of Greater h = absurd (false≢true h)
-
 pub tested : {K : Type 0} {R : K → K → Ordering} → IsTotalOrder R → CmpEqualImpliesEq R → (x y : K) (b : Bool) → eq_by_cmp R x y ≡ b → (x ≡ y → b ≡ true) × (b ≡ true → x ≡ y)
 tested {R = R} o same x y b e = ((λ p. sym e ∙ ap (eq_by_cmp R x) (sym p) ∙ (eq_by_cmp_equiv o).refl x), (λ t. same x y (equal_of _ (e ∙ t))))
 
@@ -34,12 +30,6 @@ bytes_tested x y b e = tested nat_list_cmp_total exact_bytes x y b e
 pub same_bytes : (x : List ℕ) → eq_by_cmp bytes_cmp x x ≡ true
 same_bytes x = (eq_by_cmp_equiv nat_list_cmp_total).refl x
 
--- two tests that hold alike are one
-pub same_test : (a b : Bool) → (a ≡ true → b ≡ true) → (b ≡ true → a ≡ true) → a ≡ b
-same_test true b f g = sym (f refl)
-same_test false true f g = g refl
-same_test false false f g = refl
-
 pub some_same : {A : Type 0} (x y : A) → ◌≡◌ {A = Option A} (Some x) (Some y) → x ≡ y
 some_same x y e = cc
 
@@ -47,14 +37,6 @@ pub some_none : {A : Type 0} (x : A) → ◌≡◌ {A = Option A} (Some x) None 
 some_none x e = cc
 
 -- ---- entries whose keys rise
-pub first : (a b : Bool) → T (a && b) → T a
-first true b p = tt
-first false b p = p
-
-pub second : (a b : Bool) → T (a && b) → T b
-second true b p = p
-second false b p = absurd p
-
 pub find_below : {K X : Type 0} (R : K → K → Ordering) (k : K) (es : List (K × X)) → T (below_all R k es) → find R k es ≡ None
 find_below R k [] h = refl
 find_below R k (e ∷ es) h = by_order (R k e.0) h (find_below R k es)
@@ -262,7 +244,7 @@ module _ {K X : Type 0} {t : Table K X} (is : IsTable t) where
   get_laid [] sorted only c b None h = refl
   get_laid [] sorted only c b (Some k) h = refl
   get_laid (e ∷ es) sorted only c b u h =
-      get_laid es (second _ _ sorted) (λ k v. passed (eq_by_cmp t.cmp k e.0) k (only k v)) (insert c (t.key e.0) (t.spell e.1)) b u h
+      get_laid es (right_of _ _ sorted) (λ k v. passed (eq_by_cmp t.cmp k e.0) k (only k v)) (insert c (t.key e.0) (t.spell e.1)) b u h
       ∙ ap (over (entry u es)) (get-insert nat_list_cmp_total c (t.key e.0) (t.spell e.1) b)
       ∙ at_key u h
     where
@@ -275,7 +257,7 @@ module _ {K X : Type 0} {t : Table K X} (is : IsTable t) where
       is_valid false v = absurd (some_none e.1 (sym (ap (λ a. cond a (Some e.1) (find t.cmp e.0 es)) ((eq_by_cmp_equiv is.total).refl e.0)) ∙ only e.0 v))
 
       once : (k : K) (a : Bool) → eq_by_cmp t.cmp k e.0 ≡ a → over (option_map t.spell (find t.cmp k es)) (cond a (Some (t.spell e.1)) (get c b)) ≡ over (option_map t.spell (cond a (Some e.1) (find t.cmp k es))) (get c b)
-      once k true same = ap (λ o. over (option_map t.spell o) (Some (t.spell e.1))) (ap (λ j. find t.cmp j es) ((tested is.total is.exact k e.0 true same).1 refl) ∙ find_below t.cmp e.0 es (first _ _ sorted))
+      once k true same = ap (λ o. over (option_map t.spell o) (Some (t.spell e.1))) (ap (λ j. find t.cmp j es) ((tested is.total is.exact k e.0 true same).1 refl) ∙ find_below t.cmp e.0 es (left_of _ _ sorted))
       once k false same = refl
 
       at_key : (u : Option K) → key_of t b ≡ u → over (entry u es) (cond (eq_by_cmp bytes_cmp b (t.key e.0)) (Some (t.spell e.1)) (get c b)) ≡ over (entry u (e ∷ es)) (get c b)

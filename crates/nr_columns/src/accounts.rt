@@ -4,7 +4,7 @@ ghost use Rattle.std.specs.Prelude.{◌≡◌, IfOk, OnOk, OnErr, is_some};
 ghost use Rattle.std.specs.FinMap as map;
 ghost use Rattle.nr_records.specs.Accounts.{IsAccount};
 ghost use Rattle.nr_records.specs.Ids.{IsId};
-ghost use Rattle.nr_ids.specs.Keys.{IsHash, IsKey};
+ghost use Rattle.nr_ids.specs.Keys.{IsKey};
 ghost use Rattle.nr_records.specs.AccessKeys.{IsAccessKey};
 ghost use Rattle.nr_columns.specs.View.{with_columns, without_owner};
 

@@ -4,7 +4,7 @@ use Rattle.std.specs.List.{list_all}
 use Rattle.std.proofs.lemmas.Bool.{leb-true, and_parts}
 use Rattle.std.proofs.lemmas.List.{get_or-drop}
 use Rattle.nr_config.specs.Table.{table}
-use Rattle.nr_config.specs.Config.{Config, entry, least, greatest, gas_price, storage_price, chunk_gas_limit, max_actions, max_prepaid_gas, account_bytes_entry, extra_record_bytes, reward_numerator, reward_denominator, IsValidConfig}
+use Rattle.nr_config.specs.Config.{Config, entry, greatest, gas_price, IsValidConfig}
 
 -- no number of a list is above m
 at-most : (m : ℕ) (xs : List ℕ) (k : ℕ) → list_all (λ x. nat_le x m) xs ≡ true → slice_index xs k ≤ m
@@ -33,32 +33,3 @@ fee-bound c n v low high =
 
 pub gas_price-fits : (c : Config) → IsValidConfig c → gas_price c < 2 ^ 64
 gas_price-fits c v = entry-fits c 1 v (omega arith) (omega arith)
-
-pub chunk_gas_limit-bounds : (c : Config) → IsValidConfig c → (1 ≤ chunk_gas_limit c) × (chunk_gas_limit c ≤ 10 ^ 18)
-unfolding least greatest table
-chunk_gas_limit-bounds c v = v.within 3 (omega arith) (omega arith)
-
-pub storage_price-fits : (c : Config) → IsValidConfig c → storage_price c < 2 ^ 64
-storage_price-fits c v = entry-fits c 2 v (omega arith) (omega arith)
-
-pub max_actions-bound : (c : Config) → IsValidConfig c → max_actions c ≤ 1000
-unfolding greatest table
-max_actions-bound c v = (v.within 5 (omega arith) (omega arith)).1
-
-pub max_prepaid_gas-bound : (c : Config) → IsValidConfig c → max_prepaid_gas c ≤ 10 ^ 18
-unfolding greatest table
-max_prepaid_gas-bound c v = (v.within 6 (omega arith) (omega arith)).1
-
-pub reward-bounds : (c : Config) → IsValidConfig c → (1 ≤ reward_denominator c) × ((reward_denominator c ≤ 10 ^ 6) × (reward_numerator c ≤ reward_denominator c))
-unfolding least greatest table
-reward-bounds c v =
-    let b = v.within 12 (omega arith) (omega arith) in
-    (b.0, (b.1, v.reward))
-
-pub account_bytes-bound : (c : Config) → IsValidConfig c → account_bytes_entry c ≤ 10 ^ 6
-unfolding greatest table
-account_bytes-bound c v = (v.within 7 (omega arith) (omega arith)).1
-
-pub extra_record_bytes-bound : (c : Config) → IsValidConfig c → extra_record_bytes c ≤ 10 ^ 6
-unfolding greatest table
-extra_record_bytes-bound c v = (v.within 8 (omega arith) (omega arith)).1

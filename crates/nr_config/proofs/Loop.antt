@@ -21,22 +21,12 @@ regroup : (front : List ℕ) (x : ℕ) (rest : Result (List ℕ) ConfigFault) �
 regroup front x (Ok xs) = ap (λ (ys : List ℕ). Ok ys) (simp append_assoc)
 regroup front x (Err e) = refl
 
-pub begins : (found : List ℕ) (rows : List code.Row) (d : Data) → HasRead 0 found rows d
-begins found rows d = elim (numbers 1 (map row_of rows) d) as (λ v. with_front [] v ≡ v) [ Ok xs ↦ refl | Err e ↦ refl ]
-
 pub goes_on : (i : ℕ) (found : List ℕ) (rows : List code.Row) (d : Data) (s : code.Row) (x : ℕ) → i < length rows → i < length found
     → named (i + 1) (row_of (get_or rows i s)) (get (get_or rows i s).name.now d) ≡ Ok x → HasRead i found rows d → HasRead (i + 1) (slice_set found i x) rows d
 goes_on i found rows d s x l m one so_far =
     let rest : drop i rows ≡ get_or rows i s ∷ drop (i + 1) rows = drop_more rows i s l in
     let before : with_front (take i found) (numbers (i + 1) (map row_of (drop i rows)) d) ≡ with_front (take i found) (numbers (i + 1 + 1) (map row_of (drop (i + 1) rows)) d >>= λ xs. Ok (x ∷ xs)) = rw (rest, one) refl in
     rw (take_more_set found i x m) (sym (regroup (take i found) x (numbers (i + 1 + 1) (map row_of (drop (i + 1) rows)) d)) ∙ sym before ∙ so_far)
-
-pub ends : (i : ℕ) (found : List ℕ) (rows : List code.Row) (d : Data) (s : code.Row) (e : ConfigFault) → i < length rows
-    → named (i + 1) (row_of (get_or rows i s)) (get (get_or rows i s).name.now d) ≡ Err e → HasRead i found rows d → numbers 1 (map row_of rows) d ≡ Err e
-ends i found rows d s e l one so_far =
-    let rest : drop i rows ≡ get_or rows i s ∷ drop (i + 1) rows = drop_more rows i s l in
-    let before : with_front (take i found) (numbers (i + 1) (map row_of (drop i rows)) d) ≡ Err e = rw (rest, one) refl in
-    sym so_far ∙ before
 
 pub is_done : (i : ℕ) (found : List ℕ) (rows : List code.Row) (d : Data) → length rows ≤ i → length found ≤ i → HasRead i found rows d → numbers 1 (map row_of rows) d ≡ Ok found
 is_done i found rows d l m so_far =

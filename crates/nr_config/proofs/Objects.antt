@@ -11,9 +11,6 @@ use Rattle.nr_config.specs.declared.fault.ConfigFault.TheVariants.{NotJson}
 pub object_found : (bytes : List ℕ) (d : Data) → IsUtf8 bytes → read bytes ≡ Some d → is_some (as_object d) ≡ true → object_in bytes ≡ Ok d
 object_found bytes d u e o = rw (is_utf8-from_IsUtf8 bytes u, e, o) refl
 
-pub no_object : (bytes : List ℕ) (d : Data) → IsUtf8 bytes → read bytes ≡ Some d → is_some (as_object d) ≡ false → object_in bytes ≡ Err NotJson
-no_object bytes d u e o = rw (is_utf8-from_IsUtf8 bytes u, e, o) refl
-
 pub no_text : (bytes : List ℕ) → (IsUtf8 bytes → read bytes ≡ None) → object_in bytes ≡ Err NotJson
 no_text bytes h =
     elim (is_utf8 bytes) as (λ b. is_utf8 bytes ≡ b → object_in bytes ≡ Err NotJson) [

@@ -59,10 +59,6 @@ module _ (s : HostState) (m : MachineView) (f : ℕ) (cost : 1 ≤ m.limits.cost
   drives (Err exec.GasExceeded) h g e = stopped_at h g GasExceeded e
   drives (Err exec.Memory) h g e = tt
 
-is_ok : (r : Result (Unit {0}) Exceeded) → is_err r ≡ false → r ≡ Ok tt
-is_ok (Ok u) e = refl
-is_ok (Err x) e = absurd cc
-
 paid_is : (r : Result (Unit {0}) Exceeded) (load : ℕ) (old mid : HostState) → is_err r ≡ false
     → Burns meaning load r old mid → mid ≡ burnt meaning old load
 paid_is (Ok u) load old mid e b = b.1

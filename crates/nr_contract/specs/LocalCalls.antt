@@ -23,7 +23,7 @@ use Rattle.nr_contract.specs.Loading.{prepared, out_of_gas}
 use Rattle.nr_contract.specs.Runs.{AnswerKeeps, IsKept, OutcomeKeeps, run_keeps}
 use Rattle.nr_state.specs.Local.{IsLocal}
 use Rattle.nr_state.proofs.OverWorlds.{code_seen}
-use Rattle.nr_state.specs.Scopes.{Scope, one_account, over_called}
+use Rattle.nr_state.specs.Scopes.{one_account, over_called}
 use Rattle.nr_state.specs.Scopes as world
 use Rattle.nr_state.proofs.ValidOwned.{itself}
 use Rattle.nr_hostctx.specs.LocalRows.{elsewhere, came_elsewhere, row_local}

@@ -1,10 +1,10 @@
 //! The machine of a call, before its method runs.
 
-ghost use Rattle.std.specs.Prelude.{◌≡◌, IfOk, IfSome, Ok, IsTrue};
+ghost use Rattle.std.specs.Prelude.{◌≡◌, IfOk, IfSome, Ok};
 ghost use Rattle.nr_config.specs.Config.{max_code, max_pages};
 ghost use Rattle.nr_wasmexec.specs.Making.{program_of, method_of};
 ghost use Rattle.nr_wasmvalid.specs.Modules.{IsValid};
-ghost use Rattle.nr_contract.specs.Loading.{judged, named, read, prepared};
+ghost use Rattle.nr_contract.specs.Loading.{named, read, prepared};
 ghost use Rattle.nr_contract.specs.Preparing.{IsLoaded, Prepares, CanRun, RunsOver, with_machine, with_method};
 
 use crate::keeping::KeptModules;

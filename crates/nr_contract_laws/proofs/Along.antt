@@ -153,10 +153,6 @@ answers_next w s gives own (Label values n target inner code) = answers_next w s
 answers_next w s gives own (Frame values n more inner code) = answers_next w s gives more inner
 
 -- ---- the run
-not_large : {O : Type 0} (b : Bool) (x y : O) → b ≡ false → cond b x y ≡ y
-not_large true x y e = absurd cc
-not_large false x y e = refl
-
 pub reached : {S : Type 0} (w : Rules S) (s : Runtime S) (f n : ℕ) (c : Config S) → Leads w s f n c → (k : ℕ)
     → run_by w s f (n + k) ≡ runs w k c
 reached w s f zero c r k =

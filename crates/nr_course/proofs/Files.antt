@@ -1,10 +1,11 @@
 -- What a genesis and a file of blocks give can run: where the boundaries change the last block misses no chunk.
-use Rattle.std.proofs.Common.{◌≡◌, ℕ, suc, ◌+◌, ◌-◌, ◌^◌, ◌<◌, inl, inr, true, List, length, take, drop, Option, Some}
+use Rattle.std.proofs.Common.{◌≡◌, ℕ, suc, ◌+◌, ◌-◌, ◌^◌, ◌<◌, true, List, length, take, drop, Option, Some}
 use Rattle.std.proofs.Common.{None, refl, sym, ap, subst, ◌∙◌, arith}
 use Rattle.std.specs.Prelude.{is_some, slice_get, unwrap_or}
 use Rattle.std.specs.Option.{option_and_then}
 use Rattle.std.proofs.lemmas.List.{get_or-take, length-drop, length-take-le}
-use Rattle.std.proofs.lemmas.Option.{get_or_from_slice_get, slice_get_cases, slice_get_read}
+use Rattle.std.proofs.lemmas.Option.{get_or_from_slice_get, slice_get_read}
+use Rattle.nr_bytes.proofs.Basics.{none≢some, within_some}
 use Rattle.nr_apart.proofs.Firsts.{genesis_starts}
 use Rattle.nr_blocks.specs.declared.block.Block.{Block}
 use Rattle.nr_blocks.specs.declared.genesis.Genesis.{Genesis}
@@ -23,12 +24,6 @@ use Rattle.nr_state.specs.Local.{IsLocal}
 use Rattle.nr_state.specs.World.{World}
 use Rattle.nr_state.specs.declared.calls.CallContext.{CallContext}
 
-nothing : {A : Type 0} (x : A) → ◌≡◌ {A = Option A} None (Some x) → ⊥
-nothing x e = cc
-
-some_within : {A : Type 0} (xs : List A) (i : ℕ) → i < length xs → (a : A) × (slice_get xs i ≡ Some a)
-some_within xs i l = elim ((slice_get_cases xs i).1) [ inl p ↦ (p.0, p.2) | inr p ↦ absurd (omega (arith, p.0, l)) ]
-
 -- an element of the front part
 in_front : {A : Type 0} (xs : List A) (n i : ℕ) (a : A) → length (take n xs) ≡ n → i < n → slice_get xs i ≡ Some a
     → slice_get (take n xs) i ≡ Some a
@@ -39,7 +34,7 @@ in_front xs n i a long l e =
 -- a whole block has each shard's chunk
 chunk_there : (b : Block) (shards s : ℕ) → IsWhole shards b → s < shards → is_some (chunk_in s b) ≡ true
 chunk_there b shards s whole l =
-    let some = some_within b.chunks s (omega (arith, l, whole.count)) in
+    let some = within_some b.chunks s (omega (arith, l, whole.count)) in
     ap (λ (o : Option (Option (List Transaction))). is_some (unwrap_or o None)) some.1
     ∙ each_at (λ (chunk : Option (List Transaction)). is_some chunk ≡ true) b.chunks s some.0 whole.there some.1
 
@@ -59,7 +54,7 @@ module _ (c : Config) (g : Genesis) (call : World → CallContext → Called) (l
     long = length-take-le (h - 1) bs (omega (arith, can.high))
 
     last : (b : Block) × (slice_get bs (h - 2) ≡ Some b)
-    last = some_within bs (h - 2) (omega (arith, can.low, can.high))
+    last = within_some bs (h - 2) (omega (arith, can.low, can.high))
 
     block_is : block_at (chain_of first) (length first) ≡ Some last.0
     block_is =
@@ -88,7 +83,7 @@ module _ (c : Config) (g : Genesis) (call : World → CallContext → Called) (l
     where
       by : (o : Option Reshard) → f.reshard ≡ o → (t : Turn) → turn_by f.blocks o ≡ Some t
           → CanTurn (chain_of (before_by f.blocks o)) t
-      by None is t e = absurd (nothing t e)
+      by None is t e = absurd (none≢some t e)
       by (Some r) is t e =
           subst (CanTurn (chain_of (take (r.height.0 - 1) f.blocks)))
           (some_alike (record { layout = r.layout; blocks = drop (r.height.0 - 1) f.blocks }) t e)

@@ -1,10 +1,8 @@
 -- Tokens and receipts of a course add up.
-use Rattle.std.proofs.Common.{◌≡◌, ℕ, suc, ◌+◌, List, [], ◌∷◌, length, Option, Some, None, refl, ap, ◌∙◌, arith}
-use Rattle.std.specs.Prelude.{slice_index, sum_by}
-use Rattle.std.proofs.lemmas.List.Sums.{sum_by-cons}
+use Rattle.std.proofs.Common.{◌≡◌, ℕ, ◌+◌, List, Option, Some, None, refl, ap, ◌∙◌, arith}
+use Rattle.std.specs.Prelude.{slice_index}
 use Rattle.nr_chunk.specs.Chain.{Chain, IsChain, rules_of}
 use Rattle.nr_chunk.specs.Start.{start_tokens}
-use Rattle.nr_chunk.specs.declared.tally.Tally.{Tally}
 use Rattle.nr_course.proofs.Ends.{goes_behind}
 use Rattle.nr_course.specs.Course.{AreLegs, CanRun, Course, second}
 use Rattle.nr_course.specs.Totals.{AddUp, AddsUp, receipts_at_first, tally_by, totals_behind}
@@ -13,21 +11,16 @@ use Rattle.nr_legs.proofs.Ends.{goes_on}
 use Rattle.nr_legs.specs.Legs.{CanGoOn, GoesOn, cut_start}
 use Rattle.nr_outcome.proofs.Adding.{alike}
 use Rattle.nr_outcome.specs.Totals.{totals_at, totals_of}
-use Rattle.nr_overlap.specs.Run.{ending, opening, run_of}
+use Rattle.nr_overlap.specs.Run.{ending}
 use Rattle.nr_overlap.specs.declared.position.Position.{Position}
-use Rattle.nr_places.proofs.Replay.{end_holds, replay_holds}
+use Rattle.nr_places.proofs.Replay.{end_holds, replay_holds, as_ones}
 use Rattle.nr_places.specs.Moments.{delayed, flying, postponed}
 use Rattle.nr_places.specs.Places.{start_receipts}
 use Rattle.nr_places.specs.Replay.{Holds}
 use Rattle.nr_places.specs.Totals.{nothing, plus, tally_at, tally_of}
-use Rattle.nr_records.specs.declared.receipt.Receipt.{Receipt}
 
 zero_on : (n : ℕ) → 0 + n ≡ n
 zero_on n = omega arith
-
-as_ones : (list : List Receipt) → sum_by (λ q. 1) list ≡ length list
-as_ones [] = refl
-as_ones (q ∷ rest) = omega (arith, sum_by-cons (λ (q : Receipt). 1) q rest, as_ones rest)
 
 pub nothing_past : (x : Chain) (ps : List Position) → plus nothing (tally_at x ps) ≡ tally_at x ps
 nothing_past x ps =

@@ -5,7 +5,7 @@ use Rattle.nr_chunk.specs.Chain.{Chain, rules_of}
 use Rattle.nr_chunk.specs.Start.{start_tokens}
 use Rattle.nr_chunk.specs.Tallies.{five}
 use Rattle.nr_chunk.specs.declared.tally.Tally.{Tally}
-use Rattle.nr_course.specs.Course.{AreLegs, CanRun, Course, second}
+use Rattle.nr_course.specs.Course.{Course, second}
 use Rattle.nr_course.specs.declared.turn.Turn.{Turn}
 use Rattle.nr_outcome.specs.Totals.{totals_at, totals_of}
 use Rattle.nr_overlap.specs.Inside.{AreInside}

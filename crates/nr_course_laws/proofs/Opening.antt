@@ -4,6 +4,7 @@ use Rattle.std.proofs.Common.{◌∙◌, arith}
 use Rattle.std.specs.FinMap.{values}
 use Rattle.std.specs.Option.{option_map}
 use Rattle.std.specs.Prelude.{slice_index, sum_by}
+use Rattle.nr_places.proofs.Replay.{as_ones}
 use Rattle.nr_chunk.proofs.Tallied.{len_values}
 use Rattle.nr_chunk.specs.Chain.{Chain, first_world, rules_of, shards_of}
 use Rattle.nr_chunk.specs.Start.{IsStart, start_list, start_tokens, start_world}
@@ -11,7 +12,7 @@ use Rattle.nr_chunk.specs.StartSums.{start_sum, sum_of}
 use Rattle.nr_chunk.specs.Tallies.{tally_world}
 use Rattle.nr_chunk.specs.Views.{Kept, Working}
 use Rattle.nr_chunk.specs.declared.tally.Tally.{Tally}
-use Rattle.nr_course_laws.proofs.Standing.{as_ones, of_worlds, waits}
+use Rattle.nr_course_laws.proofs.Standing.{of_worlds, waits}
 use Rattle.nr_overlap.proofs.Founding.{at_replicate, shown_first, world_first}
 use Rattle.nr_overlap.proofs.Sums.{sum_none, sum_same}
 use Rattle.nr_overlap.specs.Balance.{if_some, sum_below}

@@ -1,8 +1,7 @@
 -- What stands at a moment at which no shard is in a chunk.
-use Rattle.std.proofs.Common.{◌≡◌, ℕ, zero, suc, ◌+◌, ◌<◌, List, [], ◌∷◌, map, length, Some, refl, ap, ◌∙◌, arith}
+use Rattle.std.proofs.Common.{◌≡◌, ℕ, ◌+◌, ◌<◌, List, map, Some, refl, ap, ◌∙◌, arith}
 use Rattle.std.specs.Prelude.{sum_by}
 use Rattle.std.specs.List.{range_with_len}
-use Rattle.std.proofs.lemmas.List.Sums.{sum_by-cons}
 use Rattle.nr_chunk.specs.Chain.{Chain, rules_of}
 use Rattle.nr_chunk.specs.Tallies.{tally_world}
 use Rattle.nr_chunk.specs.Views.{Kept, Working}
@@ -23,19 +22,11 @@ use Rattle.nr_state.specs.World.{World}
 use Rattle.nr_legs.proofs.Ends.{sum_mapped as sum_from}
 
 -- ---- sums over numbers and over lists
-sum_front : (n : ℕ) (f : ℕ → ℕ) → sum_below (suc n) f ≡ f 0 + sum_below n (λ s. f (suc s))
-sum_front zero f = omega arith
-sum_front (suc n) f = omega (arith, sum_front n f)
-
 pub sum_mapped : {A : Type 0} (g : A → ℕ) (h : ℕ → A) (n : ℕ) → sum_by g (map h (range_with_len 0 n))
     ≡ sum_below n (λ s. g (h s))
 sum_mapped g h n =
     let zero_on : (s : ℕ) → 0 + s ≡ s = λ s. omega arith in
     sum_from g h n 0 ∙ (λ i. sum_below n (λ s. g (h (zero_on s i))))
-
-pub as_ones : (list : List Receipt) → sum_by (λ q. 1) list ≡ length list
-as_ones [] = refl
-as_ones (q ∷ rest) = omega (arith, sum_by-cons (λ (q : Receipt). 1) q rest, as_ones rest)
 
 -- ---- each shard has this world
 module _ (x : Chain) (ps : List Position) (worlds : ℕ → Kept)

@@ -12,7 +12,6 @@ use Rattle.nr_course_laws.proofs.Opening.{accounts_first, delayed_count, delayed
 use Rattle.nr_course_laws.proofs.Opening.{none_burnt, none_executed, none_routed, postponed_count, postponed_first}
 use Rattle.nr_course_laws.proofs.Opening.{tokens_first}
 use Rattle.nr_course_laws.proofs.Over.{accounts_over, delayed_over, postponed_over}
-use Rattle.nr_course_laws.proofs.Standing.{as_ones}
 use Rattle.nr_course_laws.specs.Turning.{StaysAlike, TurnsAlike, behind, over}
 use Rattle.nr_cut.proofs.Cuts.{keeps_worlds}
 use Rattle.nr_cut.proofs.Maps.{sum_both}
@@ -20,7 +19,7 @@ use Rattle.nr_cut.specs.Laws.{KeepsWorlds}
 use Rattle.nr_legs.proofs.Ends.{can_cut, goes_on}
 use Rattle.nr_legs.specs.Legs.{CanGoOn, GoesOn, last_worlds}
 use Rattle.nr_overlap.specs.declared.position.Position.{Position}
-use Rattle.nr_places.proofs.Replay.{end_holds}
+use Rattle.nr_places.proofs.Replay.{end_holds, as_ones}
 use Rattle.nr_places.specs.Moments.{delayed, executed, flying, postponed, routed}
 use Rattle.nr_places.specs.Replay.{Holds}
 use Rattle.nr_places.specs.Totals.{tally_at}

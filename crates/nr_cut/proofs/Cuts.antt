@@ -9,12 +9,13 @@ use Rattle.std.specs.Cmp.Lexicographic.{nat_list_cmp_total}
 use Rattle.std.proofs.lemmas.List.FromFn.{length-map-range_with_len}
 use Rattle.std.proofs.lemmas.List.Sums.{sum_by-cons, sum_by-append}
 use Rattle.std.proofs.lemmas.Map.Lookups.{exact_bytes}
+use Rattle.nr_bytes.proofs.Basics.{all_both}
 use Rattle.nr_config.specs.Config.{Config}
 use Rattle.nr_cut.specs.Cut.{joined, beside, all_beside, lives_in, cut_world, cut_worlds, carried, HasOnly, AreApart}
 use Rattle.nr_cut.specs.Laws.{CanCut, IsFound, KeepsWorlds, KeepsLists}
 use Rattle.nr_cut.proofs.Maps.{HasOwners, either, none_left, if_passes, sum_of_values, sum-filter, sum_spread}
 use Rattle.nr_cut.proofs.Maps.{test_same, test_other, test_of, nothing, get-joined, get-part, sum-part, absent}
-use Rattle.nr_cut.proofs.Worlds.{Owned, owned, only_part, other, each_kept, each_both, fewer_delayed, valid_beside}
+use Rattle.nr_cut.proofs.Worlds.{Owned, owned, only_part, other, each_kept, fewer_delayed, valid_beside}
 use Rattle.nr_cut.proofs.Worlds.{accounts_of_both, postponed_of_both, delayed_of_both, tokens_of_both, owned_beside}
 use Rattle.nr_cut.proofs.Worlds.{owned_weaker, owned_none_here}
 use Rattle.nr_fees.specs.Fees.{receipt_tokens}
@@ -289,7 +290,7 @@ keeps_worlds c old new ws can =
 each_flat : (P : Receipt → Type 0) (lists : List (List Receipt)) → AllByRecursion (AllByRecursion P) lists
     → AllByRecursion P (flat_map (λ list. list) lists)
 each_flat P [] all = tt
-each_flat P (list ∷ lists) all = each_both P list (flat_map (λ l. l) lists) all.0 (each_flat P lists all.1)
+each_flat P (list ∷ lists) all = all_both P list (flat_map (λ l. l) lists) all.0 (each_flat P lists all.1)
 
 sum-flat : (f : Receipt → ℕ) (lists : List (List Receipt))
     → sum_by f (flat_map (λ list. list) lists) ≡ sum_by (λ list. sum_by f list) lists

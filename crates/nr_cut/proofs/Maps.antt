@@ -1,7 +1,7 @@
 -- Finite maps side by side, and the part of one whose keys pass a test: what is found in them, and sums over them.
 use Rattle.std.proofs.Common.{◌≡◌, ℕ, zero, suc, ◌+◌, ◌<◌, ◌≤◌, Bool, true, false, cond, List, [], ◌∷◌, ◌++◌}
-use Rattle.std.proofs.Common.{Option, Some, None, Ordering, inl, inr, ◌⊎◌, eqb, rules, refl, sym, ap, ◌∙◌, arith}
-use Rattle.std.specs.Prelude.{T, ◌&&◌, ◌==◌, sum_by, filter, is_some, IsSome}
+use Rattle.std.proofs.Common.{Option, Some, None, Ordering, inl, inr, rules, refl, sym, ap, ◌∙◌, arith}
+use Rattle.std.specs.Prelude.{T, ◌==◌, sum_by, filter, is_some, IsSome}
 use Rattle.std.specs.declared.cmp.Ordering.TheVariants.{Less, Equal, Greater}
 use Rattle.std.specs.FinMap.{FinMap, IsAntisymmetric, empty, get, retain_keys, entries, from_entries, entries_sorted}
 use Rattle.std.specs.FinMap.{get-entries, get-from_entries, get-retain_keys, len-empty, len-entries, same_map}
@@ -11,6 +11,8 @@ use Rattle.std.specs.Cmp.{IsTotalOrder, tied_itself}
 use Rattle.std.specs.List.{range_with_len}
 use Rattle.std.proofs.lemmas.List.{nil_from_length}
 use Rattle.std.proofs.lemmas.List.Sums.{sum_by-cons, sum_by-append}
+use Rattle.std.proofs.lemmas.Bool.{cases_eq}
+use Rattle.nr_bytes.proofs.Basics.{left_of, right_of}
 use Rattle.nr_cut.specs.Cut.{joined}
 use Rattle.nr_state.proofs.ValidSums.{at_key, sum-insert, entries-retain_keys}
 pub use Rattle.nr_state.proofs.ValidSums.{sum_of_values}
@@ -64,13 +66,6 @@ test_other m n ne = search rules
 pub test_of : (m n : ℕ) → (m == n) ≡ true → m ≡ n
 test_of m n e = search rules
 
-pub same_or_not : (m n : ℕ) → (m ≡ n) ⊎ (m ≡ n → ⊥)
-same_or_not m n = by (eqb m n) refl
-  where
-    by : (b : Bool) → eqb m n ≡ b → (m ≡ n) ⊎ (m ≡ n → ⊥)
-    by true e = inl (search rules)
-    by false e = inr (search rules)
-
 -- ---- spread over numbers: each counts at one of them
 missed : (n a k v : ℕ) → k < a → sum_by (λ s. cond (k == s) v 0) (range_with_len a n) ≡ 0
 missed zero a k v l = refl
@@ -82,7 +77,7 @@ met : (n a k v : ℕ) → a ≤ k → k < a + n → sum_by (λ s. cond (k == s) 
 met zero a k v l m = absurd (omega (arith, l, m))
 met (suc n) a k v l m =
     sum_by-cons (λ s. cond (k == s) v 0) a (range_with_len (a + 1) n)
-    ∙ elim (same_or_not k a) [
+    ∙ elim (cases_eq k a) [
       | inl e ↦ (λ i. cond (test_same k a e i) v 0 + missed n (a + 1) k v (omega (arith, e)) i) ∙ plus_none v
       | inr ne ↦ (λ i. cond (test_other k a ne i) v 0 + met n (a + 1) k v (omega (arith, l, ne)) (omega (arith, m)) i)
           ∙ none_plus v
@@ -105,14 +100,6 @@ sum_spread f to n within (x ∷ xs) =
     ∙ sym (sum_by-cons f x xs)
 
 -- ---- what is found
-first_of_both : (a b : Bool) → T (a && b) → T a
-first_of_both true b p = tt
-first_of_both false b p = absurd p
-
-second_of_both : (a b : Bool) → T (a && b) → T b
-second_of_both true b p = p
-second_of_both false b p = absurd p
-
 less : (o : Ordering) → T (is_lt o) → is_eq o ≡ false
 less Less p = refl
 less Equal p = absurd p
@@ -134,8 +121,8 @@ module _ {K X : Type 0} (R : K → K → Ordering) where
   find_below : (q : K) (es : List (K × X)) → T (below_all R q es) → find R q es ≡ None
   find_below q [] h = refl
   find_below q (e ∷ es) h =
-      ap (λ b. cond b (Some e.1) (find R q es)) (less (R q e.0) (first_of_both _ _ h))
-      ∙ find_below q es (second_of_both _ _ h)
+      ap (λ b. cond b (Some e.1) (find R q es)) (less (R q e.0) (left_of _ _ h))
+      ∙ find_below q es (right_of _ _ h)
 
   -- no key stands twice
   abbrev Once : List (K × X) → Type 0
@@ -145,7 +132,7 @@ module _ {K X : Type 0} (R : K → K → Ordering) where
   once_sorted : (es : List (K × X)) → T (is_sorted R es) → Once es
   once_sorted [] h = tt
   once_sorted (e ∷ es) h =
-      (find_below e.0 es (first_of_both _ _ h), once_sorted es (second_of_both _ _ h))
+      (find_below e.0 es (left_of _ _ h), once_sorted es (right_of _ _ h))
 
 module _ {K X : Type 0} {R : K → K → Ordering} (o : IsTotalOrder R) (same : IsAntisymmetric R) where
   found_first : (e : K × X) (es : List (K × X)) → IsSome (find R e.0 (e ∷ es))

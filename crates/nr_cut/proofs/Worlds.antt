@@ -1,6 +1,6 @@
 -- Valid worlds side by side that share no owner are valid, and so is a valid world with fewer delayed receipts; what
 -- worlds have together.
-use Rattle.std.proofs.Common.{◌≡◌, ℕ, ◌+◌, ◌^◌, ◌≤◌, Bool, true, false, cond, List, [], ◌∷◌, ◌++◌, length, Option}
+use Rattle.std.proofs.Common.{◌≡◌, ℕ, ◌+◌, ◌^◌, ◌≤◌, Bool, true, false, cond, List, [], ◌∷◌, length, Option}
 use Rattle.std.proofs.Common.{Some, None, Ordering, inl, inr, ◌⊎◌, refl, sym, ap, subst, ◌∙◌, arith}
 use Rattle.std.specs.Prelude.{sum_by, filter, not, is_some, is_none, IsSome, option_map}
 use Rattle.std.specs.FinMap.{FinMap, IsAntisymmetric, get, entries, values, retain_keys}
@@ -10,6 +10,8 @@ use Rattle.std.specs.Cmp.{IsTotalOrder}
 use Rattle.std.specs.Cmp.Lexicographic.{nat_list_cmp_total}
 use Rattle.std.proofs.lemmas.List.Sums.{sum_by-cons, sum_by-append}
 use Rattle.std.proofs.lemmas.Map.Lookups.{exact_bytes}
+use Rattle.std.proofs.lemmas.Bool.{not-true}
+use Rattle.nr_bytes.proofs.Basics.{all_both}
 use Rattle.nr_config.specs.Config.{Config}
 use Rattle.nr_cut.specs.Cut.{joined, beside, HasOnly}
 use Rattle.nr_cut.proofs.Maps.{HasOwners, either, none_left, sum_of_values, get-joined, sum-joined, retained_twice}
@@ -33,10 +35,6 @@ use Rattle.nr_state.proofs.ValidOwned.{key_total, pair_total, exact_keys, exact_
 use Rattle.nr_state.proofs.ValidQueues.{nobody}
 
 -- ---- tests and lists
-pub to_false : (b : Bool) → not b ≡ true → b ≡ false
-to_false true h = absurd (let x : false ≡ true = h in cc)
-to_false false h = refl
-
 pub each_kept : {A : Type 0} (P : A → Type 0) (test : A → Bool) (xs : List A) → AllByRecursion P xs
     → AllByRecursion P (filter test xs)
 each_kept P test [] all = tt
@@ -45,11 +43,6 @@ each_kept P test (x ∷ xs) all =
       | true ↦ (all.0, each_kept P test xs all.1)
       | false ↦ each_kept P test xs all.1
     ]
-
-pub each_both : {A : Type 0} (P : A → Type 0) (xs ys : List A) → AllByRecursion P xs → AllByRecursion P ys
-    → AllByRecursion P (xs ++ ys)
-each_both P [] ys one two = two
-each_both P (x ∷ xs) ys one two = (one.0, each_both P xs ys one.1 two)
 
 few-filter : {A : Type 0} (f : A → ℕ) (test : A → Bool) (xs : List A) → sum_by f (filter test xs) ≤ sum_by f xs
 few-filter f test [] = omega arith
@@ -289,13 +282,13 @@ module _ (c : Config) (test : List ℕ → Bool) (a b : World) (ia : Owned test 
       usage = λ id account h. elim (account_of id account h) [
         | inl s ↦ va.accounts.usage id account s ∙ sym (usage_first id (ia.accounts id (ap is_some s)))
         | inr s ↦ vb.accounts.usage id account s
-            ∙ sym (usage_second id (to_false (test id) (ib.accounts id (ap is_some s))))
+            ∙ sym (usage_second id (not-true (test id) (ib.accounts id (ap is_some s))))
       ];
       code_hash = λ id account h. elim (account_of id account h) [
         | inl s ↦ va.accounts.code_hash id account s
             ∙ sym (ap hash_of_code (code_first id (ia.accounts id (ap is_some s))))
         | inr s ↦ vb.accounts.code_hash id account s
-            ∙ sym (ap hash_of_code (code_second id (to_false (test id) (ib.accounts id (ap is_some s)))))
+            ∙ sym (ap hash_of_code (code_second id (not-true (test id) (ib.accounts id (ap is_some s)))))
       ];
     }
 
@@ -318,7 +311,7 @@ module _ (c : Config) (test : List ℕ → Bool) (a b : World) (ia : Owned test 
     pub receiver_second : (k : List ℕ × List ℕ) (r : Receipt) → get b.postponed k ≡ Some r → test r.receiver ≡ false
     receiver_second k r s =
         ap (λ (x : List ℕ × List ℕ). test x.0) (sym (vb.waiting.postponed.each k r s).keyed)
-        ∙ to_false (test k.0) (ib.postponed k (ap is_some s))
+        ∙ not-true (test k.0) (ib.postponed k (ap is_some s))
 
     not_both : (q r : Receipt) → test q.receiver ≡ true → test r.receiver ≡ false → q.receiver ≡ r.receiver → ⊥
     not_both q r one two e = let x : true ≡ false = sym one ∙ ap test e ∙ two in cc
@@ -364,7 +357,7 @@ module _ (c : Config) (test : List ℕ → Bool) (a b : World) (ia : Owned test 
               (λ k r s. ap (λ f. list_any f (inputs_of r.body)) (missing_second r.receiver (receiver_second k r s))
               ∙ m.waits k r s);
           bounded = of_each (λ k r. IsBounded c r) l.bounded m.bounded;
-          delayed = each_both (IsBounded c) a.delayed b.delayed l.delayed m.delayed;
+          delayed = all_both (IsBounded c) a.delayed b.delayed l.delayed m.delayed;
         }
 
     pub valid_beside : world_tokens c a + world_tokens c b ≤ 2 ^ 127 → IsValidWorld c (beside a b)

@@ -1,31 +1,26 @@
 -- What the entries of each column count, in the map that is read of them.
-use Rattle.std.proofs.Common.{◌≡◌, ℕ, ◌+◌, Bool, true, false, cond, List, [], ◌∷◌, ◌++◌, ◌&&◌, length, suc, Option, Some, None, refl, sym, ap, subst, ◌∙◌, inl, inr, ◌⊎◌, arith}
-use Rattle.std.specs.Prelude.{◌==◌, count_by, sum_by}
-use Rattle.std.specs.FinMap.{FinMap, entries}
-use Rattle.std.specs.List.{AllByRecursion, list_all}
+use Rattle.std.proofs.Common.{◌≡◌, ℕ, ◌+◌, Bool, true, false, cond, List, [], ◌∷◌, ◌++◌, suc, refl, sym, ap, subst, ◌∙◌, inl, inr, ◌⊎◌, arith}
+use Rattle.std.specs.Prelude.{◌==◌, sum_by}
+use Rattle.std.specs.FinMap.{entries}
+use Rattle.std.specs.List.{AllByRecursion}
 use Rattle.std.specs.Ordering.{eq_by_cmp}
-use Rattle.std.specs.Str.{bytes_eq}
 use Rattle.std.proofs.lemmas.Bool.{eqb-true}
 use Rattle.std.proofs.lemmas.Bool.Decides.{nat_tests}
 use Rattle.std.proofs.lemmas.List.Sums.{sum_by-cons}
+use Rattle.nr_bytes.proofs.Basics.{left_true, right_true}
 use Rattle.nr_bytes.specs.Numbers.{IsBytes, little}
-use Rattle.nr_ids.specs.Keys.{key_bytes}
-use Rattle.nr_ids.specs.declared.key.PublicKey.{PublicKey}
-use Rattle.nr_records.specs.AccessKeys.{access_key_bytes}
-use Rattle.nr_records.specs.declared.access_key.AccessKey.{AccessKey}
 use Rattle.nr_columns.specs.Entries.{contents_of}
 use Rattle.nr_columns.specs.Orders.{bytes_cmp}
 use Rattle.nr_columns.specs.Tables.{Table, part}
-use Rattle.nr_columns.specs.View.{awaited_table, data_table, delayed_table, keys_table, missing_table}
+use Rattle.nr_columns.specs.View.{awaited_table, delayed_table, missing_table}
 use Rattle.nr_columns.specs.declared.entry.Entry.{Entry}
-use Rattle.nr_columns.proofs.Laid.{awaited_law, data_law, delayed_law, keys_law, missing_law, other_head}
+use Rattle.nr_columns.proofs.Laid.{awaited_law, delayed_law, missing_law, other_head}
 use Rattle.nr_columns.proofs.Tables.{IsTable}
 use Rattle.nr_entries.specs.Counting.{count_in, is_in}
 use Rattle.nr_entries.specs.Order.{rises}
 use Rattle.nr_entries.specs.Told.{AreBytes, are_told, is_told, is_told_in}
 use Rattle.nr_entries.proofs.Columns.{IsOf, awaited_of, delayed_of, missing_of}
 use Rattle.nr_entries.proofs.Listed.{one_each}
-use Rattle.nr_entries.proofs.Rising.{left, right}
 use Rattle.nr_entries.proofs.Sums.{Counts, CountsNothing, sum_told}
 
 -- one for each entry of a column
@@ -84,7 +79,7 @@ module _ {K X : Type 0} {t : Table K X} (is : IsTable t) (column : ℕ)
 
   all_cases : (es : List Entry) → AreBytes es → are_told es ≡ true → AllByRecursion (λ e. Case e.key e.value) es
   all_cases [] bytes h = tt
-  all_cases (e ∷ es) bytes h = (one_case e.key e.value bytes.0.0 bytes.0.1 (left _ _ h), all_cases es bytes.1 (right _ _ h))
+  all_cases (e ∷ es) bytes h = (one_case e.key e.value bytes.0.0 bytes.0.1 (left_true _ _ h), all_cases es bytes.1 (right_true _ _ h))
 
   column_count : (es : List Entry) → AreBytes es → rises es ≡ true → are_told es ≡ true → count_in column es ≡ sum_by one_each (entries (part t (contents_of es)))
   column_count es bytes order told = count_is_sum column es ∙ sum_told is one_each (one_in column) es order (all_cases es bytes told)

@@ -1,8 +1,9 @@
 -- An entry that is told is one of its column's table.
-use Rattle.std.proofs.Common.{◌≡◌, ℕ, suc, ◌+◌, ◌<◌, ◌^◌, Bool, true, false, cond, eqb, List, [], ◌∷◌, ◌++◌, ◌&&◌, length, Option, Some, None, refl, sym, ap, subst, ◌∙◌, arith}
-use Rattle.std.specs.Prelude.{◌==◌, is_some, is_none, slice_index}
+use Rattle.std.proofs.Common.{◌≡◌, ℕ, suc, ◌+◌, ◌^◌, Bool, true, false, cond, List, [], ◌∷◌, ◌++◌, Option, Some, None, refl, sym, ap, subst, ◌∙◌}
+use Rattle.std.specs.Prelude.{◌==◌, is_some}
 use Rattle.std.specs.Option.{option_map, option_and_then}
 use Rattle.std.proofs.lemmas.Bool.{eq-eqb, eqb-true}
+use Rattle.nr_bytes.proofs.Basics.{left_true, right_true}
 use Rattle.nr_bytes.proofs.Fields.{blob_law, nat_law}
 use Rattle.nr_bytes.proofs.Numbers.{little-number}
 use Rattle.nr_bytes.proofs.Values.{pair_law}
@@ -12,7 +13,6 @@ use Rattle.nr_bytes.specs.Reading.{Input}
 use Rattle.nr_bytes.specs.Spelling.{Below, Both, IsCounted, IsRead}
 use Rattle.nr_bytes.specs.Writing.{counted_bytes}
 use Rattle.nr_ids.specs.Keys.{IsHash, IsKey, hash_bytes, key_bytes}
-use Rattle.nr_ids.specs.declared.key.Hash32.{Hash32}
 use Rattle.nr_ids.specs.declared.key.PublicKey.{PublicKey}
 use Rattle.nr_records.specs.AccessKeyLaws.{access_key_law}
 use Rattle.nr_records.specs.AccessKeys.{IsAccessKey, access_key_at, access_key_bytes}
@@ -26,17 +26,14 @@ use Rattle.nr_records.specs.Options.{IsOption, option_at, option_bytes}
 use Rattle.nr_records.specs.Reading.{Read, all_of, blob_at, nat_at}
 use Rattle.nr_records.specs.ReceiptLaws.{receipt_law}
 use Rattle.nr_records.specs.Receipts.{IsReceipt, receipt_at, receipt_bytes}
-use Rattle.nr_records.specs.declared.access_key.AccessKey.{AccessKey}
-use Rattle.nr_records.specs.declared.account.Account.{Account}
 use Rattle.nr_records.specs.declared.receipt.Receipt.{Receipt}
 use Rattle.nr_columns.specs.Columns.{queue_bytes}
 use Rattle.nr_columns.specs.Tables.{Table, key_of, read_of}
-use Rattle.nr_columns.specs.View.{at_first, grown, with_key, spelled_key, key_of_rest, queue_at, queue_of, count_of}
+use Rattle.nr_columns.specs.View.{at_first, grown, with_key, spelled_key, key_of_rest, queue_at, queue_of}
 use Rattle.nr_columns.specs.View.{pair_table, text_table, accounts_table, keys_table, code_table, data_table, received_table, awaited_table, missing_table, postponed_table, delayed_table}
 use Rattle.nr_columns.proofs.SpelledKeys.{read_ok}
 use Rattle.nr_columns.proofs.Tables.{spells}
-use Rattle.nr_entries.specs.Told.{is_told_in, is_owned, is_owned_key, is_received, is_kept, is_queued}
-use Rattle.nr_entries.proofs.Rising.{left, right}
+use Rattle.nr_entries.specs.Told.{is_told_in, is_owned, is_owned_key, is_received, is_kept}
 
 -- an entry of a table
 pub record IsOf {K X : Type 0} (t : Table K X) (b v : List ℕ) : Type 0 where
@@ -108,7 +105,7 @@ module _ {X : Type 0} (n : ℕ) (spell : X → List ℕ) (read : List ℕ → Op
 
 pub account_of : (rest v : List ℕ) → IsBytes v → is_told_in 0 rest v ≡ true → IsOf accounts_table (0 ∷ rest) v
 account_of rest v fits h =
-    let x = some_of (accounts_table.read v) (right _ _ h) in
+    let x = some_of (accounts_table.read v) (right_true _ _ h) in
     text_of 0 _ _ rest v x.0 x.1 (taken account_at account_bytes IsAccount account_law v x.0 fits x.1).1
 
 pub code_of : (rest v : List ℕ) → IsOf code_table (1 ∷ rest) v
@@ -131,20 +128,20 @@ owned_parts rest h = by (at_first 44 rest) refl h
 
 pub received_of : (rest v : List ℕ) → IsBytes v → is_told_in 3 rest v ≡ true → IsOf received_table (3 ∷ rest) v
 received_of rest v fits h =
-    let p = received_parts rest (left _ _ h) in
-    let x = some_of (received_table.read v) (right _ _ h) in
+    let p = received_parts rest (left_true _ _ h) in
+    let x = some_of (received_table.read v) (right_true _ _ h) in
     pair_of 3 _ _ rest v p.0 x.0 p.1 x.1 (taken (option_at blob_at) (option_bytes counted_bytes) (IsOption IsCounted) received_law v x.0 fits x.1).1
 
 pub awaited_of : (rest v : List ℕ) → IsBytes v → is_told_in 4 rest v ≡ true → IsOf awaited_table (4 ∷ rest) v
 awaited_of rest v fits h =
-    let p = some_of (at_first 44 rest) (left _ _ h) in
-    let x = some_of (awaited_table.read v) (right _ _ h) in
+    let p = some_of (at_first 44 rest) (left_true _ _ h) in
+    let x = some_of (awaited_table.read v) (right_true _ _ h) in
     pair_of 4 _ _ rest v p.0 x.0 p.1 x.1 (taken hash_at hash_bytes IsHash hash_law v x.0 fits x.1).1
 
 pub missing_of : (rest v : List ℕ) → IsBytes v → is_told_in 5 rest v ≡ true → IsOf missing_table (5 ∷ rest) v
 missing_of rest v fits h =
-    let p = some_of (at_first 44 rest) (left _ _ h) in
-    let x = some_of (missing_table.read v) (right _ _ h) in
+    let p = some_of (at_first 44 rest) (left_true _ _ h) in
+    let x = some_of (missing_table.read v) (right_true _ _ h) in
     pair_of 5 _ _ rest v p.0 x.0 p.1 x.1 (taken (nat_at 4) (little 4) (Below (256 ^ 4)) (nat_law record_fault 4) v x.0 fits x.1).1
 
 pub kept_some : (o : Option (List ℕ × List ℕ)) (r : Option Receipt) → is_kept o r ≡ true → is_some r ≡ true
@@ -154,8 +151,8 @@ kept_some (Some p) (Some r) h = refl
 
 pub postponed_of : (rest v : List ℕ) → IsBytes v → is_told_in 6 rest v ≡ true → IsOf postponed_table (6 ∷ rest) v
 postponed_of rest v fits h =
-    let p = received_parts rest (left _ _ h) in
-    let x = some_of (postponed_table.read v) (kept_some (at_first 44 rest) (postponed_table.read v) (right _ _ h)) in
+    let p = received_parts rest (left_true _ _ h) in
+    let x = some_of (postponed_table.read v) (kept_some (at_first 44 rest) (postponed_table.read v) (right_true _ _ h)) in
     pair_of 6 _ _ rest v p.0 x.0 p.1 x.1 (taken receipt_at receipt_bytes IsReceipt receipt_law v x.0 fits x.1).1
 
 pub datum_of : (rest v : List ℕ) → is_told_in 9 rest v ≡ true → IsOf data_table (9 ∷ rest) v
@@ -186,8 +183,8 @@ key_joined rest k fits h = by (at_first 2 rest) refl h
 
 pub key_of_entry : (rest v : List ℕ) → IsBytes rest → IsBytes v → is_told_in 2 rest v ≡ true → IsOf keys_table (2 ∷ rest) v
 key_of_entry rest v bytes fits h =
-    let k = owned_key rest (left _ _ h) in
-    let x = some_of (keys_table.read v) (right _ _ h) in
+    let k = owned_key rest (left_true _ _ h) in
+    let x = some_of (keys_table.read v) (right_true _ _ h) in
     let same : rest ≡ k.0.0 ++ 2 ∷ key_bytes k.0.1 = key_joined rest k.0 bytes k.1 in
     record {
       key = k.0;
@@ -200,9 +197,9 @@ key_of_entry rest v bytes fits h =
 -- ---- the delayed queue
 pub delayed_of : (b : ℕ) (bs v : List ℕ) → IsBytes (b ∷ bs) → IsBytes v → is_told_in 7 (b ∷ bs) v ≡ true → IsOf delayed_table (7 ∷ b ∷ bs) v
 delayed_of b bs v bytes fits h =
-    let x = some_of (delayed_table.read v) (right _ _ h) in
+    let x = some_of (delayed_table.read v) (right_true _ _ h) in
     let n : ℕ = number (b ∷ bs) in
-    let same : little 8 n ≡ b ∷ bs = ap (λ k. little k n) (sym (eqb-true _ _ (left _ _ h))) ∙ little-number (b ∷ bs) bytes in
+    let same : little 8 n ≡ b ∷ bs = ap (λ k. little k n) (sym (eqb-true _ _ (left_true _ _ h))) ∙ little-number (b ∷ bs) bytes in
     record {
       key = n;
       value = x.0;

@@ -1,29 +1,29 @@
 -- What entries that are told stand for.
-use Rattle.std.proofs.Common.{◌≡◌, ℕ, Bool, true, false, cond, List, [], ◌∷◌, ◌&&◌, Option, Some, None, refl, sym, ap, subst, ◌∙◌}
+use Rattle.std.proofs.Common.{◌≡◌, ℕ, Bool, true, false, cond, List, [], ◌∷◌, Option, Some, None, refl, sym, ap, subst, ◌∙◌}
 use Rattle.std.specs.Prelude.{◌==◌}
 use Rattle.std.specs.Option.{option_map, option_and_then}
-use Rattle.std.specs.FinMap.{FinMap, empty, insert, get, from_entries, get-empty, get-insert, get-from_entries, same_map}
-use Rattle.std.specs.List.{AllByRecursion, list_all}
+use Rattle.std.specs.FinMap.{FinMap, empty, insert, get, get-empty, get-insert, get-from_entries, same_map}
 use Rattle.std.specs.Ordering.{eq_by_cmp}
 use Rattle.std.specs.Cmp.Lexicographic.{nat_list_cmp_total}
 use Rattle.std.proofs.lemmas.Bool.{eqb-true}
 use Rattle.std.proofs.lemmas.Map.Lookups.{exact_bytes}
+use Rattle.nr_bytes.proofs.Basics.{left_true, right_true}
 use Rattle.nr_bytes.specs.Numbers.{IsBytes}
 use Rattle.nr_triedef.specs.Root.{Contents}
 use Rattle.nr_columns.specs.Columns.{Columns, queue_bytes}
 use Rattle.nr_columns.specs.Entries.{AreLaidEntries, contents_of, pairs_of}
 use Rattle.nr_columns.specs.Orders.{bytes_cmp}
 use Rattle.nr_columns.specs.Tables.{Table, key_of, part}
-use Rattle.nr_columns.specs.View.{columns_in, IsLaid, queue_of}
+use Rattle.nr_columns.specs.View.{IsLaid, queue_of}
 use Rattle.nr_columns.specs.declared.entry.Entry.{Entry}
 use Rattle.nr_columns.proofs.Empty.{is_laid_empty}
 use Rattle.nr_columns.proofs.Laid.{canon, laid_insert}
 use Rattle.nr_columns.proofs.Steps.{IsColumn, accounts_column, keys_column, code_column, data_column, received_column, awaited_column, missing_column, postponed_column, delayed_column}
-use Rattle.nr_columns.proofs.Tables.{IsTable, back, claim, claimed, over, there, get_part_none, get_part_valid, valid}
+use Rattle.nr_columns.proofs.Tables.{IsTable, back, claimed, over, there, get_part_none, get_part_valid, valid}
 use Rattle.nr_entries.specs.Order.{rises}
 use Rattle.nr_entries.specs.Told.{AreBytes, are_told, is_told, is_told_in}
 use Rattle.nr_entries.proofs.Columns.{IsOf, account_of, code_of, key_of_entry, received_of, awaited_of, missing_of, postponed_of, delayed_of, queue_entry, datum_of, tail_bytes}
-use Rattle.nr_entries.proofs.Rising.{in_order, right, left}
+use Rattle.nr_entries.proofs.Rising.{in_order}
 
 pub one_more : (e : Entry) (es : List Entry) → contents_of (e ∷ es) ≡ insert (contents_of es) e.key e.value
 one_more e es = same_map nat_list_cmp_total exact_bytes _ _ (λ q.
@@ -93,7 +93,7 @@ pub laid_told : (es : List Entry) → AreBytes es → are_told es ≡ true → I
 laid_told [] bytes h = subst IsLaid (sym no_more) is_laid_empty
 laid_told (e ∷ es) bytes h =
     subst IsLaid (sym (one_more e es))
-    (laid_insert (contents_of es) e.key e.value (canon_told e.key e.value bytes.0.0 bytes.0.1 (left _ _ h)) (laid_told es bytes.1 (right _ _ h)))
+    (laid_insert (contents_of es) e.key e.value (canon_told e.key e.value bytes.0.0 bytes.0.1 (left_true _ _ h)) (laid_told es bytes.1 (right_true _ _ h)))
 
 pub laid_entries : (es : List Entry) → AreBytes es → rises es ≡ true → are_told es ≡ true → AreLaidEntries es
 laid_entries es bytes order told = record { laid = laid_told es bytes told; order = in_order es order }

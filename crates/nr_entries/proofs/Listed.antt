@@ -1,5 +1,5 @@
 -- A map that has each entry of a list, and no more, is the list's.
-use Rattle.std.proofs.Common.{◌≡◌, ℕ, ◌+◌, Bool, true, false, cond, List, [], ◌∷◌, length, Option, Some, None, Ordering, refl, sym, ap, subst, ◌∙◌, arith}
+use Rattle.std.proofs.Common.{◌≡◌, ℕ, ◌+◌, Bool, true, false, cond, List, [], ◌∷◌, length, Option, Some, None, Ordering, refl, sym, ap, ◌∙◌, arith}
 use Rattle.std.specs.Prelude.{T, ◌&&◌, map, sum_by}
 use Rattle.std.specs.FinMap.{FinMap, IsAntisymmetric, empty, insert, remove, get, entries, from_entries, get-empty, get-entries, get-insert, get-remove, get-from_entries, same_map}
 use Rattle.std.specs.FinMap.Entries.{below_all, find, is_sorted}
@@ -8,27 +8,18 @@ use Rattle.std.specs.Ordering.{eq_by_cmp, is_eq, is_lt}
 use Rattle.std.specs.declared.cmp.Ordering.TheVariants.{Less, Equal, Greater}
 use Rattle.std.specs.Cmp.{IsTotalOrder, eq_by_cmp_equiv}
 use Rattle.std.proofs.lemmas.List.Sums.{sum_by-cons}
+use Rattle.nr_bytes.proofs.Basics.{left_of, right_of, equal_of}
 use Rattle.nr_columns.proofs.Empty.{entries_empty}
-use Rattle.nr_columns.proofs.Tables.{first, second}
 use Rattle.nr_entries.proofs.Sums.{sum_insert}
 
 -- how many entries
 abbrev pub one_each : {K X : Type 0} → K × X → ℕ
 one_each e = 1
 
-pub count_of_list : {K X : Type 0} (es : List (K × X)) → sum_by one_each es ≡ length es
-count_of_list [] = refl
-count_of_list (e ∷ es) = omega (arith, sum_by-cons one_each e es, count_of_list es)
-
 -- no key stands twice
 abbrev pub AreApart : {K X : Type 0} → (K → K → Ordering) → List (K × X) → Type 0
 AreApart R [] = Unit {0}
 AreApart R (e ∷ es) = (find R e.0 es ≡ None) × AreApart R es
-
-equal : (r : Ordering) → is_eq r ≡ true → r ≡ Equal
-equal Less h = absurd (let no : false ≡ true = h in cc)
-equal Equal h = refl
-equal Greater h = absurd (let no : false ≡ true = h in cc)
 
 nothing : {K X : Type 0} (R : K → K → Ordering) (es : List (K × X)) → sum_by one_each es ≡ 0 → (q : K) → find R q es ≡ None
 nothing R [] h q = refl
@@ -39,7 +30,7 @@ module _ {K X : Type 0} {R : K → K → Ordering} (o : IsTotalOrder R) (same : 
   put_back m k v is = same_map o same _ _ (λ q. get-insert o (remove m k) k v q ∙ ap (cond (eq_by_cmp R q k) (Some v)) (get-remove o m k q) ∙ by q (eq_by_cmp R q k) refl)
     where
       by : (q : K) (b : Bool) → eq_by_cmp R q k ≡ b → cond b (Some v) (cond b None (get m q)) ≡ get m q
-      by q true t = sym is ∙ ap (get m) (sym (same q k (equal _ t)))
+      by q true t = sym is ∙ ap (get m) (sym (same q k (equal_of _ t)))
       by q false t = refl
 
   gone : (m : FinMap R X) (k : K) → get (remove m k) k ≡ None
@@ -92,7 +83,7 @@ module _ {K X : Type 0} {R : K → K → Ordering} (o : IsTotalOrder R) (same : 
 -- keys that rise stand once
 pub rising_apart : {K X Y : Type 0} (R : K → K → Ordering) (f : K × X → Y) (es : List (K × X)) → T (is_sorted R es) → AreApart R (map (λ (e : K × X). (e.0, f e)) es)
 rising_apart R f [] s = tt
-rising_apart {K} {X} {Y} R f (e ∷ es) s = (none es (first _ _ s), rising_apart R f es (second _ _ s))
+rising_apart {K} {X} {Y} R f (e ∷ es) s = (none es (left_of _ _ s), rising_apart R f es (right_of _ _ s))
   where
     none : (es : List (K × X)) → T (below_all R e.0 es) → find R e.0 (map (λ (e : K × X). (e.0, f e)) es) ≡ None
     none [] h = refl

@@ -1,5 +1,5 @@
 -- Keys that fit.
-use Rattle.std.proofs.Common.{◌≡◌, ℕ, Bool, true, length, eqb, refl}
+use Rattle.std.proofs.Common.{◌≡◌, true, length}
 use Rattle.std.proofs.lemmas.Bool.{eq-eqb}
 use Rattle.nr_ids.specs.Keys.{IsKey}
 use Rattle.nr_ids.specs.declared.key.PublicKey.{PublicKey}

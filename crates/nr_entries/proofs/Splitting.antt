@@ -1,6 +1,5 @@
 -- The parts of a key before and after the first byte of a kind.
 use Rattle.std.proofs.Common.{◌≡◌, ◌+◌, ◌-◌, ℕ, suc, Bool, true, false, cond, List, [], ◌∷◌, length, length-drop, take, drop, nat_lt, Option, Some, None, refl, sym, ap, ◌∙◌, arith, ◌==◌}
-use Rattle.std.specs.Option.{option_map}
 use Rattle.std.specs.List.{position, position_or_len}
 use Rattle.std.proofs.lemmas.Bool.Decides.{nat_tests}
 use Rattle.std.proofs.lemmas.List.{take_all}

@@ -1,6 +1,6 @@
 -- Sums over entries, and over the part of them that a column reads.
-use Rattle.std.proofs.Common.{◌≡◌, ℕ, ◌+◌, Bool, true, false, cond, List, [], ◌∷◌, Option, Some, None, Ordering, refl, sym, ap, subst, ◌∙◌, inl, inr, ◌⊎◌, arith}
-use Rattle.std.specs.Prelude.{T, ◌&&◌, sum_by}
+use Rattle.std.proofs.Common.{◌≡◌, ℕ, ◌+◌, true, false, cond, List, [], ◌∷◌, Option, Some, None, Ordering, sym, ap, ◌∙◌, inl, inr, ◌⊎◌, arith}
+use Rattle.std.specs.Prelude.{sum_by}
 use Rattle.std.specs.declared.cmp.Ordering.TheVariants.{Less, Equal, Greater}
 use Rattle.std.specs.FinMap.{FinMap, insert, get, entries, entries-insert, get-entries, get-insert}
 use Rattle.std.specs.FinMap.Entries.{find, put, by_order}
@@ -10,17 +10,17 @@ use Rattle.std.specs.Ordering.{eq_by_cmp, is_eq}
 use Rattle.std.specs.Cmp.{IsTotalOrder}
 use Rattle.std.specs.Cmp.Lexicographic.{nat_list_cmp_total}
 use Rattle.std.proofs.lemmas.List.Sums.{sum_by-cons}
-use Rattle.nr_columns.specs.Columns.{Columns}
+use Rattle.nr_bytes.proofs.Basics.{left_of, right_true}
 use Rattle.nr_columns.specs.Entries.{contents_of, pairs_of}
 use Rattle.nr_columns.specs.Orders.{bytes_cmp}
 use Rattle.nr_columns.specs.Tables.{Table, key_of, part}
 use Rattle.nr_columns.specs.declared.entry.Entry.{Entry}
 use Rattle.nr_columns.proofs.Empty.{entries_empty, part_empty}
-use Rattle.nr_columns.proofs.Tables.{IsTable, back, find_below, first, get_part, part_insert, part_same, second}
+use Rattle.nr_columns.proofs.Tables.{IsTable, back, find_below, get_part, part_insert, part_same}
 use Rattle.nr_entries.specs.Order.{rises}
 use Rattle.nr_entries.proofs.Columns.{IsOf}
 use Rattle.nr_entries.proofs.Contents.{no_more, one_more}
-use Rattle.nr_entries.proofs.Rising.{found_in, right, sorted_of}
+use Rattle.nr_entries.proofs.Rising.{found_in, sorted_of}
 
 -- a new key adds what it counts
 sum_put : {K X : Type 0} (R : K → K → Ordering) (f : K × X → ℕ) (k : K) (v : X) (es : List (K × X)) → find R k es ≡ None → sum_by f (put R k v es) ≡ f (k, v) + sum_by f es
@@ -52,12 +52,12 @@ module _ {K X : Type 0} {t : Table K X} (is : IsTable t) (f : K × X → ℕ) (g
   sum_told [] h all = sym (ap (λ c. sum_by f (entries (part t c))) no_more ∙ ap (λ (m : FinMap t.cmp X). sum_by f (entries m)) (part_empty t) ∙ ap (λ es. sum_by f es) (entries_empty t.cmp))
   sum_told (e ∷ es) h all =
       sum_by-cons (λ (e : Entry). g e.key e.value) e es
-      ∙ ap (λ n. g e.key e.value + n) (sum_told es (right _ _ h) all.1)
+      ∙ ap (λ n. g e.key e.value + n) (sum_told es (right_true _ _ h) all.1)
       ∙ by all.0
       ∙ ap (λ c. sum_by f (entries (part t c))) (sym (one_more e es))
     where
       fresh : get (contents_of es) e.key ≡ None
-      fresh = found_in es e.key ∙ find_below bytes_cmp e.key (pairs_of es) (first _ _ (sorted_of (e ∷ es) h))
+      fresh = found_in es e.key ∙ find_below bytes_cmp e.key (pairs_of es) (left_of _ _ (sorted_of (e ∷ es) h))
 
       by : Counts e.key e.value ⊎ CountsNothing e.key e.value → g e.key e.value + sum_by f (entries (part t (contents_of es))) ≡ sum_by f (entries (part t (insert (contents_of es) e.key e.value)))
       by (inl one) =

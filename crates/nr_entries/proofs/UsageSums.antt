@@ -1,14 +1,14 @@
 -- What the access keys and the data of an owner count, in the maps that are read of the entries.
-use Rattle.std.proofs.Common.{◌≡◌, ℕ, suc, ◌+◌, Bool, true, false, cond, List, [], ◌∷◌, ◌++◌, ◌&&◌, length, Option, Some, None, refl, sym, ap, subst, ◌∙◌, inl, inr, ◌⊎◌, arith}
+use Rattle.std.proofs.Common.{◌≡◌, ℕ, ◌+◌, Bool, true, false, cond, List, [], ◌∷◌, ◌++◌, length, Option, Some, None, refl, sym, ap, subst, ◌∙◌, inl, inr, ◌⊎◌, arith}
 use Rattle.std.specs.Prelude.{◌==◌, sum_by}
-use Rattle.std.specs.FinMap.{FinMap, entries}
+use Rattle.std.specs.FinMap.{entries}
 use Rattle.std.specs.List.{AllByRecursion}
 use Rattle.std.specs.Option.{option_map, option_and_then}
-use Rattle.std.specs.Ordering.{eq_by_cmp}
 use Rattle.std.specs.Str.{bytes_eq}
-use Rattle.std.proofs.lemmas.Bool.{eq-eqb, eqb-true}
+use Rattle.std.proofs.lemmas.Bool.{eqb-true}
 use Rattle.std.proofs.lemmas.Bool.Decides.{nat_tests}
 use Rattle.std.proofs.lemmas.List.Sums.{sum_by-cons}
+use Rattle.nr_bytes.proofs.Basics.{left_true, right_true}
 use Rattle.nr_bytes.specs.Numbers.{IsBytes}
 use Rattle.nr_ids.specs.Keys.{IsKey, key_bytes}
 use Rattle.nr_ids.specs.declared.key.PublicKey.{PublicKey}
@@ -17,17 +17,15 @@ use Rattle.nr_records.specs.IdLaws.{key_law}
 use Rattle.nr_records.specs.Ids.{key_at}
 use Rattle.nr_records.specs.declared.access_key.AccessKey.{AccessKey}
 use Rattle.nr_columns.specs.Entries.{contents_of}
-use Rattle.nr_columns.specs.Orders.{bytes_cmp}
-use Rattle.nr_columns.specs.Tables.{Table, key_of, part}
+use Rattle.nr_columns.specs.Tables.{part}
 use Rattle.nr_columns.specs.View.{at_first, data_table, key_of_rest, keys_table, spelled_key, with_key}
 use Rattle.nr_columns.specs.declared.entry.Entry.{Entry}
 use Rattle.nr_columns.proofs.Laid.{data_law, keys_law, other_head}
-use Rattle.nr_columns.proofs.Tables.{IsTable, unchecked}
+use Rattle.nr_columns.proofs.Tables.{unchecked}
 use Rattle.nr_entries.specs.Counting.{entry_bytes, owned_bytes, owned_part, part_bytes}
 use Rattle.nr_entries.specs.Order.{rises}
 use Rattle.nr_entries.specs.Told.{AreBytes, are_told, is_told, is_told_in}
 use Rattle.nr_entries.proofs.Columns.{IsOf, behind_bytes, datum_of, joined, key_of_entry, tail_bytes, taken}
-use Rattle.nr_entries.proofs.Rising.{left, right}
 use Rattle.nr_entries.proofs.Sums.{Counts, CountsNothing, sum_told}
 
 module _ (extra : ℕ) (owner : List ℕ) where
@@ -111,7 +109,7 @@ module _ (extra : ℕ) (owner : List ℕ) where
 
   key_cases : (es : List Entry) → AreBytes es → are_told es ≡ true → AllByRecursion (λ e. KeyCase e.key e.value) es
   key_cases [] bytes h = tt
-  key_cases (e ∷ es) bytes h = (key_case e.key e.value bytes.0.0 bytes.0.1 (left _ _ h), key_cases es bytes.1 (right _ _ h))
+  key_cases (e ∷ es) bytes h = (key_case e.key e.value bytes.0.0 bytes.0.1 (left_true _ _ h), key_cases es bytes.1 (right_true _ _ h))
 
   -- ---- data
   abbrev DatumCase : List ℕ → List ℕ → Type 0
@@ -139,7 +137,7 @@ module _ (extra : ℕ) (owner : List ℕ) where
 
   datum_cases : (es : List Entry) → are_told es ≡ true → AllByRecursion (λ e. DatumCase e.key e.value) es
   datum_cases [] h = tt
-  datum_cases (e ∷ es) h = (datum_case e.key e.value (left _ _ h), datum_cases es (right _ _ h))
+  datum_cases (e ∷ es) h = (datum_case e.key e.value (left_true _ _ h), datum_cases es (right_true _ _ h))
 
   pub usage_sum : (es : List Entry) → AreBytes es → rises es ≡ true → are_told es ≡ true
       → owned_bytes extra es owner ≡ sum_by key_counts (entries (part keys_table (contents_of es))) + sum_by datum_counts (entries (part data_table (contents_of es)))

@@ -1,7 +1,7 @@
 -- What the entries of a column count: one each, or, of access keys and data, the bytes of the key behind its owner,
 -- those of the value, and some more for each record. After the Nomicon, Data Structures, Account (storage_usage); the
 -- counts are this project's.
-use Rattle.std.specs.Prelude.{ℕ, ◌+◌, ◌==◌, Bool, true, false, cond, List, [], ◌∷◌, length, Option, Some, None}
+use Rattle.std.specs.Prelude.{ℕ, ◌+◌, ◌==◌, Bool, false, cond, List, [], ◌∷◌, length, Option, Some, None}
 use Rattle.std.specs.Prelude.{count_by, sum_by}
 use Rattle.std.specs.Str.{bytes_eq}
 use Rattle.nr_columns.specs.View.{at_first}

@@ -1,12 +1,12 @@
 //! What the entries of a column count.
 
-ghost use Rattle.std.specs.Prelude.{◌≡◌, ◌+◌, ℕ, List, Some, cond, length, IfOk, OnOk};
+ghost use Rattle.std.specs.Prelude.{◌≡◌, ◌+◌, ℕ, List, Some, cond, IfOk, OnOk};
 ghost use Rattle.std.specs.BTreeMap as tree;
 ghost use Rattle.std.specs.Map.{count_at};
 ghost use Rattle.std.specs.Option.{option_map};
 ghost use Rattle.std.specs.Str.{bytes_eq};
 ghost use Rattle.nr_columns.specs.Orders.{bytes_cmp};
-ghost use Rattle.nr_entries.specs.Counting.{count_in, entry_bytes, is_in, owned_bytes, owned_part, part_bytes};
+ghost use Rattle.nr_entries.specs.Counting.{count_in, entry_bytes, is_in, owned_bytes, owned_part};
 
 use crate::split::split_at_first;
 use nr_bytes::Blob;

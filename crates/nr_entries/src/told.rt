@@ -1,12 +1,10 @@
 //! Entries that are those of a column.
 
-ghost use Rattle.std.specs.Prelude.{◌≡◌, ◌&&◌, IfOk, OnOk, is_none, is_some};
-ghost use Rattle.std.specs.List.{AllByRecursion};
-ghost use Rattle.nr_bytes.specs.Numbers.{IsBytes};
+ghost use Rattle.std.specs.Prelude.{◌≡◌, ◌&&◌, IfOk, is_some};
 ghost use Rattle.nr_records.specs.Reading.{all_of};
 ghost use Rattle.nr_columns.specs.Tables.{read_of};
 ghost use Rattle.nr_columns.specs.View.{at_first, count_of, key_of_rest, postponed_table, queue_of};
-ghost use Rattle.nr_entries.specs.Told.{AreBytes, are_told, is_id, is_told, is_told_in, is_owned, is_owned_key};
+ghost use Rattle.nr_entries.specs.Told.{are_told, is_id, is_told, is_told_in, is_owned, is_owned_key};
 ghost use Rattle.nr_entries.specs.Told.{is_received, is_kept, is_queued};
 
 use crate::split::split_at_first;

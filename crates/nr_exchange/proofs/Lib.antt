@@ -15,5 +15,4 @@ pub mod Seating
 pub mod Makes
 pub mod Parting
 pub mod Claimed
-pub mod Plans
 pub mod Ties

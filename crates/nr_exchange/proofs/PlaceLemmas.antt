@@ -1,5 +1,5 @@
 -- Each link has a taken word and eight places of its own, and lists that lie in its ring at once have places of their own.
-use Rattle.std.proofs.Common.{◌≡◌, ℕ, suc, ◌+◌, ◌*◌, ◌%◌, ◌<◌, ◌≤◌, ◌^◌, sym, ap, mul-le-mul_right, suc-mul, lt_of_not-le, arith}
+use Rattle.std.proofs.Common.{◌≡◌, ℕ, suc, ◌+◌, ◌*◌, ◌%◌, ◌<◌, ◌≤◌, sym, ap, mul-le-mul_right, suc-mul, lt_of_not-le, arith}
 use native.Mathlib.Decide.{dec_le}
 use Rattle.nr_exchange.specs.Plan.{Plan}
 use Rattle.nr_exchange.specs.Places.{way, place, places, taken_word, words}
@@ -60,14 +60,3 @@ module _ {L : Type 0} (p : Plan L) where
 
   pub published_below : (s : ℕ) → s < p.shards → s < words p
   published_below s lt = let b : ℕ = p.shards * p.shards in let g : s < p.shards + b = omega arith in g
-
--- each step on the way to a place or a word fits where the number of places does
-pub way_fits : (n s d : ℕ) → s < n → d < n → n * n * 8 < 2 ^ 64 → (s * n + d < 2 ^ 61) × (s * n < 2 ^ 61)
-way_fits n s d lts ltd fits =
-    let a : ℕ = s * n in
-    let b : ℕ = n * n in
-    let e : a + d < b = below s n n d lts ltd in
-    let fits' : b * 8 < 2 ^ 64 = fits in
-    let one : a + d < 2 ^ 61 = omega arith in
-    let two : a < 2 ^ 61 = omega arith in
-    (one, two)

@@ -1,8 +1,9 @@
 -- What a port keeps beside its seat, after each of its steps.
 use Rattle.std.proofs.Common.{◌≡◌, ℕ, zero, suc, ◌+◌, ◌%◌, ◌^◌, ◌<◌, ◌≤◌, Bool, true, false, List, [], ◌∷◌, length, set, get_or, refl, sym, ap, ◌∙◌, subst, arith, length-set, get_or-set_same, get_or-set_other}
-use Rattle.std.specs.Prelude.{Option, Some, nat_le, slice_get, slice_index}
+use Rattle.std.specs.Prelude.{Option, Some, nat_le, slice_index}
 use mathlib.Core.Logic.{dite}
 use native.Mathlib.Decide.{ℕ_discrete}
+use Rattle.nr_bytes.proofs.Basics.{within_some}
 use Rattle.atomic_table.specs.Table.{Me, rest}
 use Rattle.nr_exchange.specs.declared.note.Link.{Link}
 use Rattle.nr_exchange.specs.declared.note.Note.{Note}
@@ -91,11 +92,6 @@ any_default [] i a b lt = absurd (omega arith)
 any_default (x ∷ xs) zero a b lt = refl
 any_default (x ∷ xs) (suc i) a b lt = any_default xs i a b (omega arith)
 
-one_there : {A : Type 0} (xs : List A) (i : ℕ) → i < length xs → (x : A) × (slice_get xs i ≡ Some x)
-one_there [] i lt = absurd (omega arith)
-one_there (x ∷ xs) zero lt = (x, refl)
-one_there (x ∷ xs) (suc i) lt = one_there xs i (omega arith)
-
 -- a list that a load claimed: how many the port took before it, and that it lies in front
 pub record Claimed {P L : Type 0} (p : Plan L) (me me' : Me (Option L) (Note P)) (shard i h before : ℕ) (taken : List ℕ) : Type 0 where
   pub before_is : before ≡ slice_index taken i
@@ -120,7 +116,7 @@ claimed_one {P = P} {L = L} p me me' shard sent_to i n h before abandoned taken 
     let count' : before ≡ c = count in
     let more' : d ≡ c + 1 = more in
     let few' : d ≤ h = few in
-    let one = one_there (p.lists i h) shard (omega arith) in
+    let one = within_some (p.lists i h) shard (omega arith) in
     let value : list_of p i h me.0.shard ≡ Some one.0 = ap (list_of p i h) (sym s.shard_is) ∙ one.1 in
     let spot : place p i me.0.shard c ≡ place p i shard before = λ k. place p i (sym s.shard_is k) (sym count k) in
     let second : me'.1 ≡ (place p i me.0.shard c, list_of p i h me.0.shard) ∷ me.1 = ap (λ (o : Me (Option L) (Note P)). o.1) at in

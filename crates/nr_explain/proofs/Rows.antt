@@ -1,10 +1,10 @@
 -- What stands for a line, by the form that its words fit.
-use Rattle.std.proofs.Common.{◌≡◌, ℕ, ◌-◌, ◌≤◌, true, false, List, [], ◌∷◌, ◌++◌, length, map, take, drop, get_or, Option, Some, None, Result, Ok, Err, refl, sym, ap, subst, ◌∙◌, arith, append_assoc}
+use Rattle.std.proofs.Common.{◌≡◌, ℕ, ◌-◌, ◌≤◌, false, List, [], ◌∷◌, ◌++◌, length, map, take, drop, get_or, Option, None, Result, Ok, Err, refl, sym, ap, subst, ◌∙◌, arith, append_assoc}
 use Rattle.std.specs.Prelude.{OnOk, option_map}
 use Rattle.std.proofs.lemmas.List.{take_rest}
 use Rattle.nr_explain.specs.Words.{pieces}
 use Rattle.nr_explain.specs.Forms.{Field, Form, form_of}
-use Rattle.nr_explain.specs.Lines.{lines, member, members, object, object_by, object_of, AddsWhere}
+use Rattle.nr_explain.specs.Lines.{lines, member, members, object_by, object_of, AddsWhere}
 use Rattle.nr_explain.specs.Sentences.{phrase, sentence}
 use Rattle.nr_words.proofs.Pieces.{some_piece}
 
@@ -62,9 +62,3 @@ pub no_object : {X : Type 0} (v : X → Form) (forms : List X) (found : Option X
 no_object v forms found line old table is none =
     let P : Option Form → Type 0 = λ o. AddsWhere false (object_by o (pieces 32 line)) old old in
     subst P (sym (ap (option_map v) none) ∙ form_is v forms found line table is) refl
-
-pub some_object : {X : Type 0} (v : X → Form) (forms : List X) (found : Option X) (line old new : List ℕ) (x : X) → map v forms ≡ lines → option_map v found ≡ form_of (map v forms) (pieces 32 line)
-    → found ≡ Some x → new ≡ old ++ object (v x) (pieces 32 line) → AddsWhere true (object_of line) old new
-some_object v forms found line old new x table is some adds =
-    let P : Option Form → Type 0 = λ o. AddsWhere true (object_by o (pieces 32 line)) old new in
-    subst P (sym (ap (option_map v) some) ∙ form_is v forms found line table is) adds

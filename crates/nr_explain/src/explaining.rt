@@ -1,6 +1,6 @@
 //! A sentence for a line that a program writes.
 
-ghost use Rattle.std.specs.Prelude.{◌≡◌, ◌++◌, ◌∷◌, [], map, IfOk, OnOk, string_bytes};
+ghost use Rattle.std.specs.Prelude.{◌≡◌, ◌++◌, ◌∷◌, [], map, IfOk, string_bytes};
 ghost use Rattle.nr_explain.specs.Programs.{behind, explained, line_told, line_words, name_of, spaced, told_by};
 ghost use Rattle.nr_explain.specs.Programs.{told_of};
 

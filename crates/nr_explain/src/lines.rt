@@ -1,8 +1,8 @@
 //! The lines that programs write, and the JSON object that stands for each.
 
-ghost use Rattle.std.specs.Prelude.{◌≡◌, ◌∷◌, [], ◌++◌, map, IfOk, OnOk, Some, None};
+ghost use Rattle.std.specs.Prelude.{◌≡◌, [], ◌++◌, map, IfOk, OnOk, Some, None};
 ghost use Rattle.nr_explain.specs.Words.{pieces};
-ghost use Rattle.nr_explain.specs.Lines.{lines, quoted, value, beside, member, members, object, object_of, AddsWhere};
+ghost use Rattle.nr_explain.specs.Lines.{lines, quoted, value, beside, member, members, object_of, AddsWhere};
 ghost use Rattle.nr_explain.specs.Coded.{kind_of, field_of, form_in};
 
 use crate::form::{Field, Kind, fields, form_of};

@@ -2,27 +2,29 @@
 use Rattle.std.proofs.Common.{◌≡◌, ℕ, ◌+◌, ◌<◌, ◌≤◌, Bool, true, false, cond, List, Option, Some, None, length, inl, inr, refl, sym, ap, subst, ◌∙◌, arith}
 use Rattle.std.specs.Prelude.{replicate}
 use Rattle.std.proofs.lemmas.List.{length-replicate, get_or-replicate}
+use Rattle.std.proofs.lemmas.Bool.{cases_eq}
+use Rattle.nr_overlap.proofs.Refusing.{actor_inside}
 use Rattle.nr_overlap.specs.CoreView.{CoreView}
 use Rattle.nr_overlap.specs.Held.{HasTaken, IsReached}
-use Rattle.nr_overlap.specs.Inside.{IsInside, actor}
+use Rattle.nr_overlap.specs.Inside.{actor}
 use Rattle.nr_overlap.specs.Moves.{moved, moved_by, next_due}
-use Rattle.nr_overlap.specs.Next.{IsNext, IsNextOf, event_at, left, take_or_seal}
+use Rattle.nr_overlap.specs.Next.{IsNext, event_at, take_or_seal}
 use Rattle.nr_overlap.specs.Positions.{at, end_at, start}
 use Rattle.nr_overlap.specs.Rules.{Rules}
 use Rattle.nr_overlap.specs.Serial.{first_due}
 use Rattle.nr_overlap.specs.Moment.{took}
-use Rattle.nr_overlap.specs.Run.{ending, tried, whole_at}
+use Rattle.nr_overlap.specs.Run.{tried, whole_at}
 use Rattle.nr_overlap.specs.declared.event.Event.{Event}
 use Rattle.nr_overlap.specs.declared.event.Event.TheVariants.{OpenChunk, TakeList, SealChunk, PublishLists}
 use Rattle.nr_overlap.specs.declared.position.Position.{Position}
 use Rattle.nr_overlap.specs.declared.position.Stage.{Stage}
 use Rattle.nr_overlap.specs.declared.position.Stage.TheVariants.{Idle, Opened, Sealed}
-use Rattle.nr_overlap.proofs.Basics.{lt_of, same_or_not}
+use Rattle.nr_overlap.proofs.Basics.{lt_of}
 use Rattle.nr_overlap.proofs.DueLemmas.{first_small}
 use Rattle.nr_overlap.proofs.Ended.{is_ending}
 use Rattle.nr_overlap.proofs.Reaching.{becomes, keeps_reached}
 use Rattle.nr_overlap.proofs.Running.{tries_made}
-use Rattle.nr_extract.specs.Reaching.{AreBehind, HavePublished, IsNextUpTo, IsUpTo, LagsOne, Nears}
+use Rattle.nr_extract.specs.Reaching.{AreBehind, IsNextUpTo, IsUpTo, LagsOne, Nears}
 
 -- a step of a shard below the height doesn't pass it
 below_up : (h n : ℕ) (t : Stage) → n < h → IsUpTo h t n
@@ -35,12 +37,6 @@ moved_up h (OpenChunk s) p l = l
 moved_up h (TakeList d s k) p l = below_up h p.number p.stage l
 moved_up h (SealChunk s) p l = l
 moved_up h (PublishLists s) p l = omega (arith, l)
-
-actor_inside : (n : ℕ) (e : Event) → IsInside n e → actor e < n
-actor_inside n (OpenChunk s) is = is
-actor_inside n (TakeList d s h) is = is.0
-actor_inside n (SealChunk s) is = is
-actor_inside n (PublishLists s) is = is
 
 -- ---- which shard steps
 actor_begins : (b : Bool) (s : ℕ) → actor (cond b (OpenChunk (record { 0 = s })) (PublishLists (record { 0 = s }))) ≡ s
@@ -64,16 +60,6 @@ module _ {W K L R : Type 0} (r : Rules W K L R) where
       let is : actor e ≡ next.shard = ap actor next.event ∙ actor_at next.shard p.stage p.number (next_due r next.shard p) in
       let least = next.slowest.least lag.shard (omega (arith, lag.inside, count)) in
       subst (λ k. (at ps k).number < h) (sym is) (omega (arith, least, lag.lags))
-
-  not_at_end : (h : ℕ) (ps : List Position) → h ≤ r.heights → LagsOne r.shards h ps → ps ≡ ending r → ⊥
-  not_at_end h ps within lag ended =
-      let here : at ps lag.shard ≡ end_at r.heights = ap (λ (qs : List Position). at qs lag.shard) ended ∙ get_or-replicate r.shards lag.shard (end_at r.heights) start lag.inside in
-      let number : (at ps lag.shard).number ≡ r.heights = ap (λ (p : Position). p.number) here in
-      absurd (omega (arith, number, within, lag.lags))
-
-  pub next_up_to : (h : ℕ) (ps : List Position) (o : Option Event) → h ≤ r.heights → LagsOne r.shards h ps → IsNextOf r ps o → IsNextUpTo r h ps o
-  next_up_to h ps None within lag ended = absurd (not_at_end h ps within lag ended)
-  next_up_to h ps (Some e) within lag next = (lag, next)
 
   -- ---- right behind the height
   stands : (h s : ℕ) (t : Stage) (n k : ℕ) → IsUpTo h t n → h ≤ n → HasTaken r s t n k → ◌≡◌ {A = Position} (record { number = n; stage = t; taken = k }) (end_at h)
@@ -122,7 +108,7 @@ module _ {W K L R P : Type 0} (r : Rules W K L R) (h : ℕ) where
       let up : IsUpTo h p.stage p.number = moved_up h e (at ps a) (steps_below r h ps e nears.reached.count next.0 next.1) in
       let here : IsUpTo h (at (moved ps e) a).stage (at (moved ps e) a).number = subst (λ (q : Position). IsUpTo h q.stage q.number) (sym be.here) up in
       let each : (s : ℕ) → s < r.shards → IsUpTo h (at (moved ps e) s).stage (at (moved ps e) s).number =
-      λ s l. elim (same_or_not s a) [
+      λ s l. elim (cases_eq s a) [
         | inl same ↦ subst (λ k. IsUpTo h (at (moved ps e) k).stage (at (moved ps e) k).number) (sym same) here
         | inr other ↦ subst (λ (q : Position). IsUpTo h q.stage q.number) (sym (be.others s other)) (nears.places s l)
       ] in
@@ -132,10 +118,6 @@ module _ {W K L R P : Type 0} (r : Rules W K L R) (h : ℕ) where
         reached = subst (IsReached r) (sym qs) (keeps_reached r ps e nears.reached next.1.inside next.1.enabled);
         places = λ s l. subst (λ (t : List Position). IsUpTo h (at t s).stage (at t s).number) (sym qs) (each s l);
       }
-
-  -- the end is nearer
-  pub nears_closer : (mid new : CoreView P) (e : Event) → IsNextUpTo r h mid.positions (Some e) → new ≡ whole_at mid (tried r mid.positions e) → left r new.positions < left r mid.positions
-  nears_closer mid new e next made = subst (λ (t : List Position). left r t < left r mid.positions) (sym (moves mid new e next.1 made)) next.1.closer
 
   pub nears_places : (old new : CoreView P) → Nears r h old new → IsNextUpTo r h new.positions None → new.positions ≡ replicate r.shards (end_at h)
   nears_places old new nears all =

@@ -1,7 +1,7 @@
 //! The run of all shards to a height.
 
-ghost use Rattle.std.specs.Prelude.{◌≡◌, ◌≤◌, ◌<◌, ℕ, Bool, true, false, replicate, OnOk};
-ghost use Rattle.nr_overlap.specs.Positions.{at, end_at};
+ghost use Rattle.std.specs.Prelude.{◌≡◌, ◌≤◌, ◌<◌, true, false, replicate, OnOk};
+ghost use Rattle.nr_overlap.specs.Positions.{end_at};
 ghost use Rattle.nr_extract.specs.Reaching.{AreBehind, HavePublished, IsNextUpTo, LagsOne};
 
 use nr_ids::{Height, ShardId};

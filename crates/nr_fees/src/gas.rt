@@ -17,7 +17,7 @@ pub struct GasCounter {
 }
 
 impl GasCounter {
-    ghost use Rattle.nr_fees.specs.Gas.{HasRoom, SpendsAll, Burns, Promises};
+    ghost use Rattle.nr_fees.specs.Gas.{HasRoom, Burns, Promises};
 
     /// A counter that has counted nothing.
     pub fn new(limit: u64) -> GasCounter

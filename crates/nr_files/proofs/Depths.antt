@@ -14,7 +14,6 @@ use Rattle.nr_json.specs.Actions.{action_json}
 use Rattle.nr_json.specs.Blocks.{chunk_json, block_json, version_json, stated_version, blocks_json}
 use Rattle.nr_blocks.specs.declared.block.Block.{Block}
 use Rattle.nr_blocks.specs.declared.blocks_file.BlocksFile.{BlocksFile}
-use Rattle.nr_blocks.specs.declared.version.Version.{Version}
 use Rattle.nr_blocks.specs.declared.version.Version.TheVariants.{One, Two}
 use Rattle.nr_json.specs.ChainFiles.{reshard_json, stated_json, third_json}
 use Rattle.nr_json.specs.Genesis.{account_members, entry_json, genesis_json}

@@ -1,14 +1,13 @@
 -- The file that was asked for last, and the status of a command that stopped.
 use Rattle.std.proofs.Common.{◌≡◌, ℕ, Bool, true, false, cond, List, [], ◌∷◌, ◌++◌, length, Option, Some, None, Result}
-use Rattle.std.proofs.Common.{Ok, Err, refl, sym, subst, ap, ◌∙◌, ◌⊎◌, inl, inr, append_assoc}
+use Rattle.std.proofs.Common.{Err, refl, sym, subst, ap, ◌∙◌, inl, inr, append_assoc}
 use Rattle.std.specs.Prelude.{nat_lt}
 use Rattle.nr_shell.specs.Answers.{Answers, Breaks, Comes, Stops}
-use Rattle.nr_shell.specs.Plans.{Plan, Answer, Refuse, Ask, Allows, Asks, LeadsBy, Turns, by_length}
+use Rattle.nr_shell.specs.Plans.{Plan, Answer, Refuse, Ask, Allows, Asks, LeadsBy, by_length}
 use Rattle.nr_shell.specs.declared.stop.Stop.{Stop}
 use Rattle.nr_shell.specs.declared.stop.Stop.TheVariants.{Unread, Memory, Refused}
 use Rattle.nr_files.specs.Answers.{EndsIn, IsStatusOf, Serves, output_in, refuses}
 use Rattle.nr_files.specs.Due.{Output}
-use Rattle.nr_files.specs.declared.output.Output.{Output as CodeOutput}
 use Rattle.nr_files.specs.declared.status.Status.{Status}
 use Rattle.nr_files.specs.declared.status.Status.TheVariants.{Done, Usage, NoSentence, Config, TooLong, Faulty}
 use Rattle.nr_files.specs.declared.status.Status.TheVariants.{ReadFault, WriteFault, NoMemory}

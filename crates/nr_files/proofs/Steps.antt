@@ -1,7 +1,7 @@
 -- From bytes that are there to an output or a refusal.
 use Rattle.std.proofs.Common.{◌≡◌, ℕ, ◌-◌, ◌≤◌, ◌==◌, Bool, true, false, cond, List, [], ◌∷◌, ◌++◌, length, Result, Ok}
 use Rattle.std.proofs.Common.{Err}
-use Rattle.std.proofs.Common.{IfOk, IsUtf8, String, Global, string_bytes, None, Some, Option, refl, sym, ap, subst, ◌∙◌}
+use Rattle.std.proofs.Common.{IfOk, IsUtf8, String, Global, string_bytes, None, Some, refl, sym, ap, subst, ◌∙◌}
 use Rattle.std.proofs.Common.{arith}
 use Rattle.std.specs.Prelude.{◌≢◌}
 use Rattle.std.specs.Str.{is_utf8}
@@ -33,8 +33,8 @@ use Rattle.nr_outproof.specs.Texts.{proof_read}
 use Rattle.nr_outproof.specs.declared.proof.Proof.{Proof}
 use Rattle.nr_parts.specs.Files.{part_in}
 use Rattle.nr_parts.specs.declared.part.Part.{Part}
-use Rattle.nr_files.specs.Answers.{Tells, TellsText, Refuses, AnswersAs}
-use Rattle.nr_files.specs.Due.{Due, Output, Bytes, Json, IsLineOf, IsWritten, laid, stated_in, value_in, value_of, without_feed}
+use Rattle.nr_files.specs.Answers.{Tells, TellsText, Refuses}
+use Rattle.nr_files.specs.Due.{Due, Bytes, Json, IsLineOf, IsWritten, laid, stated_in, value_in, value_of, without_feed}
 use Rattle.nr_files.specs.Due.{made_blocks, shown_blocks, judged, made_genesis, shown_genesis, shown_part, shown_proof}
 use Rattle.nr_files.specs.Due.{shown_gathered, shown_report}
 use Rattle.nr_files.specs.Filling.{filled, stated}

@@ -2,7 +2,6 @@
 -- `genesis CONFIG FILE`, `blocks FILE`, `report FILE`, `part FILE`, `proof FILE` or `gathered FILE`, `explain WORDS..`,
 -- `help`, `help COMMAND` or `version`. The commands are this project's own.
 use Rattle.std.specs.Prelude.{ℕ, List, [], ◌∷◌, ◌++◌, Bool, true, false, cond, Option, Some, None, codes}
-use Rattle.std.specs.Prelude.{option_and_then}
 use Rattle.std.specs.Str.{bytes_eq}
 use Rattle.nr_words.specs.Forms.{Value, Text, read}
 use Rattle.nr_explain.specs.Programs.{explained}

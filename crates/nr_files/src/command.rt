@@ -1,6 +1,6 @@
 //! The words of the command line.
 
-ghost use Rattle.std.specs.Prelude.{◌≡◌, IfOk, map, option_map};
+ghost use Rattle.std.specs.Prelude.{◌≡◌, IfOk, map};
 ghost use Rattle.nr_words.specs.Words.{found_in, table_in, texts, value_in};
 ghost use Rattle.nr_files.specs.Command.{alone, asked_in, behind, by_form, helped, made_of, meant, of_help};
 ghost use Rattle.nr_files.specs.Command.{of_sentence, of_words, show_meant, shown, shown_of, told, verb_of};

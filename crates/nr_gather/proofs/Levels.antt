@@ -4,6 +4,7 @@ use Rattle.std.specs.Prelude.{is_some, count_by}
 use Rattle.std.specs.List.{AllByRecursion, flat_map}
 use Rattle.std.proofs.lemmas.List.{append-nil}
 use Rattle.std.proofs.lemmas.List.Sums.{sum_by-cons}
+use Rattle.nr_bytes.proofs.Basics.{all_both}
 use Rattle.nr_ids.specs.declared.key.Hash32.{Hash32}
 use Rattle.nr_triedef.specs.Node.{IsNode, IsNibbles, digest, node_text, summary}
 use Rattle.nr_triedef.specs.Root.{Paths, front, behind, under, value_here, hash_below, leaf, branch, sixteen, depth}
@@ -21,7 +22,7 @@ use Rattle.nr_walk.specs.Told.{spot, spot_at, spots_of}
 use Rattle.nr_walk.specs.Tries.{children, branch_of, top_over, top_of}
 use Rattle.nr_walk.specs.Shown.{placed}
 use Rattle.nr_walk.proofs.Pairs.{part_back}
-use Rattle.nr_walk.proofs.Placing.{placed_placed, placed-append, placed_cut, all-append}
+use Rattle.nr_walk.proofs.Placing.{placed_placed, placed-append, placed_cut}
 use Rattle.nr_walk.proofs.Rows.{Path, rows, own_value, rows_all}
 use Rattle.nr_walk.proofs.Tops.{whole_is, top_node, many_cut, front_cut, top_parted, top_shared, top_leaf}
 use Rattle.nr_gather.specs.Gathered.{found_text, own_text, tries_behind, tries_below}
@@ -245,7 +246,7 @@ short_depth ps = short_all ps (depth ps) (omega arith)
 -- ---- all nodes have texts
 form_all : (d : ℕ) (ts : List Trie) → ((t : Trie) → IsSmall d t → AllByRecursion IsNode (all_nodes t.1)) → AllByRecursion (IsSmall d) ts → AllByRecursion IsNode (nodes_all ts)
 form_all d [] each small = tt
-form_all d (t ∷ ts) each small = all-append IsNode (all_nodes t.1) (nodes_all ts) (each t small.0) (form_all d ts each small.1)
+form_all d (t ∷ ts) each small = all_both IsNode (all_nodes t.1) (nodes_all ts) (each t small.0) (form_all d ts each small.1)
 
 pub form_at : (d : ℕ) (ps : Paths) → IsShort d ps → CanWalk ps → AllByRecursion IsNode (all_nodes ps)
 form_at d [] short walk = subst (AllByRecursion IsNode) (sym (all_none [] refl)) tt

@@ -17,11 +17,12 @@ use Rattle.nr_walk.specs.Tries.IsBelow.{Top, Behind, Under}
 use Rattle.nr_walk.specs.Texts.{texts_of}
 use Rattle.nr_walk.specs.Shown.{placed, IsOf, walk_of}
 use Rattle.nr_walk.proofs.Completing.{completes}
-use Rattle.nr_walk.proofs.Placing.{apart_all, all-append, placed_none}
+use Rattle.nr_walk.proofs.Placing.{apart_all, placed_none}
 use Rattle.nr_walk.proofs.Rows.{Path}
 use Rattle.nr_walk.proofs.ShownMaps.{all_nibbles}
 use Rattle.std.proofs.Common.{inl, inr}
 use Rattle.std.proofs.lemmas.Bool.{cases_lt}
+use Rattle.nr_bytes.proofs.Basics.{all_both}
 use Rattle.nr_gather.specs.Gathered.{found_text, own_text, tries_behind, tries_below, looked_texts, once, gathered}
 use Rattle.nr_gather.proofs.Levels.{from, Trie, found_all, keys_all, level, IsShort, IsSmall, small_below, short_under, short_cut, short_depth}
 use Rattle.nr_gather.proofs.Sweeps.{looked_all, looked_some}
@@ -153,7 +154,7 @@ values_all : (P : List ℕ → Type 0) (searched : List Searched) (d : ℕ) (ts 
 values_all P searched d [] each small h = tt
 values_all P searched d (t ∷ ts) each small h =
     let one = looked_texts d searched t.0 t.1 in
-    all-append (IsFoundText P searched) (placed t.0 t.1) (keys_all ts) (each t small.0 (first_all P one (looked_all d searched ts) h)) (values_all P searched d ts each small.1 (second_all P one (looked_all d searched ts) h))
+    all_both (IsFoundText P searched) (placed t.0 t.1) (keys_all ts) (each t small.0 (first_all P one (looked_all d searched ts) h)) (values_all P searched d ts each small.1 (second_all P one (looked_all d searched ts) h))
 
 values_at : (P : List ℕ → Type 0) (searched : List Searched) (d : ℕ) (t : Trie) → IsSmall d t → AllText P searched d t.0 t.1 → AllByRecursion (IsFoundText P searched) (placed t.0 t.1)
 values_at P searched d (place, []) small h = tt
@@ -167,7 +168,7 @@ values_at P searched (suc d) (place, p ∷ ps) small h =
           let both = below P searched d place all (omega arith) e h in
           let own : AllByRecursion P (found_all searched l.own) = subst (AllByRecursion P) (l.texts searched) (first_all P (own_text searched place all) (looked_all d searched ts) both) in
           let later = values_all P searched d ts (values_at P searched d) (small_below d place all small.short small.order) (second_all P (own_text searched place all) (looked_all d searched ts) both) in
-          subst (AllByRecursion (IsFoundText P searched)) (sym l.keys) (all-append (IsFoundText P searched) l.own (keys_all ts) (found_own P searched l.own own) later)
+          subst (AllByRecursion (IsFoundText P searched)) (sym l.keys) (all_both (IsFoundText P searched) l.own (keys_all ts) (found_own P searched l.own own) later)
       | false ↦ λ e. never P searched (placed place all) (apart_all searched place e all)
     ] refl
 

@@ -1,9 +1,9 @@
 -- Entries whose owners differ: what they say of an account, each by itself and together.
 use Rattle.std.proofs.Common.{◌≡◌, ◌≢◌, ℕ, ◌+◌, Bool, true, false, cond, List, [], ◌∷◌, ◌++◌, map, refl, ap, ◌∙◌, arith}
-use Rattle.std.specs.Prelude.{◌||◌, ◌&&◌, ◌==◌}
+use Rattle.std.specs.Prelude.{◌||◌, ◌==◌}
 use Rattle.std.specs.List.{AllByRecursion, list_any, list_all}
 use Rattle.std.specs.Str.{bytes_eq}
-use Rattle.std.proofs.lemmas.Bool.{eqb-true}
+use Rattle.std.proofs.lemmas.Bool.{eqb-true, and_parts, or_parts, and_from}
 use Rattle.std.proofs.lemmas.Slice.Eq.{bytes_eq-Decides}
 use Rattle.std.proofs.lemmas.List.{map-append}
 use Rattle.std.proofs.lemmas.List.Elements.{filter_map-append}
@@ -13,8 +13,6 @@ use Rattle.nr_config.specs.Config.{Config}
 use Rattle.nr_state.specs.Repeats.{has_repeat}
 use Rattle.nr_state.specs.Usage.{zero_hash}
 use Rattle.nr_blocks.specs.Genesis.{accounts_in, code_hash_in, entry_usage, is_account, owner, trie_key, usage_if_owned, usage_in}
-use Rattle.nr_blocks.proofs.Filling.{both_true}
-use Rattle.nr_blocks.proofs.Founded.{neither}
 use Rattle.nr_blocks.specs.declared.genesis_entry.GenesisEntry.{GenesisEntry}
 use Rattle.nr_blocks.specs.declared.genesis_entry.GenesisEntry.TheVariants as kind
 use Rattle.nr_triedef.specs.Node.{digest}
@@ -32,43 +30,25 @@ other_text f a b apart = go (bytes_eq a b) refl
     go false h = h
 
 -- ---- what holds of all
-pub all_both : {X : Type 0} (P : X → Type 0) (xs ys : List X) → AllByRecursion P xs → AllByRecursion P ys → AllByRecursion P (xs ++ ys)
-all_both P [] ys p q = q
-all_both P (x ∷ xs) ys p q = (p.0, all_both P xs ys p.1 q)
-
-pub all_so : {X : Type 0} (P Q : X → Type 0) → ((x : X) → P x → Q x) → (xs : List X) → AllByRecursion P xs → AllByRecursion Q xs
-all_so P Q so [] p = tt
-all_so P Q so (x ∷ xs) p = (so x p.0, all_so P Q so xs p.1)
-
 pub all_two : {X : Type 0} (P Q : X → Type 0) (xs : List X) → AllByRecursion P xs → AllByRecursion Q xs → AllByRecursion (λ x. P x × Q x) xs
 all_two P Q [] p q = tt
 all_two P Q (x ∷ xs) p q = ((p.0, q.0), all_two P Q xs p.1 q.1)
 
 pub all_equal : {X : Type 0} (f : X → ℕ) (n : ℕ) (xs : List X) → list_all (λ x. f x == n) xs ≡ true → AllByRecursion (λ x. f x ≡ n) xs
 all_equal f n [] h = tt
-all_equal f n (x ∷ xs) h = let two = both_true (f x == n) (list_all (λ x. f x == n) xs) h in (eqb-true _ _ two.0, all_equal f n xs two.1)
-
-pub both_pass : (a b : Bool) → a ≡ true → b ≡ true → (a && b) ≡ true
-both_pass a b p q = λ i. p i && q i
+all_equal f n (x ∷ xs) h = let two = and_parts (f x == n) (list_all (λ x. f x == n) xs) h in (eqb-true _ _ two.0, all_equal f n xs two.1)
 
 pub all_pass : {X : Type 0} (test : X → Bool) (xs : List X) → AllByRecursion (λ x. test x ≡ true) xs → list_all test xs ≡ true
 all_pass test [] p = refl
-all_pass test (x ∷ xs) p = both_pass _ _ p.0 (all_pass test xs p.1)
+all_pass test (x ∷ xs) p = and_from _ _ p.0 (all_pass test xs p.1)
 
 pub each_passes : {X : Type 0} (test : X → Bool) (xs : List X) → list_all test xs ≡ true → AllByRecursion (λ x. test x ≡ true) xs
 each_passes test [] h = tt
-each_passes test (x ∷ xs) h = let two = both_true (test x) (list_all test xs) h in (two.0, each_passes test xs two.1)
+each_passes test (x ∷ xs) h = let two = and_parts (test x) (list_all test xs) h in (two.0, each_passes test xs two.1)
 
 -- ---- owners that differ from an id by what f tells of them
 abbrev pub AreOthers : (List ℕ → ℕ) → List ℕ → List GenesisEntry → Type 0
 AreOthers f id es = AllByRecursion (λ e. f (owner e) ≢ f id) es
-
-pub no_account : (f : List ℕ → ℕ) (id : List ℕ) (es : List GenesisEntry) → AreOthers f id es → is_account es id ≡ false
-no_account f id [] others = refl
-no_account f id (kind.Account i account ∷ es) others = λ k. other_text f i id others.0 k || no_account f id es others.1 k
-no_account f id (kind.Code i code ∷ es) others = no_account f id es others.1
-no_account f id (kind.Key i key access ∷ es) others = no_account f id es others.1
-no_account f id (kind.Datum i key value ∷ es) others = no_account f id es others.1
 
 pub no_usage : (c : Config) (f : List ℕ → ℕ) (id : List ℕ) (es : List GenesisEntry) → AreOthers f id es → usage_in c es id ≡ 0
 no_usage c f id [] others = refl
@@ -120,6 +100,6 @@ no_key f key (e ∷ es) others = λ k. other_text f key (trie_key e) others.0 k 
 pub apart_of_both : (f : List ℕ → ℕ) (xs ys : List GenesisEntry) → has_repeat (map trie_key xs) ≡ false → has_repeat (map trie_key ys) ≡ false → AllByRecursion (λ x. AreOtherKeys f (trie_key x) ys) xs → has_repeat (map trie_key (xs ++ ys)) ≡ false
 apart_of_both f [] ys first second others = second
 apart_of_both f (x ∷ xs) ys first second others =
-    let two = neither (list_any (bytes_eq (trie_key x)) (map trie_key xs)) (has_repeat (map trie_key xs)) first in
+    let two = or_parts (list_any (bytes_eq (trie_key x)) (map trie_key xs)) (has_repeat (map trie_key xs)) first in
     let here : list_any (bytes_eq (trie_key x)) (map trie_key (xs ++ ys)) ≡ false = ap (list_any (bytes_eq (trie_key x))) (map-append trie_key xs ys) ∙ list_any-append (bytes_eq (trie_key x)) (map trie_key xs) (map trie_key ys) ∙ (λ k. two.0 k || no_key f (trie_key x) ys others.0 k) in
     λ k. here k || apart_of_both f xs ys two.1 second others.1 k

@@ -4,6 +4,7 @@ use Rattle.std.specs.Prelude.{◌==◌, nat_lt, codes, slice_set, if◌then◌el
 use Rattle.std.specs.List.{AllByRecursion}
 use Rattle.std.proofs.lemmas.List.{length-append}
 use Rattle.std.proofs.lemmas.Str.{IsUtf8-from_ascii, is_utf8-from_IsUtf8}
+use Rattle.nr_bytes.proofs.Basics.{all_both}
 use Rattle.sha2.proofs.Facts256.{length-sha256}
 use Rattle.nr_bytes.specs.Spelling.{FitsList}
 use Rattle.nr_config.specs.Config.{generated}
@@ -18,7 +19,6 @@ use Rattle.nr_blocks.specs.Files.{IsGenesisFile}
 use Rattle.nr_blocks.specs.GenesisFiles.{IsEntry}
 use Rattle.nr_blocks.specs.Spellings.{AreBlocks, IsGenesis, file_of}
 use Rattle.nr_blocks.specs.declared.version.Version.TheVariants.{One}
-use Rattle.nr_gen.proofs.Apart.{all_both}
 use Rattle.nr_gen.proofs.Founded.{some, sound_is_founded}
 use Rattle.nr_gen.proofs.Founding.{counts_generated, sound_genesis}
 use Rattle.nr_gen.proofs.Ids.{contract_is_id, user_is_id}

@@ -4,15 +4,13 @@ use Rattle.std.specs.Prelude.{◌||◌, ◌==◌, if◌then◌else◌}
 use Rattle.std.specs.List.{AllByRecursion, list_any, list_all}
 use Rattle.std.specs.Str.{bytes_eq}
 use Rattle.std.proofs.Math.Seq.{take-append_seam}
-use Rattle.std.proofs.lemmas.Bool.{le-leb}
+use Rattle.std.proofs.lemmas.Bool.{le-leb, and_parts, or_parts}
 use Rattle.std.proofs.lemmas.List.{length-append, map-append}
 use Rattle.std.proofs.lemmas.List.Folds.{list_any-append}
 use Rattle.nr_bytes.specs.Reading.{◌>>=◌}
 use Rattle.nr_config.specs.Config.{Config}
 use Rattle.nr_state.proofs.ValidOwned.{turned}
 use Rattle.nr_state.specs.Repeats.{has_repeat}
-use Rattle.nr_blocks.proofs.Filling.{both_true}
-use Rattle.nr_blocks.proofs.Founded.{neither}
 use Rattle.nr_blocks.specs.Genesis.{AreSoundEntries, accounts_in, code_hash_in, has_code_hash, has_usage, is_owned, supply, trie_key, usage_in}
 use Rattle.nr_blocks.specs.Judging.{bounded_supply, each, each_from, founded, has_owner, is_first, states_hash, states_usage}
 use Rattle.nr_blocks.specs.declared.fault.GenesisFault.{GenesisFault}
@@ -26,14 +24,14 @@ owners_pass : (all es : List GenesisEntry) (n : ℕ) → list_all (is_owned all)
 unfolding each_from
 owners_pass all [] n h = refl
 owners_pass all (e ∷ es) n h =
-    let two = both_true (is_owned all e) (list_all (is_owned all) es) h in
+    let two = and_parts (is_owned all e) (list_all (is_owned all) es) h in
     passes_then (has_owner all n e) _ (ap (λ b. if b then all_right else Err (NoOwner n)) two.0) (owners_pass all es (n + 1) two.1)
 
 usages_pass : (c : Config) (all es : List GenesisEntry) (n : ℕ) → list_all (has_usage c all) (accounts_in es) ≡ true → each_from (states_usage (usage_in c all)) n es ≡ all_right
 unfolding each_from
 usages_pass c all [] n h = refl
 usages_pass c all (kind.Account id a ∷ es) n h =
-    let two = both_true (a.storage_usage == usage_in c all id) (list_all (has_usage c all) (accounts_in es)) h in
+    let two = and_parts (a.storage_usage == usage_in c all id) (list_all (has_usage c all) (accounts_in es)) h in
     passes_then (states_usage (usage_in c all) n (kind.Account id a)) _ (ap (λ b. if b then all_right else Err (Usage n a.storage_usage (usage_in c all id))) two.0) (usages_pass c all es (n + 1) two.1)
 usages_pass c all (kind.Code id code ∷ es) n h = usages_pass c all es (n + 1) h
 usages_pass c all (kind.Key id key access ∷ es) n h = usages_pass c all es (n + 1) h
@@ -43,7 +41,7 @@ hashes_pass : (all es : List GenesisEntry) (n : ℕ) → list_all (has_code_hash
 unfolding each_from
 hashes_pass all [] n h = refl
 hashes_pass all (kind.Account id a ∷ es) n h =
-    let two = both_true (bytes_eq a.code_hash.0 (code_hash_in all id).0) (list_all (has_code_hash all) (accounts_in es)) h in
+    let two = and_parts (bytes_eq a.code_hash.0 (code_hash_in all id).0) (list_all (has_code_hash all) (accounts_in es)) h in
     passes_then (states_hash (code_hash_in all) n (kind.Account id a)) _ (ap (λ b. if b then all_right else Err (CodeHash n)) two.0) (hashes_pass all es (n + 1) two.1)
 hashes_pass all (kind.Code id code ∷ es) n h = hashes_pass all es (n + 1) h
 hashes_pass all (kind.Key id key access ∷ es) n h = hashes_pass all es (n + 1) h
@@ -60,7 +58,7 @@ AreNew before es = AllByRecursion (λ e. knows before e ≡ false) es
 still_new : (before : List GenesisEntry) (x : GenesisEntry) (es : List GenesisEntry) → AreNew before es → list_any (bytes_eq (trie_key x)) (map trie_key es) ≡ false → AreNew (before ++ x ∷ []) es
 still_new before x [] fresh apart = tt
 still_new before x (e ∷ es) fresh apart =
-    let two = neither (bytes_eq (trie_key x) (trie_key e)) (list_any (bytes_eq (trie_key x)) (map trie_key es)) apart in
+    let two = or_parts (bytes_eq (trie_key x) (trie_key e)) (list_any (bytes_eq (trie_key x)) (map trie_key es)) apart in
     let both : knows (before ++ x ∷ []) e ≡ (knows before e || (bytes_eq (trie_key e) (trie_key x) || false)) = ap (list_any (bytes_eq (trie_key e))) (map-append trie_key before (x ∷ [])) ∙ list_any-append (bytes_eq (trie_key e)) (map trie_key before) (trie_key x ∷ []) in
     let other : bytes_eq (trie_key e) (trie_key x) ≡ false = turned (trie_key e) (trie_key x) ∙ two.0 in
     (both ∙ (λ i. fresh.0 i || (other i || false)), still_new before x es fresh.1 two.1)
@@ -69,7 +67,7 @@ keys_pass : (all before es : List GenesisEntry) → all ≡ before ++ es → Are
 unfolding each_from
 keys_pass all before [] whole fresh apart = refl
 keys_pass all before (x ∷ es) whole fresh apart =
-    let two = neither (list_any (bytes_eq (trie_key x)) (map trie_key es)) (has_repeat (map trie_key es)) apart in
+    let two = or_parts (list_any (bytes_eq (trie_key x)) (map trie_key es)) (has_repeat (map trie_key es)) apart in
     let front : take (length before) all ≡ before = ap (take (length before)) whole ∙ take-append_seam before (x ∷ es) in
     let here : knows (take (length before) all) x ≡ false = ap (λ l. knows l x) front ∙ fresh.0 in
     let next = keys_pass all (before ++ x ∷ []) es (whole ∙ sym (append_assoc before (x ∷ []) es)) (still_new before x es fresh.1 two.0) two.1 in

@@ -4,9 +4,11 @@ use Rattle.std.proofs.Common.{◌≡◌, ◌≢◌, ℕ, zero, suc, ◌+◌, ◌
 use Rattle.std.specs.Prelude.{◌||◌, ◌&&◌, ◌==◌, not, sum_by}
 use Rattle.std.specs.List.{AllByRecursion, list_all}
 use Rattle.std.specs.Str.{bytes_eq}
-use Rattle.std.proofs.lemmas.Bool.{eqb-true, eq-eqb}
+use Rattle.std.proofs.lemmas.Bool.{eqb-true, eq-eqb, and_parts, and_from, not-true}
 use Rattle.std.proofs.lemmas.Bool.Decides.{eqb_tells}
 use Rattle.std.proofs.lemmas.List.Sums.{sum_by-append, sum_by-cons}
+use mathlib.Core.Bool.{or-true}
+use Rattle.nr_bytes.proofs.Basics.{all_both, all_weaker}
 use Rattle.nr_bytes.specs.Numbers.{little}
 use Rattle.nr_config.specs.Config.{Config, account_bytes_entry, generated}
 use Rattle.nr_config.specs.Table.{table}
@@ -19,12 +21,11 @@ use Rattle.nr_state.specs.Repeats.{has_repeat}
 use Rattle.nr_state.specs.Usage.{zero_hash}
 use Rattle.nr_state.specs.World.{account_tokens}
 use Rattle.nr_triedef.specs.Node.{digest}
-use Rattle.nr_blocks.proofs.Filling.{both_true}
 use Rattle.nr_blocks.specs.Genesis.{IsSoundGenesis, accounts_in, code_hash_in, entry_usage, has_code_hash, has_usage, is_account, is_owned, owner, supply, trie_key, usage_if_owned, usage_in}
 use Rattle.nr_blocks.specs.declared.genesis_entry.GenesisEntry.{GenesisEntry}
 use Rattle.nr_blocks.specs.declared.genesis_entry.GenesisEntry.TheVariants as kind
 use Rattle.nr_gen.proofs.Below.{passes_below, passes_at}
-use Rattle.nr_gen.proofs.Apart.{AreOthers, account_of_both, accounts_of_both, all_both, all_equal, all_pass, all_so, all_two, apart_of_both, both_pass, each_passes, hash_before, hash_behind, no_usage, same_text, usage_of_both}
+use Rattle.nr_gen.proofs.Apart.{AreOthers, account_of_both, accounts_of_both, all_equal, all_pass, all_two, apart_of_both, each_passes, hash_before, hash_behind, no_usage, same_text, usage_of_both}
 use Rattle.nr_gen.specs.Code.{contract_code}
 use Rattle.nr_gen.specs.Founding.{CountsStorage, contract_entries, contract_usage, first_account, founding_entries, generated_genesis, shard_entries, user_entries}
 use Rattle.nr_gen.specs.Names.{contract_id}
@@ -109,10 +110,6 @@ unfolding shard_entries joined_below
 users_hash code = refl
 
 -- ---- and so holds of each of them
-untrue : (b : Bool) → not b ≡ true → b ≡ false
-untrue true h = absurd cc
-untrue false h = refl
-
 module _ (code : List ℕ) (s : ℕ) (low : s < 16) where
   names_in : AllByRecursion (λ e. name_tag (owner e) ≡ tag s) (shard_entries code s)
   names_in = all_equal (λ e. name_tag (owner e)) (tag s) (shard_entries code s) (passes_at (λ s. list_all (λ e. name_tag (owner e) == tag s) (shard_entries code s)) 16 s (names_pass code) low)
@@ -121,7 +118,7 @@ module _ (code : List ℕ) (s : ℕ) (low : s < 16) where
   keys_in = all_equal (λ e. key_tag (trie_key e)) (tag s) (shard_entries code s) (passes_at (λ s. list_all (λ e. key_tag (trie_key e) == tag s) (shard_entries code s)) 16 s (keys_pass code) low)
 
   apart_in : has_repeat (map trie_key (shard_entries code s)) ≡ false
-  apart_in = untrue (has_repeat (map trie_key (shard_entries code s))) (passes_at (λ s. not (has_repeat (map trie_key (shard_entries code s)))) 16 s (apart_pass code) low)
+  apart_in = not-true (has_repeat (map trie_key (shard_entries code s))) (passes_at (λ s. not (has_repeat (map trie_key (shard_entries code s)))) 16 s (apart_pass code) low)
 
   owned_in : AllByRecursion (λ e. is_owned (shard_entries code s) e ≡ true) (shard_entries code s)
   owned_in = each_passes (is_owned (shard_entries code s)) (shard_entries code s) (passes_at (λ s. list_all (is_owned (shard_entries code s)) (shard_entries code s)) 16 s (owned_pass code) low)
@@ -150,9 +147,9 @@ module _ (c : Config) (counts : CountsStorage c) (code : List ℕ) (s : ℕ) (lo
 
   user_used : (a : List ℕ × Account) → user_counts s a ≡ true → has_usage c all a ≡ true
   user_used a h =
-      let two = both_true (a.1.storage_usage == counted_in (users s) a.0) (not (bytes_eq (contract_id s) a.0)) h in
+      let two = and_parts (a.1.storage_usage == counted_in (users s) a.0) (not (bytes_eq (contract_id s) a.0)) h in
       let stated : a.1.storage_usage ≡ counted_in (users s) a.0 = eqb-true _ _ two.0 in
-      let other = contract_count c counts code s a.0 false (untrue _ two.1) in
+      let other = contract_count c counts code s a.0 false (not-true _ two.1) in
       eq-eqb _ _ (omega (arith, stated, other, usage_split a.0, usage_counted c counts (users s) a.0))
 
   contract_used : has_usage c all (contract_id s, first_account (digest code) (contract_usage code)) ≡ true
@@ -166,7 +163,7 @@ module _ (c : Config) (counts : CountsStorage c) (code : List ℕ) (s : ℕ) (lo
   used_in =
       let passed = each_passes (user_counts s) (accounts_in (users s)) (passes_at (λ s. list_all (user_counts s) (accounts_in (users s))) 16 s users_count low) in
       subst (AllByRecursion (λ a. has_usage c all a ≡ true)) (sym (accounts_of_both (users s) (contract_entries code s)))
-      (all_both _ (accounts_in (users s)) _ (all_so _ _ user_used (accounts_in (users s)) passed) (contract_used, tt))
+      (all_both _ (accounts_in (users s)) _ (all_weaker _ _ user_used (accounts_in (users s)) passed) (contract_used, tt))
 
 -- ---- the hashes of a shard's code
 contract_hash : (code : List ℕ) (s : ℕ) → code_hash_in (shard_entries code s) (contract_id s) ≡ digest code
@@ -201,17 +198,17 @@ accounts_founded code P (suc n) each =
 
 module _ (code : List ℕ) where
   names_below : (n : ℕ) → n ≤ 16 → AllByRecursion (λ e. name_tag (owner e) < tag n) (founding_entries code n)
-  names_below n few = all_founded code _ n (λ s lt. all_so _ _ (λ e h. omega arith) (shard_entries code s) (names_in code s (omega arith)))
+  names_below n few = all_founded code _ n (λ s lt. all_weaker _ _ (λ e h. omega arith) (shard_entries code s) (names_in code s (omega arith)))
 
   keys_below : (n : ℕ) → n ≤ 16 → AllByRecursion (λ e. key_tag (trie_key e) < tag n) (founding_entries code n)
-  keys_below n few = all_founded code _ n (λ s lt. all_so _ _ (λ e h. omega arith) (shard_entries code s) (keys_in code s (omega arith)))
+  keys_below n few = all_founded code _ n (λ s lt. all_weaker _ _ (λ e h. omega arith) (shard_entries code s) (keys_in code s (omega arith)))
 
   -- an id of one shard is none of another's
   others_before : (n s : ℕ) (id : List ℕ) → n ≤ s → n ≤ 16 → name_tag id ≡ tag s → AreOthers name_tag id (founding_entries code n)
-  others_before n s id before few named = all_so _ _ (λ e h same. omega arith) (founding_entries code n) (names_below n few)
+  others_before n s id before few named = all_weaker _ _ (λ e h same. omega arith) (founding_entries code n) (names_below n few)
 
   others_in : (t s : ℕ) (id : List ℕ) → t < 16 → s ≢ t → name_tag id ≡ tag s → AreOthers name_tag id (shard_entries code t)
-  others_in t s id low other named = all_so _ _ (λ e h same. other (omega arith)) (shard_entries code t) (names_in code t low)
+  others_in t s id low other named = all_weaker _ _ (λ e h same. other (omega arith)) (shard_entries code t) (names_in code t low)
 
   -- what all entries say of an id is what those of its shard say
   usage_at : (c : Config) (n s : ℕ) (id : List ℕ) → n ≤ 16 → s < n → name_tag id ≡ tag s → usage_in c (founding_entries code n) id ≡ usage_in c (shard_entries code s) id
@@ -247,26 +244,22 @@ module _ (code : List ℕ) where
   stands_at (suc n) s id lt stands =
       let both = ap (λ es. is_account es id) (one_more code n) ∙ account_of_both id (founding_entries code n) (shard_entries code n) in
       elim (eqb_tells s n) [
-        | inl same ↦ both ∙ ap (λ b. is_account (founding_entries code n) id || b) (ap (λ k. is_account (shard_entries code k) id) (sym same.1) ∙ stands) ∙ or_true (is_account (founding_entries code n) id)
+        | inl same ↦ both ∙ ap (λ b. is_account (founding_entries code n) id || b) (ap (λ k. is_account (shard_entries code k) id) (sym same.1) ∙ stands) ∙ or-true (is_account (founding_entries code n) id)
         | inr other ↦ let ne : s ≢ n = other.1 in both ∙ ap (λ b. b || is_account (shard_entries code n) id) (stands_at n s id (omega arith) stands)
       ]
-    where
-      or_true : (b : Bool) → (b || true) ≡ true
-      or_true true = refl
-      or_true false = refl
 
   apart_founded : (n : ℕ) → n ≤ 16 → has_repeat (map trie_key (founding_entries code n)) ≡ false
   unfolding founding_entries joined_below
   apart_founded zero few = refl
   apart_founded (suc n) few =
       apart_of_both key_tag (founding_entries code n) (shard_entries code n) (apart_founded n (omega arith)) (apart_in code n (omega arith))
-      (all_so _ _ (λ x before. all_so _ _ (λ e h same. omega arith) (shard_entries code n) (keys_in code n (omega arith))) (founding_entries code n) (keys_below n (omega arith)))
+      (all_weaker _ _ (λ x before. all_weaker _ _ (λ e h same. omega arith) (shard_entries code n) (keys_in code n (omega arith))) (founding_entries code n) (keys_below n (omega arith)))
 
   owned_founded : (n : ℕ) → n ≤ 16 → list_all (is_owned (founding_entries code n)) (founding_entries code n) ≡ true
   owned_founded n few =
-      all_pass _ _ (all_founded code _ n (λ s lt. all_so _ _ (λ e h.
-      let two = both_true (is_account (shard_entries code s) (owner e)) (not (is_system (owner e))) h in
-      both_pass _ _ (stands_at n s (owner e) lt two.0) two.1) (shard_entries code s) (owned_in code s (omega arith))))
+      all_pass _ _ (all_founded code _ n (λ s lt. all_weaker _ _ (λ e h.
+      let two = and_parts (is_account (shard_entries code s) (owner e)) (not (is_system (owner e))) h in
+      and_from _ _ (stands_at n s (owner e) lt two.0) two.1) (shard_entries code s) (owned_in code s (omega arith))))
 
   supply_founded : (n : ℕ) → n ≤ 16 → supply (founding_entries code n) ≡ n * (9 * 10 ^ 24)
   unfolding founding_entries joined_below
@@ -288,12 +281,12 @@ module _ (code : List ℕ) where
 
   used_founded : (c : Config) → CountsStorage c → (n : ℕ) → n ≤ 16 → list_all (has_usage c (founding_entries code n)) (accounts_in (founding_entries code n)) ≡ true
   used_founded c counts n few =
-      all_pass _ _ (accounts_founded code _ n (λ s lt. all_so _ _ (λ a h. ap (λ u. a.1.storage_usage == u) (usage_at c n s a.0 few lt h.0) ∙ h.1) (accounts_in (shard_entries code s))
+      all_pass _ _ (accounts_founded code _ n (λ s lt. all_weaker _ _ (λ a h. ap (λ u. a.1.storage_usage == u) (usage_at c n s a.0 few lt h.0) ∙ h.1) (accounts_in (shard_entries code s))
       (all_two _ _ (accounts_in (shard_entries code s)) (accounts_named s (omega arith)) (used_in c counts code s (omega arith)))))
 
   hashed_founded : (n : ℕ) → n ≤ 16 → list_all (has_code_hash (founding_entries code n)) (accounts_in (founding_entries code n)) ≡ true
   hashed_founded n few =
-      all_pass _ _ (accounts_founded code _ n (λ s lt. all_so _ _ (λ a h. ap (λ (hash : Hash32). bytes_eq a.1.code_hash.0 hash.0) (hash_at n s a.0 few lt h.0) ∙ h.1) (accounts_in (shard_entries code s))
+      all_pass _ _ (accounts_founded code _ n (λ s lt. all_weaker _ _ (λ a h. ap (λ (hash : Hash32). bytes_eq a.1.code_hash.0 hash.0) (hash_at n s a.0 few lt h.0) ∙ h.1) (accounts_in (shard_entries code s))
       (all_two _ _ (accounts_in (shard_entries code s)) (accounts_named s (omega arith)) (hashed_in code s (omega arith)))))
 
 -- ---- the genesis

@@ -3,6 +3,7 @@ use Rattle.std.proofs.Common.{◌≡◌, ℕ, ◌+◌, ◌-◌, ◌<◌, ◌≤�
 use Rattle.std.specs.Prelude.{◌&&◌}
 use Rattle.std.specs.List.{AllByRecursion, list_all, range_with_len}
 use Rattle.std.proofs.lemmas.List.FromFn.{length-map-range_with_len}
+use Rattle.std.proofs.lemmas.Bool.{and_parts}
 use Rattle.nr_ids.specs.Grammar.{id_fault, first_below}
 use Rattle.nr_ids.specs.declared.fault.IdFault.{IdFault}
 use Rattle.nr_layout.specs.Layout.{IsRising, is_above}
@@ -10,7 +11,6 @@ use Rattle.nr_layout.specs.Reading.{FitsLayout}
 use Rattle.nr_records.specs.Ids.{IsId}
 use Rattle.nr_records.specs.declared.fault.RecordFault.{RecordFault}
 use Rattle.nr_gen.proofs.Below.{passes_at, passes_below}
-use Rattle.nr_blocks.proofs.Filling.{both_true}
 use Rattle.nr_gen.specs.Names.{boundaries, shard_name}
 
 rises : Option (List ℕ) → List (List ℕ) → Bool
@@ -20,7 +20,7 @@ rises last (b ∷ bs) = is_above last b && rises (Some b) bs
 rises_so : (last : Option (List ℕ)) (bs : List (List ℕ)) → rises last bs ≡ true → IsRising last bs
 unfolding rises
 rises_so last [] h = tt
-rises_so last (b ∷ bs) h = let two = both_true (is_above last b) (rises (Some b) bs) h in (two.0, rises_so (Some b) bs two.1)
+rises_so last (b ∷ bs) h = let two = and_parts (is_above last b) (rises (Some b) bs) h in (two.0, rises_so (Some b) bs two.1)
 
 abbrev pub no_fault : Option IdFault → Bool
 no_fault None = true
@@ -32,7 +32,7 @@ is_none (Some fault) h = absurd cc
 
 ids_so : (bs : List (List ℕ)) → list_all (λ b. no_fault (id_fault b)) bs ≡ true → AllByRecursion IsId bs
 ids_so [] h = tt
-ids_so (b ∷ bs) h = let two = both_true (no_fault (id_fault b)) (list_all (λ b. no_fault (id_fault b)) bs) h in (is_none (id_fault b) two.0, ids_so bs two.1)
+ids_so (b ∷ bs) h = let two = and_parts (no_fault (id_fault b)) (list_all (λ b. no_fault (id_fault b)) bs) h in (is_none (id_fault b) two.0, ids_so bs two.1)
 
 abbrev names : ℕ → List (List ℕ)
 names n = map (λ below. shard_name (below + 1)) (range_with_len 0 n)

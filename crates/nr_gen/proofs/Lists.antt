@@ -29,10 +29,6 @@ joined_none xs f none = none
 pub joined_all : {X : Type 0} (n : ℕ) (f : ℕ → List X) (old new : List X) → old ≡ joined_below n f → new ≡ old ++ f n → new ≡ joined_below (n + 1) f
 joined_all n f old new before grown = joined_grows [] n f old new before grown
 
--- ---- two items more
-pub two_more : {X : Type 0} (old mid new : List X) (x y : X) → mid ≡ old ++ x ∷ [] → new ≡ mid ++ y ∷ [] → new ≡ old ++ x ∷ y ∷ []
-two_more old mid new x y first second = behind old (x ∷ []) (y ∷ []) mid new first second
-
 -- ---- copies
 copies : {X : Type 0} (n : ℕ) (x : X) → replicate (suc n) x ≡ replicate n x ++ x ∷ []
 copies zero x = refl

@@ -1,6 +1,6 @@
 //! The contract of a generated chain, as the bytes of a WebAssembly module.
 
-ghost use Rattle.std.specs.Prelude.{◌≡◌, ◌<◌, ◌≤◌, ◌++◌, IfOk, OnOk, replicate};
+ghost use Rattle.std.specs.Prelude.{◌≡◌, ◌<◌, ◌≤◌, ◌++◌, IfOk, OnOk};
 ghost use Rattle.nr_gen.specs.Code.{code_section, contract_code, filler_body, front, function_section, i64_add};
 ghost use Rattle.nr_gen.specs.Code.{i64_const};
 ghost use Rattle.nr_gen.specs.Turns.{joined_below};

@@ -35,7 +35,7 @@ use Rattle.nr_hostctx.specs.Registers as register
 use Rattle.nr_hostctx.specs.Rows.{row, none, some, arg}
 use Rattle.nr_hostctx.specs.State.{HostState}
 use Rattle.nr_hostctx.specs.Storage as storage
-use Rattle.nr_guest.specs.Guest.{register as register_of, register_length}
+use Rattle.nr_guest.specs.Guest.{register as register_of}
 use Rattle.nr_bytes.specs.Numbers.{little}
 use Rattle.nr_config.specs.Config.{max_key_bytes, max_value_bytes, max_logs, max_log_bytes, max_promises, max_actions}
 use Rattle.nr_config.specs.Config.{max_return_bytes}
@@ -48,9 +48,9 @@ use Rattle.nr_records.specs.declared.account.Account.{Account}
 use Rattle.nr_state.specs.World.{World}
 use Rattle.nr_hostctx.specs.Accounts.{account_of}
 use Rattle.nr_hostctx.specs.Acts.{Came, Goes, Stops, Act, onward, ◌>>=◌, give, look, fault, fault_if, or_fault}
-use Rattle.nr_hostctx.specs.Acts.{from_guest, burn, pay, begin, pay_bytes, bytes_of, argument_size_at, argument_at}
-use Rattle.nr_hostctx.specs.Acts.{guest_bytes, range_at, registers_or_fault, put_register, to_register, guest_or_fault}
-use Rattle.nr_hostctx.specs.Acts.{put_guest, to_guest}
+use Rattle.nr_hostctx.specs.Acts.{from_guest, burn, pay, begin, pay_bytes, bytes_of, argument_size_at}
+use Rattle.nr_hostctx.specs.Acts.{guest_bytes, registers_or_fault, to_register, guest_or_fault}
+use Rattle.nr_hostctx.specs.Acts.{to_guest}
 
 abbrev pub IsAsLong : Option (List ℕ) → List ℕ → Type 0
 IsAsLong None bytes = Unit {0}

@@ -18,7 +18,6 @@ use Rattle.nr_hostctx.specs.Acts.{Came, Goes, Stops, Act, onward, ◌>>=◌, loo
 use Rattle.nr_hostctx.specs.Acts.{burn, promise}
 use Rattle.nr_hostctx.specs.Bounds.{after_of}
 use Rattle.nr_hostctx.specs.Faults.{balance_exceeded}
-use Rattle.nr_hostctx.specs.Host.{with_guest}
 use Rattle.nr_hostctx.specs.PromiseActions as action
 use Rattle.nr_hostctx.specs.Promises as promises
 use Rattle.nr_hostctx.specs.Ready.{no_account, account_less}

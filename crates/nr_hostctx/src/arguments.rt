@@ -1,10 +1,10 @@
 //! The byte arguments of bindings, and the bytes that they write.
 
-ghost use Rattle.std.specs.Prelude.{◌≡◌, ◌*◌, length, IfOk};
+ghost use Rattle.std.specs.Prelude.{◌≡◌, length, IfOk};
 ghost use Rattle.nr_bytes.specs.Numbers.{little, number};
 ghost use Rattle.nr_hostctx.specs.Acts as act;
 ghost use Rattle.nr_hostctx.specs.Acts.{Does, Copies};
-ghost use Rattle.nr_hostctx.specs.State.{state_of, Keeps};
+ghost use Rattle.nr_hostctx.specs.State.{Keeps};
 
 use crate::context::HostContext;
 use crate::stops::{OUT_OF_BOUNDS, REGISTER_LIMIT, guest_stop};

@@ -6,7 +6,7 @@ ghost use Rattle.nr_hostctx.specs.Accounts.{account_of};
 ghost use Rattle.nr_hostctx.specs.Acts as act;
 ghost use Rattle.nr_hostctx.specs.Acts.{Does};
 ghost use Rattle.nr_hostctx.specs.Context as row;
-ghost use Rattle.nr_hostctx.specs.State.{state_of, Keeps};
+ghost use Rattle.nr_hostctx.specs.State.{Keeps};
 
 use crate::arguments::amount_bytes;
 use crate::context::HostContext;

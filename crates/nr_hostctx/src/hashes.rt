@@ -1,9 +1,8 @@
 //! The bindings of hashes.
 
-ghost use Rattle.std.specs.Prelude.{◌≡◌};
 ghost use Rattle.nr_hostctx.specs.Acts.{Does};
 ghost use Rattle.nr_hostctx.specs.Hashes as row;
-ghost use Rattle.nr_hostctx.specs.State.{state_of, Keeps};
+ghost use Rattle.nr_hostctx.specs.State.{Keeps};
 
 use crate::context::HostContext;
 use nr_config::entries::{SHA_BASE, SHA_BYTE};

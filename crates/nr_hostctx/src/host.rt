@@ -1,6 +1,6 @@
 //! The bindings as a host of the machine.
 
-ghost use Rattle.std.specs.Prelude.{◌≡◌, true, false, [], length};
+ghost use Rattle.std.specs.Prelude.{◌≡◌, false, [], length};
 ghost use Rattle.nr_wasmtypes.specs.Host.{host_type};
 ghost use Rattle.nr_hostctx.specs.Acts.{Does};
 ghost use Rattle.nr_hostctx.specs.Host as host;

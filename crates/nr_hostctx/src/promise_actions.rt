@@ -3,7 +3,7 @@
 ghost use Rattle.std.specs.Prelude.{◌≡◌};
 ghost use Rattle.nr_hostctx.specs.Acts.{Does};
 ghost use Rattle.nr_hostctx.specs.PromiseActions as row;
-ghost use Rattle.nr_hostctx.specs.State.{state_of, Keeps};
+ghost use Rattle.nr_hostctx.specs.State.{Keeps};
 
 use crate::arguments::amount_of;
 use crate::context::HostContext;

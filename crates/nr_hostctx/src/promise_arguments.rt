@@ -1,6 +1,6 @@
 //! What the arguments of promises spell.
 
-ghost use Rattle.std.specs.Prelude.{◌≡◌, ◌*◌, length, map, IfOk, OnOk};
+ghost use Rattle.std.specs.Prelude.{◌≡◌, ◌*◌, length, map, IfOk};
 ghost use Rattle.std.specs.List.{slice_split};
 ghost use Rattle.nr_bytes.specs.Numbers.{number};
 ghost use Rattle.nr_hostctx.specs.Acts.{Copies};

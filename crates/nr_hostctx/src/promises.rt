@@ -1,6 +1,6 @@
 //! The bindings that make promises and read their results.
 
-ghost use Rattle.std.specs.Prelude.{◌≡◌, ◌*◌, ◌<◌, ◌^◌, length, MatchResult};
+ghost use Rattle.std.specs.Prelude.{◌≡◌, ◌<◌, MatchResult};
 ghost use Rattle.nr_hostctx.specs.Acts as act;
 ghost use Rattle.nr_hostctx.specs.Acts.{Does};
 ghost use Rattle.nr_hostctx.specs.Promises as row;

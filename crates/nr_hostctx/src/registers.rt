@@ -1,9 +1,8 @@
 //! The bindings of registers.
 
-ghost use Rattle.std.specs.Prelude.{◌≡◌};
 ghost use Rattle.nr_hostctx.specs.Acts.{Does};
 ghost use Rattle.nr_hostctx.specs.Registers as row;
-ghost use Rattle.nr_hostctx.specs.State.{state_of, Keeps};
+ghost use Rattle.nr_hostctx.specs.State.{Keeps};
 
 use crate::arguments::copy;
 use crate::context::HostContext;

@@ -3,7 +3,7 @@
 ghost use Rattle.std.specs.Prelude.{◌≡◌, ◌+◌, ◌<◌, ◌^◌, length, OnOk};
 ghost use Rattle.nr_hostctx.specs.Acts.{Does};
 ghost use Rattle.nr_hostctx.specs.Storage as row;
-ghost use Rattle.nr_hostctx.specs.State.{state_of, Keeps};
+ghost use Rattle.nr_hostctx.specs.State.{Keeps};
 
 use crate::arguments::copy;
 use crate::context::HostContext;

@@ -1,17 +1,16 @@
 -- What the grammar says of an id: its length, and each of its bytes.
-use Rattle.std.proofs.Common.{◌≡◌, ◌≤◌, ◌<◌, ◌||◌, ℕ, Bool, true, false, not, ltb, nat_lt, List, ◌∷◌, ◌++◌, length, Option, Some, None, cond, ◌==◌, ◌≢◌, refl, sym, ap, inl, inr, ◌∙◌, arith}
+use Rattle.std.proofs.Common.{◌≡◌, ◌≤◌, ◌<◌, ◌||◌, ℕ, Bool, true, false, not, ltb, nat_lt, List, length, Option, Some, None, cond, ◌==◌, ◌≢◌, refl, sym, ap, inl, inr, ◌∙◌, arith}
 use Rattle.std.proofs.Math.Bool.{true≢false}
 use Rattle.std.specs.Str.{IsAscii, IsUtf8}
 use Rattle.std.proofs.lemmas.Str.{IsUtf8-from_ascii}
 use Rattle.std.proofs.lemmas.List.{get_or_past}
 use Rattle.std.proofs.lemmas.List.Folds.{list_any_none}
-use Rattle.std.proofs.lemmas.Bool.{ltb-false, eq-eqb}
+use Rattle.std.proofs.lemmas.Bool.{ltb-false}
 use Rattle.std.proofs.lemmas.Bool.Decides.{nat_tests, eqb_tells, leb_tells}
 use Rattle.std.proofs.lemmas.List.Sums.{prefix_len_passes}
 use Rattle.std.specs.List.{All, AllPass, position_or_len, list_any}
 use Rattle.nr_ids.specs.declared.fault.IdFault.{IdFault}
 use Rattle.nr_ids.specs.declared.fault.IdFault.TheVariants.{Length, Memory}
-use Rattle.nr_ids.proofs.SubIds.{first_behind}
 use Rattle.nr_ids.specs.Grammar.{id_fault, character_fault, separator_fault, first_bad_separator, is_id_byte}
 
 short_enough : (a b : Bool) (rest : Option IdFault) → cond (a || b) (Some Length) rest ≡ None → b ≡ false
@@ -57,13 +56,6 @@ unequal x b ne = elim (eqb_tells x b) [ inl p ↦ absurd (ne p.1) | inr p ↦ p.
 
 pub lacks_any : (b : ℕ) (bytes : List ℕ) → is_id_byte b ≡ false → id_fault bytes ≡ None → list_any (λ x. x == b) bytes ≡ false
 lacks_any b bytes out e = list_any_none (λ x. x == b) bytes (λ k d lt. unequal _ b (lacks b bytes out e k d lt))
-
-pub no_comma : (bytes : List ℕ) → id_fault bytes ≡ None → list_any (λ b. b == 44) bytes ≡ false
-no_comma bytes e = lacks_any 44 bytes refl e
-
--- an id with such a byte behind it ends at the first one
-pub ends_at : (b : ℕ) (id rest : List ℕ) → is_id_byte b ≡ false → id_fault id ≡ None → position_or_len (λ x. x == b) (id ++ b ∷ rest) ≡ length id
-ends_at b id rest out e = first_behind (λ x. x == b) id rest b (eq-eqb b b refl) (lacks_any b id out e)
 
 small_byte : (b : ℕ) → is_id_byte b ≡ true → b < 128
 small_byte b e = grind (arith, nat_tests)

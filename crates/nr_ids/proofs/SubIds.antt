@@ -1,6 +1,6 @@
 -- What stands behind the first dot of an id.
-use Rattle.std.proofs.Common.{◌≡◌, ◌<◌, ◌≤◌, ◌+◌, ◌-◌, ◌||◌, ℕ, suc, Bool, true, false, cond, List, [], ◌∷◌, ◌++◌, length, length-drop, take, drop, get_or, nat_lt, Some, None, ◌↔◌, IsTrue, refl, sym, ap, ◌∙◌, arith, add-one, ◌==◌, drop-cons}
-use Rattle.std.proofs.lemmas.Bool.{eqb-true}
+use Rattle.std.proofs.Common.{◌≡◌, ◌<◌, ◌≤◌, ◌+◌, ◌-◌, ℕ, suc, Bool, true, false, cond, List, [], ◌∷◌, ◌++◌, length, length-drop, take, drop, get_or, nat_lt, Some, None, ◌↔◌, IsTrue, refl, sym, ap, ◌∙◌, arith, add-one, ◌==◌, drop-cons}
+use Rattle.std.proofs.lemmas.Bool.{eqb-true, or_parts}
 use Rattle.std.proofs.lemmas.Bool.Decides.{nat_tests}
 use Rattle.std.proofs.lemmas.List.{drop_all, take_all, take-append-drop}
 use Rattle.std.proofs.Math.Seq.{drop-append_seam}
@@ -40,14 +40,10 @@ none_before (b ∷ id) = from_first (is_dot b) refl (none_before id)
         let one_more : 1 + position_or_len is_dot id ≡ suc (position_or_len is_dot id) = omega arith in
         rw (e, one_more, e) others
 
-both_false : (a c : Bool) → (a || c) ≡ false → (a ≡ false) × (c ≡ false)
-both_false true c e = absurd cc
-both_false false c e = (refl, e)
-
 pub first_behind : (test : ℕ → Bool) (front rest : List ℕ) (b : ℕ) → test b ≡ true → list_any test front ≡ false → position_or_len test (front ++ b ∷ rest) ≡ length front
 first_behind test [] rest b here none = rw here refl
 first_behind test (x ∷ front) rest b here none =
-    let parts = both_false (test x) (list_any test front) none in
+    let parts = or_parts (test x) (list_any test front) none in
     rw (parts.0, first_behind test front rest b here parts.1) (omega arith)
 
 splits : (id parent : List ℕ) → is_sub_of id parent ≡ true → IsSubOf id parent

@@ -1,5 +1,5 @@
 -- Where the inputs of a receipt clash with nothing, they are distinct and awaited by none.
-use Rattle.std.proofs.Common.{◌≡◌, ℕ, Bool, true, false, cond, ◌||◌, List, [], ◌∷◌, map, Option, Some, None, refl, sym, ap, ◌∙◌}
+use Rattle.std.proofs.Common.{◌≡◌, ℕ, Bool, true, false, cond, ◌||◌, List, [], ◌∷◌, map, Option, Some, None, refl, ap, ◌∙◌}
 use Rattle.std.specs.Prelude.{bytes_eq, is_some}
 use Rattle.std.specs.List.{list_any, find}
 use Rattle.std.specs.Option.{option_or, option_map}
@@ -47,8 +47,3 @@ distinct_inputs w r e = none_repeats (inputs_of r.body) (none_held (first_repeat
 pub unawaited_inputs : (w : World) (r : Receipt) → inputs_held w r ≡ None → has_awaited w r ≡ false
 unawaited_inputs w r e =
     none_found (λ input. is_some (awaited_by w r.receiver input)) (inputs_of r.body) (none_held (first_repeated (inputs_of r.body)) (first_awaited w r.receiver (inputs_of r.body)) e).1
-
--- ---- a map of nothing
-pub nothing_mapped : {A B : Type 0} (f : A → B) (o : Option A) (found : Option B) → found ≡ option_map f o → is_some found ≡ false → o ≡ None
-nothing_mapped f None found e h = refl
-nothing_mapped f (Some x) found e h = absurd (let t : true ≡ false = ap is_some (sym e) ∙ h in cc)

@@ -5,21 +5,14 @@ use Rattle.std.specs.Char.{digit_value}
 use Rattle.std.specs.Str.Parse.{AllDigits, IsNumeral, digits_value, without_leading_plus}
 use Rattle.std.proofs.lemmas.Bool.{leb-true, ltb-true, eqb-true}
 use Rattle.std.proofs.lemmas.Str.{digit_value_digit}
+use Rattle.nr_bytes.proofs.Basics.{left_true, right_true}
 use Rattle.nr_json.specs.Plain.{is_digit, is_numeral, amount_in}
 
-pub both_left : (a b : Bool) → (a && b) ≡ true → a ≡ true
-both_left true b e = refl
-both_left false b e = e
-
-pub both_right : (a b : Bool) → (a && b) ≡ true → b ≡ true
-both_right true b e = e
-both_right false b e = absurd cc
-
 digit_low : (b : ℕ) → is_digit b ≡ true → 48 ≤ b
-digit_low b e = leb-true 48 b (both_left (leb 48 b) (leb b 57) e)
+digit_low b e = leb-true 48 b (left_true (leb 48 b) (leb b 57) e)
 
 digit_high : (b : ℕ) → is_digit b ≡ true → b ≤ 57
-digit_high b e = leb-true b 57 (both_right (leb 48 b) (leb b 57) e)
+digit_high b e = leb-true b 57 (right_true (leb 48 b) (leb b 57) e)
 
 digit_small : (b : ℕ) → is_digit b ≡ true → digit_value b < 10
 digit_small b e =
@@ -30,7 +23,7 @@ digit_small b e =
 
 digits_of : (bs : List ℕ) → list_all is_digit bs ≡ true → AllDigits 10 bs
 digits_of [] e = tt
-digits_of (b ∷ bs) e = (digit_small b (both_left (is_digit b) (list_all is_digit bs) e), digits_of bs (both_right (is_digit b) (list_all is_digit bs) e))
+digits_of (b ∷ bs) e = (digit_small b (left_true (is_digit b) (list_all is_digit bs) e), digits_of bs (right_true (is_digit b) (list_all is_digit bs) e))
 
 no_plus : (b : ℕ) (bs : List ℕ) → 48 ≤ b → without_leading_plus (b ∷ bs) ≡ b ∷ bs
 no_plus b bs le = go (b == 43) refl
@@ -42,8 +35,8 @@ no_plus b bs le = go (b == 43) refl
 numeral_parses : (bs : List ℕ) → is_numeral bs ≡ true → (without_leading_plus bs ≡ bs) × IsNumeral 10 bs
 numeral_parses [] e = absurd cc
 numeral_parses (b ∷ bs) e =
-    let all : list_all is_digit (b ∷ bs) ≡ true = both_right (ltb 0 (length (b ∷ bs))) (list_all is_digit (b ∷ bs)) e in
-    (no_plus b bs (digit_low b (both_left (is_digit b) (list_all is_digit bs) all)), (omega arith, digits_of (b ∷ bs) all))
+    let all : list_all is_digit (b ∷ bs) ≡ true = right_true (ltb 0 (length (b ∷ bs))) (list_all is_digit (b ∷ bs)) e in
+    (no_plus b bs (digit_low b (left_true (is_digit b) (list_all is_digit bs) all)), (omega arith, digits_of (b ∷ bs) all))
 
 not_within : (a b : Bool) (n : ℕ) → b ≡ false → None ≡ cond (a && b) (Some n) None
 not_within true b n e = rw e refl

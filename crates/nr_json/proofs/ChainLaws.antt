@@ -20,7 +20,7 @@ use Rattle.nr_reshard.specs.declared.reshard.Reshard.{Reshard}
 use Rattle.serde_json.specs.Data.{string}
 use Rattle.nr_json.specs.Blocks.{block_json, block_of}
 use Rattle.nr_json.specs.ChainFiles.{layout_in, layout_of, plain_of, reshard_members, reshard_json, reshard_of, stated_json, stated_of, third_members, third_json, third_of}
-use Rattle.nr_json.specs.Faults.{Read, fault}
+use Rattle.nr_json.specs.Faults.{fault}
 use Rattle.nr_json.specs.FitsFiles.{FitsBlock, FitsStated}
 use Rattle.nr_json.specs.Keys.{id_of}
 use Rattle.nr_json.specs.Lists.{list_json, list_of}

@@ -11,9 +11,7 @@ use Rattle.nr_blocks.specs.declared.block.Block.{Block}
 use Rattle.nr_blocks.specs.declared.blocks_file.BlocksFile.{BlocksFile}
 use Rattle.nr_blocks.specs.declared.version.Version.{Version}
 use Rattle.nr_blocks.specs.declared.version.Version.TheVariants.{One, Two}
-use Rattle.serde_json.specs.Data.{Data, string, object, Members}
-use Rattle.serde_json.specs.Find.{get_member}
-use Rattle.nr_json.specs.Faults.{Read}
+use Rattle.serde_json.specs.Data.{string, object, Members}
 use Rattle.nr_json.specs.Fits.{FitsTransaction}
 use Rattle.nr_json.specs.FitsFiles.{FitsBlock, FitsEntry, FitsGenesis}
 use Rattle.nr_json.specs.Members.{member_of, optional_of}
@@ -81,9 +79,6 @@ blocks_case Two bs fits =
     rw (member_is (codes "blocks") (list_of block_of) (blocks_members (file_with Two bs)) (list_json block_json bs) bs refl (list_law block_json block_of (FitsBlock Two) (block_law Two) bs fits)) (file_is Two bs fits)
 
 -- ---- the first state
-optional_not : {X : Type 0} (name : List ℕ) (reading : Data → Read X) (ms : Members) → get_member name ms ≡ None → optional_of name reading (object ms) ≡ Ok None
-optional_not name reading ms e = rw e refl
-
 account_is : (ms : Members) (id : List ℕ) (a : StatedAccount) → member_of (codes "kind") text_of (object ms) ≡ Ok (codes "account") → member_of (codes "account_id") id_of (object ms) ≡ Ok id
     → member_of (codes "amount") amount_of (object ms) ≡ Ok a.amount → member_of (codes "locked") amount_of (object ms) ≡ Ok a.locked
     → optional_of (codes "code_hash") hash_of (object ms) ≡ Ok a.code_hash → optional_of (codes "storage_usage") number_of (object ms) ≡ Ok a.storage_usage → entry_of (object ms) ≡ Ok (Account id a)

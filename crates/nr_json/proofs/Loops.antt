@@ -23,9 +23,6 @@ regroup : {X : Type 0} (front : List X) (x : X) (rest : Read (List X)) → with_
 regroup {X} front x (Ok xs) = ap (λ (ys : List X). Ok ys) (simp append_assoc)
 regroup front x (Err e) = refl
 
-pub begins : {X : Type 0} (reading : Data → Read X) (values : List Value) → HasRead reading 0 [] values
-begins {X} reading values = elim (each_of reading 0 (items_view values)) as (λ v. with_front [] v ≡ v) [ Ok xs ↦ refl | Err e ↦ refl ]
-
 pub goes_on : {X : Type 0} (reading : Data → Read X) (i : ℕ) (found : List X) (values : List Value) (s : Value) (x : X) → i < length values → reading (view (get_or values i s)) ≡ Ok x
     → HasRead reading i found values → HasRead reading (i + 1) (found ++ x ∷ []) values
 unfolding each_of

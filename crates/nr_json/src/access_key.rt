@@ -1,6 +1,5 @@
 //! Access keys.
 
-ghost use Rattle.std.specs.Prelude.{◌≡◌};
 ghost use Rattle.nr_bytes.specs.Answers.{Gives};
 ghost use Rattle.serde_json.specs.View.{view};
 ghost use Rattle.nr_json.specs.AccessKeys.{call_permission_json, call_permission_of, permission_json, call_of};

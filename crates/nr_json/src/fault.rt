@@ -1,6 +1,6 @@
 //! Why a JSON value stands for no record.
 
-ghost use Rattle.std.specs.Prelude.{◌≡◌, ◌≢◌, ◌++◌, IfOk, string_bytes};
+ghost use Rattle.std.specs.Prelude.{◌≡◌, ◌≢◌, ◌++◌, IfOk};
 ghost use Rattle.nr_json.specs.Faults.{fault, member_step, item_step, under};
 ghost use Rattle.nr_json.specs.Words.{words};
 ghost use Rattle.nr_json.specs.declared.fault.JsonFault.TheVariants.{Memory};

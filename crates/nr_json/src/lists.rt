@@ -2,7 +2,7 @@
 
 ghost use Rattle.std.specs.Prelude.{◌≡◌, map, IfOk};
 ghost use Rattle.nr_bytes.specs.Answers.{GivesAs};
-ghost use Rattle.serde_json.specs.View.{view, items_view, items_of as items_from};
+ghost use Rattle.serde_json.specs.View.{view, items_view};
 ghost use Rattle.nr_json.specs.Lists.{list_json, list_of, each_of, option_json, option_of};
 ghost use Rattle.nr_json.specs.declared.fault.JsonFault.TheVariants.{Memory};
 

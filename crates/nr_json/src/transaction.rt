@@ -1,6 +1,5 @@
 //! Transactions.
 
-ghost use Rattle.std.specs.Prelude.{◌≡◌};
 ghost use Rattle.nr_json.specs.Transactions.{transaction_json, transaction_of};
 
 use crate::fault::JsonFault;

@@ -34,7 +34,7 @@ use Rattle.nr_overlap.proofs.Basics.{is_lt, not_lt}
 use Rattle.nr_overlap.proofs.DueLemmas.{last_here}
 use Rattle.nr_overlap.proofs.Ended.{whole_run}
 use Rattle.nr_overlap.proofs.SerialLemmas.{world_there}
-use Rattle.nr_overlap.proofs.Sums.{sum_none, sum_same}
+use Rattle.nr_overlap.proofs.Sums.{sum_none, sum_same, sum_front}
 use Rattle.nr_places.proofs.Adding.{IsAdditive, additive_at}
 use Rattle.nr_places.proofs.Counting.{carried_by, measure_each, measure_flying, sum_add, sums}
 use Rattle.nr_places.proofs.Replay.{end_holds, replay_holds}
@@ -50,10 +50,6 @@ use Rattle.nr_state.specs.Valid.{IsValidWorld}
 use Rattle.nr_state.specs.World.{World, accounts_tokens}
 
 -- ---- sums over numbers and over lists
-sum_front : (n : ℕ) (f : ℕ → ℕ) → sum_below (suc n) f ≡ f 0 + sum_below n (λ s. f (suc s))
-sum_front zero f = omega arith
-sum_front (suc n) f = omega (arith, sum_front n f)
-
 sum_flat : {A : Type 0} (g : A → ℕ) (h : ℕ → List A) (n a : ℕ) → sum_by g (flat_map h (range_with_len a n))
     ≡ sum_below n (λ s. sum_by g (h (a + s)))
 sum_flat g h zero a = refl
@@ -158,9 +154,6 @@ module _ (x : Chain) (is : IsChain x) (can : CanGoOn x) where
 
   whole : IsWholeRun r e
   whole = whole_run r e refl
-
-  working_end : (s : ℕ) → s < n → working_at r s (at e s) ≡ None
-  working_end s l = ap (working_at r s) (at_end s l)
 
   -- nothing is carried behind the last chunk
   carried_end : (s : ℕ) → s < n → (w_of s).carried ≡ []

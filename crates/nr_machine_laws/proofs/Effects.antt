@@ -1,9 +1,9 @@
 -- The effect of an instruction on operands, locals and globals of its types.
-use Rattle.std.proofs.Common.{◌≡◌, ℕ, zero, suc, ◌+◌, ◌-◌, ◌*◌, ◌%◌, ◌^◌, ◌≤◌, Bool, true, false, cond, ◌&&◌}
+use Rattle.std.proofs.Common.{◌≡◌, ℕ, zero, suc, ◌+◌, ◌-◌, ◌*◌, ◌%◌, ◌^◌, ◌≤◌, Bool, true, false, cond}
 use Rattle.std.proofs.Common.{List, [], ◌∷◌, ◌++◌, length, take, drop}
 use Rattle.std.proofs.Common.{replicate, Option, Some, None, Result, Ok, Err, nat_lt, refl, sym, ap, ◌∙◌, subst, arith}
 use Rattle.std.proofs.Common.{length-append, length-drop, length-take}
-use Rattle.std.specs.Prelude.{map, reverse, slice_get, slice_set, ◌==◌, is_some, nat_le, option_and_then}
+use Rattle.std.specs.Prelude.{map, reverse, slice_get, slice_set, ◌==◌, is_some, nat_le}
 use Rattle.std.proofs.lemmas.Option.{cond_some}
 use Rattle.std.proofs.lemmas.Bool.{leb-true}
 use Rattle.nr_machine_laws.proofs.Lists.{joined, arguments, under_arguments, zeros, got, put, mapped_at, one, two}
@@ -11,7 +11,7 @@ use Rattle.nr_machine_laws.proofs.Lists.{three}
 use Rattle.nr_machine_laws.proofs.Numbers.{OkIs, arith_fits, compare_fits, zero_test_fits, bit_count_fits}
 use Rattle.nr_machine_laws.proofs.Numbers.{convert_fits, load_fits}
 use Rattle.nr_machine_laws.specs.Typed.{AreOf, IsConstant, IsCode, kind_of, IsTypedGuest}
-use Rattle.nr_wasmexec.proofs.Signatures.{same_types_are, same_sig_is}
+use Rattle.nr_wasmexec.proofs.Signatures.{same_sig_is}
 use Rattle.nr_wasmexec.specs.Functions.{Func, Hosted, Coded, sig_of, func_at}
 use Rattle.nr_wasmexec.specs.Reduction.{Effect, Goes, Writes, Opens, Invokes, Asks, Branches, Returns, Traps, Stuck}
 use Rattle.nr_wasmexec.specs.Reduction.{with_value, computed, place_at, with_memory, read, written, grows}
@@ -38,7 +38,7 @@ use Rattle.nr_wasmtypes.specs.declared.module.FuncType.{FuncType}
 use Rattle.nr_wasmtypes.specs.declared.module.Global.{Global}
 use Rattle.nr_wasmvalid.specs.Parts.{same_sig, func_indices}
 use Rattle.nr_wasmvalid.specs.Rules.{Types?, types, Context, within, Take, Give, Leave, Must, func_type}
-use Rattle.nr_wasmvalid.specs.Rules.{is_label, are_labels, rule}
+use Rattle.nr_wasmvalid.specs.Rules.{are_labels, rule}
 use Rattle.nr_wasmvalid.specs.Typing.{Obey}
 use Rattle.nr_wasmvalid.specs.declared.refusal.Refusal.TheVariants as kind
 use Rattle.nr_wasmexec.proofs.Sound.{label_at, func_there, found_for, label_for}
@@ -84,21 +84,6 @@ trapping t (Err Overflow) f P is trap go = trap 4
 reading : (o : Option ℕ) (f : ℕ → Effect) (P : Effect → Type 0) → P (Traps 2) → ((v : ℕ) → P (f v)) → P (read o f)
 reading None f P trap go = trap
 reading (Some v) f P trap go = go v
-
--- the labels of a table
-label_is : (ts : Types?) (o : Option Types?) → is_label ts o ≡ true → o ≡ Some ts
-label_is ts None e = absurd cc
-label_is ts (Some us) e = ap Some (sym (same_types_are ts us e))
-
-both_true : (a b : Bool) → (a && b) ≡ true → (a ≡ true) × (b ≡ true)
-both_true true b e = (refl, e)
-both_true false b e = absurd cc
-
--- a function whose type an instruction names
-type_there : (sigs : List FuncType) (o : Option ℕ) (s : FuncType) → option_and_then (λ t. slice_get sigs t) o ≡ Some s
-    → (t : ℕ) × (o ≡ Some t) × (slice_get sigs t ≡ Some s)
-type_there sigs None s e = absurd cc
-type_there sigs (Some t) s e = (t, refl, e)
 
 -- ---- memory
 as_long : (bytes : List ℕ) (at : ℕ) (part : List ℕ) → at + length part ≤ length bytes

@@ -4,6 +4,7 @@ use Rattle.std.proofs.Common.{take, replicate}
 use Rattle.std.proofs.Common.{Option, Some, None, nat_lt, refl, sym, ap, ◌∙◌, subst, arith}
 use Rattle.std.specs.Prelude.{IsTrue, is_some, nat_eq, not, ◌&&◌, slice_get, option_and_then}
 use Rattle.std.proofs.lemmas.Bool.Decides.{Decides-eqb}
+use Rattle.std.proofs.lemmas.Bool.{and_parts}
 use Rattle.nr_machine_laws.proofs.Effects.{IsTypedEffect, IsInside, effect_typed, same_size}
 use Rattle.nr_machine_laws.proofs.Lists.{joined, front, zeros}
 use Rattle.nr_machine_laws.specs.Steps.{GivesOf, IsAnswered, AnswersNext, first_step, LeadsTo, Reaches, values_at}
@@ -291,10 +292,6 @@ module _ {S : Type 0} (w : Rules S) (law : IsHost w.host) (sound : IsSound w.pro
       by_instr false e = on c.store typed.guest (unasked c.store c.locals c.seq e)
 
   -- ---- runs
-  both_true : (a b : Bool) → (a && b) ≡ true → (a ≡ true) × (b ≡ true)
-  both_true true b e = (refl, e)
-  both_true false b e = absurd cc
-
   no_params : (sig : FuncType) → IsTrue (nat_eq (length sig.params) 0 && not (is_some sig.result)) → (sig.params ≡ [])
       × (sig.result ≡ None)
   no_params sig m = by_parts sig.params sig.result m
@@ -305,7 +302,7 @@ module _ {S : Type 0} (w : Rules S) (law : IsHost w.host) (sound : IsSound w.pro
       by_parts [] (Some t) m = absurd cc
       by_parts (t ∷ ps) ty m =
           let none : length (t ∷ ps) ≡ 0 =
-          (Decides-eqb (length (t ∷ ps)) 0).0 (both_true (nat_eq (length (t ∷ ps)) 0) (not (is_some ty)) m).0 in
+          (Decides-eqb (length (t ∷ ps)) 0).0 (and_parts (nat_eq (length (t ∷ ps)) 0) (not (is_some ty)) m).0 in
           absurd (omega (arith, none))
 
   first_typed : (s : Runtime S) → IsTypedGuest prog.code s.guest → (f : ℕ) (o : Option Func) → func_at prog f ≡ o

@@ -1,5 +1,5 @@
 -- Sums of tallies over lists, by what adds up along them.
-use Rattle.std.proofs.Common.{◌≡◌, ℕ, zero, suc, ◌+◌, List, [], ◌∷◌, refl, sym, ap, ◌∙◌, arith}
+use Rattle.std.proofs.Common.{◌≡◌, ℕ, zero, suc, ◌+◌, List, [], ◌∷◌, refl, sym, ap, ◌∙◌, arith, add_assoc}
 use Rattle.std.specs.Prelude.{slice_index, sum_by}
 use Rattle.std.proofs.lemmas.List.Sums.{sum_by-cons}
 use Rattle.nr_chunk.specs.Tallies.{five}
@@ -8,9 +8,6 @@ use Rattle.nr_overlap.specs.Balance.{sum_below}
 use Rattle.nr_places.proofs.Adding.{IsAdditive}
 use Rattle.nr_places.specs.Totals.{nothing, plus, tally_below}
 use Rattle.nr_outcome.specs.Sums.{sum_of, sum_on}
-
-grouped : (a b c : ℕ) → (a + b) + c ≡ a + (b + c)
-grouped a b c = omega arith
 
 alone : (a : ℕ) → a ≡ a + 0
 alone a = omega arith
@@ -22,7 +19,7 @@ module _ (g : Tally → ℕ) (is : IsAdditive g) where
   sum_on_is : {A : Type 0} (f : A → Tally) (xs : List A) (t : Tally) → g (sum_on f t xs) ≡ g t + sum_by (λ x. g (f x)) xs
   sum_on_is f [] t = alone (g t)
   sum_on_is f (x ∷ xs) t =
-      sum_on_is f xs (plus t (f x)) ∙ ap (λ a. a + sum_by (λ x. g (f x)) xs) (is.both t (f x)) ∙ grouped (g t) (g (f x)) (sum_by (λ x. g (f x)) xs)
+      sum_on_is f xs (plus t (f x)) ∙ ap (λ a. a + sum_by (λ x. g (f x)) xs) (is.both t (f x)) ∙ add_assoc (g t) (g (f x)) (sum_by (λ x. g (f x)) xs)
       ∙ ap (λ a. g t + a) (sym (sum_by-cons (λ x. g (f x)) x xs))
 
   pub sum_of_is : {A : Type 0} (f : A → Tally) (xs : List A) → g (sum_of f xs) ≡ sum_by (λ x. g (f x)) xs

@@ -1,7 +1,6 @@
 -- Sums, and what holds of all, over lists that functions of numbers give.
-use Rattle.std.proofs.Common.{◌≡◌, ℕ, zero, suc, ◌+◌, ◌-◌, ◌<◌, List, [], ◌∷◌, ◌++◌, Option, Some, None, drop, get_or, map, refl, sym, ap, ◌∙◌, subst, arith}
+use Rattle.std.proofs.Common.{◌≡◌, ℕ, zero, suc, ◌+◌, ◌-◌, ◌<◌, List, [], ◌∷◌, ◌++◌, drop, get_or, map, refl, sym, ap, ◌∙◌, subst, arith}
 use Rattle.std.specs.Prelude.{sum_by}
-use Rattle.std.specs.Option.{option_to_list}
 use Rattle.std.specs.List.{AllByRecursion, flat_map, range_with_len}
 use Rattle.std.proofs.lemmas.List.FromFn.{map-range_with_len_more}
 use Rattle.std.proofs.lemmas.List.Sums.{sum_by-append, sum_by-cons}
@@ -35,10 +34,6 @@ module _ {A : Type 0} (h : A → ℕ) where
       sum_by-append h (f a) (flat_map f (range_with_len (a + 1) n)) ∙ ap (λ t. sum_by h (f a) + t) (sum_flat f n (a + 1)) ∙ sum_from n a (λ i. sum_by h (f i))
 
 module _ {A : Type 0} (P : A → Type 0) where
-  pub all_option : (o : Option A) → ((x : A) → o ≡ Some x → P x) → AllByRecursion P (option_to_list o)
-  all_option None is = tt
-  all_option (Some x) is = (is x refl, tt)
-
   all_both : (xs ys : List A) → AllByRecursion P xs → AllByRecursion P ys → AllByRecursion P (xs ++ ys)
   all_both [] ys a b = b
   all_both (x ∷ xs) ys a b = (a.0, all_both xs ys a.1 b)

@@ -40,15 +40,6 @@ to_the_end from to n f text a b c e = e ∙ ap (λ k. text_below k (λ i. f (fro
     same : n - from ≡ to - from
     same = grind (arith, a, b, c)
 
-pub whole_between : (n : ℕ) (f : ℕ → List ℕ) → text_between 0 n f ≡ text_below n f
-whole_between n f = (λ i. text_below (all i) (λ k. f (same k i)))
-  where
-    all : n - 0 ≡ n
-    all = omega arith
-
-    same : (k : ℕ) → 0 + k ≡ k
-    same k = omega arith
-
 -- two texts, one behind the other
 joined_below : (m n : ℕ) (f : ℕ → List ℕ) → text_below m f ++ text_below n (λ i. f (m + i)) ≡ text_below (m + n) f
 unfolding text_below

@@ -13,7 +13,7 @@ use Rattle.nr_outproof.specs.declared.levels.Side.{Side}
 use Rattle.nr_outproof.specs.declared.proof.Proof.{Proof}
 use Rattle.nr_outproof.specs.Items.{items}
 use Rattle.nr_outproof.specs.Meeting.{Meets, MeetsAt}
-use Rattle.nr_outproof.specs.Proofs.{Accepts, Collides, Explains, IsOf, SameRoot, chunk_text, root_of, stated_text}
+use Rattle.nr_outproof.specs.Proofs.{Accepts, Collides, Explains, IsOf, SameRoot, root_of}
 use Rattle.nr_outproof.specs.Tree.{climb, leaf_text, leaf_top, leaf_tops, path_of, way_of, IsOnWay}
 use Rattle.nr_outproof.proofs.Climbing.{path_long, path_leads, path_inside}
 use Rattle.nr_outproof.proofs.Differing.{tail_is}
@@ -43,18 +43,6 @@ own_leads r k p item same is =
     same.top ∙ sym (path_leads p.count (leaf_tops (items k r)) p.place (leaf_top item) (tops_long r k p same) (leaf_is (items k r) p.place item is))
 
 -- ---- texts that collide
-pub root_collides : (r : ChunkResult) (k : ProofKind) (p : Proof) (first second : List ℕ) → (IsOf r k p → ⊥) → Accepts (root_of r k) p
-    → first ≡ stated_text p → second ≡ chunk_text r k → first ≢ second → Collides r k p first second
-root_collides r k p first second wrong accepted one two differ =
-    let hash : (h : Hash32) → List ℕ = λ h. h.0 in
-    record {
-      false_proof = wrong;
-      different = differ;
-      one_hash = rw (one, two) (ap hash accepted.leads);
-      checked = inl one;
-      hashed = inl two;
-    }
-
 pub leaf_collides : (r : ChunkResult) (k : ProofKind) (p : Proof) (item first second : List ℕ) → (IsOf r k p → ⊥) → SameRoot r k p → slice_get (items k r) p.place ≡ Some item
     → first ≡ leaf_text p.item → second ≡ leaf_text item → leaf_top p.item ≡ leaf_top item → Collides r k p first second
 leaf_collides r k p item first second wrong same is one two e =

@@ -1,10 +1,11 @@
 -- The text of a proof is read back as the proof.
-use Rattle.std.proofs.Common.{◌≡◌, ℕ, zero, suc, ◌+◌, ◌/◌, ◌%◌, ◌^◌, ◌<◌, ◌≤◌, ◌==◌, ◌&&◌, ◌⊎◌, inl, inr, Bool, true, false, cond, not, List, [], ◌∷◌, ◌++◌, length, get_or, slice_index, Some, Ok, refl, sym, ap, ◌∙◌, arith, append_assoc}
+use Rattle.std.proofs.Common.{◌≡◌, ℕ, zero, suc, ◌+◌, ◌/◌, ◌%◌, ◌^◌, ◌<◌, ◌≤◌, ◌==◌, ◌&&◌, ◌⊎◌, inl, inr, Bool, true, false, not, List, [], ◌∷◌, ◌++◌, length, get_or, slice_index, Some, Ok, refl, sym, ap, ◌∙◌, arith, append_assoc}
 use Rattle.std.specs.Prelude.{codes, decimal, nat_le}
 use Rattle.std.specs.List.{flat_map, list_all, onto_first, AllByRecursion}
-use Rattle.std.proofs.lemmas.Bool.{and_from, and_parts, le-leb, leb-true, ne_eqb, eq-eqb, cases_lt}
+use Rattle.std.proofs.lemmas.Bool.{and_from, and_parts, le-leb, leb-true, ne_eqb, eq-eqb, cases_lt, not-true}
 use Rattle.std.proofs.lemmas.Fmt.{decimal_by_steps, decimal_digit, decimal_nonempty, decimal_is_IsNumeral, first_decimal}
 use Rattle.std.proofs.lemmas.List.Folds.{list_all-append}
+use mathlib.Core.Bool.{and-false}
 use Rattle.hex.specs.Hex.{encode_lower, encode_with, lower_digits}
 use Rattle.hex.proofs.HexLemmas.{decode_of-encode_lower}
 use Rattle.nr_bytes.specs.Numbers.{IsBytes}
@@ -107,10 +108,6 @@ hex_back : (bytes : List ℕ) → IsBytes bytes → hex_in (encode_lower bytes) 
 unfolding hex_in
 hex_back bytes fits = let all = all_lower bytes fits in let back = decode_of-encode_lower bytes fits in rw (all, back) refl
 
-or_parts : (x y : Bool) → cond x true y ≡ true → (x ≡ true) ⊎ (y ≡ true)
-or_parts true y e = inl refl
-or_parts false y e = inr e
-
 lower_plain : (b : ℕ) → is_hex_digit b ≡ true → plain b ≡ true
 lower_plain b h = by (is_digit b) (nat_le 97 b) refl refl h
   where
@@ -137,22 +134,18 @@ line_is (word ∷ next ∷ words) = ap (λ (t : List ℕ). word ++ 32 ∷ t) (li
 abbrev apart : ℕ → ℕ → Bool
 apart separator b = not (b == separator)
 
-not_it : (t : Bool) → not t ≡ true → t ≡ false
-not_it true e = absurd cc
-not_it false e = refl
-
 piece_before : (separator : ℕ) (word rest : List ℕ) → list_all (apart separator) word ≡ true → pieces separator (word ++ separator ∷ rest) ≡ word ∷ pieces separator rest
 piece_before separator [] rest h = let e = eq-eqb separator separator refl in rw e refl
 piece_before separator (b ∷ word) rest h =
     let parts = and_parts (apart separator b) (list_all (apart separator) word) h in
-    let e = not_it (b == separator) parts.0 in
+    let e = not-true (b == separator) parts.0 in
     rw e (ap (onto_first b) (piece_before separator word rest parts.1))
 
 piece_alone : (separator : ℕ) (word : List ℕ) → list_all (apart separator) word ≡ true → pieces separator word ≡ word ∷ []
 piece_alone separator [] h = refl
 piece_alone separator (b ∷ word) h =
     let parts = and_parts (apart separator b) (list_all (apart separator) word) h in
-    let e = not_it (b == separator) parts.0 in
+    let e = not-true (b == separator) parts.0 in
     rw e (ap (onto_first b) (piece_alone separator word parts.1))
 
 no_space : (word : List ℕ) → IsPlain word → list_all (apart 32) word ≡ true
@@ -199,14 +192,10 @@ unfolding bytes_word
 bytes_plain [] fits = refl
 bytes_plain (b ∷ bytes) fits = hex_plain (b ∷ bytes) fits
 
-and_false : (b : Bool) → (b && false) ≡ false
-and_false true = refl
-and_false false = refl
-
 bytes_back : (bytes : List ℕ) → IsBytes bytes → bytes_in (bytes_word bytes) ≡ Some bytes
 unfolding bytes_word bytes_in encode_with
 bytes_back [] fits = refl
-bytes_back (b ∷ bytes) fits = let e = and_false (slice_index lower_digits (b / 16) == 45) in rw e (hex_back (b ∷ bytes) fits)
+bytes_back (b ∷ bytes) fits = let e = and-false (slice_index lower_digits (b / 16) == 45) in rw e (hex_back (b ∷ bytes) fits)
 
 hash_plain : (hash : Hash32) → IsBytes hash.0 → IsPlain (hash_word hash)
 unfolding hash_word

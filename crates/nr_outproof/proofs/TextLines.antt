@@ -31,9 +31,6 @@ head_is_read bytes line rest e =
     let some = some_piece 10 rest in
     ap by_lines (e ∙ ap (λ (w : List (List ℕ)). line ∷ w) some.2) ∙ ap (with_head (head_in (pieces 32 line))) (sym some.2)
 
-pub item_is_none : (h : Head) (bytes : List ℕ) → pieces 10 bytes ≡ bytes ∷ [] → behind_head h (pieces 10 bytes) ≡ Err (Form 2)
-item_is_none h bytes e = ap (behind_head h) e
-
 pub item_is_read : (h : Head) (bytes line rest : List ℕ) → pieces 10 bytes ≡ line ∷ pieces 10 rest → behind_head h (pieces 10 bytes) ≡ with_item h (item_in line) (pieces 10 rest)
 item_is_read h bytes line rest e =
     let some = some_piece 10 rest in
@@ -43,10 +40,6 @@ item_is_read h bytes line rest e =
 abbrev pub behind : List Hash32 → Result (List Hash32) ProofFault → Result (List Hash32) ProofFault
 behind path (Ok more) = Ok (path ++ more)
 behind path (Err fault) = Err fault
-
-behind_none : (rest : Result (List Hash32) ProofFault) → behind [] rest ≡ rest
-behind_none (Ok more) = refl
-behind_none (Err fault) = refl
 
 behind_more : (path : List Hash32) (t : Hash32) (n : ℕ) (rest : Result (List Hash32) ProofFault) → behind path (with_hash n (Some t) rest) ≡ behind (path ++ t ∷ []) rest
 behind_more path t n (Ok more) = ap (λ (w : List Hash32). Ok w) (sym (append_assoc path (t ∷ []) more))
@@ -90,9 +83,6 @@ pub read_in_part : (n : ℕ) (path : List Hash32) (bytes : List ℕ) (all : Resu
 read_in_part n path [] all split some told = absurd cc
 read_in_part n path (b ∷ bytes) all split some told = sym told ∙ ap (behind path) (ap (path_from n) split ∙ last_line n (b ∷ bytes))
 
-pub from_third : (path : List Hash32) (bytes : List ℕ) → path ≡ [] → behind path (path_from 3 (pieces 10 bytes)) ≡ path_from 3 (pieces 10 bytes)
-from_third path bytes none = ap (λ p. behind p (path_from 3 (pieces 10 bytes))) none ∙ behind_none (path_from 3 (pieces 10 bytes))
-
 -- ---- a line of three words or more has no word behind one alone
 pub three_words : (verb line a p b q : List ℕ) → pieces 32 line ≡ a ∷ pieces 32 p → pieces 32 p ≡ b ∷ pieces 32 q → word_behind verb (pieces 32 line) ≡ None
 three_words verb line a p b q one two =
@@ -100,9 +90,6 @@ three_words verb line a p b q one two =
     ap (word_behind verb) (one ∙ ap (λ (w : List (List ℕ)). a ∷ w) (two ∙ ap (λ (w : List (List ℕ)). b ∷ w) some.2))
 
 -- ---- answers
-pub item_missing : (h : Head) (bytes line rest : List ℕ) → pieces 10 bytes ≡ line ∷ pieces 10 rest → item_in line ≡ None → behind_head h (pieces 10 bytes) ≡ Err (Form 2)
-item_missing h bytes line rest e none = item_is_read h bytes line rest e ∙ ap (λ o. with_item h o (pieces 10 rest)) none
-
 pub path_given : (h : Head) (bytes line rest item : List ℕ) (path : List Hash32) → pieces 10 bytes ≡ line ∷ pieces 10 rest → item_in line ≡ Some item → path_from 3 (pieces 10 rest) ≡ Ok path
     → behind_head h (pieces 10 bytes) ≡ with_path h item (Ok path)
 path_given h bytes line rest item path e is given = item_is_read h bytes line rest e ∙ ap (λ o. with_item h o (pieces 10 rest)) is ∙ ap (with_path h item) given

@@ -1,6 +1,6 @@
 //! The texts of a tree and their hashes.
 
-ghost use Rattle.std.specs.Prelude.{◌≡◌, ◌++◌, IfOk};
+ghost use Rattle.std.specs.Prelude.{◌≡◌, IfOk};
 ghost use Rattle.nr_outproof.specs.Tree.{joined, joined_text, leaf_text, leaf_top, pair_text, pair_top, digest};
 ghost use Rattle.nr_outproof.specs.Proofs.{FitsRoot, kind_byte, root_text};
 

@@ -1,12 +1,12 @@
 //! The bytes of an item.
 
-ghost use Rattle.std.specs.Prelude.{◌≡◌, ◌++◌, ◌∷◌, [], IfOk, OnOk};
+ghost use Rattle.std.specs.Prelude.{◌≡◌, ◌++◌, ◌∷◌, IfOk, OnOk};
 ghost use Rattle.std.specs.List.{slice_get};
 ghost use Rattle.nr_records.specs.declared.chunk_result.ChunkLine.TheVariants.{TxOk, TxRefused, Run, Sent};
 ghost use Rattle.nr_records.specs.declared.chunk_result.RunStatus.TheVariants.{Failure};
 ghost use Rattle.nr_ids.specs.Keys.{hash_bytes, IsHash};
 ghost use Rattle.nr_outproof.specs.Fitting.{FitsLine, FitsStatus, FitsRun};
-ghost use Rattle.nr_outproof.specs.Items.{is_of, is_sent, items, line_item, run_bytes, status_bytes};
+ghost use Rattle.nr_outproof.specs.Items.{is_of, is_sent, items, line_item, status_bytes};
 
 use nr_bytes::{Blob, Writer};
 use nr_ids::{Hash32, ShardId};

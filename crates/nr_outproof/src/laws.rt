@@ -2,7 +2,6 @@
 
 ghost use Rattle.std.specs.Prelude.{◌≡◌, ◌∷◌, [], ◌<◌, ◌≤◌, ◌*◌, ◌^◌, List, ℕ, Ok, length, take, drop};
 ghost use Rattle.nr_records.specs.declared.chunk_result.ChunkLine.{ChunkLine};
-ghost use Rattle.nr_ids.specs.declared.key.Hash32.{Hash32};
 ghost use Rattle.nr_outproof.specs.Fitting.{FitsLine};
 ghost use Rattle.nr_outproof.specs.Items.{is_sent, line_item};
 ghost use Rattle.nr_outproof.specs.Texts.{FitsProof, proof_read, proof_text};

@@ -4,7 +4,7 @@ ghost use Rattle.std.specs.Prelude.{◌≡◌, IfOk, cond, Some, None};
 ghost use Rattle.std.specs.Option.{option_copied};
 ghost use Rattle.std.specs.Str.{bytes_eq};
 ghost use Rattle.nr_bytes.specs.Answers.{Gives, GivesAs};
-ghost use Rattle.nr_outproof.specs.Texts.{bytes_in, hash_in, hash_of, head_by, head_in, head_of, hex_in, item_in};
+ghost use Rattle.nr_outproof.specs.Texts.{bytes_in, hash_in, hash_of, head_in, head_of, hex_in, item_in};
 ghost use Rattle.nr_outproof.specs.Texts.{kind_in, behind_head, path_from, pieces, proof_read, word_behind};
 ghost use Rattle.nr_outproof.specs.declared.fault.ProofFault.TheVariants.{Memory};
 

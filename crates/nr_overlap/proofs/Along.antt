@@ -1,7 +1,8 @@
 -- The serial run as steps, the slowest shard first: a property that steps keep holds at each of its moments.
 use Rattle.std.proofs.Common.{◌≡◌, ℕ, zero, suc, ◌+◌, ◌<◌, ◌≤◌, true, List, Some, None, length, inl, inr, ◌⊎◌, sym, refl, ap, ◌∙◌, subst, arith, add-one}
-use Rattle.std.specs.Prelude.{slice_get, nat_lt, ◌&&◌}
-use Rattle.std.proofs.lemmas.Option.{slice_get_cases}
+use Rattle.std.specs.Prelude.{nat_lt, ◌&&◌}
+use Rattle.std.proofs.lemmas.Bool.{cases_eq}
+use Rattle.nr_bytes.proofs.Basics.{within_some}
 use Rattle.nr_overlap.specs.Rules.{Rules}
 use Rattle.nr_overlap.specs.Serial.{due_after}
 use Rattle.nr_overlap.specs.Inside.{IsInside, actor}
@@ -13,7 +14,7 @@ use Rattle.nr_overlap.specs.declared.event.Event.{Event}
 use Rattle.nr_overlap.specs.declared.event.Event.TheVariants.{OpenChunk, TakeList, SealChunk, PublishLists}
 use Rattle.nr_overlap.specs.declared.position.Stage.TheVariants.{Idle, Opened}
 use Rattle.nr_overlap.specs.declared.position.Position.{Position}
-use Rattle.nr_overlap.proofs.Basics.{same_or_not, true_or_false, lt_of, ge_of}
+use Rattle.nr_overlap.proofs.Basics.{true_or_false, lt_of, ge_of}
 use Rattle.nr_overlap.proofs.Reaching.{Becomes, becomes, keeps_reached}
 use Rattle.nr_overlap.proofs.Founding.{at_replicate, length_replicate, first_reached}
 use Rattle.nr_overlap.specs.Run.{opening}
@@ -35,7 +36,7 @@ slowest_of ps (suc (suc n)) l =
         suc n,
         record {
           within = omega arith;
-          least = λ j m. elim (same_or_not j (suc n)) [ inl z ↦ subst (λ t. (at ps (suc n)).number ≤ (at ps t).number) (sym z) (omega arith) | inr ne ↦ omega (arith, less, old.1.least j (omega (arith, ne))) ];
+          least = λ j m. elim (cases_eq j (suc n)) [ inl z ↦ subst (λ t. (at ps (suc n)).number ≤ (at ps t).number) (sym z) (omega arith) | inr ne ↦ omega (arith, less, old.1.least j (omega (arith, ne))) ];
           first = λ j m. omega (arith, less, old.1.least j m);
         },
       )
@@ -43,7 +44,7 @@ slowest_of ps (suc (suc n)) l =
         old.0,
         record {
           within = omega (arith, old.1.within);
-          least = λ j m. elim (same_or_not j (suc n)) [ inl z ↦ subst (λ t. (at ps old.0).number ≤ (at ps t).number) (sym z) more | inr ne ↦ old.1.least j (omega (arith, ne)) ];
+          least = λ j m. elim (cases_eq j (suc n)) [ inl z ↦ subst (λ t. (at ps old.0).number ≤ (at ps t).number) (sym z) more | inr ne ↦ old.1.least j (omega (arith, ne)) ];
           first = old.1.first;
         },
       )
@@ -63,7 +64,7 @@ up_moved : (h : ℕ) (e : Event) (p : Position) → p.number < h → Up h (moved
 up_moved h (OpenChunk s) p l = inl l
 up_moved h (TakeList d s g) p l = inl l
 up_moved h (SealChunk s) p l = inl l
-up_moved h (PublishLists s) p l = elim (same_or_not (p.number + 1) h) [ inl e ↦ inr (ap idle_at e) | inr ne ↦ inl (omega (arith, ne)) ]
+up_moved h (PublishLists s) p l = elim (cases_eq (p.number + 1) h) [ inl e ↦ inr (ap idle_at e) | inr ne ↦ inl (omega (arith, ne)) ]
 
 module _ {W K L R : Type 0} (r : Rules W K L R) (Q : List Position → Type 0)
     (keeps : (ps : List Position) (e : Event) → IsReached r ps → IsInside r.shards e → refusal r ps e ≡ None → Q ps → Q (moved ps e)) where
@@ -93,7 +94,7 @@ module _ {W K L R : Type 0} (r : Rules W K L R) (Q : List Position → Type 0)
             moved ps e,
             record {
               sound = goes_on ps e is next.inside next.enabled;
-              up = λ j l. elim (same_or_not j i) [
+              up = λ j l. elim (cases_eq j i) [
                 | inl f ↦ subst (λ t. Up h (at (moved ps e) t)) (sym f) (subst (Up h) (sym be.here) (up_moved h e (at ps i) (subst (λ t. (at ps t).number < h) (sym is_s) less)))
                 | inr ne ↦ subst (Up h) (sym (be.others j ne)) (up j l)
               ];
@@ -133,15 +134,12 @@ module _ {W K L R : Type 0} (r : Rules W K L R) (Q : List Position → Type 0)
         record {
           sound = goes_on ps e is l enabled;
           here = be.here ∙ ap (moved_by e) here;
-          others = λ j jl. elim (same_or_not j s) [
+          others = λ j jl. elim (cases_eq j s) [
             | inl f ↦ subst (λ t. h ≤ (at (moved ps e) t).number) (sym f) (subst (λ (q : Position). h ≤ q.number) (sym (be.here ∙ ap (moved_by e) here)) (omega arith))
             | inr ne ↦ subst (λ (q : Position). h ≤ q.number) (sym (be.others j ne ∙ all j jl)) (omega arith)
           ];
         },
       )
-
-  within_some : {A : Type 0} (xs : List A) (i : ℕ) → i < length xs → (a : A) × (slice_get xs i ≡ Some a)
-  within_some xs i l = elim ((slice_get_cases xs i).1) [ inl p ↦ (p.0, p.2) | inr p ↦ absurd (omega (arith, p.0, l)) ]
 
   to_taken : (s h n : ℕ) (ps : List Position) → s < r.shards → h < r.heights → n ≤ length (due_after r s h) → IsOpen s h 0 ps → (qs : List Position) × IsOpen s h n qs
   to_taken s h zero ps l below few is = (ps, is)
@@ -160,7 +158,7 @@ module _ {W K L R : Type 0} (r : Rules W K L R) (Q : List Position → Type 0)
         record {
           sound = goes_on qs e before.1.sound good.inside good.enabled;
           here = now;
-          others = λ j jl. elim (same_or_not j s) [
+          others = λ j jl. elim (cases_eq j s) [
             | inl f ↦ subst (λ t. h ≤ (at (moved qs e) t).number) (sym f) (subst (λ (q : Position). h ≤ q.number) (sym now) (omega arith))
             | inr ne ↦ subst (λ (q : Position). h ≤ q.number) (sym (be.others j ne)) (before.1.others j jl)
           ];

@@ -2,6 +2,7 @@
 use Rattle.std.proofs.Common.{◌≡◌, ℕ, zero, suc, ◌+◌, ◌<◌, ◌≤◌, false, List, Option, Some, None, length, inl, inr, sym, refl, ap, ◌∙◌, arith}
 use Rattle.std.specs.Prelude.{slice_get}
 use Rattle.std.proofs.lemmas.Option.{slice_get_within}
+use Rattle.std.proofs.lemmas.Bool.{cases_eq}
 use Rattle.nr_overlap.specs.Rules.{Rules}
 use Rattle.nr_overlap.specs.Serial.{EachTaken, due_after, list_to, sealing_at}
 use Rattle.nr_overlap.specs.Balance.{held_at, Amount, IsKeptBy, AddsUp, sum_below, if_some, held_by, sealed_by, making, made_by}
@@ -10,7 +11,6 @@ use Rattle.nr_overlap.specs.Moment.{took, working_at, flight_at, report_at}
 use Rattle.nr_overlap.specs.declared.position.Stage.{Stage}
 use Rattle.nr_overlap.specs.declared.position.Stage.TheVariants.{Idle, Opened, Sealed}
 use Rattle.nr_overlap.specs.declared.position.Position.{Position}
-use Rattle.nr_overlap.proofs.Basics.{same_or_not}
 use Rattle.nr_overlap.proofs.DueLemmas.{due_at, first_small}
 use Rattle.nr_overlap.proofs.Claims.{took_not}
 use Rattle.nr_overlap.proofs.Founding.{at_replicate}
@@ -22,7 +22,7 @@ use Rattle.nr_overlap.proofs.Along.{opened_at, at_work}
 -- ---- sums and slowest shards
 sum_part : (n i : ℕ) (f : ℕ → ℕ) → i < n → f i ≤ sum_below n f
 sum_part zero i f l = absurd (omega arith)
-sum_part (suc n) i f l = elim (same_or_not i n) [
+sum_part (suc n) i f l = elim (cases_eq i n) [
   | inl e ↦ let a : f i ≡ f n = ap f e in omega arith
   | inr ne ↦ let a : f i ≤ sum_below n f = sum_part n i f (omega (arith, ne)) in omega arith
 ]

@@ -3,12 +3,13 @@ use Rattle.std.proofs.Common.{◌≡◌, ℕ, ◌+◌, ◌-◌, ◌<◌, ◌≤�
 use Rattle.std.specs.Prelude.{slice_get, nat_le, nat_lt, ◌||◌, max}
 use Rattle.std.specs.List.{list_any}
 use Rattle.std.proofs.lemmas.List.Folds.{list_any-append}
+use mathlib.Core.Bool.{or-false}
 use Rattle.nr_overlap.specs.Rules.{Rules}
 use Rattle.nr_overlap.specs.Serial.{due_after, first_due, last_present}
 use Rattle.nr_overlap.specs.Moves.{is_pair}
 use Rattle.nr_overlap.specs.Moment.{took_at}
 use Rattle.nr_overlap.specs.declared.position.Stage.TheVariants.{Idle, Opened, Sealed}
-use Rattle.nr_overlap.proofs.Basics.{true_or_false, or_false, take_next, is_lt, is_le, not_lt, lt_of, le_of, ge_of, gt_of}
+use Rattle.nr_overlap.proofs.Basics.{true_or_false, take_next, is_lt, is_le, not_lt, lt_of, le_of, ge_of, gt_of}
 use Rattle.nr_overlap.proofs.DueLemmas.{due_all, due_none, due_once, due_at, first_small, last_here, last_below}
 
 or_assoc : (a b c : Bool) → (a || (b || c)) ≡ ((a || b) || c)
@@ -28,13 +29,13 @@ full (x ∷ xs) n e = rw e (ap (λ ys. x ∷ ys) (full xs (length xs) refl))
 module _ {W K L R : Type 0} (r : Rules W K L R) where
   -- opening takes nothing
   pub took_open : (d n m h s : ℕ) → took_at r d Opened n 0 h s ≡ took_at r d Idle n m h s
-  took_open d n m h s = or_false (nat_lt h (first_due r d n))
+  took_open d n m h s = or-false (nat_lt h (first_due r d n))
 
   -- taking takes one list
   pub took_take : (d n m h s : ℕ) (pair : ℕ × ℕ) → slice_get (due_after r d n) m ≡ Some pair → took_at r d Opened n (m + 1) h s ≡ (took_at r d Opened n m h s || is_pair h s pair)
   took_take d n m h s pair e =
       ap (λ xs. nat_lt h (first_due r d n) || list_any (is_pair h s) xs) (take_next (due_after r d n) m pair e)
-      ∙ ap (λ b. nat_lt h (first_due r d n) || b) (list_any-append (is_pair h s) (take m (due_after r d n)) (pair ∷ []) ∙ ap (λ b. list_any (is_pair h s) (take m (due_after r d n)) || b) (or_false (is_pair h s pair)))
+      ∙ ap (λ b. nat_lt h (first_due r d n) || b) (list_any-append (is_pair h s) (take m (due_after r d n)) (pair ∷ []) ∙ ap (λ b. list_any (is_pair h s) (take m (due_after r d n)) || b) (or-false (is_pair h s pair)))
       ∙ or_assoc (nat_lt h (first_due r d n)) (list_any (is_pair h s) (take m (due_after r d n))) (is_pair h s pair)
 
   -- the next due list was not taken

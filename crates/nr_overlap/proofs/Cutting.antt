@@ -2,8 +2,9 @@
 use Rattle.std.proofs.Common.{◌≡◌, ℕ, ◌+◌, ◌-◌, ◌<◌, ◌≤◌, Bool, true, false, cond, List, [], ◌∷◌, Option, Some, None, length, inl, inr, sym, refl, ap, ◌∙◌, subst, arith}
 use Rattle.std.specs.Prelude.{slice_get, nat_lt, ◌||◌}
 use Rattle.std.specs.Option.{option_map}
-use Rattle.std.proofs.lemmas.Option.{slice_get_cases}
 use Rattle.std.proofs.lemmas.List.{get_or_past}
+use Rattle.std.proofs.lemmas.Bool.{false_from_ne_true, cases_eq}
+use Rattle.nr_bytes.proofs.Basics.{within_some}
 use Rattle.nr_overlap.specs.Cut.{Cut, IsSerialCut, CutsAreSerial, put, first_cut, took_value, sealed_value, list_for, stepped, stepped_if, cut_of}
 use Rattle.nr_overlap.specs.Rules.{Rules, Sealing}
 use Rattle.nr_overlap.specs.Serial.{due_after, last_work, list_to, sealing_at, with_list, work, world_after}
@@ -21,7 +22,7 @@ use Rattle.nr_ids.specs.declared.number.Height.{Height}
 use Rattle.nr_overlap.specs.declared.position.Position.{Position}
 use Rattle.nr_overlap.specs.declared.position.Stage.{Stage}
 use Rattle.nr_overlap.specs.declared.position.Stage.TheVariants.{Idle, Opened, Sealed}
-use Rattle.nr_overlap.proofs.Basics.{by_test, eq_other, eq_same, ge_of, lt_of, same_or_not, true_or_false}
+use Rattle.nr_overlap.proofs.Basics.{eq_other, eq_same, ge_of, lt_of, true_or_false}
 use Rattle.nr_overlap.proofs.Claims.{took_missing, took_not, took_open, took_publish, took_seal, took_take}
 use Rattle.nr_overlap.proofs.DueLemmas.{due_at, first_small}
 use Rattle.nr_overlap.proofs.Enabled.{CanPublish, CanSeal, CanTake, can_open, can_publish, can_seal, can_take}
@@ -40,13 +41,13 @@ put_other f i a j ne = ap (λ b. cond b a (f j)) (eq_other j i ne)
 -- what is at each shard by its position, where one position changes
 module _ {A : Type 0} (v : ℕ → Position → A) (f : ℕ → A) (ps qs : List Position) (i : ℕ) (p : Position) (be : Becomes ps qs i p) (old : (s : ℕ) → f s ≡ v s (at ps s)) where
   with_put : (a : A) → a ≡ v i p → (s : ℕ) → put f i a s ≡ v s (at qs s)
-  with_put a is s = elim (same_or_not s i) [
+  with_put a is s = elim (cases_eq s i) [
     | inl e ↦ subst (λ t. put f i a t ≡ v t (at qs t)) (sym e) (put_same f i a ∙ is ∙ ap (v i) (sym be.here))
     | inr ne ↦ put_other f i a s ne ∙ old s ∙ ap (v s) (sym (be.others s ne))
   ]
 
   with_none : v i (at ps i) ≡ v i p → (s : ℕ) → f s ≡ v s (at qs s)
-  with_none same s = elim (same_or_not s i) [
+  with_none same s = elim (cases_eq s i) [
     | inl e ↦ subst (λ t. f t ≡ v t (at qs t)) (sym e) (old i ∙ same ∙ ap (v i) (sym be.here))
     | inr ne ↦ old s ∙ ap (v s) (sym (be.others s ne))
   ]
@@ -66,13 +67,13 @@ module _ {W K L R : Type 0} (r : Rules W K L R) where
 
   module _ (ps qs : List Position) (i : ℕ) (p : Position) (be : Becomes ps qs i p) where
     claimed : Claims ps i p → (d s h : ℕ) → s < r.shards → 0 < h → r.present s h ≡ true → took r d (at qs d) h s ≡ took r d (at ps d) h s
-    claimed claims d s h l pos pre = elim (same_or_not d i) [
+    claimed claims d s h l pos pre = elim (cases_eq d i) [
       | inl f ↦ subst (λ t. took r t (at qs t) h s ≡ took r t (at ps t) h s) (sym f) (ap (λ (q : Position). took r i q h s) be.here ∙ claims s h l pos pre)
       | inr ne ↦ ap (λ (q : Position). took r d q h s) (be.others d ne)
     ]
 
     shown_all : ((h : ℕ) → shown r i p h ≡ shown r i (at ps i) h) → (s h : ℕ) → shown r s (at qs s) h ≡ shown r s (at ps s) h
-    shown_all same s h = elim (same_or_not s i) [
+    shown_all same s h = elim (cases_eq s i) [
       | inl e ↦ subst (λ t. shown r t (at qs t) h ≡ shown r t (at ps t) h) (sym e) (ap (λ (q : Position). shown r i q h) be.here ∙ same h)
       | inr ne ↦ ap (λ (q : Position). shown r s q h) (be.others s ne)
     ]
@@ -156,7 +157,7 @@ module _ {W K L R : Type 0} (r : Rules W K L R) where
       missing e gone =
           let was : top (at ps i) ≡ n = ap (λ t. top_at t n) e in
           quiet c (stepped r c (PublishLists s)) i p is be reached
-          (λ h. elim (same_or_not h (top (at ps i) + 1)) [
+          (λ h. elim (cases_eq h (top (at ps i) + 1)) [
             | inl f ↦ shown_new r i h (at ps i) p (ap (λ t. t + 1) (sym was)) f ∙ ap (sealing_at r i) (f ∙ ap (λ t. t + 1) was) ∙ sealing_missing r i n gone
                 ∙ sym (shown_past r i h (at ps i) (omega (arith, f)))
             | inr ne ↦ shown_before r i h (at ps i) p (ap (λ t. t + 1) (sym was)) ne
@@ -172,11 +173,11 @@ module _ {W K L R : Type 0} (r : Rules W K L R) where
     reached = keeps_reached r ps (SealChunk s) is.reached inside none;
     world = with_put (world_at r) c.world ps qs i p be is.world (option_map (λ z. z.world) (sealed_value r (c.working i))) (ap (option_map (λ z. z.world)) gives ∙ ap Some (sym (world_there r i n chunk.1)));
     working = with_put (working_at r) c.working ps qs i p be is.working None refl;
-    report = λ t h. elim (same_or_not t i) [
+    report = λ t h. elim (cases_eq t i) [
       | inl e ↦ subst (λ u. put c.report i row u h ≡ report_at r qs u h) (sym e) (ap (λ f. f h) (put_same c.report i row) ∙ reported h)
       | inr ne ↦ ap (λ f. f h) (put_other c.report i row t ne) ∙ is.report t h ∙ ap (λ (q : Position). option_map (λ z. z.report) (shown r t q h)) (sym (be.others t ne))
     ];
-    list = λ t h d l. elim (same_or_not t i) [
+    list = λ t h d l. elim (cases_eq t i) [
       | inl e ↦ subst (λ u. put c.list i lists u h d ≡ flight_at r qs u h d) (sym e) (ap (λ f. f h d) (put_same c.list i lists) ∙ listed h d)
       | inr ne ↦ ap (λ f. f h d) (put_other c.list i lists t ne) ∙ is.list t h d l
           ∙ sym (flight_alike r ps qs t h d (ap (λ (q : Position). shown r t q h) (be.others t ne)) (λ pos pre. claimed ps qs i p be claims d t h l pos pre))
@@ -244,7 +245,7 @@ module _ {W K L R : Type 0} (r : Rules W K L R) where
       shown_old h ne = ap (λ (q : Position). shown r i q h) be.here ∙ shown_before r i h (at ps i) p more (λ e. ne (e ∙ ap (λ t. t + 1) was))
 
       reported : (h : ℕ) → row h ≡ report_at r qs i h
-      reported h = elim (same_or_not h (n + 1)) [
+      reported h = elim (cases_eq h (n + 1)) [
         | inl e ↦ subst (λ u. row u ≡ report_at r qs i u) (sym e) (put_same (c.report i) (n + 1) (option_map (λ z. z.report) (sealed_value r (c.working i))) ∙ ap (option_map (λ z. z.report)) (sealing_is ∙ sym shown_is))
         | inr ne ↦ put_other (c.report i) (n + 1) (option_map (λ z. z.report) (sealed_value r (c.working i))) h ne ∙ is.report i h ∙ ap (option_map (λ z. z.report)) (sym (shown_old h ne))
       ]
@@ -254,7 +255,7 @@ module _ {W K L R : Type 0} (r : Rules W K L R) where
       before_first d e = let l : n + 1 < 1 = lt_of (n + 1) 1 e in omega arith
 
       free : (d : ℕ) → took r d (at qs d) (n + 1) i ≡ false
-      free d = claimed ps qs i p be claims d i (n + 1) inside (omega arith) chunk.1 ∙ by_test (took r d (at ps d) (n + 1) i) (λ f. elim (true_or_false (nat_lt d r.shards)) [
+      free d = claimed ps qs i p be claims d i (n + 1) inside (omega arith) chunk.1 ∙ false_from_ne_true (took r d (at ps d) (n + 1) i) (λ f. elim (true_or_false (nat_lt d r.shards)) [
         | inl e ↦ let l : n + 1 ≤ n = is.reached.published d i (n + 1) (lt_of d r.shards e) inside (omega arith) chunk.1 f in omega arith
         | inr e ↦ before_first d (ap (λ (q : Position). took r d q (n + 1) i) (sym (get_or_past ps d start (omega (arith, ge_of d r.shards e, is.reached.count)))) ∙ f)
       ])
@@ -264,7 +265,7 @@ module _ {W K L R : Type 0} (r : Rules W K L R) where
       as_list (Some z) d = refl
 
       listed : (h d : ℕ) → lists h d ≡ flight_at r qs i h d
-      listed h d = elim (same_or_not h (n + 1)) [
+      listed h d = elim (cases_eq h (n + 1)) [
         | inl e ↦ subst (λ u. lists u d ≡ flight_at r qs i u d) (sym e) (ap (λ f. f d) (put_same (c.list i) (n + 1) (list_for r (sealed_value r (c.working i)))) ∙ as_list (sealed_value r (c.working i)) d
             ∙ ap (λ o. list_to r o d) (sealing_is ∙ sym shown_is) ∙ sym (ap (λ b. cond b None (list_to r (shown r i (at qs i) (n + 1)) d)) (free d)))
         | inr ne ↦ ap (λ f. f d) (put_other (c.list i) (n + 1) (list_for r (sealed_value r (c.working i))) h ne) ∙ is.list i h d inside
@@ -273,9 +274,6 @@ module _ {W K L R : Type 0} (r : Rules W K L R) where
 
   -- ---- a list is taken
   module _ (one_each : (k : K) → length (r.seals k).lists ≡ r.shards) where
-    within_some : {A : Type 0} (xs : List A) (i : ℕ) → i < length xs → (a : A) × (slice_get xs i ≡ Some a)
-    within_some xs i l = elim ((slice_get_cases xs i).1) [ inl p ↦ (p.0, p.2) | inr p ↦ absurd (omega (arith, p.0, l)) ]
-
     -- the list of a due pair
     due_list : (i n k : ℕ) (pair : ℕ × ℕ) → i < r.shards → slice_get (due_after r i n) k ≡ Some pair → (list : L) × (list_to r (sealing_at r pair.1 pair.0) i ≡ Some list)
     due_list i n k pair l next =
@@ -292,7 +290,7 @@ module _ {W K L R : Type 0} (r : Rules W K L R) where
       world = with_none (world_at r) c.world ps qs i p be is.world refl;
       working = with_put (working_at r) c.working ps qs i p be is.working (took_value r (c.working i) (c.list s.0 h.0 i)) works;
       report = λ t g. is.report t g ∙ sym (reports_same r ps qs i p be refl t g);
-      list = λ t g u l. elim (same_or_not t s.0) [
+      list = λ t g u l. elim (cases_eq t s.0) [
         | inl e ↦ subst (λ v. put c.list s.0 row v g u ≡ flight_at r qs v g u) (sym e) (ap (λ f. f g u) (put_same c.list s.0 row) ∙ in_row g u)
         | inr ne ↦ ap (λ f. f g u) (put_other c.list s.0 row t ne) ∙ is.list t g u l ∙ sym (flights_taken r ps qs i p s.0 h.0 be refl claims t g u (λ a b e. ne a))
       ];
@@ -338,13 +336,13 @@ module _ {W K L R : Type 0} (r : Rules W K L R) where
         row = put (c.list s.0) h.0 row_at
 
         in_row : (g u : ℕ) → row g u ≡ flight_at r qs s.0 g u
-        in_row g u = elim (same_or_not g h.0) [
+        in_row g u = elim (cases_eq g h.0) [
           | inl e ↦ subst (λ v. row v u ≡ flight_at r qs s.0 v u) (sym e) (ap (λ f. f u) (put_same (c.list s.0) h.0 row_at) ∙ in_place u)
           | inr ne ↦ ap (λ f. f u) (put_other (c.list s.0) h.0 row_at g ne) ∙ is.list s.0 g u inside.1 ∙ sym (flights_taken r ps qs i p s.0 h.0 be refl claims s.0 g u (λ a b e. ne b))
         ]
           where
             in_place : (u : ℕ) → row_at u ≡ flight_at r qs s.0 h.0 u
-            in_place u = elim (same_or_not u i) [
+            in_place u = elim (cases_eq u i) [
               | inl e ↦ subst (λ v. row_at v ≡ flight_at r qs s.0 h.0 v) (sym e) (put_same (c.list s.0 h.0) i None ∙ sym (flight_taken r ps qs i p s.0 h.0 be claims))
               | inr ne ↦ put_other (c.list s.0 h.0) i None u ne ∙ is.list s.0 h.0 u inside.1 ∙ sym (flights_taken r ps qs i p s.0 h.0 be refl claims s.0 h.0 u (λ a b e. ne e))
             ]

@@ -1,6 +1,7 @@
 -- What a step that is enabled has.
 use Rattle.std.proofs.Common.{◌≡◌, ℕ, ◌+◌, ◌<◌, ◌≤◌, Bool, true, false, cond, List, Option, Some, None, inl, inr, ◌⊎◌, refl}
 use Rattle.std.specs.Prelude.{nat_le, nat_lt, ◌==◌, ◌&&◌, ◌||◌, not}
+use Rattle.nr_bytes.proofs.Basics.{left_true, right_true}
 use Rattle.nr_overlap.specs.Rules.{Rules}
 use Rattle.nr_overlap.specs.Positions.{at, stage_number, is_idle, is_opened, is_sealed}
 use Rattle.nr_overlap.specs.Moves.{named, wrong_list, left_over, next_due, fits, list_refusal, refusal_at, refusal, is_pair}
@@ -12,7 +13,7 @@ use Rattle.nr_ids.specs.declared.number.Height.{Height}
 use Rattle.nr_overlap.specs.declared.position.Stage.{Stage}
 use Rattle.nr_overlap.specs.declared.position.Stage.TheVariants.{Idle, Opened, Sealed}
 use Rattle.nr_overlap.specs.declared.position.Position.{Position}
-use Rattle.nr_overlap.proofs.Basics.{gt_of, ge_of, and_left, and_right, eq_of}
+use Rattle.nr_overlap.proofs.Basics.{gt_of, ge_of, eq_of}
 
 nothing : {A : Type 0} (x : A) → ◌≡◌ {A = Option A} (Some x) None → ⊥
 nothing x e = cc
@@ -49,8 +50,8 @@ module _ {W K L R : Type 0} (r : Rules W K L R) where
   pub can_open : (ps : List Position) (s : ShardId) → refusal r ps (OpenChunk s) ≡ None → CanOpen s.0 (at ps s.0)
   can_open ps s n = let f = fits_of ps s.0 (at ps s.0) (OpenChunk s) n in record {
     below = f.below;
-    stage = idle_is (at ps s.0).stage (and_left (is_idle (at ps s.0).stage) (r.present s.0 ((at ps s.0).number + 1)) f.stage);
-    there = and_right (is_idle (at ps s.0).stage) (r.present s.0 ((at ps s.0).number + 1)) f.stage;
+    stage = idle_is (at ps s.0).stage (left_true (is_idle (at ps s.0).stage) (r.present s.0 ((at ps s.0).number + 1)) f.stage);
+    there = right_true (is_idle (at ps s.0).stage) (r.present s.0 ((at ps s.0).number + 1)) f.stage;
   }
 
   pub record CanTake (ps : List Position) (d s h : ℕ) : Type 0 where
@@ -69,7 +70,7 @@ module _ {W K L R : Type 0} (r : Rules W K L R) where
       by : (a b : Bool) → is_pair h s pair ≡ a → nat_lt q.number h ≡ b → cond a (cond b (Some (why.Published q.number)) None) (Some (named (Some pair))) ≡ None
           → (other : ℕ × ℕ) × (◌≡◌ {A = Option (ℕ × ℕ)} (Some pair) (Some other)) × (other.0 ≡ h) × (other.1 ≡ s) × (h ≤ q.number)
       by true true x y z = absurd (nothing _ z)
-      by true false x y z = (pair, refl, eq_of pair.0 h (and_left (pair.0 == h) (pair.1 == s) x), eq_of pair.1 s (and_right (pair.0 == h) (pair.1 == s) x), ge_of q.number h y)
+      by true false x y z = (pair, refl, eq_of pair.0 h (left_true (pair.0 == h) (pair.1 == s) x), eq_of pair.1 s (right_true (pair.0 == h) (pair.1 == s) x), ge_of q.number h y)
       by false b x y z = absurd (nothing _ z)
 
   pub can_take : (ps : List Position) (d s : ShardId) (h : Height) → refusal r ps (TakeList d s h) ≡ None → CanTake ps d.0 s.0 h.0

@@ -4,6 +4,7 @@ use Rattle.std.specs.Prelude.{slice_get, get_or, Vec, unwrap_or, ◌&&◌, ◌||
 use Rattle.std.specs.declared.alloc.Global.{Global}
 use Rattle.std.specs.Option.{option_map}
 use Rattle.std.proofs.lemmas.Option.{slice_get_read, slice_get_within}
+use Rattle.std.proofs.lemmas.Bool.{cases_eq}
 use Rattle.nr_overlap.specs.Rules.{Rules}
 use Rattle.nr_overlap.specs.Serial.{due_after}
 use Rattle.nr_overlap.specs.Balance.{sum_below}
@@ -19,7 +20,7 @@ use Rattle.nr_overlap.specs.declared.shards.Shards.{Shards}
 use Rattle.nr_overlap.specs.declared.position.Stage.{Stage}
 use Rattle.nr_overlap.specs.declared.position.Stage.TheVariants.{Idle, Opened, Sealed}
 use Rattle.nr_overlap.specs.declared.position.Position.{Position}
-use Rattle.nr_overlap.proofs.Basics.{same_or_not, not_le, not_lt, eq_same}
+use Rattle.nr_overlap.proofs.Basics.{not_le, not_lt, eq_same}
 use Rattle.nr_overlap.proofs.DueLemmas.{due_at, first_small}
 use Rattle.nr_overlap.specs.Positions.{end_at}
 use Rattle.nr_overlap.specs.Run.{ending}
@@ -73,7 +74,7 @@ module _ {W K L R : Type 0} (r : Rules W K L R) where
   -- ---- closer to the end
   pub cost_rises : (s n m : ℕ) → n ≤ m → cost r s n ≤ cost r s m
   cost_rises s n zero l = let z : n ≡ 0 = omega arith in subst (λ t. cost r s t ≤ 0) (sym z) (omega arith)
-  cost_rises s n (suc m) l = elim (same_or_not n (suc m)) [
+  cost_rises s n (suc m) l = elim (cases_eq n (suc m)) [
     | inl e ↦ subst (λ t. cost r s t ≤ cost r s (suc m)) (sym e) (omega arith)
     | inr ne ↦ let q : cost r s n ≤ cost r s m = cost_rises s n m (omega (arith, ne)) in omega arith
   ]

@@ -1,9 +1,11 @@
 -- What stands in the rows, before and after a step.
 use Rattle.std.proofs.Common.{◌≡◌, ℕ, zero, suc, ◌+◌, ◌<◌, ◌≤◌, Bool, true, false, cond, List, [], ◌∷◌, ◌++◌, Option, Some, None, length, inl, inr, ◌⊎◌, sym, refl, ap, ◌∙◌, subst, arith, add-one}
-use Rattle.std.specs.Prelude.{slice_get, nat_le, ◌&&◌, ◌||◌, ◌==◌, unwrap_or}
+use Rattle.std.specs.Prelude.{slice_get, nat_le, ◌||◌, ◌==◌, unwrap_or}
 use Rattle.std.specs.Option.{option_map}
 use Rattle.std.proofs.lemmas.Option.{slice_get-map}
 use Rattle.std.specs.Global.{Box}
+use Rattle.std.proofs.lemmas.Bool.{cases_eq}
+use mathlib.Core.Bool.{and-false, or-false, or-true}
 use Rattle.nr_overlap.specs.Rules.{Rules, Sealing}
 use Rattle.nr_overlap.specs.Serial.{list_to, sealing_at}
 use Rattle.nr_overlap.specs.Positions.{at, top}
@@ -12,13 +14,9 @@ use Rattle.nr_overlap.specs.Moment.{took, shown, report_at, flight_at}
 use Rattle.nr_overlap.specs.Held.{row_entry, row_slot, row_report, IsRowOf}
 use Rattle.nr_overlap.specs.declared.shards.Row.{Row}
 use Rattle.nr_overlap.specs.declared.position.Position.{Position}
-use Rattle.nr_overlap.proofs.Basics.{same_or_not, true_or_false, is_le, not_le, le_of, gt_of, eq_other, eq_same}
+use Rattle.nr_overlap.proofs.Basics.{true_or_false, is_le, not_le, le_of, gt_of, eq_other, eq_same}
 use Rattle.nr_overlap.proofs.SerialLemmas.{sealing_first, sealing_missing}
 use Rattle.nr_overlap.proofs.Reaching.{Becomes}
-
-and_false : (b : Bool) → (b && false) ≡ false
-and_false true = refl
-and_false false = refl
 
 module _ {W K L R : Type 0} (r : Rules W K L R) where
   -- a list that stands there
@@ -75,11 +73,11 @@ module _ {W K L R : Type 0} (r : Rules W K L R) where
       → ((s h : ℕ) → s < r.shards → 0 < h → r.present s h ≡ true → took r i p h s ≡ took r i (at ps i) h s)
       → (s h d : ℕ) → s < r.shards → flight_at r qs s h d ≡ flight_at r ps s h d
   flights_same ps qs i p be same claims s h d l = flight_alike ps qs s h d
-      (elim (same_or_not s i) [
+      (elim (cases_eq s i) [
         | inl e ↦ shown_top s h (at ps s) (at qs s) (subst (λ t. top (at qs t) ≡ top (at ps t)) (sym e) (ap top be.here ∙ same))
         | inr ne ↦ ap (λ (q : Position). shown r s q h) (be.others s ne)
       ])
-      (λ pos there. elim (same_or_not d i) [
+      (λ pos there. elim (cases_eq d i) [
         | inl e ↦ subst (λ t. took r t (at qs t) h s ≡ took r t (at ps t) h s) (sym e) (ap (λ (q : Position). took r i q h s) be.here ∙ claims s h l pos there)
         | inr ne ↦ ap (λ (q : Position). took r d q h s) (be.others d ne)
       ])
@@ -87,7 +85,7 @@ module _ {W K L R : Type 0} (r : Rules W K L R) where
   -- ---- reports
   pub reports_same : (ps qs : List Position) (i : ℕ) (p : Position) → Becomes ps qs i p → top p ≡ top (at ps i)
       → (s h : ℕ) → report_at r qs s h ≡ report_at r ps s h
-  reports_same ps qs i p be same s h = ap (option_map (λ z. z.report)) (elim (same_or_not s i) [
+  reports_same ps qs i p be same s h = ap (option_map (λ z. z.report)) (elim (cases_eq s i) [
     | inl e ↦ shown_top s h (at ps s) (at qs s) (subst (λ t. top (at qs t) ≡ top (at ps t)) (sym e) (ap top be.here ∙ same))
     | inr ne ↦ ap (λ (q : Position). shown r s q h) (be.others s ne)
   ])
@@ -135,7 +133,7 @@ module _ {W K L R : Type 0} (r : Rules W K L R) where
       → row_report (row_entry (row ++ e ∷ []) h) ≡ report_at r qs i h
   report_added ps qs i p row e h be more long new old =
       let later : shown r i (at qs i) h ≡ shown r i p h = ap (λ (q : Position). shown r i q h) be.here in
-      elim (same_or_not h (top (at ps i) + 1)) [
+      elim (cases_eq h (top (at ps i) + 1)) [
         | inl f ↦ ap row_report (row_more_new row e h (f ∙ sym long)) ∙ new_report (sealing_at r i (top (at ps i) + 1)) e new
             ∙ ap (option_map (λ z. z.report)) (ap (sealing_at r i) (sym f) ∙ sym (shown_new i h (at ps i) p more f) ∙ sym later)
         | inr ne ↦ ap row_report (row_more_same row e h (λ q. ne (q ∙ long))) ∙ old
@@ -150,7 +148,7 @@ module _ {W K L R : Type 0} (r : Rules W K L R) where
       → row_slot (row_entry (row ++ e ∷ []) h) d ≡ flight_at r qs i h d
   list_added ps qs i p row e h d be more long new claims free old =
       let later : shown r i (at qs i) h ≡ shown r i p h = ap (λ (q : Position). shown r i q h) be.here in
-      elim (same_or_not h (top (at ps i) + 1)) [
+      elim (cases_eq h (top (at ps i) + 1)) [
         | inl f ↦ ap (λ o. row_slot o d) (row_more_new row e h (f ∙ sym long)) ∙ new_slot (sealing_at r i (top (at ps i) + 1)) e d new
             ∙ ap (λ o. list_to r o d) (ap (sealing_at r i) (sym f)) ∙ untaken h f
             ∙ ap (λ o. stands (took r d (at qs d) h i) o d) (sym (shown_new i h (at ps i) p more f) ∙ sym later)
@@ -169,23 +167,19 @@ module _ {W K L R : Type 0} (r : Rules W K L R) where
       → ((s h : ℕ) → took r i p h s ≡ (took r i (at ps i) h s || is_pair h s (height, source)))
       → (s h d : ℕ) → (s ≡ source → h ≡ height → d ≡ i → ⊥) → flight_at r qs s h d ≡ flight_at r ps s h d
   flights_taken ps qs i p source height be same claims s h d ne = flight_alike ps qs s h d
-      (elim (same_or_not s i) [
+      (elim (cases_eq s i) [
         | inl e ↦ shown_top s h (at ps s) (at qs s) (subst (λ t. top (at qs t) ≡ top (at ps t)) (sym e) (ap top be.here ∙ same))
         | inr n ↦ ap (λ (q : Position). shown r s q h) (be.others s n)
       ])
-      (λ pos there. elim (same_or_not d i) [
+      (λ pos there. elim (cases_eq d i) [
         | inl e ↦ subst (λ t. took r t (at qs t) h s ≡ took r t (at ps t) h s) (sym e) (ap (λ (q : Position). took r i q h s) be.here ∙ claims s h
-            ∙ ap (λ b. took r i (at ps i) h s || b) (other e) ∙ or_none (took r i (at ps i) h s))
+            ∙ ap (λ b. took r i (at ps i) h s || b) (other e) ∙ or-false (took r i (at ps i) h s))
         | inr n ↦ ap (λ (q : Position). took r d q h s) (be.others d n)
       ])
     where
-      or_none : (b : Bool) → (b || false) ≡ b
-      or_none true = refl
-      or_none false = refl
-
       other : d ≡ i → is_pair h s (height, source) ≡ false
-      other e = elim (same_or_not height h) [
-        | inl f ↦ rw (eq_other source s (λ g. ne (sym g) (sym f) e)) (and_false (height == h))
+      other e = elim (cases_eq height h) [
+        | inl f ↦ rw (eq_other source s (λ g. ne (sym g) (sym f) e)) (and-false (height == h))
         | inr n ↦ rw (eq_other height h n) refl
       ]
 
@@ -194,12 +188,8 @@ module _ {W K L R : Type 0} (r : Rules W K L R) where
       → flight_at r qs source height i ≡ None
   flight_taken ps qs i p source height be claims =
       ap (λ b. stands b (shown r source (at qs source) height) i)
-      (ap (λ (q : Position). took r i q height source) be.here ∙ claims source height ∙ ap (λ b. took r i (at ps i) height source || b) own ∙ or_all (took r i (at ps i) height source))
+      (ap (λ (q : Position). took r i q height source) be.here ∙ claims source height ∙ ap (λ b. took r i (at ps i) height source || b) own ∙ or-true (took r i (at ps i) height source))
     where
-      or_all : (b : Bool) → (b || true) ≡ true
-      or_all true = refl
-      or_all false = refl
-
       own : is_pair height source (height, source) ≡ true
       own = rw (eq_same height height refl, eq_same source source refl) refl
 

@@ -5,6 +5,7 @@ use Rattle.std.specs.declared.alloc.Global.{Global}
 use Rattle.std.specs.Option.{option_map}
 use Rattle.std.proofs.lemmas.Option.{slice_get_cases}
 use Rattle.std.specs.Global.{Box}
+use Rattle.nr_bytes.proofs.Basics.{none≢some}
 use Rattle.nr_overlap.specs.Rules.{Rules}
 use Rattle.nr_overlap.specs.Serial.{list_to, world_after, past_after, sealing_at}
 use Rattle.nr_overlap.specs.Positions.{at, start}
@@ -24,10 +25,7 @@ use Rattle.nr_overlap.proofs.Serially.{row_read}
 -- ---- lists that grow
 pub get_grown : {A : Type 0} (xs : List A) (y : A) (i : ℕ) (z : A) → slice_get (xs ++ y ∷ []) i ≡ Some z → (slice_get xs i ≡ Some z) ⊎ ((i ≡ length xs) × (z ≡ y))
 get_grown [] y zero z e = inr (refl, sym (some_alike y z e))
-get_grown [] y (suc i) z e = absurd (none z e)
-  where
-    none : {A : Type 0} (z : A) → ◌≡◌ {A = Option A} None (Some z) → ⊥
-    none z e = cc
+get_grown [] y (suc i) z e = absurd (none≢some z e)
 get_grown (x ∷ xs) y zero z e = inl e
 get_grown (x ∷ xs) y (suc i) z e = elim (get_grown xs y i z e) [ inl p ↦ inl p | inr p ↦ inr (ap suc p.0, p.1) ]
 

@@ -7,6 +7,8 @@ use Rattle.std.specs.declared.alloc.Global.{Global}
 use Rattle.std.specs.Option.{option_map}
 use Rattle.std.proofs.lemmas.List.Sums.{fails_before_first, position_or_len_is}
 use Rattle.std.proofs.lemmas.List.{append-nil, get_or-replicate}
+use Rattle.std.proofs.lemmas.Bool.{cases_eq}
+use Rattle.nr_bytes.proofs.Basics.{none≢some}
 use Rattle.nr_ids.specs.declared.number.Height.{Height}
 use Rattle.nr_ids.specs.declared.number.ShardId.{ShardId}
 use Rattle.nr_overlap.specs.Held.{IsSerial, IsReached, IsHeld, cell, held_world, row_of, row_entry, row_report, row_slot}
@@ -21,17 +23,14 @@ use Rattle.nr_overlap.specs.declared.shards.Held.{Held}
 use Rattle.nr_overlap.specs.declared.shards.Held.TheVariants.{World, Working, Nothing}
 use Rattle.nr_overlap.specs.declared.shards.Row.{Row}
 use Rattle.nr_overlap.specs.declared.shards.Shards.{Shards}
-use Rattle.nr_overlap.proofs.Basics.{eq_other, eq_same, is_lt, not_lt, same_or_not}
+use Rattle.nr_overlap.proofs.Basics.{eq_other, eq_same, is_lt, not_lt}
 use Rattle.nr_overlap.proofs.Ended.{whole_run}
 use Rattle.nr_overlap.proofs.Ending.{is_ended, none_ended}
 use Rattle.nr_overlap.proofs.Onward.{no_place}
 
-nothing : {A : Type 0} (a : A) → ◌≡◌ {A = Option A} None (Some a) → ⊥
-nothing a e = cc
-
 -- what stands at a place is within
 pub within : {A : Type 0} (xs : List A) (n : ℕ) (x : A) → slice_get xs n ≡ Some x → n < length xs
-within [] n x e = absurd (nothing x e)
+within [] n x e = absurd (none≢some x e)
 within (y ∷ ys) zero x e = omega arith
 within (y ∷ ys) (suc n) x e = omega (arith, within ys n x e)
 
@@ -57,7 +56,7 @@ module _ {W K L R : Type 0} (r : Rules W K L R) where
 
   last_of : (s : ℕ) (p : Position) (v : Held W K) → p ≡ end_at r.heights → IsHeld r s p v → held_world v ≡ Some (world_after r s r.heights)
   last_of s p (World w) e is = sym (ap (world_at r s) (sym e) ∙ is)
-  last_of s p (Working k) e is = absurd (nothing k (ap (working_at r s) (sym e) ∙ is))
+  last_of s p (Working k) e is = absurd (none≢some k (ap (working_at r s) (sym e) ∙ is))
   last_of s p Nothing e is = absurd is
 
   pub last_held : (x : Shards W K L R) → IsSerial r x → x.positions.items ≡ ending r → HoldsLast r x.held.items
@@ -144,7 +143,7 @@ module _ {W K L R : Type 0} (r : Rules W K L R) where
   is_over ps reached none = by (position lacks ps) refl none
     where
       by : (o : Option ℕ) → position lacks ps ≡ o → behind_by r ps o ≡ None → ps ≡ ending r
-      by None f e = all_over ps reached (λ j l. elim (same_or_not (at ps j).number r.heights) [
+      by None f e = all_over ps reached (λ j l. elim (cases_eq (at ps j).number r.heights) [
         | inl same ↦ same
         | inr ne ↦ absurd (bools (sym (lacks_some (at ps j) ne) ∙ fails_before_first lacks ps j start (omega (arith, l, no_place lacks ps f))))
       ])

@@ -2,6 +2,8 @@
 use Rattle.std.proofs.Common.{◌≡◌, ℕ, zero, suc, ◌+◌, ◌<◌, ◌≤◌, Bool, true, false, cond, List, [], ◌∷◌, Option, Some, None, length, inl, inr, ◌⊎◌, sym, refl, ap, ◌∙◌, subst, arith, take}
 use Rattle.std.specs.Prelude.{slice_get, nat_lt, ◌&&◌, ◌||◌, not}
 use Rattle.std.specs.List.{list_any}
+use Rattle.std.proofs.lemmas.Bool.{cases_eq}
+use mathlib.Core.Bool.{or-true}
 use Rattle.nr_overlap.specs.Rules.{Rules}
 use Rattle.nr_overlap.specs.Serial.{due_after, first_due, last_present}
 use Rattle.nr_overlap.specs.Inside.{IsInside, AreInside, actor}
@@ -17,7 +19,7 @@ use Rattle.nr_overlap.specs.declared.event.Event.TheVariants.{OpenChunk, TakeLis
 use Rattle.nr_overlap.specs.declared.position.Position.{Position}
 use Rattle.nr_overlap.specs.declared.position.Stage.{Stage}
 use Rattle.nr_overlap.specs.declared.position.Stage.TheVariants.{Idle, Opened, Sealed}
-use Rattle.nr_overlap.proofs.Basics.{eq_same, ge_of, is_le, is_lt, lt_of, same_or_not, true_or_false}
+use Rattle.nr_overlap.proofs.Basics.{eq_same, ge_of, is_le, is_lt, lt_of, true_or_false}
 use Rattle.nr_overlap.proofs.DueLemmas.{due_at, first_small}
 use Rattle.nr_overlap.proofs.Ending.{IsGood, closer, cost_next, cost_rises, good_idle, not_refused, right_next}
 use Rattle.nr_overlap.proofs.Founding.{at_replicate, first_reached, length_replicate}
@@ -34,10 +36,6 @@ lists_alike [] (q ∷ qs) e f = absurd (omega (arith, e))
 lists_alike (p ∷ ps) [] e f = absurd (omega (arith, e))
 lists_alike (p ∷ ps) (q ∷ qs) e f = (λ i. f 0 (omega arith) i ∷ lists_alike ps qs (omega (arith, e)) (λ s l. f (suc s) (omega (arith, l))) i)
 
-or_true : (b : Bool) → (b || true) ≡ true
-or_true true = refl
-or_true false = refl
-
 -- a pair is among the first ones
 any_taken : (xs : List (ℕ × ℕ)) (k j : ℕ) (x : ℕ × ℕ) → slice_get xs k ≡ Some x → k < j → list_any (is_pair x.0 x.1) (take j xs) ≡ true
 any_taken [] k j x e l = absurd (none x e)
@@ -52,7 +50,7 @@ any_taken (y ∷ ys) zero (suc j) x e l = ap (λ b. b || list_any (is_pair x.0 x
 
     own : is_pair x.0 x.1 x ≡ true
     own = (λ i. eq_same x.0 x.0 refl i && eq_same x.1 x.1 refl i)
-any_taken (y ∷ ys) (suc k) (suc j) x e l = ap (λ b. is_pair x.0 x.1 y || b) (any_taken ys k j x e (omega (arith, l))) ∙ or_true (is_pair x.0 x.1 y)
+any_taken (y ∷ ys) (suc k) (suc j) x e l = ap (λ b. is_pair x.0 x.1 y || b) (any_taken ys k j x e (omega (arith, l))) ∙ or-true (is_pair x.0 x.1 y)
 
 module _ {W K L R : Type 0} (r : Rules W K L R) where
   -- ---- positions of one shard in the order of its steps
@@ -117,7 +115,7 @@ module _ {W K L R : Type 0} (r : Rules W K L R) where
         by true e = omega (arith, l)
         by false e =
             let least : n ≤ p.number = number_before s (mk n Idle k) p valid (omega (arith, l)) in
-            elim (same_or_not n p.number) [
+            elim (cases_eq n p.number) [
               | inl f ↦
                   let none : steps_in r s p.stage n p.taken ≡ 0 = none_there p.stage n p.taken (subst (λ t. IsInChunk r s p.stage t) (sym f) valid.chunk) e in
                   let steps : steps_in r s p.stage n p.taken ≡ steps_in r s p.stage p.number p.taken = ap (λ t. steps_in r s p.stage t p.taken) f in
@@ -137,7 +135,7 @@ module _ {W K L R : Type 0} (r : Rules W K L R) where
     below t n k l = by p.stage p.number p.taken valid.chunk (number_before s (mk n t k) p valid (omega (arith, l))) l
       where
         by : (u : Stage) (m j : ℕ) → IsInChunk r s u m → n ≤ m → steps_of r s (mk n t k) < steps_of r s (mk m u j) → n < r.heights
-        by Idle m j chunk least l = elim (same_or_not n m) [
+        by Idle m j chunk least l = elim (cases_eq n m) [
           | inl f ↦ let costs : cost r s n ≡ cost r s m = ap (cost r s) f in absurd (omega (arith, l, costs))
           | inr ne ↦ omega (arith, chunk, least, ne)
         ]
@@ -154,13 +152,13 @@ module _ {W K L R : Type 0} (r : Rules W K L R) where
 
         by : (b : Bool) → r.present s (m + 1) ≡ b → (n < m → n + 1 ≤ last_present r s m) → n + 1 ≤ cond b (m + 1) (last_present r s m)
         by true e before = omega (arith, l)
-        by false e before = elim (same_or_not n m) [
+        by false e before = elim (cases_eq n m) [
           | inl f ↦ absurd (same (r.present s (m + 1)) (ap (λ t. r.present s (t + 1)) (sym f) ∙ there) e)
           | inr ne ↦ before (omega (arith, l, ne))
         ]
 
     taken_there : (n k : ℕ) (pair : ℕ × ℕ) → r.present s (n + 1) ≡ true → slice_get (due_after r s n) k ≡ Some pair → steps_of r s (mk n Opened k) < steps_of r s p → took r s p pair.0 pair.1 ≡ true
-    taken_there n k pair there next l = elim (same_or_not n p.number) [
+    taken_there n k pair there next l = elim (cases_eq n p.number) [
       | inl f ↦ at_once p.stage p.number p.taken f l
       | inr ne ↦ behind p.stage p.number p.taken (omega (arith, ne, number_before s (mk n Opened k) p valid (omega (arith, l))))
     ]
@@ -172,7 +170,7 @@ module _ {W K L R : Type 0} (r : Rules W K L R) where
         at_once Idle m j f l = let costs : cost r s n ≡ cost r s m = ap (cost r s) f in absurd (omega (arith, l, costs))
         at_once Opened m j f l =
             let costs : cost r s n ≡ cost r s m = ap (cost r s) f in
-            ap (λ b. nat_lt pair.0 (first_due r s m) || b) (any_taken (due_after r s m) k j pair (ap (λ t. slice_get (due_after r s t) k) (sym f) ∙ next) (omega (arith, l, costs))) ∙ or_true (nat_lt pair.0 (first_due r s m))
+            ap (λ b. nat_lt pair.0 (first_due r s m) || b) (any_taken (due_after r s m) k j pair (ap (λ t. slice_get (due_after r s t) k) (sym f) ∙ next) (omega (arith, l, costs))) ∙ or-true (nat_lt pair.0 (first_due r s m))
         at_once Sealed m j f l = is_le pair.0 m (omega (arith, f, small))
 
         behind : (u : Stage) (m j : ℕ) → n < m → took_at r s u m j pair.0 pair.1 ≡ true
@@ -225,14 +223,14 @@ module _ {W K L R : Type 0} (r : Rules W K L R) where
         keeps s slow more = record {
           within = omega (arith, slow.within);
           behind = slow.behind;
-          least = λ j l b. elim (same_or_not j n) [
+          least = λ j l b. elim (cases_eq j n) [
             | inl e ↦ subst (λ t. (at qs s).number ≤ (at qs t).number) (sym e) (more (subst (IsBehind qs) e b))
             | inr ne ↦ slow.least j (omega (arith, l, ne)) b
           ];
         }
 
         by : NoneBehind qs n ⊎ ((s : ℕ) × IsSlowestBehind qs n s) → (nat_lt (steps_of r n (at qs n)) (steps_of r n (at ps n)) ≡ true) ⊎ (nat_lt (steps_of r n (at qs n)) (steps_of r n (at ps n)) ≡ false) → NoneBehind qs (suc n) ⊎ ((s : ℕ) × IsSlowestBehind qs (suc n) s)
-        by (inl none) (inr e) = inl (λ s l. elim (same_or_not s n) [
+        by (inl none) (inr e) = inl (λ s l. elim (cases_eq s n) [
           | inl f ↦ subst (λ t. steps_of r t (at ps t) ≤ steps_of r t (at qs t)) (sym f) (ge_of (steps_of r n (at qs n)) (steps_of r n (at ps n)) e)
           | inr ne ↦ none s (omega (arith, l, ne))
         ])
@@ -241,7 +239,7 @@ module _ {W K L R : Type 0} (r : Rules W K L R) where
           record {
             within = omega arith;
             behind = lt_of (steps_of r n (at qs n)) (steps_of r n (at ps n)) e;
-            least = λ j l b. elim (same_or_not j n) [
+            least = λ j l b. elim (cases_eq j n) [
               | inl f ↦ subst (λ t. (at qs n).number ≤ (at qs t).number) (sym f) (omega arith)
               | inr ne ↦ absurd (omega (arith, none j (omega (arith, l, ne)), b))
             ];
@@ -254,7 +252,7 @@ module _ {W K L R : Type 0} (r : Rules W K L R) where
             record {
               within = omega arith;
               behind = lt_of (steps_of r n (at qs n)) (steps_of r n (at ps n)) e;
-              least = λ j l b. elim (same_or_not j n) [
+              least = λ j l b. elim (cases_eq j n) [
                 | inl g ↦ subst (λ t. (at qs n).number ≤ (at qs t).number) (sym g) (omega arith)
                 | inr ne ↦ omega (arith, less, slow.1.least j (omega (arith, l, ne)) b)
               ];
@@ -306,7 +304,7 @@ module _ {W K L R : Type 0} (r : Rules W K L R) where
           enabled = good.enabled;
           before = record {
             legal = keeps_reached r qs e is.legal good.inside good.enabled;
-            before = λ j jl. elim (same_or_not j (actor e)) [
+            before = λ j jl. elim (cases_eq j (actor e)) [
               | inl f ↦ let is_s : j ≡ s = f ∙ good.actor_is in
                   let here : at (moved qs e) j ≡ moved_by e (at qs s) = ap (at (moved qs e)) f ∙ be.here ∙ ap (λ t. moved_by e (at qs t)) good.actor_is in
                   subst (λ t. steps_of r t (at (moved qs e) j) ≤ steps_of r t (at ps t)) (sym is_s) (subst (λ (q : Position). steps_of r s q ≤ steps_of r s (at ps s)) (sym here) past)

@@ -6,6 +6,7 @@ use Rattle.std.proofs.lemmas.List.{get_or-replicate, length-replicate}
 use Rattle.std.proofs.lemmas.List.Folds.{list_all_at}
 use Rattle.std.proofs.lemmas.List.Sums.{AllPass-from_list_all, fails_before_first, list_all-from_AllPass, position_or_len_is}
 use Rattle.std.proofs.lemmas.List.Quantifiers.{position-Some}
+use Rattle.std.proofs.lemmas.Bool.{cases_eq}
 use Rattle.nr_overlap.specs.Held.{IsReached}
 use Rattle.nr_overlap.specs.Inside.{actor}
 use Rattle.nr_overlap.specs.Moves.{fits, list_refusal, moved, refusal}
@@ -19,7 +20,7 @@ use Rattle.nr_overlap.specs.declared.event.Why.TheVariants.{Ended, Stage}
 use Rattle.nr_overlap.specs.declared.position.Position.{Position}
 use Rattle.nr_overlap.specs.declared.position.Stage.{Stage as Stages}
 use Rattle.nr_overlap.specs.declared.position.Stage.TheVariants.{Idle, Opened, Sealed}
-use Rattle.nr_overlap.proofs.Basics.{ge_of, gt_of, is_le, is_lt, le_of, lt_of, not_le, not_lt, same_or_not, true_or_false}
+use Rattle.nr_overlap.proofs.Basics.{ge_of, gt_of, is_le, is_lt, le_of, lt_of, not_le, not_lt, true_or_false}
 use Rattle.nr_overlap.proofs.Ending.{is_ended, is_next, none_ended}
 use Rattle.nr_overlap.proofs.Reaching.{keeps_reached}
 use Rattle.nr_overlap.proofs.Running.{tries_made}
@@ -116,14 +117,14 @@ least_of ps (suc n) =
         suc n,
         record {
           within = omega arith;
-          least = λ j l. elim (same_or_not j (suc n)) [ inl z ↦ subst (λ t. (at ps (suc n)).number ≤ (at ps t).number) (sym z) (omega arith) | inr ne ↦ omega (arith, less, old.1.least j (omega (arith, ne, l))) ];
+          least = λ j l. elim (cases_eq j (suc n)) [ inl z ↦ subst (λ t. (at ps (suc n)).number ≤ (at ps t).number) (sym z) (omega arith) | inr ne ↦ omega (arith, less, old.1.least j (omega (arith, ne, l))) ];
         },
       )
       | inr e ↦ let more : (at ps old.0).number ≤ (at ps (suc n)).number = ge_of (at ps (suc n)).number (at ps old.0).number e in (
         old.0,
         record {
           within = omega (arith, old.1.within);
-          least = λ j l. elim (same_or_not j (suc n)) [ inl z ↦ subst (λ t. (at ps old.0).number ≤ (at ps t).number) (sym z) more | inr ne ↦ old.1.least j (omega (arith, ne, l)) ];
+          least = λ j l. elim (cases_eq j (suc n)) [ inl z ↦ subst (λ t. (at ps old.0).number ≤ (at ps t).number) (sym z) more | inr ne ↦ old.1.least j (omega (arith, ne, l)) ];
         },
       )
     ]

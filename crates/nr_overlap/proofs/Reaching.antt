@@ -1,8 +1,10 @@
 -- Steps that are enabled lead from reached positions to reached ones.
-use Rattle.std.proofs.Common.{◌≡◌, ℕ, ◌+◌, ◌<◌, ◌≤◌, Bool, true, false, List, Option, Some, None, length, length-set, inl, inr, ◌⊎◌, sym, refl, ap, ◌∙◌, subst, arith}
-use Rattle.std.specs.Prelude.{slice_get, slice_set, ◌==◌, ◌||◌}
+use Rattle.std.proofs.Common.{◌≡◌, ℕ, ◌+◌, ◌<◌, ◌≤◌, true, List, Option, Some, None, length, length-set, inl, inr, ◌⊎◌, sym, refl, ap, ◌∙◌, subst, arith}
+use Rattle.std.specs.Prelude.{slice_get, slice_set, ◌==◌}
 use Rattle.std.proofs.lemmas.List.{get_or-set_same, get_or-set_other}
 use Rattle.std.proofs.lemmas.Option.{slice_get_within, slice_get_cases}
+use Rattle.std.proofs.lemmas.Bool.{cases_eq, or_cases}
+use Rattle.nr_bytes.proofs.Basics.{left_true, right_true}
 use Rattle.nr_overlap.specs.Rules.{Rules}
 use Rattle.nr_overlap.specs.Serial.{due_after}
 use Rattle.nr_overlap.specs.Positions.{at, start}
@@ -15,7 +17,7 @@ use Rattle.nr_overlap.specs.declared.event.Event.TheVariants.{OpenChunk, TakeLis
 use Rattle.nr_overlap.specs.declared.position.Stage.{Stage}
 use Rattle.nr_overlap.specs.declared.position.Stage.TheVariants.{Opened}
 use Rattle.nr_overlap.specs.declared.position.Position.{Position}
-use Rattle.nr_overlap.proofs.Basics.{same_or_not, and_left, and_right, eq_of}
+use Rattle.nr_overlap.proofs.Basics.{eq_of}
 use Rattle.nr_overlap.proofs.Enabled.{can_open, can_take, can_seal, can_publish}
 use Rattle.nr_overlap.proofs.Claims.{took_open, took_take, took_seal, took_publish, took_missing}
 
@@ -32,10 +34,6 @@ becomes ps i p l = record {
   others = λ j ne. get_or-set_other ps i j p start ne;
 }
 
-or_cases : (a b : Bool) → (a || b) ≡ true → (a ≡ true) ⊎ (b ≡ true)
-or_cases true b e = inl refl
-or_cases false b e = inr e
-
 pub none_past : {A : Type 0} (xs : List A) (i : ℕ) → slice_get xs i ≡ None → length xs ≤ i
 none_past {A = A} xs i e = elim ((slice_get_cases xs i).1) [ inl p ↦ absurd (no p.0 (sym p.2 ∙ e)) | inr p ↦ p.0 ]
   where
@@ -49,15 +47,15 @@ module _ {W K L R : Type 0} (r : Rules W K L R) where
       → IsReached r qs
   keep_reached ps qs i p is be inside more in_chunk has_taken claims = record {
     count = be.count ∙ is.count;
-    in_chunk = λ s l. elim (same_or_not s i) [
+    in_chunk = λ s l. elim (cases_eq s i) [
       | inl e ↦ subst (λ t. IsInChunk r t (at qs t).stage (at qs t).number) (sym e) (subst (λ (q : Position). IsInChunk r i q.stage q.number) (sym be.here) in_chunk)
       | inr ne ↦ subst (λ (q : Position). IsInChunk r s q.stage q.number) (sym (be.others s ne)) (is.in_chunk s l)
     ];
-    has_taken = λ s l. elim (same_or_not s i) [
+    has_taken = λ s l. elim (cases_eq s i) [
       | inl e ↦ subst (λ t. HasTaken r t (at qs t).stage (at qs t).number (at qs t).taken) (sym e) (subst (λ (q : Position). HasTaken r i q.stage q.number q.taken) (sym be.here) has_taken)
       | inr ne ↦ subst (λ (q : Position). HasTaken r s q.stage q.number q.taken) (sym (be.others s ne)) (is.has_taken s l)
     ];
-    published = λ d s h dl sl pos there tk. rises s h (elim (same_or_not d i) [
+    published = λ d s h dl sl pos there tk. rises s h (elim (cases_eq d i) [
       | inl e ↦ elim (claims s h sl pos there (subst (λ (q : Position). took r i q h s ≡ true) be.here (subst (λ t. took r t (at qs t) h s ≡ true) e tk))) [
         | inl old ↦ is.published i s h inside sl pos there old
         | inr l ↦ l
@@ -67,7 +65,7 @@ module _ {W K L R : Type 0} (r : Rules W K L R) where
   }
     where
       rises : (s h : ℕ) → h ≤ (at ps s).number → h ≤ (at qs s).number
-      rises s h l = elim (same_or_not s i) [
+      rises s h l = elim (cases_eq s i) [
         | inl e ↦ let m : (at ps s).number ≤ (at qs s).number = subst (λ t. (at ps t).number ≤ (at qs t).number) (sym e) (subst (λ (q : Position). (at ps i).number ≤ q.number) (sym be.here) more) in omega arith
         | inr ne ↦ subst (λ (q : Position). h ≤ q.number) (sym (be.others s ne)) l
       ]
@@ -94,8 +92,8 @@ module _ {W K L R : Type 0} (r : Rules W K L R) where
     where
       same_pair : (h t : ℕ) (pair : ℕ × ℕ) (g u : ℕ) → pair.0 ≡ g → pair.1 ≡ u → is_pair h t pair ≡ true → g ≤ (at ps u).number → h ≤ (at ps t).number
       same_pair h t pair g u a b e l =
-          let p : pair.0 ≡ h = eq_of pair.0 h (and_left (pair.0 == h) (pair.1 == t) e) in
-          let q : pair.1 ≡ t = eq_of pair.1 t (and_right (pair.0 == h) (pair.1 == t) e) in
+          let p : pair.0 ≡ h = eq_of pair.0 h (left_true (pair.0 == h) (pair.1 == t) e) in
+          let q : pair.1 ≡ t = eq_of pair.1 t (right_true (pair.0 == h) (pair.1 == t) e) in
           subst (λ w. h ≤ (at ps w).number) (sym b ∙ q) (subst (λ w. w ≤ (at ps u).number) (sym a ∙ p) l)
   keeps_reached ps (SealChunk x) is inside n =
       let s : ℕ = x.0 in

@@ -4,8 +4,10 @@ use Rattle.std.specs.Prelude.{slice_get, slice_set, ◌||◌, Vec, unwrap_or, Re
 use Rattle.std.specs.declared.alloc.Global.{Global}
 use Rattle.std.specs.declared.alloc.AllocError.{AllocError}
 use Rattle.std.specs.Option.{option_map}
-use Rattle.std.proofs.lemmas.Option.{slice_get_within, slice_get_cases, slice_get_read, get_or_from_slice_get}
+use Rattle.std.proofs.lemmas.Option.{slice_get_within, slice_get_read, get_or_from_slice_get}
 use Rattle.std.specs.Global.{Box}
+use Rattle.std.proofs.lemmas.Bool.{false_from_ne_true, cases_eq}
+use Rattle.nr_bytes.proofs.Basics.{within_some}
 use Rattle.nr_overlap.specs.Rules.{Rules}
 use Rattle.nr_overlap.specs.Lawful.{AreLawful}
 use Rattle.nr_overlap.specs.Serial.{due_after, list_to, with_list, sealing_at, work, world_after}
@@ -25,7 +27,7 @@ use Rattle.nr_overlap.specs.declared.shards.Shards.{Shards}
 use Rattle.nr_overlap.specs.declared.position.Stage.{Stage}
 use Rattle.nr_overlap.specs.declared.position.Stage.TheVariants.{Idle, Opened, Sealed}
 use Rattle.nr_overlap.specs.declared.position.Position.{Position}
-use Rattle.nr_overlap.proofs.Basics.{same_or_not, get-set_same, get-set_other, some_alike, by_test}
+use Rattle.nr_overlap.proofs.Basics.{get-set_same, get-set_other, some_alike}
 use Rattle.nr_overlap.proofs.SerialLemmas.{work_first, work_next, world_there, world_missing, sealing_there, sealing_missing}
 use Rattle.nr_overlap.proofs.DueLemmas.{due_at, first_small}
 use Rattle.nr_overlap.proofs.Enabled.{can_open, can_take, can_seal, can_publish}
@@ -106,9 +108,6 @@ module _ {W K L R : Type 0} (r : Rules W K L R) where
   step_sums : (x y : Shards W K L R) (e : Event) → IsSerial r x → y.positions.items ≡ moved x.positions.items e → IsInside r.shards e → refusal r x.positions.items e ≡ None → Sums y.positions.items
   step_sums x y e is is_moved inside n one_each m laws = subst (AddsUp r m) (sym is_moved) (keeps_sums r m x.positions.items e is.kept.reached inside n one_each laws (is.kept.sums one_each m laws))
 
-  at_place : (A : Position → Type 0) (ps : List Position) (i s : ℕ) (p : Position) → at ps i ≡ p → s ≡ i → A p → A (at ps s)
-  at_place A ps i s p e f a = subst A (sym e ∙ ap (at ps) (sym f)) a
-
   pub keep_kept : (x y : Shards W K L R) → IsKept r x → y.positions.items ≡ x.positions.items → length y.held.items ≡ length x.held.items → length y.dues.items ≡ length x.dues.items → length y.rows.items ≡ length x.rows.items
       → ((s : ℕ) → s < r.shards → length (row_of y.rows.items s) ≡ length (row_of x.rows.items s))
       → ((s h : ℕ) → s < r.shards → row_report (entry y.rows.items s h) ≡ row_report (entry x.rows.items s h)) → IsKept r y
@@ -135,11 +134,11 @@ module _ {W K L R : Type 0} (r : Rules W K L R) where
       → IsSerial r y
   with_one x y i p is be reached sums held_len held_i held_o dues_len dues_i dues_o rows_len long reports lists = record {
     kept = record { reached = reached; sums = sums; held = held_len ∙ is.kept.held; dues = dues_len ∙ is.kept.dues; rows = rows_len ∙ is.kept.rows; long = long; reports = reports };
-    values = λ s v e. elim (same_or_not s i) [
+    values = λ s v e. elim (cases_eq s i) [
       | inl f ↦ subst (λ t. IsHeld r t (at y.positions.items t) v) (sym f) (subst (λ (q : Position). IsHeld r i q v) (sym be.here) (held_i v (ap (slice_get y.held.items) (sym f) ∙ e)))
       | inr ne ↦ subst (λ (q : Position). IsHeld r s q v) (sym (be.others s ne)) (is.values s v (sym (held_o s ne) ∙ e))
     ];
-    due = λ s l e. elim (same_or_not s i) [
+    due = λ s l e. elim (cases_eq s i) [
       | inl f ↦ subst (λ t. dues_at y.dues.items t ≡ due_after r t (at y.positions.items t).number) (sym f)
           (dues_i (ap (λ (q : Position). q.stage) (sym be.here ∙ ap (at y.positions.items) (sym f)) ∙ e) ∙ ap (λ (q : Position). due_after r i q.number) (sym be.here))
       | inr ne ↦ dues_o s ne ∙ is.due s l (ap (λ (q : Position). q.stage) (sym (be.others s ne)) ∙ e) ∙ ap (λ (q : Position). due_after r s q.number) (sym (be.others s ne))
@@ -152,7 +151,7 @@ module _ {W K L R : Type 0} (r : Rules W K L R) where
   Claims ps i p = (s h : ℕ) → s < r.shards → 0 < h → r.present s h ≡ true → took r i p h s ≡ took r i (at ps i) h s
 
   top_same : (ps qs : List Position) (i s : ℕ) (p : Position) → Becomes ps qs i p → top p ≡ top (at ps i) → top (at qs s) ≡ top (at ps s)
-  top_same ps qs i s p be same = elim (same_or_not s i) [
+  top_same ps qs i s p be same = elim (cases_eq s i) [
     | inl e ↦ subst (λ t. top (at qs t) ≡ top (at ps t)) (sym e) (ap top be.here ∙ same)
     | inr ne ↦ ap top (be.others s ne)
   ]
@@ -183,17 +182,17 @@ module _ {W K L R : Type 0} (r : Rules W K L R) where
       let here : row_of y.rows.items i ≡ row_of x.rows.items i ++ e ∷ [] = ap (λ t. row_of t i) rows ∙ row_same x.rows.items i new (slice_get_within x.rows.items i old read) ∙ pushed ∙ ap (λ t. t ++ e ∷ []) (sym (row_read x.rows.items i old read)) in
       let there : (s : ℕ) → (s ≡ i → ⊥) → row_of y.rows.items s ≡ row_of x.rows.items s = λ s ne. ap (λ t. row_of t s) rows ∙ row_other x.rows.items i s new ne in
       with_one x y i p is be reached sums held_len held_i held_o (ap length dues) (λ f. absurd (not_open f)) (λ j ne. ap (λ t. dues_at t j) dues) (ap length rows ∙ length-set x.rows.items i new)
-      (λ s l. elim (same_or_not s i) [
+      (λ s l. elim (cases_eq s i) [
         | inl f ↦ subst (λ t. length (row_of y.rows.items t) ≡ top (at y.positions.items t) + 1) (sym f)
             (ap length here ∙ longer (row_of x.rows.items i) ∙ ap (λ t. t + 1) (is.kept.long i inside ∙ sym more ∙ ap top (sym be.here)))
         | inr ne ↦ ap length (there s ne) ∙ is.kept.long s l ∙ ap (λ (q : Position). top q + 1) (sym (be.others s ne))
       ])
-      (λ s h l. elim (same_or_not s i) [
+      (λ s h l. elim (cases_eq s i) [
         | inl f ↦ subst (λ t. row_report (entry y.rows.items t h) ≡ report_at r y.positions.items t h) (sym f)
             (ap (λ t. row_report (row_entry t h)) here ∙ report_added r x.positions.items y.positions.items i p (row_of x.rows.items i) e h be more (is.kept.long i inside) is_new (is.kept.reports i h inside))
         | inr ne ↦ ap (λ t. row_report (row_entry t h)) (there s ne) ∙ is.kept.reports s h l ∙ ap (λ (q : Position). option_map (λ z. z.report) (shown r s q h)) (sym (be.others s ne))
       ])
-      (λ s h d l m. elim (same_or_not s i) [
+      (λ s h d l m. elim (cases_eq s i) [
         | inl f ↦ subst (λ t. row_slot (entry y.rows.items t h) d ≡ flight_at r y.positions.items t h d) (sym f)
             (ap (λ t. row_slot (row_entry t h) d) here ∙ list_added r x.positions.items y.positions.items i p (row_of x.rows.items i) e h d be more (is.kept.long i inside) is_new (λ g pos pre. claimed d i g inside pos pre) (free d m) (is.lists i h d inside m))
         | inr ne ↦ ap (λ t. row_slot (row_entry t h) d) (there s ne) ∙ is.lists s h d l m
@@ -204,14 +203,14 @@ module _ {W K L R : Type 0} (r : Rules W K L R) where
       longer t = length-append t (e ∷ [])
 
       claimed : (d s h : ℕ) → s < r.shards → 0 < h → r.present s h ≡ true → took r d (at y.positions.items d) h s ≡ took r d (at x.positions.items d) h s
-      claimed d s h l pos pre = elim (same_or_not d i) [
+      claimed d s h l pos pre = elim (cases_eq d i) [
         | inl f ↦ subst (λ t. took r t (at y.positions.items t) h s ≡ took r t (at x.positions.items t) h s) (sym f) (ap (λ (q : Position). took r i q h s) be.here ∙ claims s h l pos pre)
         | inr ne ↦ ap (λ (q : Position). took r d q h s) (be.others d ne)
       ]
 
       -- what is published now was not taken
       free : (d : ℕ) → d < r.shards → r.present i (top (at x.positions.items i) + 1) ≡ true → took r d (at x.positions.items d) (top (at x.positions.items i) + 1) i ≡ false
-      free d m pre = by_test (took r d (at x.positions.items d) (top (at x.positions.items i) + 1) i) (λ f.
+      free d m pre = false_from_ne_true (took r d (at x.positions.items d) (top (at x.positions.items i) + 1) i) (λ f.
           let l : top (at x.positions.items i) + 1 ≤ (at x.positions.items i).number = is.kept.reached.published d i (top (at x.positions.items i) + 1) m inside (omega arith) pre f in omega (arith, first))
 
   -- ---- the steps
@@ -377,11 +376,11 @@ module _ {W K L R : Type 0} (r : Rules W K L R) where
       let was : row_of x.rows.items i ≡ old.items = row_read x.rows.items i old (slice_get_read x.rows.items (length x.rows.items) i old refl in_rows old_at) in
       let now : row_of y.rows.items i ≡ new.items = ap (λ t. row_of t i) rows_is ∙ row_same x.rows.items i new in_rows in
       let others : (s : ℕ) → (s ≡ i → ⊥) → row_of y.rows.items s ≡ row_of x.rows.items s = λ s ne. ap (λ t. row_of t s) rows_is ∙ row_other x.rows.items i s new ne in (
-        λ s. elim (same_or_not s i) [
+        λ s. elim (cases_eq s i) [
           | inl f ↦ subst (λ t. length (row_of y.rows.items t) ≡ length (row_of x.rows.items t)) (sym f) (ap length now ∙ long ∙ ap length (sym was))
           | inr ne ↦ ap length (others s ne)
         ],
-        λ s h. elim (same_or_not s i) [
+        λ s h. elim (cases_eq s i) [
           | inl f ↦ subst (λ t. row_report (entry y.rows.items t h) ≡ row_report (entry x.rows.items t h)) (sym f) (ap (λ t. row_report (row_entry t h)) now ∙ reports h ∙ ap (λ t. row_report (row_entry t h)) (sym was))
           | inr ne ↦ ap (λ t. row_report (row_entry t h)) (others s ne)
         ],
@@ -437,9 +436,6 @@ module _ {W K L R : Type 0} (r : Rules W K L R) where
       is.lists s h d in_s in_d ∙ flight_due r x.positions.items d s h next.free (omega (arith, next.published, number_top (at x.positions.items s).stage (at x.positions.items s).number))
       ∙ (λ i. list_to r (sealing_at r (sym next.source i) (sym next.height i)) d)
 
-  within_some : {A : Type 0} (xs : List A) (i : ℕ) → i < length xs → (a : A) × (slice_get xs i ≡ Some a)
-  within_some xs i l = elim ((slice_get_cases xs i).1) [ inl p ↦ (p.0, p.2) | inr p ↦ absurd (omega (arith, p.0, l)) ]
-
   -- and it is there
   some_list : (x : Shards W K L R) (d s h : ℕ) (q : Position) → ((k : K) → length (r.seals k).lists ≡ r.shards) → d < r.shards → (next : IsNext x d s h q) → (list : L) × (list_to r (sealing_at r next.pair.1 next.pair.0) d ≡ Some list)
   some_list x d s h q one_each in_d next =
@@ -485,9 +481,9 @@ module _ {W K L R : Type 0} (r : Rules W K L R) where
             (ap length rows_is ∙ length-set x.rows.items s.0 new)
             (λ t l. rows.0 t ∙ is.kept.long t l ∙ ap (λ z. z + 1) (sym (top_same x.positions.items y.positions.items i t p be top_alike)))
             (λ t g l. rows.1 t g ∙ is.kept.reports t g l ∙ sym (reports_same r x.positions.items y.positions.items i p be top_alike t g))
-            (λ t g e l m. elim (same_or_not t s.0) [
-              | inl ft ↦ elim (same_or_not g h.0) [
-                | inl fg ↦ elim (same_or_not e i) [
+            (λ t g e l m. elim (cases_eq t s.0) [
+              | inl ft ↦ elim (cases_eq g h.0) [
+                | inl fg ↦ elim (cases_eq e i) [
                   | inl fe ↦ (λ j. row_slot (entry y.rows.items (ft j) (fg j)) (fe j)) ∙ ap (λ z. row_slot (row_entry z h.0) i) rows.2 ∙ gone
                       ∙ sym (flight_taken r x.positions.items y.positions.items i p s.0 h.0 be claims) ∙ (λ j. flight_at r y.positions.items (sym ft j) (sym fg j) (sym fe j))
                   | inr ne ↦ kept_slot t g e l m be top_alike claims (λ _ _ z. ne z) (ap (λ z. row_slot (entry y.rows.items z g) e) ft ∙ ap (λ z. row_slot (row_entry z g) e) rows.2 ∙ others g e (λ _ z. ne z) ∙ ap (λ z. row_slot (row_entry z g) e) (sym rows.3) ∙ ap (λ z. row_slot (entry x.rows.items z g) e) (sym ft))

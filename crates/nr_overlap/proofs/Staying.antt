@@ -1,7 +1,9 @@
 -- Values that stay good along the serial run, and an amount that is kept while they are: for chains whose phases keep it only where worlds are valid and sums are bounded.
-use Rattle.std.proofs.Common.{◌≡◌, ℕ, ◌+◌, ◌-◌, ◌<◌, ◌≤◌, true, List, Option, Some, None, length, inl, inr, sym, refl, ap, ◌∙◌, subst, arith}
+use Rattle.std.proofs.Common.{◌≡◌, ℕ, ◌+◌, ◌-◌, ◌<◌, ◌≤◌, true, List, Some, None, length, inl, inr, sym, refl, ap, ◌∙◌, subst, arith}
 use Rattle.std.specs.Prelude.{slice_get}
-use Rattle.std.proofs.lemmas.Option.{slice_get_within, slice_get_cases}
+use Rattle.std.proofs.lemmas.Option.{slice_get_within}
+use Rattle.std.proofs.lemmas.Bool.{cases_eq}
+use Rattle.nr_bytes.proofs.Basics.{none≢some, within_some}
 use Rattle.nr_overlap.specs.Rules.{Rules}
 use Rattle.nr_overlap.specs.Serial.{due_after, list_to, world_after, sealing_at, work, last_work, EachChunk, EachTaken}
 use Rattle.nr_overlap.specs.Balance.{Amount, IsKeptBy, AddsUp, if_some, held_at, made_at, left_by}
@@ -16,7 +18,7 @@ use Rattle.nr_overlap.specs.declared.event.Event.TheVariants.{OpenChunk, TakeLis
 use Rattle.nr_overlap.specs.declared.position.Stage.{Stage}
 use Rattle.nr_overlap.specs.declared.position.Stage.TheVariants.{Idle, Opened, Sealed}
 use Rattle.nr_overlap.specs.declared.position.Position.{Position}
-use Rattle.nr_overlap.proofs.Basics.{same_or_not, some_alike}
+use Rattle.nr_overlap.proofs.Basics.{some_alike}
 use Rattle.nr_overlap.proofs.DueLemmas.{due_at, first_small}
 use Rattle.nr_overlap.proofs.SerialLemmas.{sealing_there, sealing_missing, sealing_first, world_there, world_missing}
 use Rattle.nr_overlap.proofs.Enabled.{can_open, can_take, can_seal, can_publish}
@@ -26,9 +28,6 @@ use Rattle.nr_overlap.proofs.Founding.{at_replicate, world_first}
 use Rattle.nr_overlap.proofs.Sums.{KeepsStep, keeps_sums_at, first_sums}
 use Rattle.nr_overlap.proofs.Along.{opened_at, at_height, at_work}
 use Rattle.nr_overlap.proofs.Bounds.{first_sum, IsNeverMade, held_small, room}
-
-nothing : {A : Type 0} (x : A) → ◌≡◌ {A = Option A} None (Some x) → ⊥
-nothing x e = cc
 
 module _ {W K L R : Type 0} (r : Rules W K L R) (m : Amount W K L R) (one_each : (k : K) → length (r.seals k).lists ≡ r.shards) (never : IsNeverMade r m)
     (GoodWorld : ℕ → W → Type 0) (GoodWork : ℕ → K → Type 0) (GoodList : ℕ → L → Type 0) where
@@ -65,9 +64,6 @@ module _ {W K L R : Type 0} (r : Rules W K L R) (m : Amount W K L R) (one_each :
     keeps : KeepsStep r m ps e
     here : GoodAt (actor e) (moved_by e (at ps (actor e)))
     sent : GoodLists (actor e) (top (moved_by e (at ps (actor e))))
-
-  within_some : {A : Type 0} (xs : List A) (i : ℕ) → i < length xs → (a : A) × (slice_get xs i ≡ Some a)
-  within_some xs i l = elim ((slice_get_cases xs i).1) [ inl p ↦ (p.0, p.2) | inr p ↦ absurd (omega (arith, p.0, l)) ]
 
   -- the list of a due pair
   next_list : (i n k : ℕ) (pair : ℕ × ℕ) → i < r.shards → slice_get (due_after r i n) k ≡ Some pair → (list : L) × (list_to r (sealing_at r pair.1 pair.0) i ≡ Some list)
@@ -167,7 +163,7 @@ module _ {W K L R : Type 0} (r : Rules W K L R) (m : Amount W K L R) (one_each :
         record {
           keeps = ended (left_by r m i (n + 1) (r.seals (last_work r i n))) (held_at r m i n full) (made_at r m i n full) (m.made i (n + 1) (r.seals (last_work r i n)).report) three.2 (never.so_far i n full (work r i n full)) (never.whole i (n + 1) (r.seals (last_work r i n)).report);
           here = subst (GoodWorld i) (sym (world_there r i n chunk.1)) three.0;
-          sent = λ h d list dl hl list_is. elim (same_or_not h (n + 1)) [
+          sent = λ h d list dl hl list_is. elim (cases_eq h (n + 1)) [
             | inl e ↦ three.1 d list (ap (λ o. list_to r o d) (sym (sealing_there r i n chunk.1)) ∙ ap (λ t. list_to r (sealing_at r i t) d) (sym e) ∙ list_is)
             | inr ne ↦ good.lists i inside h d list dl (omega (arith, hl, ne, before)) list_is
           ];
@@ -188,8 +184,8 @@ module _ {W K L R : Type 0} (r : Rules W K L R) (m : Amount W K L R) (one_each :
               record {
                 keeps = tt;
                 here = subst (GoodWorld i) (sym (world_missing r i n e.1)) world;
-                sent = λ h d list dl hl list_is. elim (same_or_not h (n + 1)) [
-                  | inl f ↦ absurd (nothing list (ap (λ o. list_to r o d) (sym (sealing_missing r i n e.1)) ∙ ap (λ t. list_to r (sealing_at r i t) d) (sym f) ∙ list_is))
+                sent = λ h d list dl hl list_is. elim (cases_eq h (n + 1)) [
+                  | inl f ↦ absurd (none≢some list (ap (λ o. list_to r o d) (sym (sealing_missing r i n e.1)) ∙ ap (λ t. list_to r (sealing_at r i t) d) (sym f) ∙ list_is))
                   | inr ne ↦ good.lists i inside h d list dl (omega (arith, hl, ne, before)) list_is
                 ];
               }
@@ -203,11 +199,11 @@ module _ {W K L R : Type 0} (r : Rules W K L R) (m : Amount W K L R) (one_each :
         let step = good_step ps e is inside none good in
         record {
           sums = keeps_sums_at r m ps e is inside none one_each step.keeps good.sums;
-          held = λ s l. elim (same_or_not s i) [
+          held = λ s l. elim (cases_eq s i) [
             | inl f ↦ subst (λ t. GoodAt t (at (moved ps e) t)) (sym f) (subst (GoodAt i) (sym be.here) step.here)
             | inr ne ↦ subst (GoodAt s) (sym (be.others s ne)) (good.held s l)
           ];
-          lists = λ s l. elim (same_or_not s i) [
+          lists = λ s l. elim (cases_eq s i) [
             | inl f ↦ subst (λ t. GoodLists t (top (at (moved ps e) t))) (sym f) (subst (λ (q : Position). GoodLists i (top q)) (sym be.here) step.sent)
             | inr ne ↦ subst (λ (q : Position). GoodLists s (top q)) (sym (be.others s ne)) (good.lists s l)
           ];
@@ -219,7 +215,7 @@ module _ {W K L R : Type 0} (r : Rules W K L R) (m : Amount W K L R) (one_each :
       held = λ s l. subst (GoodAt s) (sym (at_replicate r.shards s)) (subst (GoodWorld s) (sym (world_first r s)) (stays.begins s l));
       lists = λ s l h d list dl hl list_is.
           let none : h ≡ 0 = omega (arith, hl, ap top (at_replicate r.shards s)) in
-          absurd (nothing list (ap (λ o. list_to r o d) (sym (sealing_first r s)) ∙ ap (λ t. list_to r (sealing_at r s t) d) (sym none) ∙ list_is));
+          absurd (none≢some list (ap (λ o. list_to r o d) (sym (sealing_first r s)) ∙ ap (λ t. list_to r (sealing_at r s t) d) (sym none) ∙ list_is));
     }
 
     -- ---- what holds of the serial run

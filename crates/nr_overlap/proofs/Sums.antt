@@ -3,7 +3,8 @@ use Rattle.std.proofs.Common.{◌≡◌, ℕ, zero, suc, ◌+◌, ◌-◌, ◌<�
 use Rattle.std.specs.Prelude.{slice_get, nat_le, ◌||◌, sum_by}
 use Rattle.std.specs.Option.{option_map}
 use Rattle.std.proofs.lemmas.List.Sums.{sum_by-cons}
-use Rattle.std.proofs.lemmas.Option.{slice_get_cases}
+use Rattle.std.proofs.lemmas.Bool.{false_from_ne_true, cases_eq}
+use Rattle.nr_bytes.proofs.Basics.{within_some}
 use Rattle.nr_overlap.specs.Rules.{Rules, Sealing}
 use Rattle.nr_overlap.specs.Serial.{last_work, due_after, list_to, world_after, sealing_at, work, past_after}
 use Rattle.nr_overlap.specs.Positions.{at, top, top_at, start}
@@ -17,7 +18,6 @@ use Rattle.nr_overlap.specs.declared.event.Event.TheVariants.{OpenChunk, TakeLis
 use Rattle.nr_overlap.specs.declared.position.Stage.{Stage}
 use Rattle.nr_overlap.specs.declared.position.Stage.TheVariants.{Idle, Opened, Sealed}
 use Rattle.nr_overlap.specs.declared.position.Position.{Position}
-use Rattle.nr_overlap.proofs.Basics.{same_or_not, by_test}
 use Rattle.nr_overlap.proofs.SerialLemmas.{sealing_first, world_there, world_missing, sealing_there, sealing_missing}
 use Rattle.nr_overlap.proofs.DueLemmas.{due_at, first_small}
 use Rattle.nr_overlap.proofs.Enabled.{can_open, can_take, can_seal, can_publish}
@@ -33,7 +33,7 @@ sum_same (suc n) f g e = (λ i. sum_same n f g (λ j l. e j (omega arith)) i + e
 -- one part changes
 pub sum_change : (n i : ℕ) (f g : ℕ → ℕ) → i < n → ((j : ℕ) → j < n → (j ≡ i → ⊥) → g j ≡ f j) → sum_below n g + f i ≡ sum_below n f + g i
 sum_change zero i f g l e = absurd (omega arith)
-sum_change (suc n) i f g l e = elim (same_or_not i n) [
+sum_change (suc n) i f g l e = elim (cases_eq i n) [
   | inl q ↦ let same : sum_below n g ≡ sum_below n f = sum_same n f g (λ j m. e j (omega arith) (λ p. omega (arith, p, q))) in
       let a : f i ≡ f n = ap f q in let b : g i ≡ g n = ap g q in omega arith
   | inr ne ↦ let same : g n ≡ f n = e n (omega arith) (λ p. ne (sym p)) in
@@ -165,7 +165,7 @@ module _ {W K L R : Type 0} (r : Rules W K L R) (m : Amount W K L R) where
   Claims ps i p = (s h : ℕ) → s < r.shards → 0 < h → r.present s h ≡ true → took r i p h s ≡ took r i (at ps i) h s
 
   claimed : (ps qs : List Position) (i : ℕ) (p : Position) → Becomes ps qs i p → Claims ps i p → (d s h : ℕ) → s < r.shards → 0 < h → r.present s h ≡ true → took r d (at qs d) h s ≡ took r d (at ps d) h s
-  claimed ps qs i p be claims d s h l pos pre = elim (same_or_not d i) [
+  claimed ps qs i p be claims d s h l pos pre = elim (cases_eq d i) [
     | inl f ↦ subst (λ t. took r t (at qs t) h s ≡ took r t (at ps t) h s) (sym f) (ap (λ (q : Position). took r i q h s) be.here ∙ claims s h l pos pre)
     | inr ne ↦ ap (λ (q : Position). took r d q h s) (be.others d ne)
   ]
@@ -173,7 +173,7 @@ module _ {W K L R : Type 0} (r : Rules W K L R) (m : Amount W K L R) where
   -- where a height is added, all else stays
   rows_added : (ps qs : List Position) (i : ℕ) (p : Position) → Becomes ps qs i p → top p ≡ top (at ps i) + 1 → Claims ps i p → (t g : ℕ) → t < r.shards → (t ≡ i → g ≡ top (at ps i) + 1 → ⊥) → SameRows ps qs t g
   rows_added ps qs i p be more claims t g l ne =
-      let same : shown r t (at qs t) g ≡ shown r t (at ps t) g = elim (same_or_not t i) [
+      let same : shown r t (at qs t) g ≡ shown r t (at ps t) g = elim (cases_eq t i) [
         | inl f ↦ subst (λ u. shown r u (at qs u) g ≡ shown r u (at ps u) g) (sym f) (ap (λ (q : Position). shown r i q g) be.here ∙ shown_before r i g (at ps i) p more (λ e. ne f e))
         | inr f ↦ ap (λ (q : Position). shown r t q g) (be.others t f)
       ] in
@@ -188,9 +188,6 @@ module _ {W K L R : Type 0} (r : Rules W K L R) (m : Amount W K L R) where
   number_top Idle n = omega arith
   number_top Opened n = omega arith
   number_top Sealed n = omega arith
-
-  within_some : {A : Type 0} (xs : List A) (i : ℕ) → i < length xs → (a : A) × (slice_get xs i ≡ Some a)
-  within_some xs i l = elim ((slice_get_cases xs i).1) [ inl p ↦ (p.0, p.2) | inr p ↦ absurd (omega (arith, p.0, l)) ]
 
   abbrev pub holds_in : ℕ → Stage → ℕ → ℕ → ℕ
   holds_in s t n k = if_some m.world (world_in r s t n) + if_some (m.working s n k) (working_in r s t n k)
@@ -295,7 +292,7 @@ module _ {W K L R : Type 0} (r : Rules W K L R) (m : Amount W K L R) where
       let before = nothing_shown ps i h (shown_past r i h (at ps i) (omega (arith, was_top))) in
       let shows : shown r i (at qs i) h ≡ Some z = ap (λ (q : Position). shown r i q h) be.here ∙ shown_new r i h (at ps i) p more new_top ∙ sealing_there r i n chunk.1 in
       let free : (d : ℕ) → d < r.shards → took r d (at qs d) h i ≡ false = λ d l. claimed ps qs i p be claims d i h inside (omega arith) chunk.1
-      ∙ by_test (took r d (at ps d) h i) (λ f. let q : n + 1 ≤ n = is.published d i h l inside (omega arith) chunk.1 f in omega (arith, q)) in
+      ∙ false_from_ne_true (took r d (at ps d) h i) (λ f. let q : n + 1 ≤ n = is.published d i h l inside (omega arith) chunk.1 f in omega (arith, q)) in
       seal_sum ps qs i p h z be inside (omega (arith, chunk.0)) (one_each w) (λ t g l ne. rows_added ps qs i p be more claims t g l (λ a b. ne a (b ∙ sym new_top))) before.0 before.1
       (ap (option_map (λ z. z.report)) shows) (λ d l. (λ j. cond (free d l j) None (list_to r (shows j) d)))
       ((λ j. (m.world (world_there r i n chunk.1 j) + 0) + m.report i h z.report + sum_by m.list z.lists + makes_in i (can.stage j) n (all j))
@@ -323,8 +320,8 @@ module _ {W K L R : Type 0} (r : Rules W K L R) (m : Amount W K L R) where
       ]
     where
       missing_rows : (ps qs : List Position) (i : ℕ) (p : Position) → Becomes ps qs i p → top p ≡ top (at ps i) + 1 → Claims ps i p → (s h : ℕ) → s < r.shards → sealing_at r i (top (at ps i) + 1) ≡ None → SameRows ps qs s h
-      missing_rows ps qs i p be more claims s h l missing = elim (same_or_not s i) [
-        | inl f ↦ elim (same_or_not h (top (at ps i) + 1)) [
+      missing_rows ps qs i p be more claims s h l missing = elim (cases_eq s i) [
+        | inl f ↦ elim (cases_eq h (top (at ps i) + 1)) [
           | inl g ↦ let before = nothing_shown ps i h (shown_past r i h (at ps i) (omega (arith, g))) in
               let after = nothing_shown qs i h (ap (λ (q : Position). shown r i q h) be.here ∙ shown_new r i h (at ps i) p more g ∙ ap (sealing_at r i) g ∙ missing) in
               subst (λ t. SameRows ps qs t h) (sym f) (after.0 ∙ sym before.0, λ d _. after.1 d ∙ sym (before.1 d))

@@ -22,9 +22,6 @@ stage_back Idle = refl
 stage_back Opened = refl
 stage_back Sealed = refl
 
-abbrev pub stage_code : Coded Stage
-stage_code = code_by ℕ coded_ℕ stage_number stage_of stage_back
-
 abbrev pub position_code : Coded Position
 position_code =
     code_by (ℕ × (ℕ × ℕ)) (coded× coded_ℕ (coded× coded_ℕ coded_ℕ)) (λ p. (p.number, (stage_number p.stage, p.taken)))

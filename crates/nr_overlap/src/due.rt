@@ -1,7 +1,7 @@
 //! Which lists are due.
 
 ghost use Rattle.std.specs.Prelude.{◌≡◌, ◌+◌, ◌<◌, ◌++◌, IfOk, OnOk};
-ghost use Rattle.nr_overlap.specs.Serial.{last_present, first_due, pairs_at, due_after};
+ghost use Rattle.nr_overlap.specs.Serial.{first_due, pairs_at, due_after};
 
 use crate::phases::Phases;
 use nr_ids::{Height, ShardId};

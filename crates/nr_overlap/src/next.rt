@@ -1,6 +1,6 @@
 //! Which step comes next.
 
-ghost use Rattle.std.specs.Prelude.{◌≡◌, ◌<◌, ◌≤◌, ◌^◌, ℕ, length, slice_get, MatchOption, Option, Some, None};
+ghost use Rattle.std.specs.Prelude.{◌≡◌, ◌<◌, length, Option, Some, None};
 ghost use Rattle.nr_overlap.specs.Held.{IsSerial};
 ghost use Rattle.nr_overlap.specs.Outcome.{behind};
 ghost use Rattle.nr_overlap.specs.Positions.{at};

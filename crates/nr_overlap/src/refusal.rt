@@ -1,11 +1,9 @@
 //! Why a step is not enabled.
 
-ghost use Rattle.std.specs.Prelude.{◌≡◌, ◌<◌, ◌+◌, ◌≤◌, length, slice_get, Option, Some, None};
-ghost use Rattle.nr_overlap.specs.Held.{IsSerial, dues_at};
+ghost use Rattle.std.specs.Prelude.{◌≡◌, ◌<◌, ◌+◌, length, slice_get, Option, Some, None};
+ghost use Rattle.nr_overlap.specs.Held.{IsSerial};
 ghost use Rattle.nr_overlap.specs.Inside.{IsInside, actor};
-ghost use Rattle.nr_overlap.specs.Moves.{refusal, fits, list_refusal, list_refusal_by, wrong_list, left_over, named};
-ghost use Rattle.nr_overlap.specs.Moves.{next_due};
-ghost use Rattle.nr_overlap.specs.Positions.{at};
+ghost use Rattle.nr_overlap.specs.Moves.{refusal, fits, list_refusal, list_refusal_by, wrong_list, named};
 
 use crate::event::{Event, Why};
 use crate::phases::Phases;

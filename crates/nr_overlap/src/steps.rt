@@ -1,12 +1,12 @@
 //! The steps of a shard, each where it is enabled.
 
-ghost use Rattle.std.specs.Prelude.{◌≡◌, ◌<◌, ◌+◌, ◌≤◌, ◌++◌, ◌∷◌, [], ℕ, IfOk, OnOk, OnErr, length, map, List, Option};
-ghost use Rattle.std.specs.Prelude.{Some, None, slice_get, slice_set};
-ghost use Rattle.nr_overlap.specs.Held.{IsSerial, IsKept, IsHeld, Happens, Opens, Takes, Seals, opened_held, took_held};
-ghost use Rattle.nr_overlap.specs.Held.{sealed_held, IsRowFrom, cell, row_of, row_entry, row_slot, row_report, IsRowOf};
+ghost use Rattle.std.specs.Prelude.{◌≡◌, ◌<◌, ◌+◌, ◌≤◌, ℕ, IfOk, OnOk, length, map, Option};
+ghost use Rattle.std.specs.Prelude.{Some, None};
+ghost use Rattle.nr_overlap.specs.Held.{IsSerial, Happens, Opens, Takes, Seals, opened_held, took_held};
+ghost use Rattle.nr_overlap.specs.Held.{sealed_held, IsRowFrom, cell, row_entry, row_slot, row_report};
 ghost use Rattle.nr_overlap.specs.declared.event.Event.TheVariants.{OpenChunk, TakeList, SealChunk, PublishLists};
-ghost use Rattle.nr_overlap.specs.Inside.{IsInside, actor};
-ghost use Rattle.nr_overlap.specs.Moves.{refusal, moved};
+ghost use Rattle.nr_overlap.specs.Inside.{IsInside};
+ghost use Rattle.nr_overlap.specs.Moves.{refusal};
 
 use crate::due::due_list;
 use crate::event::Event;

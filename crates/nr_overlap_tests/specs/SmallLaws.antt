@@ -1,15 +1,16 @@
 -- A small chunk keeps tokens and receipts, and each call of the serial run may be made.
 use Rattle.std.specs.Prelude.{◌≡◌, ℕ, zero, suc, ◌+◌, ◌-◌, ◌*◌, ◌<◌, ◌≤◌, ◌%◌, ◌==◌, nat_le, Bool, true, false, cond}
 use Rattle.std.specs.Prelude.{List, [], ◌∷◌, ◌++◌, map, fold, sum_by, length, Some, slice_get, refl, unwrap_or}
-use Rattle.std.proofs.Common.{sym, ap, ◌∙◌, arith, inl, inr}
+use Rattle.std.proofs.Common.{sym, ap, ◌∙◌, arith, inl, inr, add_assoc}
 use Rattle.std.specs.List.{range_with_len}
 use Rattle.std.proofs.lemmas.List.FromFn.{length-map-range_with_len}
 use Rattle.std.proofs.lemmas.List.Sums.{sum_by-cons, sum_by-append}
+use Rattle.std.proofs.lemmas.Bool.{cases_eq}
 use Rattle.nr_overlap.specs.Rules.{Rules}
 use Rattle.nr_overlap.specs.Lawful.{AreLawful}
 use Rattle.nr_overlap.specs.Balance.{IsKeptBy, sum_below}
 use Rattle.nr_overlap.specs.Serial.{work, due_after, world_after, list_to, sealing_at, with_list}
-use Rattle.nr_overlap.proofs.Basics.{same_or_not, eq_same, eq_other, le_of}
+use Rattle.nr_overlap.proofs.Basics.{eq_same, eq_other, le_of}
 use Rattle.nr_overlap.proofs.SerialLemmas.{work_first, work_next}
 use Rattle.nr_overlap.proofs.Bounds.{bound}
 use Rattle.nr_overlap_tests.specs.Amounts.{tokens, receipts, times}
@@ -40,10 +41,10 @@ module _ (f : ℕ → ℕ) (n : ℕ) where
   hit zero a x xs l m = absurd (omega arith)
   hit (suc k) a x xs l m =
       sum_by-cons (sum_by f) (out_to n a (x ∷ xs)) (part (a + 1) k (x ∷ xs))
-      ∙ elim (same_or_not (x % n) a) [
+      ∙ elim (cases_eq (x % n) a) [
         | inl e ↦ (λ i. sum_by f (cond (eq_same (x % n) a e i) (x ∷ out_to n a xs) (out_to n a xs)) + miss k
             (a + 1) x xs (omega (arith, e)) i)
-            ∙ ap (λ t. t + all (part (a + 1) k xs)) (sum_by-cons f x (out_to n a xs)) ∙ regroup (f x)
+            ∙ ap (λ t. t + all (part (a + 1) k xs)) (sum_by-cons f x (out_to n a xs)) ∙ add_assoc (f x)
             (sum_by f (out_to n a xs)) (all (part (a + 1) k xs))
         | inr ne ↦ (λ i. sum_by f (cond (eq_other (x % n) a ne i) (x ∷ out_to n a xs) (out_to n a xs)) + hit k
             (a + 1) x xs (omega (arith, ne)) (omega arith) i)
@@ -51,9 +52,6 @@ module _ (f : ℕ → ℕ) (n : ℕ) where
       ]
       ∙ ap (λ t. f x + t) (sym (sum_by-cons (sum_by f) (out_to n a xs) (part (a + 1) k xs)))
     where
-      regroup : (a b c : ℕ) → (a + b) + c ≡ a + (b + c)
-      regroup a b c = omega arith
-
       swap : (a b c : ℕ) → b + (a + c) ≡ a + (b + c)
       swap a b c = omega arith
 

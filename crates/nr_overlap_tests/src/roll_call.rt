@@ -1,6 +1,6 @@
 //! The chunks of a roll: each sends its name to all shards, and its report has the names that it took, in order.
 
-ghost use Rattle.std.specs.Prelude.{◌≡◌, IfOk, replicate};
+ghost use Rattle.std.specs.Prelude.{◌≡◌};
 ghost use Rattle.nr_overlap_tests.specs.Roll.{is_in, is_there};
 
 use crate::roll::Roll;

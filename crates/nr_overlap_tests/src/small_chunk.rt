@@ -1,9 +1,8 @@
 //! The chunks of a chain of amounts.
 
-ghost use Rattle.std.specs.Prelude.{◌≡◌, ◌≢◌, ◌++◌, ◌∷◌, [], ◌≤◌, ◌<◌, ◌+◌, ◌^◌, List, IfOk, OnOk, length, ℕ, map};
-ghost use Rattle.std.specs.Prelude.{fold, take};
+ghost use Rattle.std.specs.Prelude.{◌≡◌, ◌≤◌, ◌<◌, ◌+◌, List, IfOk, OnOk};
+ghost use Rattle.std.specs.Prelude.{fold};
 ghost use Rattle.std.specs.Option.{option_copied};
-ghost use Rattle.std.specs.List.{range_with_len};
 ghost use Rattle.nr_overlap_tests.specs.Small.{out_to, lists_to, chunk_at, chunk_in, spend, took, LIMIT, room};
 
 use crate::bag::Bag;

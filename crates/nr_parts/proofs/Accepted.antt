@@ -6,12 +6,12 @@ use Rattle.nr_bytes.specs.Answers.{Gives}
 use Rattle.std.specs.Str.{bytes_eq}
 use Rattle.std.specs.List.{AllByRecursion}
 use Rattle.std.specs.FinMap.{entries}
-use Rattle.std.proofs.lemmas.Bool.{eqb-true, leb-true}
+use Rattle.std.proofs.lemmas.Bool.{eqb-true, leb-true, and_parts}
 use Rattle.std.proofs.lemmas.Slice.Eq.{bytes_eq-Decides}
 use Rattle.nr_bytes.proofs.Steps.{bind_ok}
 use Rattle.nr_ids.specs.declared.key.Hash32.{Hash32}
 use Rattle.nr_triedef.specs.Node.{digest, node_text, usage_of}
-use Rattle.nr_triedef.specs.Root.{Contents, paths, depth, trie, usage_below, no_root, summary_of, root_of, root_of_entries}
+use Rattle.nr_triedef.specs.Root.{Contents, paths, depth, trie, usage_below, no_root, summary_of, root_of_entries}
 use Rattle.nr_triedef.specs.declared.hash.Summary.{Summary}
 use Rattle.nr_columns.specs.declared.entry.Entry.{Entry}
 use Rattle.nr_walk.specs.declared.fault.WalkFault.{WalkFault}
@@ -24,7 +24,7 @@ use Rattle.nr_parts.specs.Offsets.{tops_usage, entry_in, entries_in, share_of, p
 use Rattle.nr_parts.specs.Walking.{claim, claim_at, walk_from, walk_below, walked, most_nodes}
 use Rattle.nr_parts.specs.Checking.{memory_fault, lifted, same_hash, is_zeros, is_claimed, first_other, entries_or_fault, is_numbered, claims_of, compared, checked}
 use Rattle.nr_walk.specs.Shown.{IsOf}
-use Rattle.nr_parts.specs.Agreeing.{AgreesWithPart, IsPartOfEach}
+use Rattle.nr_parts.specs.Agreeing.{IsPartOfEach}
 use Rattle.nr_parts.specs.declared.part.Part.{Part}
 use Rattle.nr_parts.specs.declared.share.Share.{Share}
 use Rattle.nr_parts.specs.declared.walking.Claim.{Claim}
@@ -44,10 +44,6 @@ accepts : (b : Bool) (then : Result (Unit {0}) PartFault) (fault : PartFault) �
 accepts true then fault e = (refl, e)
 accepts false then fault e = absurd cc
 
-both_true : (a b : Bool) → (a && b) ≡ true → (a ≡ true) × (b ≡ true)
-both_true true b e = (refl, e)
-both_true false b e = absurd cc
-
 same_bytes : (a b : List ℕ) → bytes_eq a b ≡ true → a ≡ b
 same_bytes a b e = (bytes_eq-Decides a b).0 e
 
@@ -64,7 +60,7 @@ lifted_ok (Err fault) claims e = absurd cc
 
 pub some_number : (count number : ℕ) → is_numbered count number ≡ true → 0 < count
 some_number count number e =
-    let one = both_true (nat_le 1 count) (nat_le count 10000 && nat_lt number count) (regroup (nat_le 1 count) (nat_le count 10000) (nat_lt number count) e) in
+    let one = and_parts (nat_le 1 count) (nat_le count 10000 && nat_lt number count) (regroup (nat_le 1 count) (nat_le count 10000) (nat_lt number count) e) in
     let some : 1 ≤ count = leb-true 1 count one.0 in omega arith
   where
     regroup : (a b c : Bool) → (a && b && c) ≡ true → (a && (b && c)) ≡ true

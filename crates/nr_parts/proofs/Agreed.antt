@@ -10,6 +10,7 @@ use Rattle.std.specs.Cmp.Lexicographic.{nat_list_cmp_total}
 use Rattle.std.proofs.lemmas.Bool.{le-leb, lt-ltb}
 use Rattle.std.proofs.lemmas.Slice.Eq.{bytes_eq-Decides}
 use Rattle.std.proofs.lemmas.Map.Lookups.{exact_bytes}
+use Rattle.nr_bytes.proofs.Basics.{all_both}
 use Rattle.sha2.specs.Sha256.{sha256}
 use Rattle.nr_bytes.specs.Reading.{◌>>=◌}
 use Rattle.nr_triedef.specs.Node.{digest, node_text, usage_of}
@@ -23,7 +24,6 @@ use Rattle.nr_walk.specs.Texts.{with_text, texts_of}
 use Rattle.nr_walk.specs.Told.{spot, spots_of, own_usage, option_list}
 use Rattle.nr_walk.specs.Looking.{looked_at}
 use Rattle.nr_walk.specs.Shown.{IsOf}
-use Rattle.nr_walk.proofs.Placing.{all-append}
 use Rattle.nr_parts.specs.Offsets.{tops_usage, share_of, meets}
 use Rattle.nr_parts.specs.Cutting.{looked, looked_from_root, once, part_texts, part_cut}
 use Rattle.nr_parts.specs.Walking.{claim_at, walk_from, walk_below, walked, most_nodes}
@@ -105,7 +105,7 @@ held_looked : (texts : Contents) (share : Share) (at : ℕ) (g : Forest) → All
 held_looked texts share at bare h = tt
 held_looked texts share at (tree top below beside) h = (
   h.0,
-  all-append (IsHeld texts) (cond (meets share at (usage_of top.node)) (looked share (at + (usage_of top.node - tops_usage below)) below) []) (looked share (at + usage_of top.node) beside)
+  all_both (IsHeld texts) (cond (meets share at (usage_of top.node)) (looked share (at + (usage_of top.node - tops_usage below)) below) []) (looked share (at + usage_of top.node) beside)
       (elim (meets share at (usage_of top.node)) as (λ m. AllByRecursion (IsHeld texts) (cond m (looked share (at + (usage_of top.node - tops_usage below)) below) [])) [ true ↦ held_looked texts share (at + (usage_of top.node - tops_usage below)) below h.1 | false ↦ tt ])
       (held_looked texts share (at + usage_of top.node) beside h.2),
 )

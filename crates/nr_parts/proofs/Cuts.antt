@@ -2,6 +2,7 @@
 use Rattle.std.proofs.Common.{◌≡◌, ◌+◌, ℕ, zero, suc, List, [], ◌∷◌, ◌++◌, map, Some, None, refl, ap, sym, subst, ◌∙◌, arith, append-nil}
 use Rattle.std.specs.List.{AllByRecursion}
 use Rattle.std.specs.FinMap.{empty}
+use Rattle.nr_bytes.proofs.Basics.{all_both}
 use Rattle.nr_bytes.specs.Numbers.{IsBytes}
 use Rattle.nr_triedef.specs.Node.{nibbles, IsNibbles, node_text, IsNode}
 use Rattle.nr_triedef.specs.Root.{Paths, paths, depth, trie, usage_below, summary_of, no_root, root_of_entries}
@@ -19,7 +20,6 @@ use Rattle.nr_parts.specs.Sweeping.{swept_entries, swept_nodes, owns}
 use Rattle.nr_parts.specs.declared.share.Share.{Share}
 use Rattle.nr_ids.specs.declared.key.Hash32.{Hash32}
 use Rattle.nr_store.proofs.Levels.{whole_one, whole_several, stands}
-use Rattle.nr_walk.proofs.Placing.{all-append}
 use Rattle.nr_parts.proofs.Grown.{IsGrown, usage_forest, grown_forest}
 use Rattle.nr_trielist.proofs.Branches.{nodes_in, nodes_tree, nodes_forest}
 use Rattle.nr_parts.proofs.Accepted.{map_top, TopOf}
@@ -68,18 +68,6 @@ cut_texts es count number share nodes walk is e =
     ∙ ap (λ (l : List Node). once empty (map node_text l)) (looked_root (share_of (root_of_entries es).usage count number) (root_of_entries es) (forest_of es) (map_top es) (grown_pairs es walk))
     ∙ ap (once empty) (map_map (looked_from_root (share_of (root_of_entries es).usage count number) (forest_of es)))
 
--- ---- the whole part
-pub usage_top : (s : Summary) (g : Forest) → TopOf s g → IsGrown g → (t : Stood) (below beside : Forest) → g ≡ tree t below beside → tops_usage g ≡ s.usage
-usage_top s bare top h t below beside e = absurd (bare_is t below beside e)
-  where
-    is_bare : Forest → Type 0
-    is_bare bare = Unit {0}
-    is_bare (tree t below beside) = ⊥
-
-    bare_is : (t : Stood) (below beside : Forest) → bare ≡ tree t below beside → ⊥
-    bare_is t below beside e = subst is_bare e tt
-usage_top s (tree u under others) top h t below beside e = let none : tops_usage others ≡ 0 = ap tops_usage top.1 in omega (arith, top.0.usage, none)
-
 -- ---- facts of the list of all nodes
 some_whole : (ps : Paths) (s : Summary) → Some s ≡ whole ps → summary_of (trie (depth ps) ps) ≡ s
 unfolding whole
@@ -98,7 +86,7 @@ owns_pairs es s nodes walk e n = ap owns (n ∙ sym (nodes_pairs es)) ∙ owns_g
 
 all_form : (g : Forest) → IsGrown g → AllByRecursion IsNode (nodes_in g)
 all_form bare h = tt
-all_form (tree top below beside) h = subst (AllByRecursion IsNode) (sym (nodes_tree top below beside)) (h.0.form, all-append IsNode (nodes_in below) (nodes_in beside) (all_form below h.1) (all_form beside h.2))
+all_form (tree top below beside) h = subst (AllByRecursion IsNode) (sym (nodes_tree top below beside)) (h.0.form, all_both IsNode (nodes_in below) (nodes_in beside) (all_form below h.1) (all_form beside h.2))
 
 pub form_pairs : (es : List (List ℕ × List ℕ)) (nodes : List Node) → CanWalk (paths es) → nodes ≡ all_nodes (paths es) → AllByRecursion IsNode nodes
 form_pairs es nodes walk e = subst (AllByRecursion IsNode) (nodes_pairs es ∙ sym e) (all_form (forest_of es) (grown_pairs es walk))

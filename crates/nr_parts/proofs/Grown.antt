@@ -1,18 +1,18 @@
 -- The nodes of a trie as the walk knows them: what stands at the top, that a node's text tells of those below it, and their usage.
-use Rattle.std.proofs.Common.{◌≡◌, ◌==◌, ◌<◌, ◌≤◌, ◌+◌, ◌*◌, ◌/◌, ◌%◌, ℕ, zero, suc, Bool, true, false, cond, List, [], ◌∷◌, ◌++◌, length, drop, slice_index, map, Option, Some, None, refl, ap, sym, subst, ◌∙◌, inl, inr, arith, append-nil, add-one, length-drop}
+use Rattle.std.proofs.Common.{◌≡◌, ◌<◌, ◌≤◌, ◌+◌, ℕ, zero, suc, true, false, List, [], ◌∷◌, ◌++◌, length, map, Option, Some, None, refl, ap, sym, subst, ◌∙◌, arith, append-nil, add-one}
 use Rattle.std.specs.Prelude.{sum_by}
 use Rattle.std.specs.List.{AllByRecursion, range_with_len}
-use Rattle.std.proofs.lemmas.Bool.{cases_lt}
 use Rattle.std.proofs.lemmas.List.Sums.{sum_by-cons}
-use Rattle.nr_triedef.specs.Node.{nibbles, IsNibbles, paired, key_part, digest, node_text, usage_of, IsNode, summary, links}
+use Rattle.nr_store.proofs.Orders.{begins_small}
+use Rattle.nr_triedef.specs.Node.{IsNibbles, key_part, digest, node_text, usage_of, IsNode, summary, links}
 use Rattle.nr_triedef.specs.Root.{Paths, front, behind, under, value_here, value_field, value_usage, part_usage, usage_below, hash_below, leaf, branch, extension, with_front, sixteen, trie}
 use Rattle.nr_triedef.specs.declared.node.Node.{Node}
 use Rattle.nr_triedef.specs.declared.hash.Summary.{Summary}
 use Rattle.nr_triedef.proofs.Parts.{leaf_is_node, extension_is_node}
 use Rattle.nr_walk.proofs.Pairs.{part_back}
-use Rattle.nr_store.proofs.Links.{Begins, front_begins, CanStand, stands_behind, stands_under, two_links}
+use Rattle.nr_store.proofs.Links.{front_begins, CanStand, stands_behind, stands_under, two_links}
 use Rattle.nr_walk.specs.declared.told.Spot.{Spot}
-use Rattle.nr_walk.specs.Told.{part_nibbles, ending_of, spots_of, spots_from, spot_at, spot, own_usage}
+use Rattle.nr_walk.specs.Told.{ending_of, spots_of, spots_from, spot_at, spot, own_usage}
 use Rattle.nr_trielist.specs.Forest.{Stood, Forest, bare, tree, stood, entry_here, fronted, rows, forest}
 use Rattle.nr_walk.specs.Walking.{packed}
 use Rattle.nr_parts.specs.Offsets.{tops_usage}
@@ -129,15 +129,6 @@ grown_fronted place (x ∷ xs) top children beside small at fits below h = (exte
 grown_rows : (f : ℕ → Forest → Forest) → ((n : ℕ) (others : Forest) → IsGrown others → IsGrown (f n others)) → (ns : List ℕ) → IsGrown (rows f ns)
 grown_rows f each [] = tt
 grown_rows f each (n ∷ ns) = each n (rows f ns) (grown_rows f each ns)
-
-more_small : (x : ℕ) (s : List ℕ) → x < 16 → IsNibbles s → IsNibbles (x ∷ s)
-more_small x s low rest zero = low
-more_small x s low rest (suc i) = rest i
-
-begins_small : (s k : List ℕ) → Begins s k → IsNibbles k → IsNibbles s
-begins_small [] k b h = λ i. omega arith
-begins_small (x ∷ s) [] b h = absurd b
-begins_small (x ∷ s) (y ∷ k) b h = more_small x s (let low : y < 16 = h 0 in let same : x ≡ y = b.0 in omega arith) (begins_small s k b.1 (λ i. h (suc i)))
 
 small_front : (ps : Paths) → AllByRecursion (λ (p : List ℕ × List ℕ). IsNibbles p.0) ps → IsNibbles (front ps)
 small_front [] h = λ i. omega arith

@@ -1,11 +1,10 @@
 -- All parts that are cut out of a map are joined to its entries.
-use Rattle.std.proofs.Common.{◌≡◌, ◌==◌, ◌<◌, ◌≤◌, ◌+◌, ℕ, zero, suc, true, cond, ◌&&◌, List, [], ◌∷◌, ◌++◌, length, map, Some, None, Result, Ok, Err, refl, ap, sym, ◌∙◌, arith, add-one, eq-eqb}
+use Rattle.std.proofs.Common.{◌≡◌, ◌≤◌, ◌+◌, ℕ, zero, suc, cond, ◌&&◌, List, [], ◌∷◌, ◌++◌, length, map, Some, None, Result, Ok, Err, refl, ap, sym, ◌∙◌, arith, add-one, eq-eqb}
 use Rattle.std.specs.List.{AllByRecursion, flat_map, range_with_len}
 use Rattle.std.specs.FinMap.{empty, entries}
 use Rattle.std.proofs.lemmas.Slice.Eq.{bytes_eq-Decides}
 use Rattle.nr_bytes.specs.Numbers.{IsBytes}
 use Rattle.nr_bytes.specs.Reading.{◌>>=◌}
-use Rattle.nr_ids.specs.declared.key.Hash32.{Hash32}
 use Rattle.nr_triedef.specs.Root.{Contents, root_of}
 use Rattle.nr_columns.specs.declared.entry.Entry.{Entry}
 use Rattle.nr_walk.specs.Shown.{IsOf}
@@ -13,9 +12,9 @@ use Rattle.nr_walk.specs.Texts.{texts_of}
 use Rattle.nr_parts.specs.Offsets.{part_of}
 use Rattle.nr_columns.specs.Entries.{pairs_of}
 use Rattle.nr_parts.specs.Cutting.{part_cut}
-use Rattle.nr_parts.specs.Checking.{same_hash, checked}
+use Rattle.nr_parts.specs.Checking.{same_hash}
 use Rattle.nr_parts.specs.Agreeing.{all_cut, AreCutsJoined}
-use Rattle.nr_parts.specs.Joining.{is_placed, first_astray, order_or_fault, each_checked, joined, set_all, whole_hash, joined_or_fault}
+use Rattle.nr_parts.specs.Joining.{first_astray, order_or_fault, each_checked, joined, set_all, whole_hash, joined_or_fault}
 use Rattle.nr_parts.specs.declared.part.Part.{Part}
 use Rattle.nr_parts.specs.declared.fault.PartFault.{PartFault}
 use Rattle.nr_parts.specs.declared.fault.PartFault.TheVariants.{Whole}

@@ -1,5 +1,5 @@
 -- The first fault of parts is that of the part at the first refused position.
-use Rattle.std.proofs.Common.{◌≡◌, ◌+◌, ℕ, suc, Bool, true, false, cond, List, [], ◌∷◌, take, drop, Option, Some, None, Result, Ok, Err, refl, ap, sym, subst, ◌∙◌, arith}
+use Rattle.std.proofs.Common.{◌≡◌, ◌+◌, ℕ, suc, cond, List, [], ◌∷◌, take, drop, Option, Some, Result, Ok, Err, refl, ap, sym, subst, ◌∙◌, arith}
 use Rattle.std.specs.Prelude.{IfOk}
 use Rattle.nr_bytes.specs.Reading.{◌>>=◌}
 use Rattle.nr_ids.specs.declared.key.Hash32.{Hash32}

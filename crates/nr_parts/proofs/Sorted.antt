@@ -1,5 +1,5 @@
 -- Entries in order that are set one after the other are the map of them.
-use Rattle.std.proofs.Common.{◌≡◌, ℕ, Bool, true, false, ◌&&◌, List, [], ◌∷◌, ◌++◌, length, refl, ap, sym, subst, ◌∙◌, append-nil, append_assoc}
+use Rattle.std.proofs.Common.{◌≡◌, ℕ, List, [], ◌∷◌, ◌++◌, length, refl, ap, sym, subst, ◌∙◌, append-nil, append_assoc}
 use Rattle.std.specs.Prelude.{T}
 use Rattle.std.specs.List.{AllByRecursion}
 use Rattle.std.specs.Ordering.{is_lt, ordering_reverse}
@@ -8,6 +8,7 @@ use Rattle.std.specs.declared.cmp.Ordering.TheVariants.{Less, Equal, Greater}
 use Rattle.std.specs.FinMap.{empty, entries, insert, entries-insert, entries_sorted, same_entries_map, len, len-empty, len-entries}
 use Rattle.std.specs.FinMap.Entries.{is_sorted, below_all, put, by_order}
 use Rattle.std.specs.Cmp.Lexicographic.{nat_list_cmp_total}
+use Rattle.nr_bytes.proofs.Basics.{left_of, right_of}
 use Rattle.nr_triedef.specs.Root.{Contents}
 use Rattle.nr_store.proofs.Held.{R}
 use Rattle.nr_columns.specs.declared.entry.Entry.{Entry}
@@ -17,14 +18,6 @@ use Rattle.nr_parts.specs.Joining.{set_all}
 abbrev Pair : Type 0
 Pair = List ℕ × List ℕ
 
-left : (a b : Bool) → T (a && b) → T a
-left true b h = tt
-left false b h = h
-
-right : (a b : Bool) → T (a && b) → T b
-right true b h = h
-right false b h = absurd h
-
 less : (o : Ordering) → T (is_lt o) → o ≡ Less
 less Less h = refl
 less Equal h = absurd h
@@ -32,14 +25,14 @@ less Greater h = absurd h
 
 -- the key behind others that are all below it
 below_middle : (x : List ℕ) (es : List Pair) (p : Pair) (rest : List Pair) → T (below_all R x (es ++ p ∷ rest)) → T (is_lt (R x p.0))
-below_middle x [] p rest h = left (is_lt (R x p.0)) (below_all R x rest) h
-below_middle x (e ∷ es) p rest h = below_middle x es p rest (right (is_lt (R x e.0)) (below_all R x (es ++ p ∷ rest)) h)
+below_middle x [] p rest h = left_of (is_lt (R x p.0)) (below_all R x rest) h
+below_middle x (e ∷ es) p rest h = below_middle x es p rest (right_of (is_lt (R x e.0)) (below_all R x (es ++ p ∷ rest)) h)
 
 before_middle : (es : List Pair) (p : Pair) (rest : List Pair) → T (is_sorted R (es ++ p ∷ rest)) → AllByRecursion (λ (e : Pair). T (is_lt (R e.0 p.0))) es
 before_middle [] p rest h = tt
 before_middle (e ∷ es) p rest h = (
-  below_middle e.0 es p rest (left (below_all R e.0 (es ++ p ∷ rest)) (is_sorted R (es ++ p ∷ rest)) h),
-  before_middle es p rest (right (below_all R e.0 (es ++ p ∷ rest)) (is_sorted R (es ++ p ∷ rest)) h),
+  below_middle e.0 es p rest (left_of (below_all R e.0 (es ++ p ∷ rest)) (is_sorted R (es ++ p ∷ rest)) h),
+  before_middle es p rest (right_of (below_all R e.0 (es ++ p ∷ rest)) (is_sorted R (es ++ p ∷ rest)) h),
 )
 
 put_last : (k v : List ℕ) (es : List Pair) → AllByRecursion (λ (e : Pair). T (is_lt (R e.0 k))) es → put R k v es ≡ es ++ (k, v) ∷ []

@@ -3,7 +3,7 @@ use Rattle.std.proofs.Common.{ℕ, List, [], ◌∷◌, refl, arith}
 use Rattle.std.specs.List.{AllByRecursion}
 use Rattle.std.specs.FinMap.{entries}
 use Rattle.nr_bytes.specs.Numbers.{IsBytes}
-use Rattle.nr_triedef.specs.Node.{nibbles, IsNibbles}
+use Rattle.nr_triedef.specs.Node.{IsNibbles}
 use Rattle.nr_triedef.specs.Root.{Contents, paths, depth}
 use Rattle.nr_triedef.proofs.Parts.{nibbles_small}
 use Rattle.nr_store.proofs.Links.{CanStand}

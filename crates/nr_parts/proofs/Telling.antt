@@ -2,12 +2,13 @@
 use Rattle.std.proofs.Common.{◌≡◌, ◌==◌, ◌<◌, ◌≤◌, ◌+◌, ◌*◌, ◌/◌, ◌%◌, ℕ, zero, suc, true, false, cond, List, [], ◌∷◌, ◌++◌, length, drop, map, None, refl, ap, sym, subst, ◌∙◌, inl, inr, arith, append_assoc, append-nil, add-one, eq-eqb}
 use Rattle.std.specs.List.{AllByRecursion, flat_map, range_with_len}
 use Rattle.std.proofs.lemmas.Bool.{cases_lt, eqb-true, ne_eqb}
+use Rattle.nr_walk.proofs.Placing.{joined_back}
 use Rattle.nr_bytes.specs.Numbers.{IsBytes}
 use Rattle.nr_triedef.specs.Node.{nibbles, IsNibbles, key_part}
 use Rattle.nr_triedef.specs.Root.{Paths, front, behind, value_here, under, extension, sixteen, depth}
 use Rattle.nr_triedef.specs.declared.hash.Summary.{Summary}
 use Rattle.nr_store.specs.Tries.{Before, Rise, CanWalk, cut}
-use Rattle.nr_store.proofs.Links.{Begins, AllBegin, front_begins, CanStand, stands_behind, stands_under}
+use Rattle.nr_store.proofs.Links.{AllBegin, front_begins, CanStand, stands_behind, stands_under}
 use Rattle.nr_store.proofs.Orders.{walk_cut, walk_under}
 use Rattle.nr_columns.specs.declared.entry.Entry.{Entry}
 use Rattle.nr_trielist.specs.Forest.{Stood, Forest, bare, tree, stood, entry_here, fronted, rows, forest}
@@ -132,15 +133,10 @@ told_split here ((x ∷ key, v) ∷ ps) walk =
     ∙ ap (λ o. entry_list (entry_here here o) ++ flat_map (λ m. told (here ++ m ∷ []) (under m ((x ∷ key, v) ∷ ps))) sixteen) (sym (none_here ps rest))
 
 -- ---- behind the front
-begins_again : (s key : List ℕ) → Begins s key → s ++ drop (length s) key ≡ key
-begins_again [] key h = refl
-begins_again (x ∷ s) [] h = absurd h
-begins_again (x ∷ s) (y ∷ key) h = (λ i. h.0 i ∷ begins_again s key h.1 i)
-
 told_behind : (place shared : List ℕ) (ps : Paths) → AllBegin shared ps → told place ps ≡ told (place ++ shared) (behind (length shared) ps)
 told_behind place shared [] h = refl
 told_behind place shared (p ∷ ps) h =
-    let key : place ++ p.0 ≡ (place ++ shared) ++ drop (length shared) p.0 = ap (λ (k : List ℕ). place ++ k) (sym (begins_again shared p.0 h.0)) ∙ sym (append_assoc place shared (drop (length shared) p.0)) in
+    let key : place ++ p.0 ≡ (place ++ shared) ++ drop (length shared) p.0 = ap (λ (k : List ℕ). place ++ k) (sym (joined_back shared p.0 h.0)) ∙ sym (append_assoc place shared (drop (length shared) p.0)) in
     (λ i. entry (packed (key i)) p.1 ∷ told_behind place shared ps h.1 i)
 
 all_fronted : (place shared : List ℕ) (s : Summary) (top : Stood) (children beside : Forest) → entries_all (fronted place shared s top children beside) ≡ (entry_list top.entry ++ entries_all children) ++ entries_all beside

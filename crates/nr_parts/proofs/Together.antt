@@ -1,15 +1,15 @@
 -- Parts that are joined have the entries of each map with the root, if it agrees with them all; and the parts that were cut are joined to what was cut.
-use Rattle.std.proofs.Common.{◌≡◌, ◌==◌, ◌<◌, ◌+◌, ℕ, suc, Bool, true, false, cond, ◌&&◌, List, [], ◌∷◌, ◌++◌, length, map, Option, Some, None, Result, Ok, Err, refl, ap, sym, subst, ◌∙◌, arith, add-one}
+use Rattle.std.proofs.Common.{◌≡◌, ◌==◌, ◌<◌, ◌+◌, ℕ, suc, Bool, true, false, cond, List, [], ◌∷◌, ◌++◌, length, map, Option, Some, None, Result, Ok, Err, refl, ap, sym, subst, ◌∙◌, arith, add-one}
 use Rattle.std.specs.List.{AllByRecursion, flat_map, range_with_len}
 use Rattle.std.specs.FinMap.{entries}
-use Rattle.std.proofs.lemmas.Bool.{eqb-true}
+use Rattle.std.proofs.lemmas.Bool.{eqb-true, and_parts}
 use Rattle.std.specs.Prelude.{IfOk}
 use Rattle.nr_bytes.specs.Answers.{Gives}
 use Rattle.nr_bytes.specs.Numbers.{IsBytes}
 use Rattle.nr_bytes.specs.Reading.{◌>>=◌}
 use Rattle.nr_bytes.proofs.Steps.{bind_ok}
 use Rattle.nr_ids.specs.declared.key.Hash32.{Hash32}
-use Rattle.nr_triedef.specs.Root.{Contents, root_of}
+use Rattle.nr_triedef.specs.Root.{Contents}
 use Rattle.nr_columns.specs.declared.entry.Entry.{Entry}
 use Rattle.nr_parts.specs.Offsets.{part_of, part_of_entries}
 use Rattle.nr_columns.specs.Entries.{pairs_of}
@@ -33,14 +33,10 @@ none_astray : (o : Option ℕ) (u : Unit {0}) → order_or_fault o ≡ Ok u → 
 none_astray None u e = refl
 none_astray (Some at) u e = absurd cc
 
-both_true : (a b : Bool) → (a && b) ≡ true → (a ≡ true) × (b ≡ true)
-both_true true b e = (refl, e)
-both_true false b e = absurd cc
-
 placed_first : (total at : ℕ) (part : Part) (parts : List Part) → first_astray total at (part ∷ parts) ≡ None → (part.number ≡ at) × (part.count ≡ total) × (first_astray total (suc at) parts ≡ None)
 placed_first total at part parts e =
     elim (is_placed total at part) as (λ b. is_placed total at part ≡ b → cond b (first_astray total (suc at) parts) (Some at) ≡ None → (part.number ≡ at) × (part.count ≡ total) × (first_astray total (suc at) parts ≡ None)) [
-      | true ↦ λ is f. let two = both_true (part.number == at) (part.count == total) is in (eqb-true part.number at two.0, eqb-true part.count total two.1, f)
+      | true ↦ λ is f. let two = and_parts (part.number == at) (part.count == total) is in (eqb-true part.number at two.0, eqb-true part.count total two.1, f)
       | false ↦ λ is f. absurd cc
     ] refl e
 

@@ -22,10 +22,6 @@ regroup : (front more : List Claim) (rest : Claims) → with_claims front (rest 
 regroup front more (Ok claims) = ap (λ (l : List Claim). Ok l) (simp append_assoc)
 regroup front more (Err fault) = refl
 
-pub no_claims : (rest : Claims) → with_claims [] rest ≡ rest
-no_claims (Ok claims) = refl
-no_claims (Err fault) = refl
-
 pub turn : (texts : Contents) (share : Share) (n at : ℕ) (spot : Spot) (spots : List Spot) (front : List Claim) (visit : Visit) → visited texts share at spot ≡ Ok visit → with_claims front (walk_from texts share (suc n) at (spot ∷ spots)) ≡ with_claims (front ++ option_list visit.claim) (walk_from texts share n visit.next (visit.below ++ spots))
 unfolding walk_from
 turn texts share n at spot spots front visit is =

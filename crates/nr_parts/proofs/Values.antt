@@ -7,6 +7,7 @@ use Rattle.std.specs.FinMap.{empty, entries, get, insert, get-empty, get-insert}
 use Rattle.std.specs.Cmp.Lexicographic.{nat_list_cmp_total}
 use Rattle.std.proofs.lemmas.Map.Text.{is_eq-slice_cmp}
 use Rattle.std.proofs.lemmas.Slice.Eq.{bytes_eq-Decides}
+use Rattle.nr_bytes.proofs.Basics.{all_both}
 use Rattle.sha2.specs.Sha256.{sha256}
 use Rattle.nr_triedef.specs.Root.{Contents, Paths, paths, depth, front, value_here, under, sixteen}
 use Rattle.nr_triedef.specs.declared.hash.Summary.{Summary}
@@ -16,9 +17,8 @@ use Rattle.nr_trielist.specs.Forest.{Stood, Forest, bare, tree, entry_here, fron
 use Rattle.nr_columns.specs.declared.entry.Entry.{Entry}
 use Rattle.nr_walk.specs.Texts.{texts_of}
 use Rattle.nr_walk.specs.Tries.{Agrees, IsOwn}
-use Rattle.nr_walk.proofs.Placing.{all-append, values_behind}
-use Rattle.nr_parts.specs.Offsets.{owned, placed, has, entry_list, entry_in, entries_in, share_of, part_of_entries, part_of}
-use Rattle.nr_parts.specs.Agreeing.{AgreesWithPart}
+use Rattle.nr_walk.proofs.Placing.{values_behind}
+use Rattle.nr_parts.specs.Offsets.{owned, placed, has, entry_list, entry_in, part_of_entries}
 use Rattle.nr_parts.specs.declared.part.Part.{Part}
 use Rattle.nr_parts.specs.declared.share.Share.{Share}
 
@@ -111,7 +111,7 @@ map_values V es h = forest_values V (depth (paths es)) [] (paths es) bare h tt
 
 owned_values : (V : List ℕ → Type 0) (g : Forest) → AllValues V g → AllByRecursion (λ (one : ℕ × Stood). HasValue V one.1.entry) (owned g)
 owned_values V bare h = tt
-owned_values V (tree top below beside) h = (h.0, all-append (λ (one : ℕ × Stood). HasValue V one.1.entry) (owned below) (owned beside) (owned_values V below h.1) (owned_values V beside h.2))
+owned_values V (tree top below beside) h = (h.0, all_both (λ (one : ℕ × Stood). HasValue V one.1.entry) (owned below) (owned beside) (owned_values V below h.1) (owned_values V beside h.2))
 
 value_taken : (V : List ℕ → Type 0) (o : Option (List ℕ × List ℕ)) (b : Bool) → HasValue V o → AllByRecursion (λ (f : Entry). V f.value) (cond b (entry_list o) [])
 value_taken V None true h = tt
@@ -121,7 +121,7 @@ value_taken V o false h = tt
 placed_values : (V : List ℕ → Type 0) (share : Share) (at : ℕ) (xs : List (ℕ × Stood)) → AllByRecursion (λ (one : ℕ × Stood). HasValue V one.1.entry) xs → AllByRecursion (λ (f : Entry). V f.value) (flat_map (entry_in share) (placed at xs))
 placed_values V share at [] h = tt
 placed_values V share at (x ∷ xs) h =
-    all-append (λ (f : Entry). V f.value) (entry_in share (at, x.1)) (flat_map (entry_in share) (placed (at + x.0) xs)) (value_taken V x.1.entry (has share at) h.0) (placed_values V share (at + x.0) xs h.1)
+    all_both (λ (f : Entry). V f.value) (entry_in share (at, x.1)) (flat_map (entry_in share) (placed (at + x.0) xs)) (value_taken V x.1.entry (has share at) h.0) (placed_values V share (at + x.0) xs h.1)
 
 part_values : (V : List ℕ → Type 0) (es : List (List ℕ × List ℕ)) (count number : ℕ) → AllPaths V (paths es) → AllByRecursion (λ (f : Entry). V f.value) (part_of_entries es count number)
 unfolding part_of_entries

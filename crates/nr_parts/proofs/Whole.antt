@@ -9,6 +9,7 @@ use Rattle.nr_bytes.specs.Numbers.{IsBytes}
 use Rattle.nr_triedef.specs.Node.{IsNibbles}
 use Rattle.nr_triedef.proofs.Parts.{nibbles_small}
 use Rattle.std.proofs.lemmas.List.Concat.{flat_map-append}
+use Rattle.nr_bytes.proofs.Basics.{all_both}
 use Rattle.nr_triedef.specs.declared.hash.Summary.{Summary}
 use Rattle.nr_store.specs.Tries.{CanWalk, whole}
 use Rattle.nr_columns.specs.declared.entry.Entry.{Entry}
@@ -19,7 +20,6 @@ use Rattle.nr_parts.specs.Cutting.{InOrder}
 use Rattle.nr_parts.proofs.Grown.{IsGrown, usage_forest}
 use Rattle.nr_parts.proofs.Shares.{total, total_grown, some_own}
 use Rattle.nr_parts.proofs.Sweeping.{entries_all, all_tree}
-use Rattle.nr_walk.proofs.Placing.{all-append}
 use Rattle.nr_parts.proofs.Cuts.{all_pairs, grown_pairs, bytes_pairs}
 use Rattle.nr_walk.proofs.Orders.{walk_pairs}
 
@@ -131,7 +131,7 @@ rising_placed at (x ∷ xs) = (from_placed (at + x.0) at xs (omega arith), risin
 
 some_owned : (g : Forest) → IsGrown g → AllByRecursion (λ (one : ℕ × Stood). 0 < one.0) (owned g)
 some_owned bare h = tt
-some_owned (tree top below beside) h = (omega (arith, h.0.usage, some_own top.node), all-append (λ (one : ℕ × Stood). 0 < one.0) (owned below) (owned beside) (some_owned below h.1) (some_owned beside h.2))
+some_owned (tree top below beside) h = (omega (arith, h.0.usage, some_own top.node), all_both (λ (one : ℕ × Stood). 0 < one.0) (owned below) (owned beside) (some_owned below h.1) (some_owned beside h.2))
 
 number_low : (whole count o : ℕ) → 0 < count → o < whole → number_at whole count o < count
 number_low whole count o some lt =

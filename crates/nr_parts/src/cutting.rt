@@ -1,6 +1,6 @@
 //! Cutting a part out of a state.
 
-ghost use Rattle.std.specs.Prelude.{◌≡◌, ◌≤◌, ◌<◌, ◌++◌, ◌∷◌, ◌^◌, [], cond, is_some, length, map, take, reverse, Some};
+ghost use Rattle.std.specs.Prelude.{◌≡◌, ◌≤◌, ◌<◌, ◌++◌, ◌∷◌, ◌^◌, [], cond, is_some, map, take, Some};
 ghost use Rattle.std.specs.Prelude.{IfOk, OnOk};
 ghost use Rattle.std.specs.List.{AllByRecursion};
 ghost use Rattle.std.specs.FinMap as map_of;
@@ -54,7 +54,7 @@ fn push_at(
     Ok(())
 }
 
-ghost use Rattle.std.specs.Prelude.{drop, ℕ, ◌+◌, List as Items};
+ghost use Rattle.std.specs.Prelude.{drop, ◌+◌, List as Items};
 ghost use Rattle.nr_triedef.specs.declared.node.Node.{Node as Nodes};
 ghost use Rattle.nr_walk.specs.Told.{own_usage};
 

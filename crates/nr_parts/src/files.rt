@@ -1,6 +1,6 @@
 //! The file of a part.
 
-ghost use Rattle.std.specs.Prelude.{◌≡◌, ◌++◌, ◌<◌, ◌^◌, length, Ok, IfOk, OnOk, OnErr};
+ghost use Rattle.std.specs.Prelude.{◌≡◌, ◌++◌, ◌<◌, ◌^◌, Ok, IfOk, OnOk, OnErr};
 ghost use Rattle.std.specs.List.{flat_map};
 ghost use Rattle.nr_bytes.specs.Answers.{Gives, GivesAs, GivesRead};
 ghost use Rattle.nr_bytes.specs.Fields.{items_at};

@@ -1,12 +1,12 @@
 //! The walk over the texts of a part: the nodes that are looked at, depth first, and what each
 //! claims of the entries.
 
-ghost use Rattle.std.specs.Prelude.{◌≡◌, ◌+◌, ◌∷◌, ◌++◌, ◌<◌, ◌≤◌, ◌^◌, [], IfOk, OnOk};
+ghost use Rattle.std.specs.Prelude.{◌≡◌, ◌+◌, ◌++◌, ◌<◌, ◌≤◌, ◌^◌, [], IfOk, OnOk};
 ghost use Rattle.nr_bytes.specs.Answers.{Gives};
 ghost use Rattle.nr_triedef.specs.Node.{usage_of};
 ghost use Rattle.nr_walk.specs.Texts.{memory_fault};
 ghost use Rattle.nr_walk.specs.Told.{option_list, spots_of, own_usage, spot};
-ghost use Rattle.nr_parts.specs.Offsets.{has, share_of};
+ghost use Rattle.nr_parts.specs.Offsets.{has};
 ghost use Rattle.nr_parts.specs.Walking.{claim_of, claim_at, seen, visited, walk_from, walk_below, walked, most_nodes};
 
 use crate::share::{Share, has, meets};

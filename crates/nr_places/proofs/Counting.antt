@@ -10,7 +10,7 @@ use Rattle.nr_overlap.specs.Moment.{world_at, working_at, report_at, flight_at}
 use Rattle.nr_overlap.specs.Positions.{at}
 use Rattle.nr_overlap.specs.Rules.{Rules}
 use Rattle.nr_overlap.specs.declared.position.Position.{Position}
-use Rattle.nr_overlap.proofs.Sums.{sum_same}
+use Rattle.nr_overlap.proofs.Sums.{sum_same, sum_front}
 use Rattle.nr_places.specs.Moments.{carried_in, each_below, where_some, done_by, flying_by, flying}
 use Rattle.nr_records.specs.declared.chunk_result.ChunkResult.{ChunkResult}
 use Rattle.nr_records.specs.declared.receipt.Receipt.{Receipt}
@@ -18,12 +18,6 @@ use Rattle.nr_records.specs.declared.receipt.Receipt.{Receipt}
 -- ---- sums over the numbers below another
 paired : (a b c d : ℕ) → (a + b) + (c + d) ≡ (a + c) + (b + d)
 paired a b c d = omega arith
-
-same_sum : (a : ℕ) → 0 + a ≡ a + 0
-same_sum a = omega arith
-
-grouped : (a b c : ℕ) → (a + b) + c ≡ a + (b + c)
-grouped a b c = omega arith
 
 pub without_none : (a b : ℕ) → b ≡ 0 → a + b ≡ a
 without_none a b e = omega (arith, e)
@@ -35,15 +29,11 @@ pub sum_add : (n : ℕ) (f g : ℕ → ℕ) → sum_below n (λ i. f i + g i) �
 sum_add zero f g = refl
 sum_add (suc n) f g = ap (λ t. t + (f n + g n)) (sum_add n f g) ∙ paired (sum_below n f) (sum_below n g) (f n) (g n)
 
-sum_first : (n : ℕ) (f : ℕ → ℕ) → sum_below (suc n) f ≡ f 0 + sum_below n (λ i. f (suc i))
-sum_first zero f = same_sum (f 0)
-sum_first (suc n) f = ap (λ t. t + f (suc n)) (sum_first n f) ∙ grouped (f 0) (sum_below n (λ i. f (suc i))) (f (suc n))
-
 -- of what is nothing at 0
 pub sum_from_one : (n : ℕ) (f : ℕ → ℕ) → f 0 ≡ 0 → sum_below (n + 1) f ≡ sum_below n (λ i. f (i + 1))
 sum_from_one n f e =
     ap (λ k. sum_below k f) (add-one n)
-    ∙ sum_first n f
+    ∙ sum_front n f
     ∙ none_before (f 0) (sum_below n (λ i. f (suc i))) e
     ∙ sum_same n (λ i. f (i + 1)) (λ i. f (suc i)) (λ i l. ap f (sym (add-one i)))
 

@@ -34,7 +34,7 @@ use Rattle.nr_records.specs.declared.chunk_result.ChunkResult.{ChunkResult}
 use Rattle.nr_records.specs.declared.receipt.Receipt.{Receipt}
 
 -- ---- lengths are sums
-as_ones : (list : List Receipt) → sum_by (λ q. 1) list ≡ length list
+pub as_ones : (list : List Receipt) → sum_by (λ q. 1) list ≡ length list
 as_ones [] = refl
 as_ones (q ∷ rest) = sum_by-cons (λ q. 1) q rest ∙ one_and (sum_by (λ q. 1) rest) (length rest) (as_ones rest)
   where

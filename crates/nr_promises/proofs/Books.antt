@@ -4,7 +4,7 @@ use Rattle.std.specs.Prelude.{Result, Option, nat_lt}
 use Rattle.std.specs.List.{AllByRecursion, slice_get, flat_map, list_all}
 use Rattle.std.specs.Option.{ok_or}
 use Rattle.std.proofs.lemmas.Bool.{ltb-false}
-use Rattle.nr_bytes.proofs.Items.{all_with_one}
+use Rattle.nr_bytes.proofs.Basics.{all_push, all_weaker, all_both, bind_ok}
 use Rattle.nr_bytes.specs.Reading.{◌>>=◌}
 use Rattle.nr_promises.proofs.Changed.{length_changed, all_changed}
 use Rattle.nr_promises.proofs.MadeAfter.{made_length, made_own}
@@ -20,10 +20,6 @@ use Rattle.nr_records.specs.declared.receipt.Body.TheVariants.{Act, Datum}
 use Rattle.nr_state.specs.Calls.{HasPrice}
 
 -- ---- a chain that succeeds
-pub step_of : {A B F : Type 0} (r : Result A F) (f : A → Result B F) (y : B) → (r >>= f) ≡ Ok y → (x : A) × (r ≡ Ok x) × (f x ≡ Ok y)
-step_of (Ok x) f y h = (x, refl, h)
-step_of (Err e) f y h = absurd (cc)
-
 pub first_of_ok : {A B F : Type 0} (a x : A) (b y : B) → ◌≡◌ {A = Result (A × B) F} (Ok (a, b)) (Ok (x, y)) → x ≡ a
 first_of_ok {A = A} {B = B} a x b y h = let e : (a, b) ≡ (x, y) = cc in ap (λ (p : A × B). p.0) (sym e)
 
@@ -40,28 +36,20 @@ found_in None e x h = absurd (cc)
 found_in (Some y) e x h = cc
 
 -- ---- lists
-pub all_as : {X : Type 0} (P Q : X → Type 0) → ((x : X) → P x → Q x) → (xs : List X) → AllByRecursion P xs → AllByRecursion Q xs
-all_as P Q to [] h = tt
-all_as P Q to (x ∷ xs) h = (to x h.0, all_as P Q to xs h.1)
-
 pub all_at : {X : Type 0} (P : X → Type 0) (xs : List X) (n : ℕ) (x : X) → AllByRecursion P xs → slice_get xs n ≡ Some x → P x
 all_at P [] n x h e = absurd (cc)
 all_at P (w ∷ ws) zero x h e = let same : w ≡ x = cc in subst P same h.0
 all_at P (w ∷ ws) (suc n) x h e = all_at P ws n x h.1 e
 
-pub all_joined : {X : Type 0} (P : X → Type 0) (xs ys : List X) → AllByRecursion P xs → AllByRecursion P ys → AllByRecursion P (xs ++ ys)
-all_joined P [] ys h k = k
-all_joined P (x ∷ xs) ys h k = (h.0, all_joined P xs ys h.1 k)
-
 pub all_flat : {X Y : Type 0} (P : Y → Type 0) (f : X → List Y) → ((x : X) → AllByRecursion P (f x)) → (xs : List X) → AllByRecursion P (flat_map f xs)
 all_flat P f each [] = tt
-all_flat P f each (x ∷ xs) = all_joined P (f x) (flat_map f xs) (each x) (all_flat P f each xs)
+all_flat P f each (x ∷ xs) = all_both P (f x) (flat_map f xs) (each x) (all_flat P f each xs)
 
 -- ---- places
 pub more_made : (n m : ℕ) → n ≤ m → (promise : Promise) → IsPromise n promise → IsPromise m promise
 more_made n m le promise h = record {
   few = h.few;
-  made_before = all_as (λ at. at < n) (λ at. at < m) (λ at lt. omega arith) (places promise) h.made_before;
+  made_before = all_weaker (λ at. at < n) (λ at. at < m) (λ at lt. omega arith) (places promise) h.made_before;
 }
 
 pub places_stand : (n : ℕ) (promises : List Promise) → AllByRecursion (IsPromise n) promises → (index : ℕ) → AllByRecursion (λ at. at < n) (places_at promises index)
@@ -78,15 +66,15 @@ book_with_receipt b receiver waited is = record {
   promises =
       let len = made_length b.origin receiver waited [] b.made b.next_ordinal in
       rw len
-      (all_with_one (IsPromise (length b.made + 1)) b.promises (Single (length b.made))
-      (all_as (IsPromise (length b.made)) (IsPromise (length b.made + 1)) (more_made (length b.made) (length b.made + 1) (omega arith)) b.promises is.promises)
+      (all_push (IsPromise (length b.made + 1)) b.promises (Single (length b.made))
+      (all_weaker (IsPromise (length b.made)) (IsPromise (length b.made + 1)) (more_made (length b.made) (length b.made + 1) (omega arith)) b.promises is.promises)
       (record { few = omega arith; made_before = (omega arith, tt) }));
   made = made_own b.origin receiver waited [] b.made b.next_ordinal is.made;
 }
 
 pub book_with_joined : (b : Book) (indices : List ℕ) → length (all_places b.promises indices) ≤ most_inputs → IsBook b → IsBook (record b { promises = b.promises ++ Joined (all_places b.promises indices) ∷ [] })
 book_with_joined b indices few is = record {
-  promises = all_with_one (IsPromise (length b.made)) b.promises (Joined (all_places b.promises indices)) is.promises
+  promises = all_push (IsPromise (length b.made)) b.promises (Joined (all_places b.promises indices)) is.promises
       (record { few = few; made_before = all_places_stand (length b.made) b.promises indices is.promises });
   made = is.made;
 }
@@ -108,7 +96,7 @@ place_within n at (Joined all) is h = absurd (cc)
 
 pub place_stands : (b : Book) (index at : ℕ) → IsBook b → place_of b index ≡ Ok at → at < length b.made
 place_stands b index at is h =
-    let p = step_of (promise_at b index) place_in at h in
+    let p = bind_ok (promise_at b index) place_in at h in
     place_within (length b.made) at p.0 (all_at (IsPromise (length b.made)) b.promises index p.0 is.promises (found_in (slice_get b.promises index) _ p.0 p.1)) p.2
 
 pub chosen : {A F : Type 0} (test : Bool) (x y : A) (e : F) → cond test (Ok x) (Err e) ≡ Ok y → y ≡ x
@@ -118,14 +106,14 @@ chosen false x y e h = absurd (cc)
 -- ---- the same of each call
 pub book_created : (b d : Book) (receiver : List ℕ) (index : ℕ) → create b receiver ≡ Ok (d, index) → IsBook b → IsBook d
 book_created b d receiver index h is =
-    let s = step_of (next_index b) (λ i. Ok (with_receipt b receiver [], i)) (d, index) h in
+    let s = bind_ok (next_index b) (λ i. Ok (with_receipt b receiver [], i)) (d, index) h in
     let e : d ≡ with_receipt b receiver [] = first_of_ok _ _ _ _ s.2 in
     subst IsBook (sym e) (book_with_receipt b receiver [] is)
 
 pub book_chained : (b d : Book) (after : ℕ) (receiver : List ℕ) (index : ℕ) → then b after receiver ≡ Ok (d, index) → IsBook b → IsBook d
 book_chained b d after receiver index h is =
-    let p = step_of (promise_at b after) (λ promise. next_index b >>= λ i. Ok (with_receipt b receiver (places promise), i)) (d, index) h in
-    let s = step_of (next_index b) (λ i. Ok (with_receipt b receiver (places p.0), i)) (d, index) p.2 in
+    let p = bind_ok (promise_at b after) (λ promise. next_index b >>= λ i. Ok (with_receipt b receiver (places promise), i)) (d, index) h in
+    let s = bind_ok (next_index b) (λ i. Ok (with_receipt b receiver (places p.0), i)) (d, index) p.2 in
     let e : d ≡ with_receipt b receiver (places p.0) = first_of_ok _ _ _ _ s.2 in
     subst IsBook (sym e) (book_with_receipt b receiver (places p.0) is)
 
@@ -133,12 +121,12 @@ pub book_joined : (b d : Book) (indices : List ℕ) (index : ℕ) → join b ind
 book_joined b d indices index h is =
     let all = all_places b.promises indices in
     let j = joined_is (nat_lt most_inputs (length all)) (list_all (λ i. nat_lt i (length b.promises)) indices) _ _ (with_promise b (Joined all)) (d, index) h in
-    let s = step_of (next_index b) (λ i. Ok (record b { promises = b.promises ++ Joined all ∷ [] }, i)) (d, index) j.1 in
+    let s = bind_ok (next_index b) (λ i. Ok (record b { promises = b.promises ++ Joined all ∷ [] }, i)) (d, index) j.1 in
     let e : d ≡ record b { promises = b.promises ++ Joined all ∷ [] } = first_of_ok _ _ _ _ s.2 in
     subst IsBook (sym e) (book_with_joined b indices (ltb-false most_inputs (length all) j.0) is)
 
 pub book_acted : (b d : Book) (index : ℕ) (action : Action) → act b index action ≡ Ok d → IsBook b → IsBook d
 book_acted b d index action h is =
-    let p = step_of (place_of b index) (λ at. cond (nat_lt (count_at b.made at) b.max_actions) (Ok (record b { made = changed (with_action action) b.made at })) (Err TooManyActions)) d h in
+    let p = bind_ok (place_of b index) (λ at. cond (nat_lt (count_at b.made at) b.max_actions) (Ok (record b { made = changed (with_action action) b.made at })) (Err TooManyActions)) d h in
     let e : d ≡ record b { made = changed (with_action action) b.made p.0 } = chosen _ _ _ _ p.2 in
     subst IsBook (sym e) (book_with_action b p.0 action is)

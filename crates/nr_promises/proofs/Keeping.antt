@@ -1,12 +1,14 @@
 -- What the calls of a book add, and what holds of its receipts.
-use Rattle.std.proofs.Common.{◌≡◌, ℕ, zero, suc, ◌+◌, ◌*◌, ◌<◌, ◌≤◌, Bool, true, false, cond, List, [], ◌∷◌, ◌++◌, length, ap, refl, sym, ◌∙◌, subst, arith, length-append, Ok, Err}
-use Rattle.std.specs.Prelude.{sum_by, nat_lt, ◌||◌}
+use Rattle.std.proofs.Common.{◌≡◌, ℕ, zero, suc, ◌+◌, ◌*◌, ◌<◌, ◌≤◌, true, false, cond, List, [], ◌∷◌, ◌++◌, length, ap, refl, sym, ◌∙◌, subst, arith, length-append, Ok, Err}
+use Rattle.std.specs.Prelude.{sum_by, nat_lt}
 use Rattle.std.specs.List.{AllByRecursion, flat_map, list_any, list_all}
 use Rattle.std.specs.Str.{bytes_eq}
 use Rattle.std.proofs.lemmas.List.Folds.{list_any-append}
 use Rattle.std.proofs.lemmas.List.Sums.{sum_by-append, sum_by-cons}
 use Rattle.std.proofs.lemmas.Bool.{ltb-false}
 use Rattle.std.proofs.Math.Nat.{suc-mul}
+use mathlib.Core.Bool.{or-true}
+use Rattle.nr_bytes.proofs.Basics.{all_weaker, bind_ok}
 use Rattle.nr_bytes.specs.Reading.{◌>>=◌}
 use Rattle.nr_config.specs.Config.{Config}
 use Rattle.nr_fees.specs.Fees.{body_gas, deposit_of, attached, action_fee}
@@ -14,7 +16,7 @@ use Rattle.nr_fees.specs.declared.table.Payment.TheVariants.{Execute}
 use Rattle.nr_ids.specs.declared.key.Hash32.{Hash32}
 use Rattle.nr_promises.proofs.Changed.{sum_raised, any_kept}
 use Rattle.nr_promises.proofs.MadeAfter.{made_by, made_gas_after, made_deposits_after}
-use Rattle.nr_promises.proofs.Books.{all_as, step_of, first_of_ok, ok_is, joined_is, place_stands, chosen, book_with_receipt, book_with_joined, book_with_action}
+use Rattle.nr_promises.proofs.Books.{first_of_ok, ok_is, joined_is, place_stands, chosen, book_with_receipt, book_with_joined, book_with_action}
 use Rattle.nr_promises.specs.Book.{IsBook, IsOwn, places, promise_at, place_of, next_index, most_inputs, with_receipt, with_promise, all_places, create, then, join, act, changed, with_action, body_with_action, with_output, body_actions, actions_of_receipt, count_at, id_at, receipt_of}
 use Rattle.nr_promises.specs.Keeping.{Adds, receipt_gas, action_gas}
 use Rattle.nr_promises.specs.declared.contents.Book.{Book}
@@ -31,10 +33,6 @@ use Rattle.nr_state.specs.Calls.{HasPrice, IsMade, IsReturned, body_deposits, ma
 use Rattle.nr_state.specs.declared.calls.CallContext.{CallContext}
 use Rattle.nr_state.specs.declared.calls.Returned.{Returned}
 use Rattle.nr_state.specs.declared.calls.Returned.TheVariants as end
-
-or_true : (b : Bool) → (b || true) ≡ true
-or_true true = refl
-or_true false = refl
 
 -- ---- what was returned stays among the receipts made
 pub still_returned : (made more : List Receipt) (r : Returned) → IsReturned made r → IsReturned (made ++ more) r
@@ -62,14 +60,14 @@ adds_receipt c b receiver waited = record {
 
 pub adds_created : (c : Config) (b d : Book) (receiver : List ℕ) (index : ℕ) → create b receiver ≡ Ok (d, index) → Adds c b d (receipt_gas c) 0
 adds_created c b d receiver index h =
-    let s = step_of (next_index b) (λ i. Ok (with_receipt b receiver [], i)) (d, index) h in
+    let s = bind_ok (next_index b) (λ i. Ok (with_receipt b receiver [], i)) (d, index) h in
     let e : d ≡ with_receipt b receiver [] = first_of_ok _ _ _ _ s.2 in
     subst (λ (k : Book). Adds c b k (receipt_gas c) 0) (sym e) (adds_receipt c b receiver [])
 
 pub adds_chained : (c : Config) (b d : Book) (after : ℕ) (receiver : List ℕ) (index : ℕ) → then b after receiver ≡ Ok (d, index) → Adds c b d (receipt_gas c) 0
 adds_chained c b d after receiver index h =
-    let p = step_of (promise_at b after) (λ promise. next_index b >>= λ i. Ok (with_receipt b receiver (places promise), i)) (d, index) h in
-    let s = step_of (next_index b) (λ i. Ok (with_receipt b receiver (places p.0), i)) (d, index) p.2 in
+    let p = bind_ok (promise_at b after) (λ promise. next_index b >>= λ i. Ok (with_receipt b receiver (places promise), i)) (d, index) h in
+    let s = bind_ok (next_index b) (λ i. Ok (with_receipt b receiver (places p.0), i)) (d, index) p.2 in
     let e : d ≡ with_receipt b receiver (places p.0) = first_of_ok _ _ _ _ s.2 in
     subst (λ (k : Book). Adds c b k (receipt_gas c) 0) (sym e) (adds_receipt c b receiver (places p.0))
 
@@ -88,7 +86,7 @@ pub adds_joined : (c : Config) (b d : Book) (indices : List ℕ) (index : ℕ) �
 adds_joined c b d indices index h =
     let all = all_places b.promises indices in
     let j = joined_is (nat_lt most_inputs (length all)) (list_all (λ i. nat_lt i (length b.promises)) indices) _ _ (with_promise b (Joined all)) (d, index) h in
-    let s = step_of (next_index b) (λ i. Ok (record b { promises = b.promises ++ Joined all ∷ [] }, i)) (d, index) j.1 in
+    let s = bind_ok (next_index b) (λ i. Ok (record b { promises = b.promises ++ Joined all ∷ [] }, i)) (d, index) j.1 in
     let e : d ≡ record b { promises = b.promises ++ Joined all ∷ [] } = first_of_ok _ _ _ _ s.2 in
     let few : length all ≤ most_inputs = ltb-false most_inputs (length all) j.0 in
     subst (λ (k : Book). Adds c b k 0 0) (sym e) (adds_promise c b (Joined all) (book_with_joined b indices few))
@@ -114,7 +112,7 @@ adds_action c b at action is lt = record {
 
 pub adds_acted : (c : Config) (b d : Book) (index : ℕ) (action : Action) → IsBook b → act b index action ≡ Ok d → Adds c b d (action_gas c action) (deposit_of action)
 adds_acted c b d index action is h =
-    let p = step_of (place_of b index) (λ at. cond (nat_lt (count_at b.made at) b.max_actions) (Ok (record b { made = changed (with_action action) b.made at })) (Err TooManyActions)) d h in
+    let p = bind_ok (place_of b index) (λ at. cond (nat_lt (count_at b.made at) b.max_actions) (Ok (record b { made = changed (with_action action) b.made at })) (Err TooManyActions)) d h in
     let e : d ≡ record b { made = changed (with_action action) b.made p.0 } = chosen _ _ _ _ p.2 in
     subst (λ (k : Book). Adds c b k (action_gas c action) (deposit_of action)) (sym e) (adds_action c b p.0 action is (place_stands b index p.0 is p.1))
 
@@ -122,11 +120,11 @@ adds_acted c b d index action is h =
 pub id_among : (made : List Receipt) (at : ℕ) → at < length made → list_any (λ r. bytes_eq r.receipt_id.0 (id_at made at).0) made ≡ true
 id_among [] at lt = absurd (omega arith)
 id_among (r ∷ rs) zero lt = rw (itself r.receipt_id.0) refl
-id_among (r ∷ rs) (suc at) lt = let less : at < length rs = omega arith in rw (id_among rs at less) (or_true _)
+id_among (r ∷ rs) (suc at) lt = let less : at < length rs = omega arith in rw (id_among rs at less) (or-true _)
 
 pub stands_for_made : (b : Book) (index : ℕ) (id : Hash32) → IsBook b → receipt_of b index ≡ Ok id → IsReturned b.made (end.Promise id)
 stands_for_made b index id is h =
-    let p = step_of (place_of b index) (λ at. Ok (id_at b.made at)) id h in
+    let p = bind_ok (place_of b index) (λ at. Ok (id_at b.made at)) id h in
     let e : id ≡ id_at b.made p.0 = ok_is _ _ p.2 in
     subst (λ (i : Hash32). IsReturned b.made (end.Promise i)) (sym e) (id_among b.made p.0 (place_stands b index p.0 is p.1))
 
@@ -146,4 +144,4 @@ gas_of_made c o (r ∷ rs) all =
 
 pub made_by_call : (x : CallContext) (b : Book) → IsBook b → b.origin.current ≡ x.current → b.origin.gas_price ≡ x.gas_price → AllByRecursion (IsMade x) b.made
 made_by_call x b is current price =
-    all_as (IsOwn b.origin) (IsMade x) (λ r own. record { predecessor = own.predecessor ∙ current; price = subst (λ (n : ℕ). HasPrice n r.body) price own.price }) b.made is.made
+    all_weaker (IsOwn b.origin) (IsMade x) (λ r own. record { predecessor = own.predecessor ∙ current; price = subst (λ (n : ℕ). HasPrice n r.body) price own.price }) b.made is.made

@@ -2,7 +2,7 @@
 use Rattle.std.proofs.Common.{◌≡◌, ℕ, ◌+◌, false, List, [], ◌∷◌, ◌++◌, length, ap, refl, ◌∙◌, arith, length-append}
 use Rattle.std.specs.List.{AllByRecursion}
 use Rattle.std.proofs.lemmas.List.Sums.{sum_by-append}
-use Rattle.nr_bytes.proofs.Items.{all_with_one}
+use Rattle.nr_bytes.proofs.Basics.{all_push}
 use Rattle.nr_fees.specs.Fees.{body_gas}
 use Rattle.nr_config.specs.Config.{Config}
 use Rattle.nr_ids.specs.declared.key.Hash32.{Hash32}
@@ -49,7 +49,7 @@ pub made_own : (o : Origin) (receiver waited : List ℕ) (inputs : List Hash32) 
 made_own o receiver waited inputs made ordinal all =
     made_by o receiver (λ m. AllByRecursion (IsOwn o) m) (λ m. AllByRecursion (IsOwn o) m)
     (λ m output at h. all_changed (IsOwn o) (with_output output) (λ r own. record { predecessor = own.predecessor; price = price_with_output o.gas_price output r.body own.price }) m at h)
-    (λ m id ids h. all_with_one (IsOwn o) m _ h (record { predecessor = refl; price = refl }))
+    (λ m id ids h. all_push (IsOwn o) m _ h (record { predecessor = refl; price = refl }))
     waited inputs made ordinal all
 
 pub made_gas_after : (c : Config) (o : Origin) (receiver waited : List ℕ) (inputs : List Hash32) (made : List Receipt) (ordinal : ℕ) → made_gas c (made_after o receiver waited inputs made ordinal).0 ≡ made_gas c made + receipt_gas c

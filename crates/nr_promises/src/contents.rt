@@ -1,7 +1,7 @@
 //! What a book of promises holds.
 
 ghost use Rattle.std.specs.Prelude.{◌≡◌, Ok, Err, MatchResult};
-ghost use Rattle.nr_promises.specs.Book.{places, place_in, promise_at, place_of, next_index};
+ghost use Rattle.nr_promises.specs.Book.{places, promise_at, place_of, next_index};
 
 use crate::fault::PromiseFault;
 use nr_bytes::List;

@@ -1,9 +1,9 @@
 //! Promises that are joined.
 
-ghost use Rattle.std.specs.Prelude.{◌≡◌, ◌++◌, ◌∷◌, [], true, Ok, Err, Result, cond, nat_lt, length, OnOk, OnErr};
+ghost use Rattle.std.specs.Prelude.{◌≡◌, ◌++◌, ◌∷◌, [], true, Ok, Err, Result, nat_lt, length, OnOk, OnErr};
 ghost use Rattle.std.specs.List.{list_all};
 ghost use Rattle.nr_bytes.specs.Answers.{GivesAs};
-ghost use Rattle.nr_promises.specs.Book.{all_places, most_inputs, with_promise, join};
+ghost use Rattle.nr_promises.specs.Book.{join};
 ghost use Rattle.nr_promises.specs.Joining.{gathered};
 ghost use Rattle.nr_promises.specs.declared.fault.PromiseFault.TheVariants.{Memory};
 

@@ -1,5 +1,5 @@
 -- The numbers of an execution: gas, rewards and what receipts hold.
-use Rattle.std.proofs.Common.{◌≡◌, ℕ, ◌+◌, ◌-◌, ◌*◌, ◌≤◌, min, Bool, true, false, cond, List, take, refl, sym, ap, ◌∙◌, arith}
+use Rattle.std.proofs.Common.{◌≡◌, ℕ, ◌+◌, ◌-◌, ◌*◌, ◌≤◌, min, Bool, true, false, cond, List, take, refl, ap, arith, add-mul}
 use Rattle.std.proofs.Math.Nat.{div-le_of_le-mul, min-le_left, zero-min}
 use Rattle.std.proofs.lemmas.List.Sums.{sum_by-take-le}
 use Rattle.std.proofs.lemmas.Nat.{mul-le}
@@ -11,7 +11,6 @@ use Rattle.nr_fees.specs.declared.table.Payment.TheVariants.{Execute}
 use Rattle.nr_ids.specs.Grammar.{is_system}
 use Rattle.nr_receipt.specs.Frames.{burning_price, burnt_gas, gas_back, prepaid}
 use Rattle.nr_receipt.specs.Rewards.{reward_gas, reward_of}
-use Rattle.nr_receipt.proofs.Lists.{distributes}
 use Rattle.nr_records.specs.declared.action.Action.{Action}
 
 -- ---- rewards
@@ -74,7 +73,7 @@ spent_by c actions n call promised price block false h =
     let within : gas * min price block ≤ kept * price = mul-le gas (min price block) kept price (omega (arith, h, executing_less c actions n)) (min-le_left price block) in
     let all : kept + promised ≡ prepaid_gas c actions = omega (arith, h) in
     let paid : (kept + promised) * price ≡ prepaid_gas c actions * price = ap (λ m. m * price) all in
-    omega (arith, within, distributes kept promised price, paid)
+    omega (arith, within, add-mul kept promised price, paid)
 
 -- what is burnt, what goes back and what was promised are what was paid for
 pub all_spent : (c : Config) (f : Frame) (n : ℕ) → f.call_burnt + f.promised ≤ attached_gas f.act.actions

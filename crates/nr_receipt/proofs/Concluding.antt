@@ -1,5 +1,5 @@
 -- What the conclusion of an execution needs.
-use Rattle.std.proofs.Common.{◌≡◌, ℕ, ◌+◌, ◌-◌, ◌*◌, ◌^◌, ◌<◌, ◌≤◌, Bool, true, false, cond, List, [], ◌∷◌, length, drop, Option, Some, None, refl, sym, ap, subst, ◌∙◌, arith}
+use Rattle.std.proofs.Common.{◌≡◌, ℕ, ◌+◌, ◌-◌, ◌*◌, ◌^◌, ◌<◌, ◌≤◌, Bool, true, false, cond, List, [], ◌∷◌, length, drop, Option, Some, None, refl, sym, ap, subst, ◌∙◌, arith, add-mul}
 use Rattle.std.specs.Prelude.{IfSome}
 use Rattle.std.specs.FinMap.{get}
 use Rattle.std.proofs.lemmas.Nat.{mul-le}
@@ -18,7 +18,6 @@ use Rattle.nr_receipt.specs.Running.{Done, Broken, run_actions}
 use Rattle.nr_receipt.specs.declared.executed.Executed.{Executed}
 use Rattle.nr_receipt.proofs.Amounts.{attached_less, attached_paid, burns_less, burnt_within}
 use Rattle.nr_receipt.proofs.Giving.{IsGiven, gas_given, result_given}
-use Rattle.nr_receipt.proofs.Lists.{distributes}
 use Rattle.nr_receipt.proofs.Underway.{AreActionLaws, IsRan, IsStopped, IsUnderway, ran}
 use Rattle.nr_records.specs.declared.account.Account.{Account}
 use Rattle.nr_state.specs.Calls.{Called, Stands}
@@ -127,7 +126,7 @@ module _ (c : Config) where
         let used : (f.call_burnt + f.promised) * price_of f0 ≤ attached_gas f0.act.actions * price_of f0 = mul-le (f.call_burnt + f.promised) (price_of f0) (attached_gas f0.act.actions) (price_of f0) (omega (arith, u.gas)) (omega arith) in
         let call : f.call_burnt * price_of f ≡ f.call_burnt * price_of f0 = ap (λ p. f.call_burnt * p) price in
         can_conclude w room f n 0 (rw act ready.price) (omega (arith, paid, ready.gas)) (omega (arith, u.gas, gas)) (omega arith) (omega (arith, ready.room, cost, brought))
-        (omega (arith, ready.room, u.tokens, used, distributes f.call_burnt f.promised (price_of f0), attached_paid c f0, call))
+        (omega (arith, ready.room, u.tokens, used, add-mul f.call_burnt f.promised (price_of f0), attached_paid c f0, call))
 
     pub when_stopped : (f : Frame) (n : ℕ) → ((id : List ℕ) (deposit : ℕ) → world_tokens c w0 + deposit ≤ 2 ^ 127 → HasRoom w0 id deposit) → IsStopped f0 f → CanConclude c w0 f (burnt_gas c f n) (deposits_lost f)
     when_stopped f n room u =

@@ -1,5 +1,5 @@
 -- Receipts made behind the actions: what they hold, and what they leave of the frame.
-use Rattle.std.proofs.Common.{◌≡◌, ℕ, ◌+◌, ◌*◌, ◌<◌, Bool, true, false, cond, List, [], ◌∷◌, ◌++◌, Option, Some, None, drop, fold, get_or, length, replicate, refl, sym, ap, ◌∙◌, arith}
+use Rattle.std.proofs.Common.{◌≡◌, ℕ, ◌+◌, ◌<◌, Bool, true, false, cond, List, [], ◌∷◌, ◌++◌, Option, Some, None, drop, fold, get_or, length, replicate, refl, sym, ap, ◌∙◌, arith}
 use Rattle.std.specs.Prelude.{◌==◌, IfSome, slice_get}
 use Rattle.std.specs.List.{AllByRecursion}
 use Rattle.std.specs.Str.{bytes_eq}
@@ -7,6 +7,7 @@ use Rattle.std.proofs.lemmas.Bool.{eqb-true}
 use Rattle.std.proofs.lemmas.List.{drop_more}
 use Rattle.std.proofs.lemmas.List.Sums.{sum_by-cons, sum_by-append}
 use Rattle.std.proofs.lemmas.Option.{slice_get-get_or}
+use Rattle.nr_bytes.proofs.Basics.{all_both}
 use Rattle.nr_actions.specs.Refunds.{deposit_refund, refund}
 use Rattle.nr_actions.specs.declared.frame.Frame.{Frame}
 use Rattle.nr_config.specs.Config.{Config}
@@ -19,7 +20,6 @@ use Rattle.nr_ids.proofs.System.{system_is}
 use Rattle.nr_receipt.specs.Drawing.{datum_for, deposits_back, given_up, handed_on, next_id, with_data, with_datum, with_deposits_back, with_drawn, with_gas_refund, with_outputs, with_result}
 use Rattle.nr_receipt.specs.Frames.{gas_back}
 use Rattle.nr_receipt.specs.Keeping.{HasSmallCalls}
-use Rattle.nr_receipt.proofs.Lists.{all_both}
 use Rattle.nr_records.specs.declared.receipt.Body.{Body}
 use Rattle.nr_records.specs.declared.receipt.Body.TheVariants.{Act, Datum}
 use Rattle.nr_records.specs.declared.receipt.DataReceiver.{DataReceiver}

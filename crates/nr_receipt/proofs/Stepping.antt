@@ -1,5 +1,5 @@
 -- One action after the other: what the next one needs.
-use Rattle.std.proofs.Common.{◌≡◌, ℕ, ◌+◌, ◌*◌, ◌^◌, ◌<◌, ◌≤◌, List, [], ◌∷◌, length, get_or, drop, Option, Some, None, Err, refl, sym, ap, ◌∙◌, arith}
+use Rattle.std.proofs.Common.{◌≡◌, ℕ, ◌+◌, ◌*◌, ◌^◌, ◌<◌, ◌≤◌, List, [], ◌∷◌, length, get_or, drop, Option, Some, None, Err, refl, sym, ap, ◌∙◌, arith, add-mul}
 use Rattle.std.specs.Prelude.{IfSome, slice_get}
 use Rattle.std.proofs.lemmas.List.{drop_all, drop_more}
 use Rattle.std.proofs.lemmas.List.Sums.{sum_by-drop_more}
@@ -14,7 +14,6 @@ use Rattle.nr_fees.specs.Fees.{attached, attached_gas, deposit_of, deposits}
 use Rattle.nr_receipt.specs.Parts.{CanRun, IsReady, RunsAll, Steps}
 use Rattle.nr_receipt.specs.Running.{Broken, checked, go_on, is_last, run_from, run_actions}
 use Rattle.nr_receipt.proofs.Amounts.{attached_paid}
-use Rattle.nr_receipt.proofs.Lists.{distributes}
 use Rattle.nr_receipt.proofs.Underway.{AreActionLaws}
 use Rattle.nr_receipt.specs.declared.running.Stop.{Stop}
 use Rattle.nr_receipt.specs.declared.running.Stop.TheVariants.{Failed, Memory}
@@ -72,7 +71,7 @@ module _ (c : Config) (call : World → CallContext → Called) (laws : AreActio
       let rest : List Action = drop (index + 1) f.act.actions in
       let paid : d.promised * price_of f ≤ attached a * price_of f = mul-le d.promised (price_of f) (attached a) (price_of f) (omega (arith, d.gas)) (omega arith) in
       let all : attached_gas (drop index f.act.actions) * price_of f ≡ attached a * price_of f + attached_gas rest * price_of f =
-      ap (λ n. n * price_of f) (attaches f.act.actions index a e) ∙ distributes (attached a) (attached_gas rest) (price_of f) in
+      ap (λ n. n * price_of f) (attaches f.act.actions index a e) ∙ add-mul (attached a) (attached_gas rest) (price_of f) in
       let room : world_tokens c after + (deposits rest + attached_gas rest * price_of f) ≤ 2 ^ 127 = omega (arith, h.room, d.tokens, paid, all, brings f.act.actions index a e) in
       let left : deposits (drop (index + 1) g.act.actions) + attached_gas (drop (index + 1) g.act.actions) * price_of g ≡ deposits rest + attached_gas rest * price_of f =
       ap (λ (k : Frame). deposits (drop (index + 1) k.act.actions) + attached_gas (drop (index + 1) k.act.actions) * price_of k) d.receipt in

@@ -1,8 +1,9 @@
 -- What the actions of a receipt keep, one after the other.
-use Rattle.std.proofs.Common.{◌≡◌, ℕ, ◌+◌, ◌*◌, ◌^◌, ◌<◌, ◌≤◌, Bool, true, false, cond, List, [], ◌∷◌, refl, ap, subst, ◌∙◌, arith}
+use Rattle.std.proofs.Common.{◌≡◌, ℕ, ◌+◌, ◌*◌, ◌^◌, ◌<◌, ◌≤◌, Bool, true, false, cond, List, [], ◌∷◌, refl, ap, subst, ◌∙◌, arith, add-mul}
 use Rattle.std.specs.List.{AllByRecursion}
 use Rattle.std.proofs.lemmas.List.Sums.{sum_by-cons, sum_by-append}
 use Rattle.std.proofs.lemmas.Nat.{mul-le}
+use Rattle.nr_bytes.proofs.Basics.{all_both}
 use Rattle.nr_actions.specs.Actions.{Acted, Acts, Fails, act}
 use Rattle.nr_actions.specs.Calling.{price_of}
 use Rattle.nr_actions.specs.Keeping.{IsDone}
@@ -11,7 +12,6 @@ use Rattle.nr_config.specs.Config.{Config}
 use Rattle.nr_fees.specs.Fees.{attached, attached_gas, deposit_of, deposits, receipt_tokens}
 use Rattle.nr_receipt.specs.Keeping.{HasSmallCalls}
 use Rattle.nr_receipt.specs.Running.{Ran, Done, Broken, fails_storage, go_on, is_last, run_from, with_burnt}
-use Rattle.nr_receipt.proofs.Lists.{all_both, distributes}
 use Rattle.nr_receipt.proofs.Small.{AddsSmall, adds_small}
 use Rattle.nr_records.specs.declared.action.Action.{Action}
 use Rattle.nr_records.specs.declared.receipt.Receipt.{Receipt}
@@ -86,7 +86,7 @@ module _ (c : Config) (call : World → CallContext → Called) (laws : AreActio
       let d : IsDone c w f a after g = laws.done w f last a after g u.valid within e in
       let price : price_of f ≡ price_of f0 = ap price_of u.receipt in
       let made : list_tokens c g.made ≡ list_tokens c f.made + list_tokens c d.made = ap (list_tokens c) d.all_made ∙ sum_by-append (receipt_tokens c) f.made d.made in
-      let all : g.promised * price_of f0 ≡ f.promised * price_of f0 + d.promised * price_of f0 = ap (λ n. n * price_of f0) d.all_promised ∙ distributes f.promised d.promised (price_of f0) in
+      let all : g.promised * price_of f0 ≡ f.promised * price_of f0 + d.promised * price_of f0 = ap (λ n. n * price_of f0) d.all_promised ∙ add-mul f.promised d.promised (price_of f0) in
       let same : d.promised * price_of f ≡ d.promised * price_of f0 = ap (λ p. d.promised * p) price in
       let own : f.act ≡ f0.act = ap (λ (h : Frame). h.act) u.receipt in
       record {

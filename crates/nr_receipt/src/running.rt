@@ -1,6 +1,6 @@
 //! The actions of a receipt in order, and the check of storage behind the last one.
 
-ghost use Rattle.std.specs.Prelude.{◌≡◌, ◌+◌, ◌*◌, ◌<◌, ◌≤◌, true, IfOk, IfSome, OnOk, length, slice_get};
+ghost use Rattle.std.specs.Prelude.{◌≡◌, ◌+◌, ◌<◌, ◌≤◌, true, IfOk, IfSome, OnOk, length, slice_get};
 ghost use Rattle.std.specs.FinMap.{get};
 ghost use Rattle.nr_actions.specs.Actions.{act};
 ghost use Rattle.nr_fees.specs.Fees.{attached};

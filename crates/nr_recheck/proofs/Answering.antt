@@ -1,22 +1,19 @@
 -- From what is gathered for a chunk a report is given.
-use Rattle.std.proofs.Common.{◌≡◌, ◌+◌, ◌^◌, ◌≤◌, ℕ, Bool, true, false, cond, List, [], ◌∷◌, Option, Some, None, Ordering, Result, Ok, Err, refl, sym, ap, subst, ◌∙◌, arith}
-use Rattle.std.specs.Prelude.{◌||◌, ◌&&◌, length, nat_le, nat_lt, if◌then◌else◌}
-use Rattle.std.specs.FinMap.{FinMap, IsAntisymmetric, empty, entries, get, get-empty, get-retain_keys, retain_keys, same_map}
+use Rattle.std.proofs.Common.{◌≡◌, ◌+◌, ◌^◌, ◌≤◌, ℕ, Bool, true, false, List, [], Ordering, Result, Ok, Err, refl, sym, ap, subst, ◌∙◌, arith}
+use Rattle.std.specs.Prelude.{◌||◌, ◌&&◌, length, if◌then◌else◌}
+use Rattle.std.specs.FinMap.{FinMap, IsAntisymmetric, empty, entries, get-empty, get-retain_keys, retain_keys, same_map}
 use Rattle.std.specs.Cmp.{IsTotalOrder}
 use Rattle.std.specs.Cmp.Lexicographic.{nat_list_cmp_total}
-use Rattle.std.specs.List.{AllByRecursion, flat_map, list_all, list_any}
-use Rattle.std.proofs.lemmas.Bool.{le-leb, lt-ltb}
+use Rattle.std.specs.List.{flat_map, list_any}
+use Rattle.std.proofs.lemmas.Bool.{le-leb}
 use Rattle.std.proofs.lemmas.Map.Lookups.{exact_bytes}
 use Rattle.nr_bytes.specs.Reading.{◌>>=◌}
-use Rattle.nr_chunk.specs.Chain.{AreBounded}
 use Rattle.nr_chunk.specs.Locality.{is_in, touched}
 use Rattle.nr_columns.specs.declared.entry.Entry.{Entry}
 use Rattle.nr_config.specs.Config.{Config}
-use Rattle.nr_fees.specs.Fees.{gas_of, price_of}
 use Rattle.nr_gather.proofs.Fewer.{IsWithin, fewer_walk}
 use Rattle.nr_gathered.specs.declared.gathered.Gathered.{Gathered}
 use Rattle.nr_ids.specs.declared.key.Hash32.{Hash32}
-use Rattle.nr_records.specs.Ids.{IsId}
 use Rattle.nr_records.specs.declared.chunk_result.ChunkResult.{ChunkResult}
 use Rattle.nr_records.specs.declared.receipt.Receipt.{Receipt}
 use Rattle.nr_remake.specs.Merging.{found_in, kept_in, pairs_of, parts_of}
@@ -25,7 +22,7 @@ use Rattle.nr_state.specs.Flat.{flat}
 use Rattle.nr_state.specs.FromEntries.{world_from}
 use Rattle.nr_state.specs.Scopes.{part_of}
 use Rattle.nr_state.specs.Tokens.{list_tokens, world_tokens}
-use Rattle.nr_state.specs.Valid.{IsBounded, IsValidWorld}
+use Rattle.nr_state.specs.Valid.{IsValidWorld}
 use Rattle.nr_state.specs.World.{World}
 use Rattle.nr_state.specs.Worlds.{IsWorld}
 use Rattle.nr_state.specs.declared.calls.CallContext.{CallContext}
@@ -36,16 +33,13 @@ use Rattle.nr_columns.specs.Keys.{queue_key}
 use Rattle.nr_walk.specs.Searched.{finds, is_found, is_met, looks}
 use Rattle.nr_walk.specs.Shown.{IsOf, walk_of}
 use Rattle.nr_walk.specs.Texts.{texts_of}
-use Rattle.nr_walk.specs.declared.fault.WalkFault.{WalkFault}
 use Rattle.nr_walk.specs.declared.searched.Searched.{Searched}
 use Rattle.nr_walk.specs.declared.walking.Gain.{Gain}
 use Rattle.nr_worlds.specs.Answers.{queue_checked, world_checked}
 use Rattle.nr_worlds.specs.Judging.{is_queue, is_world, queue_of}
-use Rattle.nr_worlds.specs.Valid.{is_bounded}
-use Rattle.nr_worlds.specs.declared.fault.WorldFault.{WorldFault}
 use Rattle.nr_worlds.specs.declared.fault.WorldFault.TheVariants.{NotWorld}
 use Rattle.nr_triedef.specs.Root.{root_of}
-use Rattle.nr_recheck.specs.Bounds.{are_bounded, are_within}
+use Rattle.nr_recheck.specs.Bounds.{are_within}
 use Rattle.nr_recheck.specs.Laws.{GoesWith, HasIds, IsGatheredFor}
 use Rattle.nr_recheck.specs.Rechecking.{Found, asked, by_walk, by_world, is_placed, prepared, queued, rechecked, report_from, touched_by, walked}
 use Rattle.nr_recheck.specs.declared.fault.RecheckFault.{RecheckFault}

@@ -1,5 +1,5 @@
 -- The chunk on the part of a world: its new world has nothing outside of the part.
-use Rattle.std.proofs.Common.{◌≡◌, ℕ, Bool, true, false, cond, List, [], ◌∷◌, ◌++◌, map, Option, Some, None, Ordering, refl, sym, ap, subst, ◌∙◌}
+use Rattle.std.proofs.Common.{◌≡◌, ℕ, Bool, true, false, cond, List, [], ◌++◌, Option, None, Ordering, refl, sym, ap, subst, ◌∙◌}
 use Rattle.std.proofs.lemmas.List.{append-nil}
 use Rattle.std.specs.FinMap.{FinMap, IsAntisymmetric, get, get-retain_keys, retain_keys, same_map}
 use Rattle.std.specs.Cmp.{IsTotalOrder}

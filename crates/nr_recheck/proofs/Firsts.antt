@@ -1,5 +1,5 @@
 -- The first chunk of a shard can be opened, and sealed as soon as it is.
-use Rattle.std.proofs.Common.{◌≡◌, ◌<◌, ◌≤◌, ◌+◌, ℕ, true, List, [], length, refl, ap, subst, sym, ◌∙◌, arith}
+use Rattle.std.proofs.Common.{◌≡◌, ◌<◌, ℕ, true, List, [], length, refl, ap, subst, ◌∙◌, arith}
 use Rattle.std.specs.Prelude.{is_some}
 use Rattle.nr_chunk.specs.Chain.{Chain, CanOpen, CanSeal, IsChain, chunk_at, rules_of, shards_of}
 use Rattle.nr_chunk.specs.Lawful.{laws_of}

@@ -1,6 +1,5 @@
 -- The entries that are searched for accounts are those of a world's part.
 use Rattle.std.proofs.Common.{◌≡◌, ◌==◌, ◌<◌, ◌⊎◌, inl, inr, ℕ, suc, zero, Bool, true, false, cond, List, [], ◌∷◌, Option, Some, None, refl, sym, ap, ◌∙◌, arith}
-use Rattle.std.specs.Prelude.{not}
 use Rattle.std.specs.FinMap.{entries, get, retain_keys, same_map}
 use Rattle.std.specs.List.{AllByRecursion}
 use Rattle.std.specs.Option.{option_map, option_and_then}
@@ -18,7 +17,7 @@ use Rattle.nr_columns.proofs.Laid.{canon, canon_of, other_head}
 use Rattle.nr_columns.proofs.Tables.{claimed, over}
 use Rattle.nr_records.specs.Ids.{IsId}
 use Rattle.nr_state.specs.Entries.{IsReadBack, is_of}
-use Rattle.nr_state.specs.Flat.{columns_of, flat}
+use Rattle.nr_state.specs.Flat.{flat}
 use Rattle.nr_state.specs.Keyed.{IsKeyed}
 use Rattle.nr_state.specs.Scopes.{part_of}
 use Rattle.nr_state.specs.World.{World}

@@ -1,8 +1,7 @@
 -- What stands behind an answer.
-use Rattle.std.proofs.Common.{◌≡◌, ℕ, Bool, true, false, List, [], ◌∷◌, Result, Ok, Err, refl, sym, ap, ◌∙◌}
+use Rattle.std.proofs.Common.{◌≡◌, ℕ, Bool, true, false, List, [], Result, Ok, Err, refl, sym, ap, ◌∙◌}
 use Rattle.std.specs.Prelude.{if◌then◌else◌}
 use Rattle.nr_bytes.specs.Reading.{◌>>=◌}
-use Rattle.nr_columns.specs.declared.entry.Entry.{Entry}
 use Rattle.nr_config.specs.Config.{Config}
 use Rattle.nr_gathered.specs.declared.gathered.Gathered.{Gathered}
 use Rattle.nr_records.specs.declared.chunk_result.ChunkResult.{ChunkResult}

@@ -1,7 +1,7 @@
 -- A world that is put together from two has the trie entries of the one where they are searched, and those of the other elsewhere.
-use Rattle.std.proofs.Common.{◌≡◌, ◌⊎◌, inl, inr, ℕ, Bool, true, false, cond, List, [], ◌∷◌, map, Option, Some, None, refl, sym, ap, subst, ◌∙◌}
+use Rattle.std.proofs.Common.{◌≡◌, ◌⊎◌, inl, inr, ℕ, Bool, true, false, cond, List, [], ◌∷◌, map, Option, None, refl, sym, ap, subst, ◌∙◌}
 use Rattle.std.specs.Prelude.{not}
-use Rattle.std.specs.FinMap.{entries, get, retain_keys, same_map}
+use Rattle.std.specs.FinMap.{entries, get, same_map}
 use Rattle.std.specs.List.{AllByRecursion}
 use Rattle.std.specs.Cmp.Lexicographic.{nat_list_cmp_total}
 use Rattle.std.proofs.lemmas.Map.Lookups.{exact_bytes}
@@ -13,7 +13,7 @@ use Rattle.nr_remake.specs.Merging.{pairs_of}
 use Rattle.nr_state.specs.Entries.{IsReadBack, is_of}
 use Rattle.nr_state.specs.Flat.{flat}
 use Rattle.nr_state.specs.Keyed.{IsKeyed}
-use Rattle.nr_state.specs.Scopes.{all_of, over, over_map, part_of}
+use Rattle.nr_state.specs.Scopes.{all_of, over, part_of}
 use Rattle.nr_state.specs.World.{World}
 use Rattle.nr_state.proofs.OverEntries.{entries_of_part, entries_over, read_over}
 use Rattle.nr_state.proofs.OverMaps.{get-over}

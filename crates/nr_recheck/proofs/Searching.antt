@@ -1,25 +1,18 @@
 -- A key is searched for accounts exactly where its entry is one of theirs, or of the delayed queue.
-use Rattle.std.proofs.Common.{◌≡◌, ◌==◌, ◌<◌, ℕ, suc, zero, Bool, true, false, cond, List, [], ◌∷◌, ◌++◌, Option, Some, None, refl, sym, ap, subst, ◌∙◌, arith, eq-eqb}
+use Rattle.std.proofs.Common.{◌≡◌, ◌==◌, ℕ, Bool, true, false, cond, List, [], ◌∷◌, ◌++◌, Option, Some, None, refl, sym, ap, ◌∙◌, eq-eqb}
 use Rattle.std.specs.Prelude.{◌||◌, ◌&&◌}
 use Rattle.std.specs.List.{AllByRecursion, list_any, starts_with}
 use Rattle.std.specs.Str.{bytes_eq}
 use Rattle.std.proofs.Math.Bool.{true≢false}
 use Rattle.std.proofs.lemmas.Bool.{eqb-true}
+use mathlib.Core.Bool.{or-false, and-false}
+use Rattle.nr_bytes.proofs.Basics.{same_test}
 use Rattle.nr_chunk.specs.Locality.{is_in}
-use Rattle.nr_columns.proofs.Tables.{same_test}
 use Rattle.nr_columns.specs.View.{at_first, grown}
 use Rattle.nr_ids.proofs.Ids.{lacks_any}
 use Rattle.nr_records.specs.Ids.{IsId}
 use Rattle.nr_state.specs.Entries.{has_owner, is_of}
 use Rattle.nr_stateless.specs.Accounts.{is_owned, is_searched}
-
-or_false : (a : Bool) → (a || false) ≡ a
-or_false true = refl
-or_false false = refl
-
-and_false : (a : Bool) → (a && false) ≡ false
-and_false true = refl
-and_false false = refl
 
 turned : (x b : ℕ) → (x == b) ≡ (b == x)
 turned x b = same_test (x == b) (b == x) (λ e. eq-eqb b x (sym (eqb-true x b e))) (λ e. eq-eqb x b (sym (eqb-true b x e)))
@@ -30,7 +23,7 @@ abbrev owns : List ℕ → Option (List ℕ × List ℕ) → Bool
 owns id o = has_owner (λ q. bytes_eq q id) o
 
 owns_later : (b a : ℕ) (id : List ℕ) (o : Option (List ℕ × List ℕ)) → owns (a ∷ id) (grown b o) ≡ ((b == a) && owns id o)
-owns_later b a id None = sym (and_false (b == a))
+owns_later b a id None = sym (and-false (b == a))
 owns_later b a id (Some p) = refl
 
 owns_never : (b : ℕ) (o : Option (List ℕ × List ℕ)) → owns [] (grown b o) ≡ false
@@ -91,7 +84,7 @@ module _ (ids : List (List ℕ)) (all : AllByRecursion IsId ids) where
 
   same_ids : (rest : List ℕ) (qs : List (List ℕ)) → list_any (λ id. bytes_eq rest id || false) qs ≡ list_any (bytes_eq rest) qs
   same_ids rest [] = refl
-  same_ids rest (q ∷ qs) = λ i. or_false (bytes_eq rest q) i || same_ids rest qs i
+  same_ids rest (q ∷ qs) = λ i. or-false (bytes_eq rest q) i || same_ids rest qs i
 
   pub at_account : (rest : List ℕ) → is_searched ids (0 ∷ rest) ≡ is_of (is_in ids) (0 ∷ rest)
   unfolding is_searched
@@ -103,23 +96,23 @@ module _ (ids : List (List ℕ)) (all : AllByRecursion IsId ids) where
 
   pub at_key : (rest : List ℕ) → is_searched ids (2 ∷ rest) ≡ is_of (is_in ids) (2 ∷ rest)
   unfolding is_searched
-  at_key rest = marked 2 rest (2 ∷ rest) no_mark (λ id. or_false (starts_with ◌==◌ rest (id ++ 2 ∷ [])))
+  at_key rest = marked 2 rest (2 ∷ rest) no_mark (λ id. or-false (starts_with ◌==◌ rest (id ++ 2 ∷ [])))
 
   pub at_received : (rest : List ℕ) → is_searched ids (3 ∷ rest) ≡ is_of (is_in ids) (3 ∷ rest)
   unfolding is_searched
-  at_received rest = marked 44 rest (3 ∷ rest) no_comma (λ id. or_false (starts_with ◌==◌ rest (id ++ 44 ∷ [])))
+  at_received rest = marked 44 rest (3 ∷ rest) no_comma (λ id. or-false (starts_with ◌==◌ rest (id ++ 44 ∷ [])))
 
   pub at_awaited : (rest : List ℕ) → is_searched ids (4 ∷ rest) ≡ is_of (is_in ids) (4 ∷ rest)
   unfolding is_searched
-  at_awaited rest = marked 44 rest (4 ∷ rest) no_comma (λ id. or_false (starts_with ◌==◌ rest (id ++ 44 ∷ [])))
+  at_awaited rest = marked 44 rest (4 ∷ rest) no_comma (λ id. or-false (starts_with ◌==◌ rest (id ++ 44 ∷ [])))
 
   pub at_missing : (rest : List ℕ) → is_searched ids (5 ∷ rest) ≡ is_of (is_in ids) (5 ∷ rest)
   unfolding is_searched
-  at_missing rest = marked 44 rest (5 ∷ rest) no_comma (λ id. or_false (starts_with ◌==◌ rest (id ++ 44 ∷ [])))
+  at_missing rest = marked 44 rest (5 ∷ rest) no_comma (λ id. or-false (starts_with ◌==◌ rest (id ++ 44 ∷ [])))
 
   pub at_postponed : (rest : List ℕ) → is_searched ids (6 ∷ rest) ≡ is_of (is_in ids) (6 ∷ rest)
   unfolding is_searched
-  at_postponed rest = marked 44 rest (6 ∷ rest) no_comma (λ id. or_false (starts_with ◌==◌ rest (id ++ 44 ∷ [])))
+  at_postponed rest = marked 44 rest (6 ∷ rest) no_comma (λ id. or-false (starts_with ◌==◌ rest (id ++ 44 ∷ [])))
 
   pub at_queue : (rest : List ℕ) → is_searched ids (7 ∷ rest) ≡ is_of (is_in ids) (7 ∷ rest)
   unfolding is_searched
@@ -127,4 +120,4 @@ module _ (ids : List (List ℕ)) (all : AllByRecursion IsId ids) where
 
   pub at_datum : (rest : List ℕ) → is_searched ids (9 ∷ rest) ≡ is_of (is_in ids) (9 ∷ rest)
   unfolding is_searched
-  at_datum rest = marked 44 rest (9 ∷ rest) no_comma (λ id. or_false (starts_with ◌==◌ rest (id ++ 44 ∷ [])))
+  at_datum rest = marked 44 rest (9 ∷ rest) no_comma (λ id. or-false (starts_with ◌==◌ rest (id ++ 44 ∷ [])))

@@ -1,9 +1,10 @@
 -- What the parts of a run that is made again show together.
-use Rattle.std.proofs.Common.{◌≡◌, ◌+◌, ◌^◌, ◌≤◌, ℕ, Bool, true, false, List, [], ◌∷◌, Result, Ok, Err, refl, sym, ap, subst, ◌∙◌}
+use Rattle.std.proofs.Common.{◌≡◌, ◌+◌, ◌^◌, ℕ, true, List, [], ◌∷◌, Result, Ok, sym, ap, subst, ◌∙◌}
 use Rattle.std.specs.Prelude.{◌&&◌, length, nat_le, nat_lt, if◌then◌else◌}
 use Rattle.std.specs.FinMap.{entries}
 use Rattle.std.specs.List.{AllByRecursion}
 use Rattle.std.proofs.lemmas.Bool.{leb-true, ltb-true}
+use Rattle.nr_bytes.proofs.Basics.{left_true, right_true}
 use Rattle.nr_bytes.specs.Numbers.{IsBytes}
 use Rattle.nr_bytes.specs.Reading.{◌>>=◌}
 use Rattle.nr_chunk.specs.Goodness.{AreGood, IsGood}
@@ -26,25 +27,22 @@ use Rattle.nr_state.specs.Calls.{Called}
 use Rattle.nr_state.specs.Flat.{flat}
 use Rattle.nr_state.specs.FromEntries.{AreWholeEntries, world_from}
 use Rattle.nr_state.specs.Tokens.{list_tokens, world_tokens}
-use Rattle.nr_state.specs.Valid.{IsBounded}
 use Rattle.nr_state.specs.View.{ArePostponed}
 use Rattle.nr_state.specs.World.{World}
 use Rattle.nr_state.specs.Worlds.{IsWorld}
 use Rattle.nr_state.specs.declared.calls.CallContext.{CallContext}
 use Rattle.nr_state.proofs.EntryWorlds.{world_fits, world_postponed}
 use Rattle.nr_triedef.specs.Root.{paths, summary_of}
-use Rattle.nr_walk.specs.declared.walking.Kept.{Kept as Beside}
 use Rattle.nr_worlds.specs.Answers.{world_checked}
 use Rattle.nr_worlds.specs.Judging.{is_world}
 use Rattle.nr_worlds.specs.Laws.{AreOfWorld}
 use Rattle.nr_worlds.specs.Valid.{is_bounded}
 use Rattle.nr_recheck.specs.Bounds.{are_bounded, are_within}
 use Rattle.nr_recheck.specs.Laws.{EndsWell, IsShowable}
-use Rattle.nr_recheck.specs.Rechecking.{Found, entries_of, is_placed, prepared, rechecked, report_from, sealed_on, with_root}
+use Rattle.nr_recheck.specs.Rechecking.{Found, entries_of, is_placed, prepared, rechecked, report_from, sealed_on}
 use Rattle.nr_recheck.specs.Running.{CanRun}
 use Rattle.nr_recheck.proofs.Prepared.{passed}
 use Rattle.nr_recheck.proofs.Replaced.{pairs_entries}
-use Rattle.nr_recheck.proofs.Sums.{left_true, right_true}
 
 -- ---- what the answer of the first part allows
 good_one : (c : Config) (r : Receipt) → is_bounded c r ≡ true → HasSmallCalls r.body → IsGood c r

@@ -1,16 +1,16 @@
 -- The chain of one block on which the chunk is run again: it is sound, and its chunk is the chunk.
-use Rattle.std.proofs.Common.{◌≡◌, ◌+◌, ◌-◌, ◌<◌, ◌≤◌, ◌^◌, ℕ, zero, suc, Bool, true, false, List, [], ◌∷◌, ◌++◌, length, map, Option, Some, None, refl, sym, ap, subst, ◌∙◌, arith}
-use Rattle.std.specs.Prelude.{◌&&◌, is_some, nat_lt, replicate, slice_get, slice_index_or, sum_by, unwrap_or}
+use Rattle.std.proofs.Common.{◌≡◌, ◌+◌, ◌-◌, ◌<◌, ℕ, zero, suc, true, List, [], ◌∷◌, ◌++◌, length, map, Option, Some, None, refl, sym, ap, subst, ◌∙◌, arith}
+use Rattle.std.specs.Prelude.{is_some, nat_lt, replicate, slice_get, slice_index_or, sum_by, unwrap_or}
 use Rattle.std.specs.List.{AllByRecursion}
-use Rattle.std.specs.FinMap.{empty, values}
+use Rattle.std.specs.FinMap.{values}
 use Rattle.std.proofs.lemmas.Bool.{ltb-true}
 use Rattle.std.proofs.lemmas.List.Sums.{sum_by-cons}
-use Rattle.nr_blocks.specs.declared.block.Block.{Block}
-use Rattle.nr_chunk.specs.Chain.{Chain, block_at, chunk_at, chunk_in, first_world, opened, place_at, rules_of, shards_of}
+use Rattle.nr_bytes.proofs.Basics.{left_true, right_true}
+use Rattle.nr_chunk.specs.Chain.{Chain, chunk_at, place_at, rules_of, shards_of}
 use Rattle.nr_chunk.specs.Chunk.{begun, open_chunk, seal_chunk, take_list}
 use Rattle.nr_chunk.specs.Goodness.{AreGood, IsSmall}
 use Rattle.nr_chunk.specs.Start.{IsStart}
-use Rattle.nr_chunk.specs.Starts.{CanFill, IsSoundStart, start_of}
+use Rattle.nr_chunk.specs.Starts.{IsSoundStart, start_of}
 use Rattle.nr_chunk.specs.Views.{Kept, Working}
 use Rattle.nr_chunk.specs.declared.start.FirstState.TheVariants as first
 use Rattle.nr_chunk.specs.declared.start.Resumed.{Resumed}
@@ -20,7 +20,6 @@ use Rattle.nr_columns.specs.Orders.{bytes_cmp, pair_cmp}
 use Rattle.nr_columns.specs.declared.entry.Entry.{Entry}
 use Rattle.nr_config.specs.Config.{Config}
 use Rattle.nr_gathered.specs.declared.gathered.Gathered.{Gathered}
-use Rattle.nr_ids.specs.declared.number.ShardId.{ShardId}
 use Rattle.nr_records.specs.declared.account.Account.{Account}
 use Rattle.nr_records.specs.declared.receipt.Receipt.{Receipt}
 use Rattle.nr_records.specs.declared.transaction.Transaction.{Transaction}
@@ -36,7 +35,7 @@ use Rattle.nr_state.specs.declared.place.Place.{Place}
 use Rattle.nr_state.proofs.EntryWorlds.{none_again, none_whole, world_fits}
 use Rattle.nr_state.proofs.ValidQueues.{empty_valid}
 use Rattle.nr_recheck.specs.Rechecking.{before, is_placed, place_of, sealed_on, shards_in}
-use Rattle.nr_recheck.specs.Running.{CanRun, block_of, by_shard, resumed_chain, first_sealed, resumed_on}
+use Rattle.nr_recheck.specs.Running.{CanRun, by_shard, resumed_chain, first_sealed, resumed_on}
 
 -- ---- one thing among others
 abbrev padded : {A : Type 0} → ℕ → ℕ → A → A → List A
@@ -96,14 +95,6 @@ none_tokens c =
     omega (arith, accounts, postponed)
 
 -- ---- where the chunk stands
-left_true : (a b : Bool) → (a && b) ≡ true → a ≡ true
-left_true true b h = refl
-left_true false b h = h
-
-right_true : (a b : Bool) → (a && b) ≡ true → b ≡ true
-right_true true b h = h
-right_true false b h = absurd cc
-
 pub some_height : (g : Gathered) → is_placed g ≡ true → 0 < g.height.0
 some_height g h = ltb-true 0 g.height.0 (left_true (nat_lt 0 g.height.0) (nat_lt g.shard.0 (shards_in g)) h)
 

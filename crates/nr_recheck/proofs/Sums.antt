@@ -1,10 +1,9 @@
 -- Sums of tokens over lists.
-use Rattle.std.proofs.Common.{◌≡◌, ◌+◌, ◌<◌, ◌≤◌, ◌^◌, ◌⊎◌, inl, inr, ℕ, zero, suc, Bool, true, false, List, [], ◌∷◌, ◌++◌, length, take, get_or, Option, Some, None, refl, sym, ap, subst, ◌∙◌, arith}
-use Rattle.std.specs.Prelude.{◌&&◌, nat_le, nat_lt, sum_by}
-use Rattle.std.proofs.lemmas.Bool.{le-leb, lt-leb, lt-ltb, ltb-true}
-use Rattle.std.proofs.lemmas.List.Sums.{sum_by-cons}
+use Rattle.std.proofs.Common.{◌≡◌, ◌+◌, ◌≤◌, ◌^◌, ℕ, Bool, true, false, List, [], ◌∷◌, length, Option, Some, None, refl, sym, ap, subst, ◌∙◌, arith}
+use Rattle.std.specs.Prelude.{◌&&◌, nat_le, sum_by}
+use Rattle.std.proofs.lemmas.Bool.{lt-leb, lt-ltb}
 use Rattle.nr_config.specs.Config.{Config}
-use Rattle.nr_fees.specs.Fees.{CountsTokens, FitsIn, gas_of, price_of, receipt_tokens}
+use Rattle.nr_fees.specs.Fees.{FitsIn, gas_of, price_of}
 use Rattle.nr_records.specs.declared.receipt.Receipt.{Receipt}
 use Rattle.nr_chunk.proofs.Values.{all_values}
 use Rattle.nr_state.specs.Tokens.{list_tokens, world_tokens}
@@ -15,52 +14,6 @@ use Rattle.std.specs.FinMap.{values}
 use Rattle.std.specs.List.{AllByRecursion}
 use Rattle.nr_worlds.specs.Valid.{is_bounded}
 use Rattle.nr_recheck.specs.Bounds.{Counts, are_bounded, are_within, room}
-
-pub left_true : (a b : Bool) → (a && b) ≡ true → a ≡ true
-left_true true b h = refl
-left_true false b h = h
-
-pub right_true : (a b : Bool) → (a && b) ≡ true → b ≡ true
-right_true true b h = h
-right_true false b h = absurd cc
-
--- a receipt that isn't counted isn't bounded, or has too many tokens
-uncounted : (c : Config) (r : Receipt) → CountsTokens None (price_of r) (gas_of c r) (receipt_tokens c r) → is_bounded c r ≡ true → 2 ^ 128 ≤ receipt_tokens c r
-uncounted c r (inl price) h = absurd (omega (arith, price, ltb-true (price_of r) (2 ^ 64) (left_true (nat_lt (price_of r) (2 ^ 64)) (nat_lt (gas_of c r) (2 ^ 64)) h)))
-uncounted c r (inr (inl gas)) h = absurd (omega (arith, gas, ltb-true (gas_of c r) (2 ^ 64) (right_true (nat_lt (price_of r) (2 ^ 64)) (nat_lt (gas_of c r) (2 ^ 64)) h)))
-uncounted c r (inr (inr tokens)) h = tokens
-
-pub none_counted : (c : Config) (list : List Receipt) (i : ℕ) (r : Receipt) → i < length list → r ≡ get_or list i r → CountsTokens None (price_of r) (gas_of c r) (receipt_tokens c r)
-    → Counts None (are_bounded c list) (list_tokens c list)
-none_counted c [] i r l at h = absurd (omega (arith, l))
-none_counted c (q ∷ list) zero r l at h = λ bounded.
-    let mine : is_bounded c r ≡ true = ap (is_bounded c) at ∙ left_true (is_bounded c q) (are_bounded c list) bounded in
-    omega (arith, uncounted c r h mine, ap (receipt_tokens c) at, sum_by-cons (receipt_tokens c) q list)
-none_counted c (q ∷ list) (suc i) r l at h = λ bounded.
-    omega (arith, none_counted c list i r (omega (arith, l)) at h (right_true (is_bounded c q) (are_bounded c list) bounded), sum_by-cons (receipt_tokens c) q list)
-
--- the first ones and the next are at most all
-pub part_sum : {A : Type 0} (f : A → ℕ) (list : List A) (i : ℕ) (r : A) → i < length list → r ≡ get_or list i r → sum_by f (take i list) + f r ≤ sum_by f list
-part_sum f [] i r l at = absurd (omega (arith, l))
-part_sum f (q ∷ list) zero r l at = omega (arith, ap f at, sum_by-cons f q list)
-part_sum f (q ∷ list) (suc i) r l at = omega (arith, part_sum f list i r (omega (arith, l)) at, sum_by-cons f q list, sum_by-cons f q (take i list))
-
--- one more that is counted
-pub one_counted : (c : Config) (list : List Receipt) (i : ℕ) (r : Receipt) → i < length list → r ≡ get_or list i r → price_of r < 2 ^ 64 → gas_of c r < 2 ^ 64
-    → are_bounded c (take i list) ≡ true → are_bounded c (take (suc i) list) ≡ true
-one_counted c [] i r l at price gas h = refl
-one_counted c (q ∷ list) zero r l at price gas h =
-    let mine : is_bounded c r ≡ true = λ k. lt-ltb (price_of r) (2 ^ 64) price k && lt-ltb (gas_of c r) (2 ^ 64) gas k in
-    let theirs : is_bounded c q ≡ true = sym (ap (is_bounded c) at) ∙ mine in
-    ap (λ b. b && true) theirs
-one_counted c (q ∷ list) (suc i) r l at price gas h =
-    let one = left_true (is_bounded c q) (are_bounded c (take i list)) h in
-    λ k. one k && one_counted c list i r (omega (arith, l)) at price gas (right_true (is_bounded c q) (are_bounded c (take i list)) h) k
-
-pub one_summed : {A : Type 0} (f : A → ℕ) (list : List A) (i : ℕ) (r : A) → i < length list → r ≡ get_or list i r → sum_by f (take (suc i) list) ≡ sum_by f (take i list) + f r
-one_summed f [] i r l at = absurd (omega (arith, l))
-one_summed f (q ∷ list) zero r l at = omega (arith, ap f at, sum_by-cons f q [])
-one_summed f (q ∷ list) (suc i) r l at = omega (arith, one_summed f list i r (omega (arith, l)) at, sum_by-cons f q (take (suc i) list), sum_by-cons f q (take i list))
 
 -- ---- receipts within their bounds
 bounded_one : (c : Config) (r : Receipt) → IsBounded c r → is_bounded c r ≡ true

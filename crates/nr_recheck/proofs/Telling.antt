@@ -1,11 +1,9 @@
 -- A report is that of the chunk from every whole state that the texts go with.
-use Rattle.std.proofs.Common.{◌≡◌, ℕ, Bool, true, false, List, [], ◌∷◌, ◌++◌, map, Result, Ok, Err, refl, sym, ap, subst, ◌∙◌}
-use Rattle.std.specs.FinMap.{entries, get}
+use Rattle.std.proofs.Common.{◌≡◌, ℕ, Bool, List, [], ◌∷◌, ◌++◌, map, Ok, refl, sym, ap, subst, ◌∙◌}
 use Rattle.std.specs.List.{AllByRecursion}
 use Rattle.nr_chunk.specs.Locality.{is_in, touched}
 use Rattle.nr_chunk.proofs.Localized.{valid_keyed}
 use Rattle.nr_chunk.specs.Views.{Kept}
-use Rattle.nr_columns.specs.declared.entry.Entry.{Entry}
 use Rattle.nr_config.specs.Config.{Config}
 use Rattle.nr_gathered.specs.declared.gathered.Gathered.{Gathered}
 use Rattle.nr_ids.specs.declared.key.Hash32.{Hash32}
@@ -23,7 +21,6 @@ use Rattle.nr_state.specs.FromEntries.{world_from}
 use Rattle.nr_state.specs.Keyed.{IsKeyed}
 use Rattle.nr_state.specs.Local.{IsLocal}
 use Rattle.nr_state.specs.Scopes.{all_of, over, part_of}
-use Rattle.nr_state.specs.View.{ArePostponed}
 use Rattle.nr_state.specs.World.{World}
 use Rattle.nr_state.specs.declared.calls.CallContext.{CallContext}
 use Rattle.nr_state.proofs.EntryWorlds.{entries_again}
@@ -34,11 +31,11 @@ use Rattle.nr_stateless.specs.Accounts.{found_of, searched_of}
 use Rattle.nr_stateless.specs.Changing.{IsPart, IsReplaced}
 use Rattle.nr_stateless.proofs.ByKeys.{accounts_shown, replaced_changed}
 use Rattle.nr_stateless.proofs.FoundEntries.{parts_shown}
-use Rattle.nr_triedef.specs.Root.{Contents, root_of}
+use Rattle.nr_triedef.specs.Root.{root_of}
 use Rattle.nr_walk.specs.Texts.{texts_of}
 use Rattle.nr_walk.proofs.ShownMaps.{map_shown}
 use Rattle.nr_recheck.specs.Laws.{EndsWell, GoesWith, HasIds, IsShowable, TellsChunk}
-use Rattle.nr_recheck.specs.Rechecking.{Found, entries_of, prepared, rechecked, report_from, sealed_on, touched_by, walked}
+use Rattle.nr_recheck.specs.Rechecking.{Found, entries_of, rechecked, report_from, sealed_on, touched_by, walked}
 use Rattle.nr_recheck.proofs.Chunks.{part_closed, same_seal}
 use Rattle.nr_recheck.proofs.Parts.{found_part}
 use Rattle.nr_recheck.proofs.Prepared.{IsPrepared, has_prepared, has_rechecked, has_walked}

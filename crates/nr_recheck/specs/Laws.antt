@@ -1,5 +1,5 @@
 -- What a chunk that is run again tells of every whole state that goes with its texts. Laws of this project's own.
-use Rattle.std.specs.Prelude.{◌≡◌, ℕ, ◌+◌, ◌^◌, ◌≤◌, true, List, length, Ok}
+use Rattle.std.specs.Prelude.{◌≡◌, ◌+◌, ◌^◌, ◌≤◌, true, length, Ok}
 use Rattle.std.specs.FinMap.{entries}
 use Rattle.std.specs.List.{AllByRecursion}
 use Rattle.nr_chunk.specs.Chain.{AreBounded}
@@ -7,7 +7,6 @@ use Rattle.nr_chunk.specs.Locality.{touched}
 use Rattle.nr_config.specs.Config.{Config}
 use Rattle.nr_gather.specs.Gathered.{gathered}
 use Rattle.nr_gathered.specs.declared.gathered.Gathered.{Gathered}
-use Rattle.nr_ids.specs.declared.number.ShardId.{ShardId}
 use Rattle.nr_records.specs.Ids.{IsId}
 use Rattle.nr_records.specs.declared.chunk_result.ChunkResult.{ChunkResult}
 use Rattle.nr_records.specs.declared.receipt.Receipt.{Receipt}
@@ -15,7 +14,6 @@ use Rattle.nr_records.specs.declared.transaction.Transaction.{Transaction}
 use Rattle.nr_state.specs.Calls.{Called}
 use Rattle.nr_state.specs.Flat.{flat}
 use Rattle.nr_state.specs.FromEntries.{world_from}
-use Rattle.nr_state.specs.Local.{IsLocal}
 use Rattle.nr_state.specs.Tokens.{list_tokens, world_tokens}
 use Rattle.nr_state.specs.Valid.{IsValidWorld}
 use Rattle.nr_state.specs.View.{ArePostponed}
@@ -27,7 +25,7 @@ use Rattle.nr_stateless.specs.Changing.{HasBytes}
 use Rattle.nr_triedef.specs.Root.{paths, root_of}
 use Rattle.nr_walk.specs.Shown.{IsOf}
 use Rattle.nr_walk.specs.Texts.{texts_of}
-use Rattle.nr_recheck.specs.Rechecking.{Found, is_placed, prepared, rechecked, sealed_on}
+use Rattle.nr_recheck.specs.Rechecking.{Found, is_placed, prepared, sealed_on}
 
 -- the signers and the receivers are account ids
 pub record HasIds (g : Gathered) : Type 0 where

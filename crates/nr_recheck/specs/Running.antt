@@ -1,5 +1,5 @@
 -- The chain of one block on which a chunk is run again: all other shards are empty. This project's own.
-use Rattle.std.specs.Prelude.{◌≡◌, ℕ, ◌+◌, ◌-◌, ◌^◌, ◌≤◌, true, List, [], ◌∷◌, ◌++◌, length, replicate, Option, Some}
+use Rattle.std.specs.Prelude.{◌≡◌, ℕ, ◌+◌, ◌-◌, ◌^◌, ◌≤◌, true, List, [], ◌∷◌, ◌++◌, length, replicate, Some}
 use Rattle.std.specs.Prelude.{None}
 use Rattle.nr_blocks.specs.declared.block.Block.{Block}
 use Rattle.nr_chunk.specs.Chain.{Chain, chain_with, rules_of}

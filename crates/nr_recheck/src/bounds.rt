@@ -1,6 +1,6 @@
 //! The bounds of a chunk that is run again.
 
-ghost use Rattle.std.specs.Prelude.{◌≡◌, ◌+◌, ◌≤◌, ◌^◌, ◌&&◌, length, true, nat_le, sum_by, IfOk};
+ghost use Rattle.std.specs.Prelude.{◌≡◌, ◌+◌, ◌^◌, ◌&&◌, true, nat_le, sum_by, IfOk};
 ghost use Rattle.nr_bytes.specs.Answers.{Gives};
 ghost use Rattle.nr_fees.specs.Fees.{FitsIn};
 ghost use Rattle.nr_state.specs.FromEntries.{AreWholeEntries, world_from};

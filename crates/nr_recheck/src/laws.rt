@@ -9,7 +9,7 @@ ghost use Rattle.nr_state.specs.Local.{IsLocal};
 ghost use Rattle.nr_state.specs.World.{World};
 ghost use Rattle.nr_state.specs.declared.calls.CallContext.{CallContext};
 ghost use Rattle.nr_recheck.specs.Laws.{EndsWell, HasIds, IsGatheredFor, TellsChunk, GoesWith};
-ghost use Rattle.nr_recheck.specs.Rechecking.{rechecked, report_from};
+ghost use Rattle.nr_recheck.specs.Rechecking.{rechecked};
 
 use nr_worlds::laws::{queue_laws, world_laws};
 

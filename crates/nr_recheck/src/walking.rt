@@ -1,6 +1,6 @@
 //! What the texts give of the state before the chunk.
 
-ghost use Rattle.std.specs.Prelude.{◌≡◌, ◌++◌, ◌∷◌, [], map, IfOk, OnOk};
+ghost use Rattle.std.specs.Prelude.{◌≡◌, ◌++◌, [], map, IfOk, OnOk};
 ghost use Rattle.nr_bytes.specs.Answers.{Gives};
 ghost use Rattle.nr_walk.specs.Texts.{texts_of};
 ghost use Rattle.nr_recheck.specs.Rechecking.{memory_fault, queued, touched_by, walked};

@@ -1,12 +1,11 @@
 -- A chunk that takes lists one after another is that which takes all their receipts in one.
-use Rattle.std.proofs.Common.{◌≡◌, ℕ, zero, suc, ◌+◌, ◌-◌, ◌^◌, ◌<◌, ◌≤◌, true, List, [], ◌∷◌, ◌++◌, length, Option, Some, None, refl, sym, ap, subst, ◌∙◌, arith, add-one, take}
-use Rattle.std.specs.Prelude.{fold, slice_get, sum_by, unwrap_or}
-use Rattle.std.specs.List.{AllByRecursion, flat_map}
+use Rattle.std.proofs.Common.{◌≡◌, ℕ, zero, suc, ◌+◌, ◌-◌, ◌<◌, ◌≤◌, true, List, [], ◌∷◌, ◌++◌, length, Option, Some, None, refl, sym, ap, subst, ◌∙◌, arith, add-one, take}
+use Rattle.std.specs.Prelude.{slice_get, unwrap_or}
+use Rattle.std.specs.List.{flat_map}
 use Rattle.std.proofs.lemmas.List.{append-nil}
 use Rattle.std.proofs.lemmas.List.Concat.{flat_map-append}
 use Rattle.std.proofs.lemmas.List.Sums.{fold-append, sum_by-append}
-use Rattle.nr_chunk.specs.Amounts.{tokens}
-use Rattle.nr_chunk.specs.Chain.{Chain, IsChain, kept_tokens, opened, opened_first, rules_of, working_tokens}
+use Rattle.nr_chunk.specs.Chain.{Chain, IsChain, kept_tokens, opened, rules_of, working_tokens}
 use Rattle.nr_chunk.specs.Chunk.{serve, serve_all}
 use Rattle.nr_chunk.specs.Goodness.{AreGood, IsGood}
 use Rattle.nr_chunk.specs.Lasting.{good_sent}
@@ -16,7 +15,7 @@ use Rattle.nr_config.specs.Config.{Config}
 use Rattle.nr_fees.specs.Fees.{receipt_tokens}
 use Rattle.nr_extract.specs.Chunk.{before, due_lists, due_to}
 use Rattle.nr_overlap.specs.Rules.{Rules}
-use Rattle.nr_overlap.specs.Serial.{due_after, first_due, list_to, sealing_at, with_list, work}
+use Rattle.nr_overlap.specs.Serial.{due_after, list_to, sealing_at, with_list, work}
 use Rattle.nr_overlap.proofs.Basics.{each_append, take_next}
 use Rattle.nr_overlap.proofs.DueLemmas.{due_at, first_small}
 use Rattle.nr_overlap.proofs.SerialLemmas.{work_first, work_next}

@@ -1,10 +1,10 @@
 -- The report of a chunk that is run again is the serial run's.
-use Rattle.std.proofs.Common.{◌≡◌, ℕ, ◌+◌, ◌^◌, ◌<◌, ◌≤◌, true, List, [], ◌∷◌, ◌++◌, length, Option, Some, None, Ok, refl, sym, ap, subst, ◌∙◌, arith}
-use Rattle.std.specs.Prelude.{◌&&◌, fold, unwrap_or}
+use Rattle.std.proofs.Common.{◌≡◌, ℕ, ◌+◌, ◌^◌, ◌≤◌, List, length, Option, Some, None, refl, sym, ap, subst, ◌∙◌, arith}
+use Rattle.std.specs.Prelude.{◌&&◌, unwrap_or}
 use Rattle.std.specs.Option.{option_map}
 use Rattle.std.proofs.lemmas.List.Sums.{fold-append, sum_by-append}
 use Rattle.nr_blocks.specs.declared.block.Block.{Block}
-use Rattle.nr_chunk.specs.Chain.{Chain, IsChain, block_at, kept_tokens, opened, opened_first, place_at, price_in, rules_of, shards_of, working_tokens}
+use Rattle.nr_chunk.specs.Chain.{Chain, IsChain, block_at, opened, opened_first, place_at, price_in, rules_of, shards_of}
 use Rattle.nr_chunk.specs.Chunk.{begun, open_chunk, seal_chunk, serve, serve_all}
 use Rattle.nr_chunk.specs.GoodReceipts.{are_bounded}
 use Rattle.nr_chunk.specs.Goodness.{AreGood, IsGood, IsGoodWorld}
@@ -15,17 +15,16 @@ use Rattle.nr_extract.specs.Chunk.{before, due_lists, gathered_chunk, stated_pri
 use Rattle.nr_fees.specs.Fees.{receipt_tokens}
 use Rattle.nr_gathered.specs.declared.gathered.Gathered.{Gathered}
 use Rattle.nr_overlap.specs.Rules.{Rules, Sealing}
-use Rattle.nr_overlap.specs.Serial.{due_after, last_work, sealing_at, work}
+use Rattle.nr_overlap.specs.Serial.{due_after, last_work, sealing_at}
 use Rattle.nr_overlap.proofs.Basics.{each_append, is_lt}
 use Rattle.nr_overlap.proofs.SerialLemmas.{sealing_there}
 use Rattle.nr_recheck.specs.Laws.{GoesWith, IsGatheredFor, TellsChunk}
-use Rattle.nr_recheck.specs.Rechecking.{is_placed, place_of, rechecked, sealed_on}
-use Rattle.nr_recheck_laws.specs.Again.{IsAnswered, IsGathered, IsSerialReport, chunk, state}
+use Rattle.nr_recheck.specs.Rechecking.{place_of, sealed_on}
+use Rattle.nr_recheck_laws.specs.Again.{IsGathered, state}
 use Rattle.nr_recheck_laws.proofs.Grown.{all_lists, good_lists, tokens_are, work_is}
 use Rattle.nr_records.specs.declared.chunk_result.ChunkResult.{ChunkResult}
 use Rattle.nr_records.specs.declared.receipt.Receipt.{Receipt}
 use Rattle.nr_state.specs.Tokens.{list_tokens, world_tokens}
-use Rattle.nr_state.specs.declared.place.Place.{Place}
 
 price_is : (usual : ℕ) (o : Option Block) → unwrap_or (stated_price o) usual ≡ price_in usual o
 price_is usual None = refl

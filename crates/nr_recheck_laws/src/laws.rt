@@ -1,8 +1,8 @@
 //! What a chunk that is gathered of a chain and run again tells of the chain. Each function here does nothing when it
 //! runs: its contract is the law.
 
-ghost use Rattle.std.specs.Prelude.{ℕ, ◌<◌};
-ghost use Rattle.nr_chunk.specs.Chain.{Chain, IsChain, rules_of};
+ghost use Rattle.std.specs.Prelude.{ℕ};
+ghost use Rattle.nr_chunk.specs.Chain.{Chain, IsChain};
 ghost use Rattle.nr_recheck_laws.specs.Again.{IsAnswered, IsGathered, IsSerialReport};
 ghost use Rattle.nr_records.specs.declared.chunk_result.ChunkResult.{ChunkResult};
 ghost use Rattle.nr_state.specs.Local.{IsLocal};

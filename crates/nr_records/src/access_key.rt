@@ -1,6 +1,5 @@
 //! Access keys and what they permit: reading, writing, copying.
 
-ghost use Rattle.std.specs.Prelude.{◌≡◌};
 ghost use Rattle.nr_records.specs.AccessKeys.{call_permission_at, call_permission_bytes, IsCallPermission};
 ghost use Rattle.nr_records.specs.AccessKeys.{permission_at, permission_bytes, IsPermission, access_key_at};
 ghost use Rattle.nr_records.specs.AccessKeys.{access_key_bytes, IsAccessKey};

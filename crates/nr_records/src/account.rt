@@ -1,6 +1,5 @@
 //! The record of an account: reading, writing, copying.
 
-ghost use Rattle.std.specs.Prelude.{◌≡◌};
 ghost use Rattle.nr_records.specs.Accounts.{account_at, account_bytes, IsAccount};
 ghost use Rattle.nr_records.specs.AccountLaw.{account_law};
 

@@ -1,6 +1,5 @@
 //! Actions: reading, writing, copying.
 
-ghost use Rattle.std.specs.Prelude.{◌≡◌, ◌++◌, ◌∷◌, OnOk};
 ghost use Rattle.nr_records.specs.Actions.{action_at, action_bytes, IsAction, call_of, call_at};
 ghost use Rattle.nr_records.specs.ActionLaw.{action_law};
 ghost use Rattle.nr_bytes.specs.Fields.{mapped};

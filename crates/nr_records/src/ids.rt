@@ -1,6 +1,5 @@
 //! Ids, hashes and keys as fields of records.
 
-ghost use Rattle.std.specs.Prelude.{◌≡◌};
 ghost use Rattle.nr_bytes.specs.Writing.{counted_bytes};
 ghost use Rattle.nr_records.specs.Reading.{account_id_at};
 ghost use Rattle.nr_records.specs.Ids.{IsId, hash_at, key_at};

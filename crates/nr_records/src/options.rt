@@ -1,6 +1,5 @@
 //! Options as fields of records.
 
-ghost use Rattle.std.specs.Prelude.{◌≡◌};
 ghost use Rattle.nr_records.specs.Options.{option_at, option_bytes, IsOption};
 ghost use Rattle.nr_records.specs.OptionLaw.{option_law};
 

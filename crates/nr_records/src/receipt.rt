@@ -1,6 +1,5 @@
 //! Receipts of actions and of data: reading, writing, copying.
 
-ghost use Rattle.std.specs.Prelude.{◌≡◌};
 ghost use Rattle.nr_records.specs.Receipts.{data_receiver_at, data_receiver_bytes, IsDataReceiver, data_receipt_at};
 ghost use Rattle.nr_records.specs.Receipts.{data_receipt_bytes, IsDataReceipt, action_receipt_at, action_receipt_bytes};
 ghost use Rattle.nr_records.specs.Receipts.{IsActionReceipt, body_at, body_bytes, IsBody, receipt_at, receipt_bytes};

@@ -1,6 +1,5 @@
 //! Transactions: reading, writing, copying.
 
-ghost use Rattle.std.specs.Prelude.{◌≡◌};
 ghost use Rattle.nr_records.specs.Transactions.{transaction_at, transaction_bytes, IsTransaction};
 ghost use Rattle.nr_records.specs.TransactionLaw.{transaction_law};
 

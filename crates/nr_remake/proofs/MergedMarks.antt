@@ -2,7 +2,7 @@
 use Rattle.std.proofs.Common.{◌≡◌, ◌==◌, ◌≤◌, ℕ, Bool, true, false, cond, List, [], ◌∷◌, ◌++◌, length, refl, sym, ap, subst, ◌∙◌, append_assoc, arith, length-append, inl, inr}
 use Rattle.std.specs.Prelude.{◌⊎◌, ◌||◌, ◌&&◌, not, nat_lt}
 use Rattle.std.specs.List.{AllByRecursion, filter}
-use Rattle.std.proofs.lemmas.Bool.{eqb-true, eqb-false, ltb-true, ltb-false}
+use Rattle.std.proofs.lemmas.Bool.{eqb-true, eqb-false, ltb-true, ltb-false, or_cases, and_parts}
 use Rattle.std.proofs.lemmas.List.{append-nil}
 use Rattle.nr_triedef.specs.Node.{digest}
 use Rattle.nr_triedef.specs.Root.{Paths, under}
@@ -56,22 +56,14 @@ between (y ∷ p) a b (z ∷ x) (inr h) (inr g) =
     let first : z ≡ y = g.0 in
     (rest.0, λ i. first i ∷ rest.1 i)
 
-or_either : (a b : Bool) → (a || b) ≡ true → (a ≡ true) ⊎ (b ≡ true)
-or_either true b h = inl refl
-or_either false b h = inr h
-
-and_both : (a b : Bool) → (a && b) ≡ true → (a ≡ true) × (b ≡ true)
-and_both true b h = (refl, h)
-and_both false b h = absurd cc
-
 is_before_true : (a b : List ℕ) → is_before a b ≡ true → Before a b
 is_before_true [] [] h = absurd cc
 is_before_true [] (y ∷ b) h = tt
 is_before_true (x ∷ a) [] h = absurd cc
 is_before_true (x ∷ a) (y ∷ b) h =
-    elim (or_either (nat_lt x y) ((x == y) && is_before a b) h) [
+    elim (or_cases (nat_lt x y) ((x == y) && is_before a b) h) [
       | inl e ↦ inl (ltb-true x y e)
-      | inr e ↦ let two = and_both (x == y) (is_before a b) e in inr (eqb-true x y two.0, is_before_true a b two.1)
+      | inr e ↦ let two = and_parts (x == y) (is_before a b) e in inr (eqb-true x y two.0, is_before_true a b two.1)
     ]
 
 is_before_false : (a b : List ℕ) → is_before a b ≡ false → (a ≡ b) ⊎ Before b a
@@ -380,7 +372,3 @@ same_below searched ps new r place h =
 
 pub kept_merged : (searched : List Searched) (ks : List Kept) (ps new : Paths) → IsKept searched ps ks → CanWalk new → AreReplaced searched ps new → Spreads new (merge (marks_of ks) (marked (searched_in searched new))) new
 kept_merged searched ks ps new h w r = merged_all searched ps new (same_below searched ps new r) ks (others_of searched ps) new w.order r h
-
-pub merged : (searched : List Searched) (gains : List Gain) (ps new : Paths) → Shows searched ps gains ps → CanWalk new → AreReplaced searched ps new
-    → Spreads new (merge (marks_of (kept_in gains)) (marked (searched_in searched new))) new
-merged searched gains ps new h w r = merged_all searched ps new (same_below searched ps new r) (kept_in gains) (others_of searched ps) new w.order r (shows_beside searched ps gains ps h)

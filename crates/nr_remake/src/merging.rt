@@ -1,6 +1,6 @@
 //! The root of what is kept together with new entries.
 
-ghost use Rattle.std.specs.Prelude.{◌≡◌, IfOk, List as Items, ℕ};
+ghost use Rattle.std.specs.Prelude.{◌≡◌, IfOk, List as Items};
 ghost use Rattle.std.specs.FinMap as map;
 ghost use Rattle.nr_triedef.specs.Root.{Contents, paths, root_of};
 ghost use Rattle.nr_walk.specs.declared.searched.Searched.{Searched as OneSearched};

@@ -5,7 +5,6 @@ use Rattle.std.proofs.Crossing.{crosses}
 use Rattle.nr_bytes.specs.contracts.list.List as L
 use Rattle.nr_wasmtypes.specs.contracts.module.FuncBody as B
 use Rattle.nr_wasmtypes.specs.contracts.module.Module as M
-use Rattle.nr_wasmvalid.specs.contracts.valid.Valid as W
 use Rattle.nr_wasmvalid.specs.contracts.valid.Valid.TheInside as V
 use Rattle.nr_contract.specs.contracts.keeping.Kept as P
 use Rattle.nr_contract.specs.contracts.keeping.KeptModules as K

@@ -1,5 +1,5 @@
 -- One stretch after another.
-use Rattle.std.proofs.Common.{◌≡◌, ℕ, ◌+◌, ◌<◌, List, [], ◌++◌, Result, Ok, Err, sym, ap, subst, ◌∙◌, arith}
+use Rattle.std.proofs.Common.{◌≡◌, ℕ, ◌+◌, ◌<◌, List, [], ◌++◌, Result, Ok, Err, sym, subst, ◌∙◌, arith}
 use Rattle.std.specs.Prelude.{IfOk, IsOk, slice_index_or}
 use Rattle.std.specs.declared.alloc.AllocError.{AllocError}
 use Rattle.nr_outcome.specs.Reports.{report_in}
@@ -19,9 +19,6 @@ module _ (y : Reports) (heights : ℕ) where
   one_more number old more new is next e =
       e ∙ (λ i. is i ++ next i)
       ∙ joined_between 0 (start_of heights number) (start_of heights (number + 1)) (λ h. height_text y.shards (report_in y) (h + 1)) (omega arith) (grind arith)
-
-  pub all_heights : (text : List ℕ) → text ≡ text_to 8 → text ≡ heights_text y.shards (report_in y) 0 heights
-  all_heights text e = e ∙ ap (heights_text y.shards (report_in y) 0) (omega arith)
 
   add_more : (number : ℕ) (old new : List ℕ) (stretch : Result (List ℕ) AllocError) → old ≡ text_to number → IfOk stretch (IsStretch y heights number)
       → IsOk stretch → IfOk stretch (λ more. new ≡ old ++ more) → new ≡ text_to (number + 1)

@@ -5,6 +5,7 @@ use Rattle.std.proofs.Common.{length, Option, Some, None, Result, Ok, Err, refl,
 use Rattle.std.specs.Prelude.{◌&&◌, ◌==◌, IfOk, is_some, nat_le, slice_get}
 use Rattle.std.specs.List.{AllByRecursion, list_all, starts_with}
 use Rattle.std.proofs.lemmas.Bool.{and_parts, eqb-true, le-ltb, leb-true, lt-ltb}
+use Rattle.nr_bytes.proofs.Basics.{bind_ok}
 use Rattle.nr_blocks.specs.BlocksFiles.{FitsPrice, IsBlock, IsPrice}
 use Rattle.nr_blocks.specs.Judging.{blocks_read, each, each_from, has_height, with_fault}
 use Rattle.nr_blocks.specs.Spellings.{AreBlocks, blocks_spelling}
@@ -31,7 +32,7 @@ use Rattle.nr_reshard.specs.declared.chain_file.ChainFile.{ChainFile}
 use Rattle.nr_reshard.specs.declared.fault.ChainFault.{ChainFault}
 use Rattle.nr_reshard.specs.declared.fault.ChainFault.TheVariants.{Blocks, Reshard as AtReshard}
 use Rattle.nr_reshard.specs.declared.reshard.Reshard.{Reshard}
-use Rattle.nr_blocks.proofs.Sound.{through, bound}
+use Rattle.nr_blocks.proofs.Sound.{through}
 
 named : {A F G : Type 0} (name : F → G) (r : Result A F) (x : A) → with_fault name r ≡ Ok x → r ≡ Ok x
 named name (Ok y) x e = cc
@@ -48,8 +49,8 @@ third_taken : (shards : ℕ) (bytes : List ℕ) (f : ChainFile) → IsBytes byte
     → IsChainFile shards f × (bytes ≡ third_bytes f)
 unfolding third_read
 third_taken shards bytes f fits e =
-    let one = bound (with_fault chain_fault (all_of third_at bytes)) _ f e in
-    let two = bound (laid_out shards one.0) _ f one.2 in
+    let one = bind_ok (with_fault chain_fault (all_of third_at bytes)) _ f e in
+    let two = bind_ok (laid_out shards one.0) _ f one.2 in
     let read = named chain_fault (all_of third_at bytes) one.0 one.1 in
     let taken : IsThird one.0 × (bytes ≡ third_bytes one.0) =
     whole_taken record_fault third_at third_bytes IsThird third_law bytes one.0 fits read in
@@ -126,10 +127,10 @@ unfolding laid_out ordered_by
 can_reshard shards f r e is =
     let bs = f.blocks in
     let height = r.height.0 in
-    let one = bound (with_fault Blocks (ordered_by (shards_at shards f.reshard) bs)) _ tt e in
+    let one = bind_ok (with_fault Blocks (ordered_by (shards_at shards f.reshard) bs)) _ tt e in
     let order = named Blocks (ordered_by (shards_at shards f.reshard) bs) one.0 one.1 in
-    let chunks = bound (each (has_chunks_by (shards_at shards f.reshard)) bs) _ one.0 order in
-    let heights = bound (each has_height bs) _ one.0 chunks.2 in
+    let chunks = bind_ok (each (has_chunks_by (shards_at shards f.reshard)) bs) _ one.0 order in
+    let heights = bind_ok (each has_height bs) _ one.0 chunks.2 in
     let at : reshards bs (Some r) ≡ Ok tt = ap (reshards bs) (sym is) ∙ one.2 in
     let all = and_parts (nat_le 2 height && nat_le height (length bs) && has_all (slice_get bs (height - 2)))
     (has_all (slice_get bs (height - 1))) (test_of (may_reshard bs height) (AtReshard height) at) in
@@ -226,9 +227,6 @@ Read = Result (List Block) BlocksFault
 
 abbrev AreSpelled : ℕ → List ℕ → List Block → Type 0
 AreSpelled shards bytes bs = (version : Version) × AreBlocks version shards bs × (bytes ≡ blocks_spelling version bs)
-
-inner : (f g : BlocksFault) → Blocks f ≡ Blocks g → f ≡ g
-inner f g e = cc
 
 module _ (shards : ℕ) (bytes : List ℕ) (r : Read) (is : begins bytes ≡ false) where
   gives_plain : (answer : Read) → Gives blocks.Memory r answer → Gives memory (plain_of r) (plain_of answer)

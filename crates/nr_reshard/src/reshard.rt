@@ -1,6 +1,5 @@
 //! A change of boundaries at a height: reading and writing.
 
-ghost use Rattle.std.specs.Prelude.{◌≡◌};
 ghost use Rattle.nr_reshard.specs.Files.{reshard_at, reshard_bytes, IsReshard};
 ghost use Rattle.nr_reshard.specs.FileLaws.{reshard_law};
 

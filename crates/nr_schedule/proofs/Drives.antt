@@ -1,5 +1,5 @@
 -- A driven run as the code has it: what is known of it stays.
-use Rattle.std.proofs.Common.{◌≡◌, ℕ, true, List, [], ◌++◌, length, Option, Some, None, Result, Ok, Err, refl, sym, ap, subst, ◌∙◌}
+use Rattle.std.proofs.Common.{◌≡◌, ℕ, true, List, ◌++◌, length, Option, Some, None, Result, Ok, Err, refl, sym, ap, subst, ◌∙◌}
 use Rattle.std.specs.Prelude.{OnOk}
 use Rattle.nr_chunk.specs.Chain.{Chain, IsChain, rules_of}
 use Rattle.nr_chunk.specs.Runs.{chain_in}
@@ -20,9 +20,8 @@ use Rattle.nr_overlap.specs.declared.event.StepFault.{StepFault}
 use Rattle.nr_overlap.specs.declared.event.StepFault.TheVariants.{NotEnabled}
 use Rattle.nr_overlap.specs.declared.event.Why.{Why}
 use Rattle.nr_overlap.specs.declared.position.Position.{Position}
-use Rattle.nr_places.specs.Totals.{nothing}
-use Rattle.nr_overlap.proofs.Running.{tries_made, tries_not}
-use Rattle.nr_schedule.specs.Checking.{Standing, by_event, crossed, first_standing, in_leg, names_there, ok_line, why_line, with_text}
+use Rattle.nr_overlap.proofs.Running.{tries_made}
+use Rattle.nr_schedule.specs.Checking.{by_event, crossed, in_leg, names_there, ok_line, why_line, with_text}
 use Rattle.nr_schedule.specs.Driving.{HasNext, IsDriven, IsWithin, shown_text, standing_of}
 use Rattle.nr_schedule.specs.Moments.{IsMoment}
 use Rattle.nr_schedule.specs.declared.checking.Driven.{Driven}
@@ -136,20 +135,6 @@ module _ {C : Type 0} {g : Ghosts C StateStore} where
       first_moment core is (ap (λ (v : CoreView (ChainRun C g)). v.lost) e)
       (ap (λ (v : CoreView (ChainRun C g)). v.positions) e
       ∙ ap (λ (q : ChainRun C g). (opened (rules_of (chain_in q)) q).positions) (sym same))
-
-  pub opened_stand : (core : CoreView (ChainRun C g)) (p : ChainRun C g) (turn : Option Turn) (supply : ℕ) (past : Tally)
-      (text : List ℕ) → core ≡ opened (rules_of (chain_in p)) p → supply ≡ start_tokens p.config p.grounds.start
-      → past ≡ nothing → text ≡ []
-      → standing_of {C = C} {g = g} (record { core = core; turn = turn; supply = supply; past = past; text = text })
-      ≡ first_standing (record { first = chain_in p; turn = turn })
-  opened_stand core p turn supply past text opens given none empty i = record {
-    leg = chain_in (opens i).phases;
-    positions = (opens i).positions;
-    turn = turn;
-    supply = given i;
-    past = none i;
-    text = empty i;
-  }
 
   pub opened_driven : (core : CoreView (ChainRun C g)) (p : ChainRun C g) (turn : Option Turn) (supply : ℕ) (past : Tally)
       (text : List ℕ) → IsChain (chain_in core.phases) → core ≡ opened (rules_of (chain_in p)) p

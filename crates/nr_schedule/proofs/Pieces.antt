@@ -1,11 +1,9 @@
 -- The lines of a schedule, taken off its bytes one by one, and the shards that they name.
-use Rattle.std.proofs.Common.{◌≡◌, ℕ, ◌+◌, ◌-◌, ◌&&◌, ◌==◌, true, false, List, [], ◌∷◌, ◌++◌, length, Some, None, Result, Ok, Err, refl, sym, ap, subst, ◌∙◌, arith, append_assoc}
+use Rattle.std.proofs.Common.{◌≡◌, ℕ, ◌+◌, ◌==◌, true, false, List, [], ◌∷◌, ◌++◌, length, Some, None, Result, Ok, Err, refl, sym, ap, ◌∙◌, arith, append_assoc}
 use Rattle.std.proofs.lemmas.Bool.{eqb-true}
 use Rattle.nr_words.proofs.Pieces.{some_piece}
-use Rattle.nr_schedule.specs.Schedule.{height_in, last_piece, line_of, lines_from, one_shard, pieces, schedule_read, shard_in, step_of, taken, with_line}
-use Rattle.nr_overlap.specs.declared.event.Event.TheVariants.{OpenChunk, SealChunk, PublishLists}
+use Rattle.nr_schedule.specs.Schedule.{last_piece, line_of, lines_from, pieces, schedule_read, with_line}
 use Rattle.nr_schedule.specs.declared.schedule.Line.{Line}
-use Rattle.nr_schedule.specs.declared.schedule.Line.TheVariants.{Step, Rest}
 use Rattle.nr_schedule.specs.declared.schedule.ScheduleFault.{ScheduleFault}
 use Rattle.nr_schedule.specs.declared.schedule.ScheduleFault.TheVariants.{NoLine}
 

@@ -1,5 +1,5 @@
 -- A core at its moments, and what it shows there.
-use Rattle.std.proofs.Common.{◌≡◌, ℕ, ◌^◌, ◌<◌, ◌≤◌, true, false, List, [], Option, Some, None, refl, sym, ap, subst}
+use Rattle.std.proofs.Common.{◌≡◌, ℕ, ◌^◌, ◌<◌, ◌≤◌, true, false, List, [], Some, refl, sym, subst}
 use Rattle.nr_chunk.specs.Chain.{Chain, IsChain, IsCountable, AreBounded, rules_of, working_tokens}
 use Rattle.nr_chunk.specs.GoodReceipts.{are_bounded}
 use Rattle.nr_chunk.specs.Lasting.{IsGoodMoment, countable as can_count, good_during, reached_by, tried_reached}
@@ -11,14 +11,10 @@ use Rattle.nr_config.specs.Config.{Config}
 use Rattle.nr_overlap.specs.CoreView.{CoreView}
 use Rattle.nr_overlap.specs.Held.{IsReached}
 use Rattle.nr_overlap.specs.Inside.{IsInside}
-use Rattle.nr_overlap.specs.Moment.{world_at, working_at, world_in, working_in, flight_at}
+use Rattle.nr_overlap.specs.Moment.{world_at, working_at, flight_at}
 use Rattle.nr_overlap.specs.Positions.{at}
-use Rattle.nr_overlap.specs.Rules.{Rules}
 use Rattle.nr_overlap.specs.Run.{opening, tried, whole_at}
 use Rattle.nr_overlap.specs.declared.event.Event.{Event}
-use Rattle.nr_overlap.specs.declared.position.Position.{Position}
-use Rattle.nr_overlap.specs.declared.position.Stage.{Stage}
-use Rattle.nr_overlap.specs.declared.position.Stage.TheVariants.{Idle, Opened, Sealed}
 use Rattle.nr_records.specs.declared.receipt.Receipt.{Receipt}
 use Rattle.nr_state.specs.Tokens.{list_tokens}
 use Rattle.nr_state.specs.Valid.{IsValidWorld}
@@ -31,16 +27,6 @@ first_moment core is whole first = record { chain = is; whole = whole; reached =
 pub tried_moment : {C : Type 0} {g : Ghosts C StateStore} (old new : CoreView (ChainRun C g)) (e : Event) → IsMoment old → IsInside (rules_of (chain_in old.phases)).shards e → new ≡ whole_at old (tried (rules_of (chain_in old.phases)) old.positions e) → IsMoment new
 tried_moment old new e is inside made =
     subst IsMoment (sym made) (record { chain = is.chain; whole = refl; reached = tried_reached (rules_of (chain_in old.phases)) old.positions e is.reached inside })
-
--- a shard has a world, or a chunk at work
-module _ {W K L R : Type 0} (r : Rules W K L R) where
-  some_held : (s n taken : ℕ) (t : Stage) → world_in r s t n ≡ None → working_in r s t n taken ≡ None → ⊥
-  some_held s n taken Idle e f = cc
-  some_held s n taken Opened e f = cc
-  some_held s n taken Sealed e f = cc
-
-  pub holds_some : (s : ℕ) (p : Position) → world_at r s p ≡ None → working_at r s p ≡ None → ⊥
-  holds_some s p e f = some_held s p.number p.taken p.stage e f
 
 -- ---- what stands at a moment can be counted
 module _ {C : Type 0} {g : Ghosts C StateStore} (core : CoreView (ChainRun C g)) (is : IsMoment core) where

@@ -1,15 +1,15 @@
 -- The heights that refusals name, and the shards that events name, are there.
-use Rattle.std.proofs.Common.{◌≡◌, ℕ, ◌+◌, ◌<◌, ◌≤◌, ◌↔◌, ◌&&◌, IsTrue, Bool, true, false, cond, List, Option, Some, None, length, refl, sym, ap, subst, ◌∙◌, arith}
-use Rattle.std.specs.Prelude.{nat_le, nat_lt, not, ◌==◌, position, slice_get}
-use Rattle.std.proofs.lemmas.Bool.{and_parts}
+use Rattle.std.proofs.Common.{◌≡◌, ℕ, ◌<◌, ◌≤◌, ◌↔◌, IsTrue, Bool, true, false, cond, List, Option, Some, None, refl, sym, ap, subst, arith}
+use Rattle.std.specs.Prelude.{nat_le, nat_lt, not, ◌==◌, position}
+use Rattle.std.proofs.lemmas.Bool.{and_parts, and_from}
 use Rattle.std.proofs.lemmas.List.Quantifiers.{position-Some}
 use Rattle.nr_chunk.specs.Chain.{Chain}
 use Rattle.nr_ids.specs.declared.number.Height.{Height}
 use Rattle.nr_ids.specs.declared.number.ShardId.{ShardId}
 use Rattle.nr_overlap.specs.Held.{IsReached, IsInChunk}
 use Rattle.nr_overlap.specs.Inside.{IsInside, actor}
-use Rattle.nr_overlap.specs.Moves.{fits, is_pair, left_over, list_refusal_by, moved, moved_by, named, next_due, refusal, wrong_list}
-use Rattle.nr_overlap.specs.Outcome.{behind, behind_at, behind_by}
+use Rattle.nr_overlap.specs.Moves.{fits, is_pair, left_over, list_refusal_by, moved, moved_by, next_due, refusal, wrong_list}
+use Rattle.nr_overlap.specs.Outcome.{behind, behind_by}
 use Rattle.nr_overlap.specs.Positions.{at, start, stage_number}
 use Rattle.nr_overlap.specs.Rules.{Rules}
 use Rattle.nr_overlap.specs.declared.event.Event.{Event}
@@ -27,13 +27,9 @@ use Rattle.nr_schedule.specs.Checking.{in_leg, names_there}
 use Rattle.nr_schedule.specs.Driving.{HasNext, IsWithin}
 
 -- ---- the shards of an event
-both : (a b : Bool) → a ≡ true → b ≡ true → (a && b) ≡ true
-both true b e f = f
-both false b e f = absurd cc
-
 pub inside_there : (n : ℕ) (e : Event) → IsInside n e → names_there n e ≡ true
 inside_there n (OpenChunk s) l = is_lt s.0 n l
-inside_there n (TakeList d s h) l = both (nat_lt d.0 n) (nat_lt s.0 n) (is_lt d.0 n l.0) (is_lt s.0 n l.1)
+inside_there n (TakeList d s h) l = and_from (nat_lt d.0 n) (nat_lt s.0 n) (is_lt d.0 n l.0) (is_lt s.0 n l.1)
 inside_there n (SealChunk s) l = is_lt s.0 n l
 inside_there n (PublishLists s) l = is_lt s.0 n l
 

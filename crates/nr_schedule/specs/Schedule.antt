@@ -1,7 +1,6 @@
 -- The lines of a schedule, and which bytes spell them. This project's own.
 use Rattle.std.specs.Prelude.{ℕ, ◌+◌, ◌-◌, List, [], ◌∷◌, cond, Option, Some, None, Result, Ok, Err, codes}
 use Rattle.std.specs.Str.{bytes_eq}
-use Rattle.nr_overlap.specs.declared.event.Event.{Event}
 use Rattle.nr_overlap.specs.declared.event.Event.TheVariants.{OpenChunk, TakeList, SealChunk, PublishLists}
 use Rattle.nr_words.specs.Command.{number_in}
 pub use Rattle.nr_words.specs.Pieces.{pieces}

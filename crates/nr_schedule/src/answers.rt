@@ -1,6 +1,6 @@
 //! The lines that are written of the events of a schedule.
 
-ghost use Rattle.std.specs.Prelude.{◌≡◌, ◌<◌, ◌≤◌, ◌+◌, ◌++◌, ◌∷◌, [], OnOk, codes, length};
+ghost use Rattle.std.specs.Prelude.{◌≡◌, ◌<◌, ◌≤◌, ◌+◌, ◌++◌, OnOk, length};
 ghost use Rattle.nr_chunk.specs.Chain.{rules_of};
 ghost use Rattle.nr_chunk.specs.Runs.{chain_in};
 ghost use Rattle.nr_outcome.specs.Texts.{report_text};

@@ -37,9 +37,6 @@ abbrev pub unqueued : World → World
 unqueued w = record w { delayed = []; served = 0 }
 
 -- ---- no world
-abbrev Key : Type 0
-Key = List ℕ × List ℕ
-
 as_laid : (w : World) → flat w ≡ laid_columns (columns_of w)
 unfolding flat
 as_laid w = refl

@@ -4,11 +4,11 @@ use Rattle.std.proofs.Common.{None, Ordering, refl, sym, ◌∙◌, arith}
 use Rattle.std.specs.Prelude.{filter}
 use Rattle.std.specs.Cmp.{IsTotalOrder}
 use Rattle.std.specs.Cmp.Lexicographic.{nat_list_cmp_total}
-use Rattle.std.specs.FinMap.{FinMap, IsAntisymmetric, empty, get, get-empty, retain_keys}
+use Rattle.std.specs.FinMap.{FinMap, IsAntisymmetric, get, retain_keys}
 use Rattle.std.specs.List.{AllByRecursion, flat_map}
 use Rattle.std.proofs.lemmas.Map.Lookups.{exact_bytes}
+use Rattle.nr_bytes.proofs.Basics.{all_both}
 use Rattle.nr_cut.proofs.Maps.{either, get-joined, get-part}
-use Rattle.nr_cut.proofs.Worlds.{each_both}
 use Rattle.nr_cut.specs.Cut.{all_beside, beside, joined}
 use Rattle.nr_records.specs.Receipts.{IsReceipt}
 use Rattle.nr_records.specs.declared.receipt.Receipt.{Receipt}
@@ -22,9 +22,6 @@ use Rattle.nr_state.proofs.Worlds.{none_fits as fits_none}
 -- ---- what holds of each entry of a map
 abbrev Each : {K X : Type 0} {R : K → K → Ordering} → (K → X → Type 0) → FinMap R X → Type 0
 Each {K} {X} P m = (k : K) (v : X) → get m k ≡ Some v → P k v
-
-each_none : {K X : Type 0} (R : K → K → Ordering) (P : K → X → Type 0) → Each P (empty {X = X} {R = R})
-each_none {X = X} R P k v e = absurd (let no : ◌≡◌ {A = Option X} None (Some v) = sym (get-empty R k) ∙ e in cc)
 
 module _ {K X : Type 0} {R : K → K → Ordering} (o : IsTotalOrder R) (exact : IsAntisymmetric R) (P : K → X → Type 0)
   where
@@ -93,7 +90,7 @@ pub all_receipts : (ws : List World) → AllByRecursion IsWorld ws
     → AllByRecursion IsReceipt (flat_map (λ w. w.delayed) ws)
 all_receipts [] all = tt
 all_receipts (w ∷ ws) all =
-    each_both IsReceipt w.delayed (flat_map (λ w. w.delayed) ws) all.0.delayed (all_receipts ws all.1)
+    all_both IsReceipt w.delayed (flat_map (λ w. w.delayed) ws) all.0.delayed (all_receipts ws all.1)
 
 pub fewer : {A : Type 0} (test : A → Bool) (xs : List A) (m : ℕ) → length xs < m → length (filter test xs) < m
 fewer test xs m l = omega (arith, l, less test xs)

@@ -2,9 +2,7 @@
 
 ghost use Rattle.std.specs.List.{AllByRecursion};
 ghost use Rattle.std.specs.Prelude.{◌≡◌, ◌++◌, IfOk, OnOk};
-ghost use Rattle.nr_columns.specs.Entries.{contents_of};
-ghost use Rattle.nr_columns.specs.View.{columns_in};
-ghost use Rattle.nr_split.specs.Split.{delayed_of, with_queue};
+ghost use Rattle.nr_split.specs.Split.{delayed_of};
 ghost use Rattle.nr_state.specs.FromEntries.{AreWholeEntries, world_from};
 ghost use Rattle.nr_state.specs.View.{delayed_in};
 

@@ -3,8 +3,6 @@
 ghost use Rattle.std.specs.FinMap as map;
 ghost use Rattle.std.specs.List.{AllByRecursion};
 ghost use Rattle.std.specs.Prelude.{◌≡◌, ◌+◌, ◌<◌, ◌≤◌, ◌^◌, ℕ, List as Items, None, map as mapped, length, IfOk, OnOk};
-ghost use Rattle.nr_columns.specs.Entries.{contents_of};
-ghost use Rattle.nr_columns.specs.View.{columns_in};
 ghost use Rattle.nr_config.specs.Config.{Config};
 ghost use Rattle.nr_cut.specs.Cut.{cut_worlds, lives_in};
 ghost use Rattle.nr_cut.specs.Laws.{CanCut};

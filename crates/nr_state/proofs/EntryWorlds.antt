@@ -1,5 +1,5 @@
 -- The entries of a state are those of its world, and the world can be made of them again.
-use Rattle.std.proofs.Common.{◌≡◌, ℕ, Bool, true, List, [], refl, sym, ap, subst, ◌∙◌}
+use Rattle.std.proofs.Common.{◌≡◌, Bool, true, List, [], sym, ap, subst, ◌∙◌}
 use Rattle.std.specs.Prelude.{Result, Ok, Err, IfOk}
 use Rattle.std.specs.FinMap.{entries, from_entries, get-entries, get-from_entries, same_map}
 use Rattle.std.specs.List.{AllByRecursion}
@@ -8,8 +8,8 @@ use Rattle.std.proofs.lemmas.Map.Lookups.{exact_bytes}
 use Rattle.nr_config.specs.Config.{Config}
 use Rattle.nr_columns.proofs.Empty.{entries_empty, is_laid_empty, no_columns_in}
 use Rattle.nr_columns.specs.Columns.{Columns, laid_columns, no_columns}
-use Rattle.nr_columns.specs.Entries.{AreLaidEntries, contents_of, pairs_of}
-use Rattle.nr_columns.specs.View.{ColumnsView, IsLaid, columns_in}
+use Rattle.nr_columns.specs.Entries.{contents_of, pairs_of}
+use Rattle.nr_columns.specs.View.{ColumnsView, columns_in}
 use Rattle.nr_columns.specs.declared.entry.Entry.{Entry}
 use Rattle.nr_state.specs.Entries.{IsReadBack}
 use Rattle.nr_state.specs.FromEntries.{AreWholeEntries, world_from}

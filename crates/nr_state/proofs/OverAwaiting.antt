@@ -6,6 +6,7 @@ use Rattle.std.specs.FinMap.{find, get, entries, entries_sorted, retain_keys, ge
 use Rattle.std.specs.FinMap.{get-insert, get-remove}
 use Rattle.std.specs.FinMap.Entries.{where_key}
 use Rattle.std.specs.Ordering.{eq_by_cmp}
+use Rattle.nr_bytes.proofs.Basics.{none≢some}
 use Rattle.nr_ids.specs.declared.key.Hash32.{Hash32}
 use Rattle.nr_records.specs.declared.receipt.Receipt.{Receipt}
 use Rattle.nr_columns.specs.Orders.{pair_cmp}
@@ -20,9 +21,6 @@ use Rattle.nr_state.proofs.OverMaps.{get-over, retain-over, retain-outside}
 use Rattle.nr_state.specs.Scopes.{Scope, over}
 use Rattle.nr_state.proofs.ValidOwned.{pair_total, exact_data, same_id, itself}
 use Rattle.nr_state.proofs.ValidSums.{entries-retain_keys, equal}
-
-none≢some : {A : Type 0} (x : A) → ◌≡◌ {A = Option A} None (Some x) → ⊥
-none≢some x e = cc
 
 -- ---- the entries at the receiver of a datum alone tell who waits for it
 abbrev at : List ℕ → Key → Bool

@@ -7,9 +7,9 @@ use Rattle.std.specs.Str.{bytes_eq}
 use Rattle.std.specs.Cmp.{IsTotalOrder, then_total, on_total, eq_by_cmp_equiv}
 use Rattle.std.specs.Cmp.Lexicographic.{nat_list_cmp_total, texts_ties}
 use Rattle.std.proofs.lemmas.Map.Lookups.{exact_bytes, exact_pairs}
+use Rattle.nr_ids.proofs.Keys.{same_key}
 use Rattle.nr_ids.specs.Keys.{key_bytes}
 use Rattle.nr_ids.specs.declared.key.PublicKey.{PublicKey}
-use Rattle.nr_ids.specs.declared.key.PublicKey.TheVariants.{Ed25519, Secp256k1}
 use Rattle.nr_columns.specs.View.{without_owner}
 use Rattle.nr_state.specs.Changes.{or_none}
 use Rattle.nr_state.specs.Valid.{if_owned, owned_usage}
@@ -23,14 +23,8 @@ key_total = then_total (on_total (λ (k : List ℕ × PublicKey). k.0) nat_list_
 pub pair_total : IsTotalOrder pair_cmp
 pair_total = then_total (on_total (λ (k : List ℕ × List ℕ). k.0) nat_list_cmp_total) (on_total (λ (k : List ℕ × List ℕ). k.1) nat_list_cmp_total)
 
-key_bytes_once : (x y : PublicKey) → key_bytes x ≡ key_bytes y → x ≡ y
-key_bytes_once (Ed25519 a) (Ed25519 b) e = cc
-key_bytes_once (Ed25519 a) (Secp256k1 b) e = absurd cc
-key_bytes_once (Secp256k1 a) (Ed25519 b) e = absurd cc
-key_bytes_once (Secp256k1 a) (Secp256k1 b) e = cc
-
 pub exact_keys : IsAntisymmetric key_cmp
-exact_keys = exact_pairs bytes_cmp (λ x y. bytes_cmp (key_bytes x) (key_bytes y)) exact_bytes (λ x y e. key_bytes_once x y (exact_bytes _ _ e))
+exact_keys = exact_pairs bytes_cmp (λ x y. bytes_cmp (key_bytes x) (key_bytes y)) exact_bytes (λ x y e. same_key x y (exact_bytes _ _ e))
 
 pub exact_data : IsAntisymmetric pair_cmp
 exact_data = exact_pairs bytes_cmp bytes_cmp exact_bytes exact_bytes

@@ -1,10 +1,11 @@
 -- Changes of what waits keep a valid world valid, and the empty world is valid.
-use Rattle.std.proofs.Common.{◌≡◌, ℕ, Bool, true, false, cond, List, [], ◌∷◌, ◌++◌, map, Option, Some, None, Ordering, refl, sym, ap, subst, ◌∙◌, arith, inl, inr, ◌⊎◌}
+use Rattle.std.proofs.Common.{◌≡◌, ℕ, Bool, true, false, cond, List, [], ◌∷◌, map, Option, Some, None, Ordering, refl, sym, ap, subst, ◌∙◌, arith, inl, inr, ◌⊎◌}
 use Rattle.std.specs.Prelude.{IsSome, is_some, is_none, ◌||◌, sum_by}
 use Rattle.std.specs.FinMap.{FinMap, empty, get, insert, remove, entries, values, get-empty, get-insert, get-remove, len-empty, len-entries}
 use Rattle.std.specs.List.{AllByRecursion, list_any}
 use Rattle.std.specs.Ordering.{eq_by_cmp}
 use Rattle.std.proofs.lemmas.List.{nil_from_length}
+use Rattle.nr_bytes.proofs.Basics.{all_push}
 use Rattle.nr_config.specs.Config.{Config}
 use Rattle.nr_fees.specs.Fees.{receipt_tokens}
 use Rattle.nr_ids.specs.declared.key.Hash32.{Hash32}
@@ -41,10 +42,6 @@ any_more f g more (x ∷ xs) =
       | true ↦ λ t h. ap (λ b. b || list_any g xs) (more x t)
       | false ↦ λ t h. elim (g x) as (λ b. (b || list_any g xs) ≡ true) [ true ↦ refl | false ↦ any_more f g more xs h ]
     ] refl
-
-all_push : {A : Type 0} (P : A → Type 0) (xs : List A) (y : A) → AllByRecursion P xs → P y → AllByRecursion P (xs ++ y ∷ [])
-all_push P [] y h p = (p, tt)
-all_push P (x ∷ xs) y h p = (h.0, all_push P xs y h.1 p)
 
 module _ (c : Config) (w : World) (v : IsValidWorld c w) where
   accounts_same : (received : FinMap pair_cmp (Option (List ℕ))) (postponed : FinMap pair_cmp Receipt) (delayed : List Receipt) (served : ℕ) → AreAccounts c (record w { received = received; postponed = postponed; delayed = delayed; served = served })

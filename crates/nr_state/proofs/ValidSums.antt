@@ -1,16 +1,13 @@
 -- Sums over the entries of a finite map where one entry changes or goes, or where entries that count nothing go.
 use Rattle.std.proofs.Common.{◌≡◌, ℕ, suc, ◌+◌, Bool, true, false, cond, List, [], ◌∷◌, length, map, Option, Some, None, Ordering, refl, sym, ap, ◌∙◌, arith}
-use Rattle.std.specs.Prelude.{T, ◌&&◌, sum_by, is_some, option_map, unwrap_or}
+use Rattle.std.specs.Prelude.{T, sum_by, is_some, option_map, unwrap_or}
 use Rattle.std.specs.declared.cmp.Ordering.TheVariants.{Less, Equal, Greater}
 use Rattle.std.specs.FinMap.{FinMap, IsAntisymmetric, get, insert, remove, retain_keys, entries, values, entries_sorted, entries-insert, entries-from_sorted, from_sorted, get-entries, get-from_sorted, get-insert, get-remove, get-retain_keys, same_map}
 use Rattle.std.specs.FinMap.Entries.{find, put, is_sorted, where_key, is_sorted-where_key, find-where_key, by_order, length-put}
 use Rattle.std.specs.Ordering.{is_eq, eq_by_cmp}
 use Rattle.std.specs.Cmp.{IsTotalOrder, eq_by_cmp_equiv}
 use Rattle.std.proofs.lemmas.List.Sums.{sum_by-cons}
-
-second : (a b : Bool) → T (a && b) → T b
-second true b p = p
-second false b p = absurd p
+use Rattle.nr_bytes.proofs.Basics.{right_of}
 
 pub equal : (r : Ordering) → is_eq r ≡ true → r ≡ Equal
 equal Less h = absurd cc
@@ -53,7 +50,7 @@ module _ {K X : Type 0} {R : K → K → Ordering} (o : IsTotalOrder R) (same : 
       → sum_by f (by_order r ((k, v) ∷ e ∷ es) ((e.0, v) ∷ es) (e ∷ put R k v es)) + at_key f k (cond (is_eq r) (Some e.1) (find R k es)) ≡ sum_by f (e ∷ es) + f (k, v)) [
         | Less ↦ λ p n. omega (arith, absent f k (find R k es) (length es) n, sum_by-cons f (k, v) (e ∷ es))
         | Equal ↦ λ p n. omega (arith, sum_by-cons f (e.0, v) es, sum_by-cons f e es, ap (λ x. f (x, v)) (same k e.0 p), ap (λ x. f (x, e.1)) (same k e.0 p))
-        | Greater ↦ λ p n. omega (arith, sum_by-cons f e (put R k v es), sum_by-cons f e es, sum-put f k v es (second _ _ s))
+        | Greater ↦ λ p n. omega (arith, sum_by-cons f e (put R k v es), sum_by-cons f e es, sum-put f k v es (right_of _ _ s))
       ] refl (length-put R o k v (e ∷ es) s)
 
   pub sum-insert : (f : K × X → ℕ) (m : FinMap R X) (k : K) (v : X) → sum_by f (entries (insert m k v)) + at_key f k (get m k) ≡ sum_by f (entries m) + f (k, v)

@@ -1,8 +1,9 @@
 -- Which changes keep a state's columns those of its world.
-use Rattle.std.proofs.Common.{◌≡◌, ℕ, Bool, true, List, [], map, Option, Some, None, Ordering, sym, ap, ◌∙◌, subst}
+use Rattle.std.proofs.Common.{◌≡◌, ℕ, Bool, true, List, [], map, Ordering, sym, ap, ◌∙◌, subst}
 use Rattle.std.specs.FinMap.{FinMap, empty, entries, from_entries, len-entries, len-empty, get-empty}
 use Rattle.std.specs.List.{AllByRecursion, flat_map}
 use Rattle.std.proofs.lemmas.List.{nil_from_length}
+use Rattle.nr_bytes.proofs.Basics.{none≢some}
 use Rattle.nr_config.specs.Config.{Config}
 use Rattle.nr_records.specs.declared.access_key.AccessKey.{AccessKey}
 use Rattle.nr_records.specs.declared.account.Account.{Account}
@@ -19,9 +20,6 @@ use Rattle.nr_state.proofs.Worlds.{none_fits}
 -- ---- nothing yet
 entries_empty : {K X : Type 0} (R : K → K → Ordering) → entries (empty {X = X} {R = R}) ≡ []
 entries_empty {X = X} R = nil_from_length _ (sym (len-entries empty) ∙ len-empty R X)
-
-none≢some : {A : Type 0} (x : A) → ◌≡◌ {A = Option A} None (Some x) → ⊥
-none≢some x e = cc
 
 awaited_none : awaited_in no_world ≡ empty
 awaited_none = ap {A = List ((List ℕ × List ℕ) × Receipt)} (λ es. from_entries (flat_map awaits (map (λ e. e.1) es))) (entries_empty pair_cmp)

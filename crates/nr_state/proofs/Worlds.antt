@@ -1,5 +1,5 @@
 -- Which changes leave a world one that a state can show.
-use Rattle.std.proofs.Common.{◌≡◌, ℕ, ◌+◌, ◌^◌, ◌<◌, Bool, true, false, cond, List, [], ◌∷◌, ◌++◌, length, Option, Some, None, Ordering, refl, sym, ap, subst, ◌∙◌, arith}
+use Rattle.std.proofs.Common.{◌≡◌, ℕ, ◌+◌, ◌^◌, ◌<◌, Bool, true, false, cond, List, [], ◌∷◌, length, Option, Some, None, Ordering, refl, sym, ap, subst, ◌∙◌, arith}
 use Rattle.std.specs.Prelude.{not}
 use Rattle.std.specs.FinMap.{FinMap, IsAntisymmetric, empty, insert, remove, retain_keys, get, get-empty, get-insert, get-remove, get-retain_keys}
 use Rattle.std.specs.List.{AllByRecursion}
@@ -9,6 +9,7 @@ use Rattle.std.specs.Cmp.{IsTotalOrder}
 use Rattle.std.specs.Cmp.Lexicographic.{nat_list_cmp_total}
 use Rattle.std.proofs.lemmas.List.{length-append}
 use Rattle.std.proofs.lemmas.Map.Lookups.{exact_bytes}
+use Rattle.nr_bytes.proofs.Basics.{all_push, none≢some}
 use Rattle.nr_ids.specs.declared.key.Hash32.{Hash32}
 use Rattle.nr_ids.specs.declared.key.PublicKey.{PublicKey}
 use Rattle.nr_records.specs.AccessKeys.{IsAccessKey}
@@ -31,9 +32,6 @@ use Rattle.nr_state.proofs.ValidOwned.{key_total, pair_total, exact_keys, exact_
 abbrev Each : {K X : Type 0} {R : K → K → Ordering} → (K → X → Type 0) → FinMap R X → Type 0
 Each {K} {X} P m = (k : K) (x : X) → get m k ≡ Some x → P k x
 
-none≢some : {A : Type 0} (x : A) → ◌≡◌ {A = Option A} None (Some x) → ⊥
-none≢some x e = cc
-
 each_none : {K X : Type 0} (R : K → K → Ordering) (P : K → X → Type 0) → Each P (empty {X = X} {R = R})
 each_none R P k x e = absurd (none≢some x (sym (get-empty R k) ∙ e))
 
@@ -55,10 +53,6 @@ module _ {K X : Type 0} {R : K → K → Ordering} (o : IsTotalOrder R) (same : 
   each-retain_keys p q x =
       rw (get-retain_keys m p q (λ y t. ap p (sym (same q y t))))
       (elim (p q) as (λ b. cond b (get m q) None ≡ Some x → P q x) [ true ↦ λ h. all q x h | false ↦ λ h. absurd (none≢some x h) ])
-
-all_push : {A : Type 0} (P : A → Type 0) (xs : List A) (y : A) → AllByRecursion P xs → P y → AllByRecursion P (xs ++ y ∷ [])
-all_push P [] y all here = (here, tt)
-all_push P (x ∷ xs) y all here = (all.0, all_push P xs y all.1 here)
 
 -- ---- the empty world
 pub none_fits : IsWorld no_world

@@ -10,6 +10,7 @@ use Rattle.std.specs.Option.{option_map}
 use Rattle.std.specs.Ordering.{eq_by_cmp, nat_cmp}
 use Rattle.std.specs.Cmp.{IsTotalOrder, eq_by_cmp_equiv, nat_cmp_total}
 use Rattle.std.proofs.lemmas.List.Sums.{count_by-le-length}
+use Rattle.nr_bytes.proofs.Basics.{left_of, right_of}
 use Rattle.nr_bytes.proofs.Fields.{blob_law}
 use Rattle.nr_bytes.proofs.Whole.{whole_again}
 use Rattle.nr_bytes.specs.Spelling.{IsCounted}
@@ -45,7 +46,7 @@ use Rattle.nr_columns.proofs.ReadBack.{comma_there, rest_there, number_there, co
 use Rattle.nr_columns.proofs.Steps.{IsColumn, wrote, queue_wrote, accounts_column, keys_column, code_column}
 use Rattle.nr_columns.proofs.Steps.{data_column}
 use Rattle.nr_columns.proofs.Steps.{received_column, awaited_column, missing_column, postponed_column, delayed_column}
-use Rattle.nr_columns.proofs.Tables.{find_below, first, second}
+use Rattle.nr_columns.proofs.Tables.{find_below}
 use Rattle.nr_state.specs.Flat.{columns_of, flat, awaited_in, missing_in, missing_inputs, is_missing, inputs_of}
 use Rattle.nr_state.specs.Flat.{numbered, queue_in}
 use Rattle.nr_state.specs.View.{ArePostponed}
@@ -75,13 +76,13 @@ module _ {K X : Type 0} {R : K → K → Ordering} (o : IsTotalOrder R) (exact :
       → get (piled es m) q ≡ either (find R q es) (get m q)
   get-piled [] s m q = refl
   get-piled (e ∷ es) s m q =
-      get-piled es (second _ _ s) (insert m e.0 e.1) q
+      get-piled es (right_of _ _ s) (insert m e.0 e.1) q
       ∙ ap (either (find R q es)) (get-insert o m e.0 e.1 q)
       ∙ once (eq_by_cmp R q e.0) refl
     where
       once : (b : Bool) → eq_by_cmp R q e.0 ≡ b
           → either (find R q es) (cond b (Some e.1) (get m q)) ≡ either (cond b (Some e.1) (find R q es)) (get m q)
-      once true t = ap (λ f. either f (Some e.1)) (none_found R exact e es (first _ _ s) q t)
+      once true t = ap (λ f. either f (Some e.1)) (none_found R exact e es (left_of _ _ s) q t)
       once false t = refl
 
   piled_all : (m : FinMap R X) → piled (entries m) empty ≡ m
@@ -97,13 +98,13 @@ module _ {K X : Type 0} {R : K → K → Ordering} (o : IsTotalOrder R) (exact :
   each_entry P [] s h = tt
   each_entry P (e ∷ es) s h = (
     h e.0 e.1 (ap (λ b. cond b (Some e.1) (find R e.0 es)) ((eq_by_cmp_equiv o).refl e.0)),
-    each_entry P es (second _ _ s) (λ k x is. h k x (later k x is (eq_by_cmp R k e.0) refl)),
+    each_entry P es (right_of _ _ s) (λ k x is. h k x (later k x is (eq_by_cmp R k e.0) refl)),
   )
     where
       later : (k : K) (x : X) → find R k es ≡ Some x → (b : Bool) → eq_by_cmp R k e.0 ≡ b
           → cond b (Some e.1) (find R k es) ≡ Some x
       later k x is true t = absurd (let no : ◌≡◌ {A = Option X} None (Some x) =
-          sym (none_found R exact e es (first _ _ s) k t) ∙ is in cc)
+          sym (none_found R exact e es (left_of _ _ s) k t) ∙ is in cc)
       later k x is false t = is
 
 -- ---- a table laid into contents is read back

@@ -4,7 +4,7 @@
 //! bits, or where more than 2^63 receipts would ever have been delayed. Nothing is said of a state
 //! in which a change failed. What a state keeps grows on the allocator that it was made with.
 
-ghost use Rattle.std.specs.Prelude.{◌≡◌, ◌+◌, ◌-◌, ◌^◌, ◌<◌, ◌≤◌, ℕ, true, false, IfOk, OkIff, OnOk, None, is_some};
+ghost use Rattle.std.specs.Prelude.{◌≡◌, ◌+◌, ◌-◌, ◌^◌, ◌<◌, ◌≤◌, true, false, IfOk, OkIff, OnOk, None, is_some};
 ghost use Rattle.std.specs.Prelude.{length, count_by, slice_get};
 ghost use Rattle.std.specs.FinMap as map;
 ghost use Rattle.std.specs.Option.{option_map};

@@ -1,7 +1,5 @@
 //! Roots of many keys, of keys that nest, and of large values that come and go.
 
-ghost use Rattle.std.specs.Prelude.{◌≡◌};
-
 use crate::pair::same_root;
 use crate::roots::root;
 use nr_store::PlainStore;

@@ -1,6 +1,5 @@
 //! Many changes of a trie at once.
 
-ghost use Rattle.std.specs.Prelude.{◌≡◌};
 ghost use Rattle.nr_trienodes.specs.Roots.{IsRoot};
 
 use crate::nodes::{FOUR, THREE, hashed};

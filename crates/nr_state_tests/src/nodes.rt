@@ -1,6 +1,6 @@
 //! The arena of nodes by itself: its roots, what a change keeps, and what trims leave.
 
-ghost use Rattle.std.specs.Prelude.{◌≡◌, ◌<◌, Some, None, IfOk};
+ghost use Rattle.std.specs.Prelude.{◌≡◌, ◌<◌, Some, None};
 ghost use Rattle.nr_trienodes.specs.Roots.{IsRoot};
 
 use nr_triedef::{Steps, bytes_of};

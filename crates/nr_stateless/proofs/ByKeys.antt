@@ -7,9 +7,9 @@ use Rattle.std.specs.FinMap.{entries}
 use Rattle.std.proofs.Math.Bool.{true≢false}
 use Rattle.std.proofs.lemmas.Bool.{eqb-true}
 use Rattle.std.proofs.lemmas.List.Folds.{list_any-append}
+use Rattle.nr_bytes.proofs.Basics.{same_test}
 use Rattle.nr_columns.specs.Keys.{account_key, code_key, owner_prefixes, queue_key}
 use Rattle.nr_columns.specs.declared.entry.Entry.{Entry}
-use Rattle.nr_columns.proofs.Tables.{same_test}
 use Rattle.nr_ids.specs.declared.key.Hash32.{Hash32}
 use Rattle.nr_triedef.specs.Node.{nibbles}
 use Rattle.nr_triedef.specs.Root.{Contents, Paths, paths}

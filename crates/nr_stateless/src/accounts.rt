@@ -1,7 +1,6 @@
 //! What a walk for some accounts searches.
 
 ghost use Rattle.std.specs.Prelude.{◌≡◌, ◌∷◌, ◌++◌, [], IfOk, OnOk, map};
-ghost use Rattle.nr_columns.specs.Keys.{queue_key};
 ghost use Rattle.nr_stateless.specs.Accounts.{all_below, of_account, one_key, searched_of};
 
 use nr_bytes::{Blob, List};

@@ -18,6 +18,7 @@ use Rattle.std.proofs.lemmas.Map.Keys.{IsDistinct-from_sorted}
 use Rattle.std.proofs.lemmas.Map.Lookups.{exact_bytes}
 use Rattle.nr_triedef.specs.Root.{Contents}
 use Rattle.std.specs.Prelude.{IsNone}
+use Rattle.nr_bytes.proofs.Basics.{equal_of}
 use Rattle.nr_store.specs.Plain.{Text, text_of, keyed, put_back, held, held_in, slot_at, value_before, HasSlot}
 use Rattle.nr_store.specs.declared.slots.Undo.{Undo}
 
@@ -137,12 +138,7 @@ sorted-keyed (e ∷ es) h = (below_keyed e.0.items es h.0, sorted-keyed es h.1)
 
 -- ---- the four changes
 one_key : (k x y : List ℕ) → is_at (R k) x ≡ true → is_at (R k) y ≡ eq_by_cmp R x y
-one_key k x y h = ap (λ z. is_eq (R z y)) (exact_bytes k x (equal _ h))
-  where
-    equal : (r : Ordering) → is_eq r ≡ true → r ≡ Equal
-    equal Less h = absurd (cc)
-    equal Equal h = refl
-    equal Greater h = absurd (cc)
+one_key k x y h = ap (λ z. is_eq (R z y)) (exact_bytes k x (equal_of _ h))
 
 turned : (k q : List ℕ) {A : Type 0} (x y : A) → cond (is_at (R k) q) x y ≡ cond (eq_by_cmp R q k) x y
 turned k q x y = ap (λ b. cond b x y) ((eq_by_cmp_equiv nat_list_cmp_total).symm k q)
@@ -193,16 +189,6 @@ remove-absent m k e =
 pub is_some-map : {A B : Type 0} (f : A → B) (o : Option A) → is_some (option_map f o) ≡ is_some o
 is_some-map f None = refl
 is_some-map f (Some x) = refl
-
-pub HasSlot-is_some : (es : List (Text × Option Text)) (q : List ℕ) → is_some (lookup (is_at (at_bytes q)) es) ≡ true → HasSlot es q
-HasSlot-is_some es q h = ap is_some (lookup-keyed es q) ∙ is_some-map text_of _ ∙ h
-
-none_of : {A : Type 0} (o : Option A) → is_some o ≡ false → o ≡ None
-none_of None h = refl
-none_of (Some x) h = absurd (false≢true (sym h))
-
-pub get-not_held : (es : List (Text × Option Text)) (q : List ℕ) → is_some (lookup (is_at (at_bytes q)) es) ≡ false → get (held_in es) q ≡ None
-get-not_held es q h = get-held_in es q ∙ ap (λ o. joined (option_map text_of o)) (none_of _ h)
 
 -- ---- what a change found
 pub value_found : (es : List (Text × Option Text)) (u : Undo) (k : List ℕ) → option_map text_of u.before ≡ slot_at es k → value_before u ≡ get (held_in es) k

@@ -22,13 +22,6 @@ trie_one n [] p len is = absurd (omega arith)
 trie_one n (q ∷ []) p len is = ap (λ r. Some (summary (leaf r))) (sym is)
 trie_one n (q ∷ r ∷ ps) p len is = absurd (omega arith)
 
-pub trie_zero : (n : ℕ) (ps : Paths) → n ≡ 0 → 2 ≤ length ps → trie n ps ≡ None
-unfolding trie
-trie_zero n [] is len = absurd (omega arith)
-trie_zero n (p ∷ []) is len = absurd (omega arith)
-trie_zero zero (p ∷ q ∷ ps) is len = refl
-trie_zero (suc n) (p ∷ q ∷ ps) is len = absurd (omega arith)
-
 abbrev pub joined : List ℕ → Paths → List (Option Summary) → Summary
 joined shared rest below = with_front shared (summary (branch (value_here rest) below))
 
@@ -49,7 +42,7 @@ pub children_stand : (n : ℕ) (ps : Paths) (nibble : ℕ) → CanStand (suc n) 
 children_stand n ps nibble h =
     stands_under n nibble (cut ps) (under nibble (cut ps)) refl (subst (λ m. CanStand m (cut ps)) (sym (add-one n)) (stands_behind (suc n) ps (cut ps) (front ps) refl refl h))
 
-same_trie : (n m : ℕ) (ps : Paths) → CanStand n ps → CanStand m ps → trie n ps ≡ trie m ps
+pub same_trie : (n m : ℕ) (ps : Paths) → CanStand n ps → CanStand m ps → trie n ps ≡ trie m ps
 same_trie n m [] h g = trie_empty n [] refl ∙ sym (trie_empty m [] refl)
 same_trie n m (p ∷ []) h g = trie_one n (p ∷ []) p refl refl ∙ sym (trie_one m (p ∷ []) p refl refl)
 same_trie zero m (p ∷ q ∷ ps) h g = absurd (omega (arith, h.short.0))

@@ -6,6 +6,7 @@ use Rattle.std.proofs.Math.ListN.{get_or-map}
 use Rattle.std.proofs.lemmas.List.FromFn.{get_or-map-range_with_len}
 use Rattle.std.proofs.lemmas.List.Sums.{sum_by-cons}
 use Rattle.std.proofs.lemmas.Bool.{eqb-true}
+use Rattle.nr_bytes.proofs.Basics.{all_weaker}
 use Rattle.nr_ids.specs.declared.key.Hash32.{Hash32}
 use Rattle.nr_triedef.specs.declared.hash.Summary.{Summary}
 use Rattle.nr_triedef.specs.Node.{IsNibbles, links}
@@ -50,10 +51,6 @@ begins_common_right (x ∷ a) (y ∷ b) (z ∷ k) h =
       | true ↦ λ e. (eqb-true x y e ∙ h.0, begins_common_right a b k h.1)
       | false ↦ λ e. tt
     ] refl
-
-all_weaker : {A : Type 0} (P Q : A → Type 0) → ((x : A) → P x → Q x) → (xs : List A) → AllByRecursion P xs → AllByRecursion Q xs
-all_weaker P Q f [] h = tt
-all_weaker P Q f (x ∷ xs) h = (f x h.0, all_weaker P Q f xs h.1)
 
 pub front_begins : (ps : Paths) → AllBegin (front ps) ps
 front_begins [] = tt

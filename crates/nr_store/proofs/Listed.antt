@@ -1,6 +1,6 @@
 -- The entries of what the slots hold, and that their keys are in the order of their nibbles.
-use Rattle.std.proofs.Common.{◌≡◌, ℕ, Bool, true, false, cond, List, [], ◌∷◌, ◌++◌, append-nil, length, Option, Some, None, Ordering, refl, ap, sym, subst, ◌∙◌}
-use Rattle.std.specs.Prelude.{T, ◌&&◌}
+use Rattle.std.proofs.Common.{◌≡◌, ℕ, cond, List, [], ◌∷◌, ◌++◌, append-nil, length, Option, Some, None, Ordering, refl, ap, sym, subst, ◌∙◌}
+use Rattle.std.specs.Prelude.{T}
 use Rattle.std.specs.List.{AllByRecursion}
 use Rattle.std.specs.List.Sorted.{IsStrictlySortedBy}
 use Rattle.std.specs.declared.cmp.Ordering.TheVariants.{Less, Equal, Greater}
@@ -11,6 +11,7 @@ use Rattle.std.specs.Cmp.Lexicographic.{nat_list_cmp_total}
 use Rattle.std.specs.Map.{lookup, keys_of}
 use Rattle.std.specs.BTreeMap.{is_at}
 use Rattle.std.proofs.lemmas.List.{nil_from_length}
+use Rattle.nr_bytes.proofs.Basics.{left_of, right_of}
 use Rattle.nr_triedef.specs.Node.{nibbles, IsNibbles}
 use Rattle.nr_triedef.specs.Root.{Contents, Paths, paths}
 use Rattle.nr_store.specs.Plain.{Text, keyed, filled, held, held_in}
@@ -46,14 +47,6 @@ pub entries-held_in : (es : List (Text × Option Text)) → IsStrictlySortedBy C
 entries-held_in es h = entries-held (keyed es) (sorted-keyed es h)
 
 -- ---- their keys are in the order of their nibbles
-left : (a b : Bool) → T (a && b) → T a
-left true b p = tt
-left false b p = p
-
-right : (a b : Bool) → T (a && b) → T b
-right true b p = p
-right false b p = absurd p
-
 is_less : (r : Ordering) → T (is_lt r) → r ≡ Less
 is_less Less p = refl
 is_less Equal p = absurd p
@@ -61,11 +54,11 @@ is_less Greater p = absurd p
 
 before_paths : (k : List ℕ) (es : List (List ℕ × List ℕ)) → T (below_all R k es) → AllByRecursion (λ (q : List ℕ × List ℕ). Before (nibbles k) q.0) (paths es)
 before_paths k [] h = tt
-before_paths k (e ∷ es) h = (nibbles_before k e.0 (is_less (R k e.0) (left (is_lt (R k e.0)) (below_all R k es) h)), before_paths k es (right (is_lt (R k e.0)) (below_all R k es) h))
+before_paths k (e ∷ es) h = (nibbles_before k e.0 (is_less (R k e.0) (left_of (is_lt (R k e.0)) (below_all R k es) h)), before_paths k es (right_of (is_lt (R k e.0)) (below_all R k es) h))
 
 rise_paths : (es : List (List ℕ × List ℕ)) → T (is_sorted R es) → Rise (paths es)
 rise_paths [] h = tt
-rise_paths (e ∷ es) h = (before_paths e.0 es (left (below_all R e.0 es) (is_sorted R es) h), rise_paths es (right (below_all R e.0 es) (is_sorted R es) h))
+rise_paths (e ∷ es) h = (before_paths e.0 es (left_of (below_all R e.0 es) (is_sorted R es) h), rise_paths es (right_of (below_all R e.0 es) (is_sorted R es) h))
 
 pub walk_whole : (m : Contents) (ps : Paths) → ps ≡ paths (entries m) → AllByRecursion (λ (p : List ℕ × List ℕ). IsNibbles p.0) ps → CanWalk ps
 walk_whole m ps e small = record { order = subst Rise (sym e) (rise_paths (entries m) (entries_sorted m)); small = small }

@@ -1,6 +1,5 @@
 -- The nibbles of a key, one by one.
-use Rattle.std.proofs.Common.{◌≡◌, ◌<◌, ◌≤◌, ◌+◌, ◌-◌, ◌*◌, ◌/◌, ◌%◌, ℕ, zero, suc, true, false, cond, List, [], ◌∷◌, ◌++◌, length, take, drop, get_or, Some, None, refl, ap, sym, ◌∙◌, length-drop, inl, inr, arith}
-use Rattle.std.specs.Prelude.{is_some}
+use Rattle.std.proofs.Common.{◌≡◌, ◌<◌, ◌≤◌, ◌+◌, ◌-◌, ◌*◌, ◌/◌, ◌%◌, ℕ, zero, suc, true, cond, List, [], ◌∷◌, ◌++◌, length, take, drop, get_or, Some, None, refl, ap, sym, ◌∙◌, length-drop, inl, inr, arith}
 use Rattle.std.proofs.lemmas.List.{drop-drop, take_all}
 use Rattle.std.proofs.lemmas.Bool.{cases_lt}
 use Rattle.nr_triedef.specs.Node.{nibbles}
@@ -37,12 +36,6 @@ pub no_nibble : (key : List ℕ) (i : ℕ) → length key ≤ i / 2 → first (d
 no_nibble key i le = past_end (nibbles key) i (omega (arith, length-nibbles key))
 
 -- ---- going on by one
-pub length-first : (key : List ℕ) (i : ℕ) → is_some (first (drop i key)) ≡ true → i < length key
-length-first [] zero e = absurd cc
-length-first [] (suc i) e = absurd cc
-length-first (x ∷ key) zero e = omega arith
-length-first (x ∷ key) (suc i) e = let r = length-first key i e in omega arith
-
 take_suc : (l : List ℕ) (n x : ℕ) → Some x ≡ first (drop n l) → take (suc n) l ≡ take n l ++ x ∷ []
 take_suc [] zero x e = absurd cc
 take_suc [] (suc n) x e = absurd cc
@@ -81,27 +74,8 @@ met [] b e = absurd cc
 met (x ∷ a) [] e = absurd cc
 met (x ∷ a) (y ∷ b) e = ap (λ t. length (cond t (x ∷ common a b) [])) e
 
-apart : (a b : List ℕ) → meet a b ≡ false → common a b ≡ []
-apart [] b e = refl
-apart (x ∷ a) [] e = refl
-apart (x ∷ a) (y ∷ b) e = ap (λ t. cond t (x ∷ common a b) []) e
-
 pub meets_more : (a b : List ℕ) (i : ℕ) → meet (drop i a) (drop i b) ≡ true → length (common (drop i a) (drop i b)) ≡ suc (length (common (drop (i + 1) a) (drop (i + 1) b)))
 meets_more a b i e = met (drop i a) (drop i b) e ∙ (λ j. suc (length (common (drop-drop 1 i a j) (drop-drop 1 i b j))))
-
-pub meets_no_more : (a b : List ℕ) (i : ℕ) → meet (drop i a) (drop i b) ≡ false → length (common (drop i a) (drop i b)) ≡ 0
-meets_no_more a b i e = ap length (apart (drop i a) (drop i b) e)
-
-pub meets_within : (a b : List ℕ) (i : ℕ) → meet (drop i a) (drop i b) ≡ true → i < length a
-meets_within [] b zero e = absurd cc
-meets_within [] b (suc i) e = absurd cc
-meets_within (x ∷ a) b zero e = omega arith
-meets_within (x ∷ a) [] (suc i) e = absurd (none (drop i a) e)
-  where
-    none : (k : List ℕ) → meet k [] ≡ true → ⊥
-    none [] e = absurd cc
-    none (x ∷ k) e = absurd cc
-meets_within (x ∷ a) (y ∷ b) (suc i) e = let r = meets_within a b i e in omega arith
 
 -- ---- what is left of the first key
 pub first_whole : (o : ℕ) (es : Paths) (p : List ℕ × List ℕ) (ps : Paths) (key : List ℕ) → behind o es ≡ ps → 0 < length ps → p ≡ get_or es 0 p → nibbles key ≡ p.0 → take (2 * length key - o) (drop o p.0) ≡ (first_path ps).0

@@ -81,10 +81,6 @@ all_at P [] i d lt h = absurd (omega arith)
 all_at P (p ∷ ps) zero d lt h = h.0
 all_at P (p ∷ ps) (suc i) d lt h = all_at P ps i d (omega arith) h.1
 
--- each key of a list, without its first nibbles
-abbrev pub goes_on : ℕ → Path → List ℕ
-goes_on o p = drop o p.0
-
 at_behind : (o : ℕ) (es : Paths) (i : ℕ) (d : Path) → get_or (behind o es) i (drop o d.0, d.1) ≡ (drop o (get_or es i d).0, (get_or es i d).1)
 at_behind o es i d = get_or-map (λ (p : Path). (drop o p.0, p.1)) es i d
 
@@ -260,7 +256,7 @@ pub cut_taken : (o : ℕ) (es : Paths) (a z : Path) (end : ℕ) → 2 ≤ length
 cut_taken o es a z end many h f g e =
     ap (λ n. behind n es) (e ∙ ap (λ (k : List ℕ). o + length k) (sym (front_parting o es a z many h f g))) ∙ sym (behind_behind o (length (front (behind o es))) es)
 
-begins_small : (s k : List ℕ) → Begins s k → IsNibbles k → IsNibbles s
+pub begins_small : (s k : List ℕ) → Begins s k → IsNibbles k → IsNibbles s
 begins_small [] k b h = λ i. omega arith
 begins_small (x ∷ s) [] b h = absurd b
 begins_small (x ∷ s) (y ∷ k) b h = more x s (let low : y < 16 = h 0 in let same : x ≡ y = b.0 in omega arith) (begins_small s k b.1 (λ i. h (suc i)))

@@ -10,6 +10,7 @@ use Rattle.std.proofs.lemmas.Map.Lookups.{exact_bytes}
 use Rattle.nr_triedef.specs.Root.{Contents}
 use Rattle.std.specs.List.{AllByRecursion}
 use Rattle.std.specs.Prelude.{IsNone}
+use Rattle.nr_bytes.proofs.Basics.{all_push}
 use Rattle.nr_store.specs.Plain.{Text, value_before, put_back, rewound, HasSlot, NeedsSlot, HaveSlots, IsApart, AreApart, seen, InOrder}
 use Rattle.nr_store.specs.declared.slots.Undo.{Undo}
 use Rattle.nr_store.proofs.Held.{R, get-put_back}
@@ -42,11 +43,6 @@ HaveSlots-push es (v ∷ us) u p q = (p.0, HaveSlots-push es us u p.1 q)
 pub HaveSlots-last : (es : List (Text × Option Text)) (us : List Undo) (u : Undo) → HaveSlots es (us ++ u ∷ []) → HaveSlots es us × NeedsSlot es u
 HaveSlots-last es [] u p = (tt, p.0)
 HaveSlots-last es (v ∷ us) u p = let r = HaveSlots-last es us u p.1 in ((p.0, r.0), r.1)
-
--- the last change is apart from the earlier ones
-all_push : {A : Type 0} (P : A → Type 0) (us : List A) (u : A) → AllByRecursion P us → P u → AllByRecursion P (us ++ u ∷ [])
-all_push P [] u h p = (p, tt)
-all_push P (v ∷ us) u h p = (h.0, all_push P us u h.1 p)
 
 all_last : {A : Type 0} (P : A → Type 0) (us : List A) (u : A) → AllByRecursion P (us ++ u ∷ []) → AllByRecursion P us × P u
 all_last P [] u h = (tt, h.0)

@@ -11,6 +11,7 @@ use Rattle.std.specs.FinMap.{empty, insert, remove, get, len, entries, contains_
 use Rattle.std.specs.Map.{lookup}
 use Rattle.std.specs.BTreeMap.{is_at}
 use Rattle.std.proofs.lemmas.Map.Lookups.{exact_bytes}
+use Rattle.std.proofs.lemmas.Option.{same_Some}
 use Rattle.nr_triedef.specs.Root.{Contents}
 use Rattle.nr_triedef.specs.Stores.{most_entries, IsSizedEntry, IsSized}
 use Rattle.nr_store.specs.Plain.{Text, text_of, keyed, held, held_in, slot_at, seen}
@@ -51,9 +52,6 @@ pub is_some-slot : (es : List (Text × Option Text)) (k : List ℕ) → is_some 
 is_some-slot es k = ap is_some (lookup-keyed es k) ∙ is_some-map text_of (lookup (is_at (at_bytes k)) es)
 
 -- ---- what is held after a change
-same_value : {A : Type 0} (x y : A) → Some x ≡ Some y → x ≡ y
-same_value x y e = cc
-
 pub sized_insert : (m n : Contents) (k v : List ℕ) → n ≡ insert m k v → IsSized m → IsSizedEntry k v → length (entries n) ≤ most_entries → IsSized n
 sized_insert m n k v e h entry few = record { few = few; each = each }
   where
@@ -62,7 +60,7 @@ sized_insert m n k v e h entry few = record { few = few; each = each }
         let found : cond (is_eq (R q k)) (Some v) (get m q) ≡ Some w = sym (get-insert nat_list_cmp_total m k v q) ∙ ap (λ (m : Contents). get m q) (sym e) ∙ is in
         elim (R q k) as (λ r. R q k ≡ r → cond (is_eq r) (Some v) (get m q) ≡ Some w → IsSizedEntry q w) [
           | Less ↦ λ p f. h.each q w f
-          | Equal ↦ λ p f. subst (λ (u : List ℕ). IsSizedEntry u w) (sym (exact_bytes q k p)) (subst (λ (u : List ℕ). IsSizedEntry k u) (same_value v w f) entry)
+          | Equal ↦ λ p f. subst (λ (u : List ℕ). IsSizedEntry u w) (sym (exact_bytes q k p)) (subst (λ (u : List ℕ). IsSizedEntry k u) (same_Some v w f) entry)
           | Greater ↦ λ p f. h.each q w f
         ] refl found
 

@@ -1,8 +1,8 @@
 //! Branches that are being made, and those that wait for a child.
 
-ghost use Rattle.std.specs.Prelude.{◌≡◌, ◌≤◌, ◌<◌, ◌==◌, ◌++◌, ◌∷◌, [], Some, length, IfOk, OnOk, OnErr, MatchOption};
+ghost use Rattle.std.specs.Prelude.{◌≡◌, ◌≤◌, ◌<◌, ◌==◌, ◌++◌, ◌∷◌, [], Some, length, IfOk, OnOk, MatchOption};
 ghost use Rattle.nr_triedef.specs.Root.{under};
-ghost use Rattle.nr_store.specs.Tries.{CanWalk, cut, whole};
+ghost use Rattle.nr_store.specs.Tries.{cut, whole};
 
 use crate::nodes::branch;
 use crate::span::Span;

@@ -1,7 +1,7 @@
 //! The slots of a plain store: keys in the order of their bytes, each with a value or without.
 
-ghost use Rattle.std.specs.Prelude.{◌≡◌, ◌≢◌, ◌==◌, ℕ, List, [], take, drop, length, cond, is_some, true, ◌+◌, ◌≤◌};
-ghost use Rattle.std.specs.Prelude.{IsNone, IsSome, OnOk, OnErr, IfOk, vec_len};
+ghost use Rattle.std.specs.Prelude.{◌≡◌, ◌≢◌, ◌==◌, ℕ, List, take, drop, length, cond, is_some, true, ◌+◌, ◌≤◌};
+ghost use Rattle.std.specs.Prelude.{IsNone, OnOk, OnErr, IfOk, vec_len};
 ghost use Rattle.std.specs.Option.{option_map};
 ghost use Rattle.std.specs.List.{starts_with};
 ghost use Rattle.std.specs.FinMap as map;

@@ -1,29 +1,31 @@
 -- A run that comes to a chunk: the world that the shard then has is the serial run's behind it.
-use Rattle.std.proofs.Common.{◌≡◌, ℕ, zero, suc, ◌+◌, ◌<◌, ◌≤◌, Bool, true, false, cond, List, Option, Some, None, length, inl, inr, refl, sym, ap, subst, ◌∙◌, arith, add-one}
+use Rattle.std.proofs.Common.{◌≡◌, ℕ, zero, suc, ◌<◌, ◌≤◌, Bool, true, false, cond, List, Option, Some, None, length, inl, inr, refl, sym, ap, subst, ◌∙◌, arith, add-one}
 use Rattle.std.specs.Prelude.{is_some, nat_le}
 use Rattle.std.specs.Option.{option_map}
 use Rattle.nr_overlap.specs.CoreView.{CoreView}
 use Rattle.nr_overlap.specs.Held.{IsReached}
-use Rattle.nr_overlap.specs.Inside.{IsInside, actor}
-use Rattle.nr_overlap.specs.Moment.{report_at, world_at, world_in}
+use Rattle.nr_overlap.specs.Inside.{actor}
+use Rattle.nr_overlap.specs.Moment.{report_at}
 use Rattle.nr_overlap.specs.Moves.{moved, moved_by}
-use Rattle.nr_overlap.specs.Next.{IsNextOf, left}
+use Rattle.nr_overlap.specs.Next.{IsNextOf}
 use Rattle.nr_overlap.specs.Positions.{at, start, top, top_at}
 use Rattle.nr_overlap.specs.Rules.{Rules}
 use Rattle.nr_overlap.specs.Run.{ending, opening, tried, whole_at}
-use Rattle.nr_overlap.specs.Serial.{sealing_at, world_after}
+use Rattle.nr_overlap.specs.Serial.{sealing_at}
 use Rattle.nr_overlap.specs.declared.event.Event.{Event}
 use Rattle.nr_overlap.specs.declared.event.Event.TheVariants.{OpenChunk, TakeList, SealChunk, PublishLists}
 use Rattle.nr_overlap.specs.declared.position.Position.{Position}
 use Rattle.nr_overlap.specs.declared.position.Stage.{Stage}
 use Rattle.nr_overlap.specs.declared.position.Stage.TheVariants.{Idle, Opened, Sealed}
-use Rattle.nr_overlap.proofs.Basics.{gt_of, le_of, same_or_not, true_or_false}
+use Rattle.nr_overlap.proofs.Basics.{gt_of, true_or_false}
 use Rattle.nr_overlap.proofs.Ended.{whole_run}
 use Rattle.nr_overlap.proofs.Founding.{at_replicate, first_reached}
 use Rattle.nr_overlap.proofs.Reaching.{becomes, keeps_reached}
 use Rattle.nr_overlap.proofs.Running.{tries_made}
 use Rattle.nr_overlap.proofs.SerialLemmas.{sealing_there}
 use Rattle.std.proofs.lemmas.List.{length-replicate}
+use Rattle.std.proofs.lemmas.Bool.{cases_eq}
+use Rattle.nr_overlap.proofs.Refusing.{actor_inside}
 use Rattle.nr_top.specs.Arriving.{IsChunk, IsNextBefore, IsUpTo, Nears}
 
 number_top : (t : Stage) (n : ℕ) → n ≤ top_at t n
@@ -64,48 +66,22 @@ module _ {W K L R : Type 0} (r : Rules W K L R) (s h : ℕ) where
     | inr e ↦ gt_of h (top (at ps s)) e
   ]
 
-  is_sealed : (ps : List Position) → is_some (report_at r ps s h) ≡ true → h ≤ top (at ps s)
-  is_sealed ps some = elim (true_or_false (nat_le h (top (at ps s)))) [
-    | inl e ↦ le_of h (top (at ps s)) e
-    | inr e ↦ absurd (no_report (sym (ap (λ (b : Bool). is_some (option_map (λ z. z.report) (cond b (sealing_at r s h) None))) e) ∙ some))
-  ]
-    where
-      no_report : false ≡ true → ⊥
-      no_report e = cc
-
   -- at the end each chunk is
   pub sealed_at_end : (ps : List Position) → IsChunk r s h → report_at r ps s h ≡ None → ps ≡ ending r → ⊥
   sealed_at_end ps is none ended =
       mapped_some (λ z. z.report) (sealing_at r s h) (sealed_there is) (sym ((whole_run r ps ended).report s h is.inside is.below) ∙ none)
-
-  -- ---- the world behind it
-  up_to_world : (t : Stage) (n : ℕ) (p : Position) → p.stage ≡ t → p.number ≡ n → IsUpTo h t n → h ≤ top_at t n → world_at r s p ≡ Some (world_after r s h)
-  up_to_world Idle n p stage number l m = let same : n ≡ h = omega (arith, l, m) in
-      ap (λ (q : Stage). world_in r s q p.number) stage ∙ ap (λ k. Some (world_after r s k)) (number ∙ same)
-  up_to_world Opened n p stage number l m = absurd (omega (arith, l, m))
-  up_to_world Sealed n p stage number l m = let same : n + 1 ≡ h = omega (arith, l, m) in
-      ap (λ (q : Stage). world_in r s q p.number) stage ∙ ap (λ k. Some (world_after r s (k + 1))) number ∙ ap (λ k. Some (world_after r s k)) same
-
-  pub arrived : (ps : List Position) → IsUpTo h (at ps s).stage (at ps s).number → is_some (report_at r ps s h) ≡ true → world_at r s (at ps s) ≡ Some (world_after r s h)
-  arrived ps up some = up_to_world (at ps s).stage (at ps s).number (at ps s) refl refl up (is_sealed ps some)
 
   -- ---- one step more
   step_up : (ps : List Position) (e : Event) → IsReached r ps → IsChunk r s h → report_at r ps s h ≡ None → IsUpTo h (at ps s).stage (at ps s).number
       → actor e < length ps → IsUpTo h (at (moved ps e) s).stage (at (moved ps e) s).number
   step_up ps e reached is none up inside =
       let be = becomes ps (actor e) (moved_by e (at ps (actor e))) inside in
-      elim (same_or_not s (actor e)) [
+      elim (cases_eq s (actor e)) [
         | inl same ↦ subst (λ k. IsUpTo h (at (moved ps e) k).stage (at (moved ps e) k).number) (sym same)
             (subst (λ (p : Position). IsUpTo h p.stage p.number) (sym be.here)
             (moved_up h e (at ps (actor e)) (subst (λ k. top (at ps k) < h) same (not_sealed ps is none))))
         | inr other ↦ subst (λ (p : Position). IsUpTo h p.stage p.number) (sym (be.others s other)) up
       ]
-
-actor_inside : (n : ℕ) (e : Event) → IsInside n e → actor e < n
-actor_inside n (OpenChunk s) is = is
-actor_inside n (TakeList d s h) is = is.0
-actor_inside n (SealChunk s) is = is
-actor_inside n (PublishLists s) is = is
 
 -- the next event, where there is one before the chunk is sealed
 pub next_before : {W K L R : Type 0} (r : Rules W K L R) (s h : ℕ) (ps : List Position) (o : Option Event) → IsChunk r s h → report_at r ps s h ≡ None → IsNextOf r ps o → IsNextBefore r s h ps o
@@ -138,13 +114,6 @@ module _ {W K L R P : Type 0} (r : Rules W K L R) (s h : ℕ) where
         reached = subst (IsReached r) (sym qs) (keeps_reached r ps e nears.reached next.1.inside next.1.enabled);
         place = subst (λ (t : List Position). IsUpTo h (at t s).stage (at t s).number) (sym qs) (step_up r s h ps e nears.reached chunk next.0 nears.place inside);
       }
-
-  -- the end is nearer
-  pub nears_closer : (mid new : CoreView P) (e : Event) → IsNextBefore r s h mid.positions (Some e) → new ≡ whole_at mid (tried r mid.positions e) → left r new.positions < left r mid.positions
-  nears_closer mid new e next made = subst (λ (t : List Position). left r t < left r mid.positions) (sym (moves mid new e next made)) next.1.closer
-
-  pub nears_world : (old new : CoreView P) → Nears r s h old new → IsNextBefore r s h new.positions None → world_at r s (at new.positions s) ≡ Some (world_after r s h)
-  nears_world old new nears some = arrived r s h new.positions nears.place some
 
 -- the same, by the rules of where the run then is
 pub nears_step : {W K L R P : Type 0} (rules : P → Rules W K L R) (s h : ℕ) (old mid new : CoreView P) (e : Event) → IsChunk (rules old.phases) s h → Nears (rules old.phases) s h old mid

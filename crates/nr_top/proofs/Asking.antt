@@ -4,8 +4,6 @@ use Rattle.nr_chainfiles.specs.Plans.{by_config, chain_files}
 use Rattle.nr_chainfiles.proofs.Asking.{by_config_asks, chain_asks}
 use Rattle.nr_course.specs.Course.{Course, height_in, leg_at}
 use Rattle.nr_course.specs.Texts.{course_text}
-use Rattle.nr_chunk.specs.Chain.{Chain, shards_of}
-use Rattle.nr_course.specs.declared.turn.Turn.{Turn}
 use Rattle.nr_config.specs.Config.{Config}
 use Rattle.nr_configfile.specs.Plans.{config_files, config_plan}
 use Rattle.nr_configfile.proofs.Asking.{config_asks}

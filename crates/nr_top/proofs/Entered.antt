@@ -7,6 +7,7 @@ use Rattle.std.specs.FinMap.Entries.{is_sorted}
 use Rattle.std.specs.Option.{option_and_then}
 use Rattle.std.specs.Ordering.{nat_cmp}
 use Rattle.std.proofs.lemmas.Option.{slice_get_within}
+use Rattle.nr_bytes.proofs.Basics.{left_true, right_true}
 use Rattle.nr_blocks.specs.declared.block.Block.{Block}
 use Rattle.nr_chunk.specs.Chain.{Chain, chain_with, chunk_in, rules_of, shards_of}
 use Rattle.nr_chunk.specs.Store.{StateStore}
@@ -15,7 +16,7 @@ use Rattle.nr_columns.specs.Entries.{pairs_of}
 use Rattle.nr_columns.specs.declared.entry.Entry.{Entry}
 use Rattle.nr_contract.specs.Contract.{call}
 use Rattle.nr_contract.specs.declared.caller.ContractCaller.{ContractCaller}
-use Rattle.nr_overlap.proofs.Basics.{and_left, and_right, lt_of}
+use Rattle.nr_overlap.proofs.Basics.{lt_of}
 use Rattle.nr_parts.specs.Cutting.{InOrder}
 use Rattle.nr_state.specs.declared.calls.Caller.{Ghosts}
 use Rattle.nr_triedef.specs.Root.{Contents}
@@ -33,8 +34,8 @@ chunk_below x s (suc h) e = by (slice_get x.blocks h) refl e
 
 pub is_chunk : (x : Chain) (s h : ℕ) → has_chunk x s h ≡ true → IsChunk (rules_of x) s h
 is_chunk x s h has =
-    let inside : nat_lt s (shards_of x) ≡ true = and_left (nat_lt s (shards_of x)) ((rules_of x).present s h) has in
-    let there : (rules_of x).present s h ≡ true = and_right (nat_lt s (shards_of x)) ((rules_of x).present s h) has in
+    let inside : nat_lt s (shards_of x) ≡ true = left_true (nat_lt s (shards_of x)) ((rules_of x).present s h) has in
+    let there : (rules_of x).present s h ≡ true = right_true (nat_lt s (shards_of x)) ((rules_of x).present s h) has in
     let below = chunk_below x s h there in
     record { inside = lt_of s (shards_of x) inside; positive = below.0; below = below.1; present = there }
 

@@ -10,9 +10,7 @@ use Rattle.nr_join.specs.declared.offered.Offered.{Offered}
 use Rattle.nr_join.specs.declared.offered.Offered.TheVariants as offered
 use Rattle.nr_overlap.proofs.Flights.{chunk_or_not}
 use Rattle.nr_overlap.proofs.SerialLemmas.{sealing_there}
-use Rattle.nr_overlap.specs.Moment.{shown}
 use Rattle.nr_overlap.specs.Positions.{at, top}
-use Rattle.nr_overlap.specs.Rules.{Sealing}
 use Rattle.nr_overlap.specs.Run.{ending}
 use Rattle.nr_overlap.specs.Serial.{due_after, past_after, sealing_at, take_due, with_list, list_to, work}
 use Rattle.nr_records.specs.declared.chunk_result.ChunkResult.{ChunkResult}

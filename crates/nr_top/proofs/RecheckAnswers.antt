@@ -1,5 +1,5 @@
 -- What is answered of a gathered chunk that was read.
-use Rattle.std.proofs.Common.{◌≡◌, ℕ, List, Result, Ok, Err, refl, sym, ap, ◌∙◌}
+use Rattle.std.proofs.Common.{◌≡◌, ℕ, List, Result, Ok, Err, sym, ap, ◌∙◌}
 use Rattle.std.specs.Prelude.{◌≢◌}
 use Rattle.nr_config.specs.Config.{Config}
 use Rattle.nr_contract.specs.Contract.{call}

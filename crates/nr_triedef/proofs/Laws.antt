@@ -1,9 +1,9 @@
 -- A node's text: what is read from it is a node with this text, and each node is read from its text.
-use Rattle.std.proofs.Common.{◌≡◌, ℕ, zero, suc, ◌+◌, ◌*◌, ◌/◌, ◌%◌, ◌^◌, ◌<◌, ◌≤◌, Bool, true, false, cond, ◌&&◌, ltb, eqb, List, [], ◌∷◌, ◌++◌, map, length, Option, Some, None, Result, Ok, Err, refl, sym, ap, subst, ◌∙◌, append_assoc, arith}
+use Rattle.std.proofs.Common.{◌≡◌, ℕ, zero, suc, ◌+◌, ◌*◌, ◌/◌, ◌%◌, ◌^◌, ◌<◌, ◌≤◌, Bool, true, false, cond, ltb, eqb, List, [], ◌∷◌, ◌++◌, map, length, Option, Some, None, Result, Ok, Err, refl, sym, ap, subst, ◌∙◌, append_assoc, arith}
 use Rattle.std.specs.Prelude.{is_some, count_by, count_ones, IfOk}
 use Rattle.std.specs.List.{AllByRecursion, flat_map}
 use Rattle.std.specs.Simd.Lanes.{mask_l}
-use Rattle.std.proofs.lemmas.Bool.{ltb-true, leb-true, le-leb, lt-ltb, eqb-true}
+use Rattle.std.proofs.lemmas.Bool.{ltb-true, leb-true, le-leb, lt-ltb, eqb-true, and_parts}
 use Rattle.std.proofs.lemmas.Simd.{ones-mask_l}
 use Rattle.std.proofs.lemmas.List.{append-nil, nil_from_length}
 use Rattle.std.proofs.Math.Nat.{pow-suc}
@@ -163,10 +163,6 @@ valued_text value children usage = simp append_assoc
 as_text : (kind : ℕ) (s r : Input) (node : Node) (body : List ℕ) → node_text node ≡ kind ∷ body → s.left ≡ body ++ r.left → kind ∷ s.left ≡ node_text node ++ r.left
 as_text kind s r node body text left = ap (λ (t : List ℕ). kind ∷ t) left ∙ sym (ap (λ (t : List ℕ). t ++ r.left) text)
 
-both_true : (a b : Bool) → (a && b) ≡ true → (a ≡ true) × (b ≡ true)
-both_true true b e = (refl, e)
-both_true false b e = absurd cc
-
 leaf_is : (s m t r : Input) (part : List ℕ) (value : ℕ × Hash32) (usage : ℕ) → is_part true part ≡ true → Fits (Leaf part value.0 value.1 usage) → Takes s (counted_bytes part) m → Takes m (value_bytes value) t → Takes t (little 8 usage) r → IsKind 0 s (Leaf part value.0 value.1 usage, r)
 leaf_is s m t r part value usage form fits one two three =
     let text = Takes-then s m r (counted_bytes part) (value_bytes value ++ little 8 usage) one (Takes-then m t r (value_bytes value) (little 8 usage) two three) in
@@ -187,7 +183,7 @@ leaf_taken s p fits e =
 extension_is : (s m t r : Input) (part : List ℕ) (child : Hash32) (usage : ℕ) → is_front part ≡ true → Fits (Extension part child usage) → Takes s (counted_bytes part) m → Takes m child.0 t → Takes t (little 8 usage) r → IsKind 1 s (Extension part child usage, r)
 extension_is s m t r part child usage form fits one two three =
     let text = Takes-then s m r (counted_bytes part) (child.0 ++ little 8 usage) one (Takes-then m t r child.0 (little 8 usage) two three) in
-    let both = both_true (is_part false part) (ltb 0 (nibble_count part)) form in
+    let both = and_parts (is_part false part) (ltb 0 (nibble_count part)) form in
     ((both.0, ltb-true _ _ both.1), fits, as_text 1 s r (Extension part child usage) _ (extension_text part child usage) text.left, text.bytes)
 
 extension_taken : (s : Input) (p : Node × Input) → IsBytes s.left → extension_at s ≡ Ok p → IsKind 1 s p

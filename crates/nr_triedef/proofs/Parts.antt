@@ -1,11 +1,11 @@
 -- Parts of keys, nibble by nibble.
-use Rattle.std.proofs.Common.{◌≡◌, ◌<◌, ◌≤◌, ◌+◌, ◌*◌, ◌/◌, ◌%◌, ◌^◌, ℕ, zero, suc, Bool, true, false, cond, ◌||◌, List, [], ◌∷◌, ◌++◌, length, take, drop, get_or, slice_index, Option, Some, None, refl, ap, arith, inl, inr, eq-eqb, add-one, length-drop}
+use Rattle.std.proofs.Common.{◌≡◌, ◌<◌, ◌≤◌, ◌+◌, ◌*◌, ◌/◌, ◌%◌, ◌^◌, ℕ, zero, suc, Bool, true, false, cond, List, [], ◌∷◌, ◌++◌, length, take, drop, get_or, slice_index, Option, Some, None, refl, ap, arith, inl, inr, eq-eqb, add-one, length-drop}
 use Rattle.std.proofs.Math.Nat.{pow-suc, pow-le-pow_right}
 use Rattle.nr_bytes.specs.Numbers.{IsBytes}
 use Rattle.nr_ids.specs.declared.key.Hash32.{Hash32}
 use Rattle.nr_triedef.specs.Node.{nibbles, IsNibbles, paired, key_part, is_flag, is_part, nibble_count, IsNode, bitmap}
 use Rattle.nr_triedef.specs.declared.node.Node.TheVariants.{Leaf, Extension}
-use Rattle.std.proofs.lemmas.Bool.{cases_lt}
+use Rattle.std.proofs.lemmas.Bool.{cases_lt, or_right}
 
 nibbles_suc : (key : List ℕ) (i : ℕ) → i < length key → nibbles (take (suc i) key) ≡ nibbles (take i key) ++ get_or key i 0 / 16 ∷ get_or key i 0 % 16 ∷ []
 nibbles_suc [] i lt = absurd (omega arith)
@@ -50,17 +50,13 @@ paired-length (x ∷ y ∷ key) even =
     let less : length key % 2 ≡ 0 = omega arith in
     omega (arith, paired-length key less)
 
-or-true : (a b : Bool) → b ≡ true → (a || b) ≡ true
-or-true true b is = refl
-or-true false b is = is
-
 flag_alone : (leaf : Bool) → is_flag leaf (cond leaf 32 0) ≡ true
 flag_alone true = refl
 flag_alone false = refl
 
 flag_with : (leaf : Bool) (x : ℕ) → x < 16 → is_flag leaf (cond leaf 32 0 + 16 + x) ≡ true
-flag_with true x small = or-true _ _ (eq-eqb ((32 + 16 + x) / 16) 3 (omega arith))
-flag_with false x small = or-true _ _ (eq-eqb ((0 + 16 + x) / 16) 1 (omega arith))
+flag_with true x small = or_right _ _ (eq-eqb ((32 + 16 + x) / 16) 3 (omega arith))
+flag_with false x small = or_right _ _ (eq-eqb ((0 + 16 + x) / 16) 1 (omega arith))
 
 count_alone : (leaf : Bool) → cond leaf 32 0 / 16 % 2 ≡ 0
 count_alone true = refl

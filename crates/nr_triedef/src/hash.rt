@@ -1,6 +1,6 @@
 //! Hashes of nodes, and the count of the steps that make them.
 
-ghost use Rattle.std.specs.Prelude.{◌≡◌, ◌+◌, ◌<◌, length};
+ghost use Rattle.std.specs.Prelude.{◌≡◌, ◌+◌, ◌<◌};
 ghost use Rattle.nr_triedef.specs.Node.{digest};
 ghost use Rattle.nr_triedef.specs.Root.{no_root};
 

@@ -1,6 +1,6 @@
 //! Keys as nibbles, and the parts of nodes.
 
-ghost use Rattle.std.specs.Prelude.{◌≡◌, ◌+◌, ◌*◌, ◌%◌, ◌/◌, ◌++◌, ◌∷◌, [], length, drop, cond, IfOk, OnOk};
+ghost use Rattle.std.specs.Prelude.{◌≡◌, ◌+◌, ◌*◌, ◌%◌, ◌/◌, ◌++◌, ◌∷◌, length, drop, IfOk, OnOk};
 ghost use Rattle.nr_triedef.specs.Node.{IsNibbles, nibbles, paired, key_part};
 
 use nr_bytes::{Blob, Writer};

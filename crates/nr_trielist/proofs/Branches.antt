@@ -1,24 +1,18 @@
 -- The list of a trie's nodes: of no key, of one, and of several; that any depth above the keys gives the same; and that they are the nodes of the forest.
-use Rattle.std.proofs.Common.{◌≡◌, ◌≤◌, ◌-◌, ℕ, zero, suc, false, List, [], ◌∷◌, ◌++◌, length, map, Option, Some, None, refl, ap, sym, subst, ◌∙◌, arith, append-nil}
+use Rattle.std.proofs.Common.{◌≡◌, ◌≤◌, ◌-◌, ℕ, zero, suc, false, List, [], ◌∷◌, ◌++◌, length, map, Option, None, refl, ap, sym, subst, ◌∙◌, arith, append-nil}
 use Rattle.std.specs.List.{flat_map}
 use Rattle.nr_triedef.specs.Node.{key_part, summary}
 use Rattle.nr_triedef.specs.declared.node.Node.{Node}
 use Rattle.nr_triedef.specs.declared.hash.Summary.{Summary}
-use Rattle.nr_triedef.specs.Root.{Paths, front, value_here, under, leaf, branch, extension, with_front, sixteen, depth, trie}
+use Rattle.nr_triedef.specs.Root.{Paths, front, value_here, under, leaf, branch, extension, sixteen, depth, trie}
 use Rattle.nr_store.specs.Tries.{CanWalk, first_path, cut, whole}
 use Rattle.nr_store.proofs.Links.{CanStand}
-use Rattle.nr_store.proofs.Levels.{trie_empty, trie_one, children, children_stand, stands, levels, enough}
+use Rattle.nr_store.proofs.Levels.{children, children_stand, stands, levels, enough, same_trie}
 use Rattle.nr_trielist.specs.Forest.{Stood, Forest, bare, tree, stood, fronted, rows, forest, listed}
 use Rattle.nr_trielist.specs.Growing.{head_nodes, nodes_at, all_nodes, heads}
 
 abbrev pub joined_nodes : List ℕ → Paths → List (Option Summary) → List Node → List Node
 joined_nodes shared rest below others = head_nodes shared (branch (value_here rest) below) ++ others
-
-split_trie : (n : ℕ) (ps : Paths) → 2 ≤ length ps → trie (suc n) ps ≡ Some (with_front (front ps) (summary (branch (value_here (cut ps)) (map (λ nibble. trie n (under nibble (cut ps))) sixteen))))
-unfolding trie
-split_trie n [] len = absurd (omega arith)
-split_trie n (p ∷ []) len = absurd (omega arith)
-split_trie n (p ∷ q ∷ ps) len = refl
 
 split_nodes : (n : ℕ) (ps : Paths) → 2 ≤ length ps → nodes_at (suc n) ps ≡ joined_nodes (front ps) (cut ps) (map (λ nibble. trie n (under nibble (cut ps))) sixteen) (flat_map (λ nibble. nodes_at n (under nibble (cut ps))) sixteen)
 unfolding nodes_at
@@ -38,17 +32,6 @@ nodes_one n (p ∷ []) len = refl
 nodes_one n (p ∷ q ∷ ps) len = absurd (omega arith)
 
 -- ---- any depth above the keys
-same_trie : (n m : ℕ) (ps : Paths) → CanStand n ps → CanStand m ps → trie n ps ≡ trie m ps
-same_trie n m [] h g = trie_empty n [] refl ∙ sym (trie_empty m [] refl)
-same_trie n m (p ∷ []) h g = trie_one n (p ∷ []) p refl refl ∙ sym (trie_one m (p ∷ []) p refl refl)
-same_trie zero m (p ∷ q ∷ ps) h g = absurd (omega (arith, h.short.0))
-same_trie (suc n) zero (p ∷ q ∷ ps) h g = absurd (omega (arith, g.short.0))
-same_trie (suc n) (suc m) (p ∷ q ∷ ps) h g =
-    let all = p ∷ q ∷ ps in
-    split_trie n all (omega arith)
-    ∙ (λ i. Some (with_front (front all) (summary (branch (value_here (cut all)) (map (λ nibble. same_trie n m (under nibble (cut all)) (children_stand n all nibble h) (children_stand m all nibble g) i) sixteen)))))
-    ∙ sym (split_trie m all (omega arith))
-
 same_nodes : (n m : ℕ) (ps : Paths) → CanStand n ps → CanStand m ps → nodes_at n ps ≡ nodes_at m ps
 same_nodes n m [] h g = nodes_empty n [] refl ∙ sym (nodes_empty m [] refl)
 same_nodes n m (p ∷ []) h g = nodes_one n (p ∷ []) refl ∙ sym (nodes_one m (p ∷ []) refl)

@@ -1,14 +1,12 @@
 -- Branches that wait for a child, what is left to do, and which nodes were listed.
 use Rattle.std.proofs.Common.{◌≡◌, ◌<◌, ◌≤◌, ◌+◌, ◌-◌, ◌*◌, ℕ, suc, Bool, true, false, cond, List, [], ◌∷◌, ◌++◌, length, drop, map, Option, refl, ap, sym, subst, ◌∙◌, inl, inr, arith, length-drop, eq-eqb, append_assoc, append-nil}
-use mathlib.Core.Bool.{false≢true}
 use Rattle.std.specs.Prelude.{reverse, Result, Ok, Err, IfOk, OnOk}
 use Rattle.std.specs.List.{flat_map, range_with_len}
 use Rattle.std.proofs.lemmas.List.{reverse-append}
 use Rattle.std.proofs.lemmas.Bool.{cases_lt, lt-ltb, le-ltb, ne_eqb}
 use Rattle.nr_triedef.specs.declared.node.Node.{Node}
 use Rattle.nr_triedef.specs.declared.hash.Summary.{Summary}
-use Rattle.nr_triedef.specs.Node.{key_part, summary}
-use Rattle.nr_triedef.specs.Root.{Paths, front, behind, under, value_here, branch, extension, with_front, sixteen}
+use Rattle.nr_triedef.specs.Root.{Paths, front, behind, under, value_here, branch, sixteen}
 use Rattle.nr_store.specs.Tries.{is_below, cut, whole, Branching}
 use Rattle.nr_trielist.specs.Growing.{head_nodes, all_nodes, heads}
 use Rattle.nr_store.proofs.Levels.{children}
@@ -182,19 +180,3 @@ made_here rest made e is = e ∙ ap (λ k. map (λ n. whole (under n rest)) (ran
 pub heads_closed : (ps rest : Paths) (made : List (Option Summary)) (shared : List ℕ) (node : Node) → rest ≡ cut ps → made ≡ children rest → shared ≡ front ps → node ≡ branch (value_here rest) made → head_nodes shared node ≡ heads ps
 heads_closed ps rest made shared node r m s e =
     (λ i. head_nodes (s i) (e i)) ∙ (λ i. head_nodes (front ps) (branch (value_here rest) (m i))) ∙ (λ i. head_nodes (front ps) (branch (value_here (r i)) (children (r i))))
-
-pub heads_none : (shared : List ℕ) (node : Node) → length shared ≡ 0 → reverse (head_nodes shared node) ≡ node ∷ []
-heads_none [] node e = refl
-heads_none (x ∷ xs) node e = absurd (omega arith)
-
-pub heads_some : (shared : List ℕ) (node over : Node) → 0 < length shared → over ≡ extension (key_part shared false) (summary node) → reverse (head_nodes shared node) ≡ node ∷ over ∷ []
-heads_some [] node over some e = absurd (omega arith)
-heads_some (x ∷ xs) node over some e = ap (λ (n : Node). node ∷ n ∷ []) (sym e)
-
-pub front_none : (shared : List ℕ) (s : Summary) → length shared ≡ 0 → with_front shared s ≡ s
-front_none [] s e = refl
-front_none (x ∷ xs) s e = absurd (omega arith)
-
-pub front_some : (shared : List ℕ) (s : Summary) (over : Node) → 0 < length shared → over ≡ extension (key_part shared false) s → with_front shared s ≡ summary over
-front_some [] s over some e = absurd (omega arith)
-front_some (x ∷ xs) s over some e = ap summary (sym e)

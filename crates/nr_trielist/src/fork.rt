@@ -5,7 +5,7 @@ ghost use Rattle.std.specs.Prelude.{MatchOption};
 ghost use Rattle.nr_triedef.specs.Node.{IsNibbles, IsNode, summary};
 ghost use Rattle.nr_triedef.specs.Root.{under, with_front, sixteen};
 ghost use Rattle.std.specs.List.{flat_map};
-ghost use Rattle.nr_store.specs.Tries.{CanWalk, cut, whole};
+ghost use Rattle.nr_store.specs.Tries.{cut, whole};
 ghost use Rattle.nr_trielist.specs.Growing.{heads, head_nodes, all_nodes};
 
 use crate::hashes::Hashes;

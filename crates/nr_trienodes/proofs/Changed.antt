@@ -1,5 +1,5 @@
 -- The map of a changed root, and old roots where nothing but new nodes came.
-use Rattle.std.proofs.Common.{◌≡◌, ◌≢◌, ◌<◌, ◌≤◌, ◌+◌, ◌-◌, ◌*◌, ◌^◌, ℕ, Bool, true, false, cond, List, [], length, drop, Option, Some, None, Result, Ok, Err, refl, ap, sym, ◌∙◌, subst, length-append, arith}
+use Rattle.std.proofs.Common.{◌≡◌, ◌≢◌, ◌<◌, ◌≤◌, ◌+◌, ◌-◌, ◌*◌, ◌^◌, ℕ, Bool, true, false, cond, List, [], length, drop, Option, Some, None, Result, Ok, Err, refl, ap, sym, ◌∙◌, length-append, arith}
 use mathlib.Core.Bool.{false≢true}
 use Rattle.std.specs.Prelude.{is_some, IsSome}
 use Rattle.std.proofs.Math.Seq.{drop-append_seam}
@@ -15,9 +15,9 @@ use Rattle.nr_trienodes.specs.Shape.{Shape}
 use Rattle.nr_trienodes.specs.Tries.{Answer, answer, nothing, node_paths, node_cost, found, found_in, cost_at, cost_in}
 use Rattle.nr_trienodes.specs.Views.{Sound}
 use Rattle.nr_trienodes.specs.Turns.{Extends, Changes}
-use Rattle.nr_trienodes.specs.Roots.{IsWhole, IsRoot, IsChanged, Keeps, IsFull, FullsSo, packed, contents, cost, name_in}
+use Rattle.nr_trienodes.specs.Roots.{IsWhole, IsRoot, IsChanged, Keeps, FullsSo, packed, contents, cost, name_in}
 use Rattle.nr_trienodes.specs.declared.fault.NodesFault.{NodesFault}
-use Rattle.nr_trienodes.specs.declared.fault.NodesFault.TheVariants.{Full, Memory}
+use Rattle.nr_trienodes.specs.declared.fault.NodesFault.TheVariants.{Full}
 use Rattle.nr_trienodes.specs.declared.nodes.NodeId.{NodeId}
 use Rattle.nr_trienodes.proofs.Orders.{R, paired-nibbles}
 use Rattle.nr_trienodes.proofs.Keys.{length-nibbles}
@@ -80,10 +80,6 @@ is_put old new before after key value extra so sn root c = is_changed old new be
 pub is_cut : (old new : List Shape) (before after : Option NodeId) (key : List ℕ) (extra : ℕ) → Sound old → Sound new → IsRoot old before → Changes old new (name_in before) (name_in after) (nibbles key) None extra → IsChanged old new before after (remove (contents old before) key) extra
 is_cut old new before after key extra so sn root c = is_changed old new before after key None extra (remove (contents old before) key) so sn root c (λ q. get-remove nat_list_cmp_total (contents old before) key q)
 
--- nothing is cut of no map
-pub cut_none : (nodes : List Shape) (root : Option NodeId) (key : List ℕ) (extra : ℕ) → root ≡ None → Sound nodes → IsRoot nodes root → IsChanged nodes nodes root None (remove (contents nodes root) key) extra
-cut_none nodes root key extra e sound is = is_cut nodes nodes root None key extra sound sound is (subst (λ (r : Option NodeId). Changes nodes nodes (name_in r) None (nibbles key) None extra) (sym e) (record { there = tt; sets = record { here = refl; other = λ q ne. refl }; cost = omega arith }))
-
 -- ---- old roots
 pub keeps_extends : (old new : List Shape) → Extends old new → Keeps old new
 unfolding contents cost
@@ -110,18 +106,6 @@ cut_back old new now n grows en e =
     e ∙ ap (λ k. drop k new) count ∙ ap (drop (length grows.more)) grows.is ∙ drop-append_seam grows.more old
 
 -- ---- full
-pub fulls_err : {A B : Type 0} (held n : ℕ) (e : NodesFault) → FullsSo {A = A} held n (Err e) → FullsSo {A = B} held n (Err e)
-fulls_err {A} {B} held n e f = record { there = λ full. let is : ◌≡◌ {A = Result A NodesFault} (Err e) (Err (Full held)) = f.there full in let same : e ≡ Full held = cc in ap (λ (x : NodesFault). let r : Result B NodesFault = Err x in r) same; only = λ k is. let same : e ≡ Full k = cc in f.only k (ap (λ (x : NodesFault). let r : Result A NodesFault = Err x in r) same) }
-
-not_full : {A : Type 0} (held n : ℕ) (a : A) → FullsSo held n (Ok a) → IsFull held n → ⊥
-not_full held n a f full = let is = f.there full in cc
-
-pub fulls_ok : {A B : Type 0} (held n : ℕ) (a : A) (b : B) → FullsSo held n (Ok a) → FullsSo held n (Ok b)
-fulls_ok held n a b f = record { there = λ full. absurd (not_full held n a f full); only = λ k is. absurd cc }
-
-pub fulls_memory : {A B : Type 0} (held n : ℕ) (a : A) → FullsSo held n (Ok a) → FullsSo {A = B} held n (Err Memory)
-fulls_memory held n a f = record { there = λ full. absurd (not_full held n a f full); only = λ k is. absurd cc }
-
 pub full_there : {A : Type 0} (n held : ℕ) (key : List ℕ) → held ≡ n → 2 ^ 32 < n + 4 + 4 * length key → FullsSo {A = A} n (length (nibbles key)) (Err (Full held))
 full_there {A} n held key e full =
     record {

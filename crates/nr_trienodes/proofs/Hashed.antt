@@ -7,8 +7,8 @@ use Rattle.std.proofs.lemmas.Bool.{eqb-true}
 use Rattle.std.proofs.lemmas.List.Sums.{sum_by-cons}
 use Rattle.nr_ids.specs.declared.key.Hash32.{Hash32}
 use Rattle.nr_triedef.specs.declared.hash.Summary.{Summary}
-use Rattle.nr_triedef.specs.Node.{key_part, summary, links}
-use Rattle.nr_triedef.specs.Root.{Paths, leaf_with, branch, with_front, value_field, hash_below, summary_of, root_of, no_root}
+use Rattle.nr_triedef.specs.Node.{key_part, summary}
+use Rattle.nr_triedef.specs.Root.{Paths, leaf_with, branch, with_front, summary_of, root_of, no_root}
 use Rattle.nr_trienodes.specs.Shape.{Shape, child, shape_at}
 use Rattle.nr_trienodes.specs.Tries.{Answer, answer, nothing, found, node_paths, is_leaf, value_or_none, node_summary, summary_at, or_zero, weight, cost_at}
 use Rattle.nr_trienodes.specs.Views.{Sound, KeepsHash}
@@ -16,7 +16,7 @@ use Rattle.nr_trienodes.specs.Roots.{IsRoot, Keeps, packed, contents, cost}
 use Rattle.nr_trienodes.specs.Hashing.{is_hashed, HasHashes, IsWarm, weight_at, Warms}
 use Rattle.nr_trienodes.specs.declared.nodes.NodeId.{NodeId}
 use Rattle.nr_trienodes.proofs.Folds.{by_names, fold_at, fold_alike, not_same}
-use Rattle.nr_trienodes.proofs.Sounds.{back_sound, sum_by-map, sum_by-same, count-children}
+use Rattle.nr_trienodes.proofs.Sounds.{back_sound, count-children}
 use Rattle.nr_trienodes.proofs.Rows.{child_get}
 use Rattle.nr_trienodes.proofs.Climbing.{cost_kept, cost_new}
 use Rattle.nr_trienodes.proofs.Maps.{root_is, root_none}
@@ -38,9 +38,6 @@ no_hash nodes child id kept warm e ek none =
     let no : is_some (shape_at nodes id).hash ≡ false = ap (λ (h : Option Hash32). is_some h) is in
     absurd cc
 
-pub warm_in : (nodes : List Shape) (child : Option ℕ) (id : ℕ) → IsWarm nodes child → child ≡ Some id → id < length nodes
-warm_in nodes child id warm e = (subst (IsWarm nodes) e warm).0
-
 pub warm_row : (nodes : List Shape) (id : ℕ) (row : List (Option ℕ)) → Sound nodes → id < length nodes → HasHashes nodes id → row ≡ (shape_at nodes id).below → (k : ℕ) → k < 16 → IsWarm nodes (get_or row k None)
 warm_row nodes id row sound lt hashes e k small = subst (IsWarm nodes) (sym (child_get row k)) (each (child row k) (λ c h. ap (λ (r : List (Option ℕ)). child r k) (sym e) ∙ h))
   where
@@ -56,15 +53,6 @@ each_made {A} {B} f xs ys len same h = go xs ys (len ∙ sym same) (λ k lt. h k
     go [] (s ∷ ss) e g = absurd (omega arith)
     go (c ∷ cs) [] e g = absurd (omega arith)
     go (c ∷ cs) (s ∷ ss) e g = (λ i. g 0 (omega arith) i ∷ go cs ss (omega arith) (λ k lt. g (suc k) (omega arith)) i)
-
-pub links_are : (value : Option (List ℕ)) (f : ℕ → Summary) (row : List (Option ℕ)) → links (value_field value) (map hash_below (map (option_map f) row)) ≡ cond (is_some value) 1 0 + count_by is_some row
-links_are value f row =
-    let below : List (Option Summary) = map (option_map f) row in
-    let hashes : count_by is_some (map hash_below below) ≡ count_by is_some below = sum_by-map (λ (h : Option Hash32). cond {A = ℕ} (is_some h) 1 0) hash_below below ∙ sum_by-same (λ (s : Option Summary). cond {A = ℕ} (is_some (hash_below s)) 1 0) (λ s. cond {A = ℕ} (is_some s) 1 0) below (λ s. elim s as (λ o. cond {A = ℕ} (is_some (hash_below o)) 1 0 ≡ cond {A = ℕ} (is_some o) 1 0) [ None ↦ refl | Some t ↦ refl ]) in
-    elim value as (λ v. links (value_field v) (map hash_below below) ≡ cond (is_some v) 1 0 + count_by is_some row) [
-      | None ↦ omega (arith, hashes, count-children f row)
-      | Some v ↦ omega (arith, hashes, count-children f row)
-    ]
 
 -- ---- a node's summary
 summary_is : (nodes : List Shape) (id : ℕ) (b : Bool) → Sound nodes → id < length nodes → is_leaf (shape_at nodes id).value (count_by is_some (shape_at nodes id).below) ≡ b
@@ -87,28 +75,12 @@ both_true value v n e f = (λ i. is_leaf (f i) n) ∙ elim (n == 0) as (λ b. b 
 pub leaf_is : (nodes : List Shape) (id : ℕ) (v : List ℕ) → Sound nodes → id < length nodes → (count_by is_some (shape_at nodes id).below == 0) ≡ true → (shape_at nodes id).value ≡ Some v → summary_at nodes id ≡ summary (leaf_with (key_part (shape_at nodes id).part true) v)
 leaf_is nodes id v sound lt e f = summary_is nodes id true sound lt (both_true (shape_at nodes id).value v (count_by is_some (shape_at nodes id).below) e f) ∙ ap (λ o. summary (leaf_with (key_part (shape_at nodes id).part true) (value_or_none o))) f
 
-pub weight_inner : (nodes : List Shape) (id : ℕ) → is_leaf (shape_at nodes id).value (count_by is_some (shape_at nodes id).below) ≡ false → weight_at nodes id ≡ 1 + cond {A = ℕ} (length (shape_at nodes id).part == 0) 0 1
-weight_inner nodes id e = ap (λ b. cond {A = ℕ} b 1 (cond {A = ℕ} (length (shape_at nodes id).part == 0) 1 2)) e ∙ elim (length (shape_at nodes id).part == 0) as (λ b. cond {A = ℕ} b 1 2 ≡ 1 + cond {A = ℕ} b 0 1) [ true ↦ refl | false ↦ refl ]
-
-pub weight_leaf : (nodes : List Shape) (id : ℕ) (v : List ℕ) → (count_by is_some (shape_at nodes id).below == 0) ≡ true → (shape_at nodes id).value ≡ Some v → weight_at nodes id ≡ 1
-weight_leaf nodes id v e f = ap (λ b. cond {A = ℕ} b 1 (cond {A = ℕ} (length (shape_at nodes id).part == 0) 1 2)) (both_true (shape_at nodes id).value v (count_by is_some (shape_at nodes id).below) e f)
-
 pub weight_pos : (nodes : List Shape) (id : ℕ) → 1 ≤ weight_at nodes id
 weight_pos nodes id =
     elim (is_leaf (shape_at nodes id).value (count_by is_some (shape_at nodes id).below)) as (λ b. 1 ≤ cond {A = ℕ} b 1 (cond {A = ℕ} (length (shape_at nodes id).part == 0) 1 2)) [
       | true ↦ omega arith
       | false ↦ elim (length (shape_at nodes id).part == 0) as (λ b. 1 ≤ cond {A = ℕ} b 1 2) [ true ↦ omega arith | false ↦ omega arith ]
     ]
-
-not_leaf : (b : Bool) → (b && false) ≡ false
-not_leaf true = refl
-not_leaf false = refl
-
-pub inner_none : (value : Option (List ℕ)) (n : ℕ) → value ≡ None → is_leaf value n ≡ false
-inner_none value n e = ap (λ v. is_leaf v n) e ∙ not_leaf (n == 0)
-
-pub inner_some : (value : Option (List ℕ)) (n : ℕ) → (n == 0) ≡ false → is_leaf value n ≡ false
-inner_some value n e = ap (λ b. b && is_some value) e
 
 -- ---- more hashes
 pub warm_refl : (nodes : List Shape) → Sound nodes → Warms nodes nodes

@@ -39,9 +39,6 @@ next_low key at b lt odd e room =
     record { is = low key at lt odd ∙ (λ i. sym e i % 16 ∷ left key (sym (add-one at) i)); small = omega arith; room = room }
 
 -- ---- a part
-take_none : (p k : List ℕ) → stripped (take 0 p) k ≡ Some k
-take_none p k = refl
-
 take_more : (p k r : List ℕ) (n x : ℕ) → n < length p → get_or p n 0 ≡ x → stripped (take n p) k ≡ Some (x ∷ r) → stripped (take (suc n) p) k ≡ Some r
 take_more [] k r n x lt e f = absurd (omega arith)
 take_more (y ∷ p) [] r zero x lt e f = absurd cc
@@ -67,9 +64,6 @@ goes_off (y ∷ p) k (suc n) lt off = goes_off p k n (omega arith) off
 pub record Along (part key : List ℕ) (at n place : ℕ) : Type 0 where
   pub count : place ≡ at + n
   pub front : stripped (take n part) (left key at) ≡ Some (left key place)
-
-pub along_none : (part key : List ℕ) (at : ℕ) → Along part key at 0 at
-along_none part key at = record { count = omega arith; front = refl }
 
 pub along_more : (part key : List ℕ) (at n place x : ℕ) → Along part key at n place → n < length part → x ≡ get_or part n 0 → IsNext key place x → Along part key at (n + 1) (place + 1)
 along_more part key at n place x a lt e next =

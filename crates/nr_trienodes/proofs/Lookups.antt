@@ -7,6 +7,7 @@ use Rattle.std.specs.FinMap.Entries.{below_all}
 use Rattle.std.specs.declared.cmp.Ordering.TheVariants.{Less, Equal, Greater}
 use Rattle.std.specs.Ordering.{nat_cmp, is_lt, is_eq, ordering_then, eq_by_cmp}
 use Rattle.std.specs.Cmp.{unsigned_tied}
+use Rattle.nr_bytes.proofs.Basics.{left_of, right_of}
 use Rattle.nr_triedef.specs.Root.{Paths}
 use Rattle.nr_trienodes.specs.Shape.{Shape, child, shape_at}
 use Rattle.nr_trienodes.specs.Tries.{Answer, stripped, asked, given, answer, nothing, found, in_front, own_path, paths_from, node_paths, paths_at}
@@ -20,14 +21,6 @@ Path = List ℕ × List ℕ
 both : (a b : Bool) → T a → T b → T (a && b)
 both true b p q = q
 both false b p q = absurd p
-
-first : (a b : Bool) → T (a && b) → T a
-first true b p = tt
-first false b p = absurd p
-
-second : (a b : Bool) → T (a && b) → T b
-second true b p = p
-second false b p = absurd p
 
 abbrev pub Sorted : Paths → Type 0
 Sorted ps = T (is_sorted R ps)
@@ -47,11 +40,11 @@ sorted_front p (q ∷ ps) = (λ i. below_front p q.0 ps i && sorted_front p ps i
 
 below_append : (k : List ℕ) (ps qs : Paths) → T (below_all R k ps) → T (below_all R k qs) → T (below_all R k (ps ++ qs))
 below_append k [] qs a b = b
-below_append k (p ∷ ps) qs a b = both _ _ (first _ _ a) (below_append k ps qs (second _ _ a) b)
+below_append k (p ∷ ps) qs a b = both _ _ (left_of _ _ a) (below_append k ps qs (right_of _ _ a) b)
 
 sorted_append : (ps qs : Paths) → Sorted ps → Sorted qs → AllByRecursion (λ (p : Path). T (below_all R p.0 qs)) ps → Sorted (ps ++ qs)
 sorted_append [] qs a b all = b
-sorted_append (p ∷ ps) qs a b all = both _ _ (below_append p.0 ps qs (first _ _ a) all.0) (sorted_append ps qs (second _ _ a) b all.1)
+sorted_append (p ∷ ps) qs a b all = both _ _ (below_append p.0 ps qs (left_of _ _ a) all.0) (sorted_append ps qs (right_of _ _ a) b all.1)
 
 below_one : (m n : ℕ) (k : List ℕ) (ps : Paths) → m < n → T (below_all R (m ∷ k) (in_front (n ∷ []) ps))
 below_one m n k [] lt = tt
@@ -131,10 +124,6 @@ looked_cons (Some key) p ps = refl
 find_front : (p q : List ℕ) (ps : Paths) → find R q (in_front p ps) ≡ looked (stripped p q) ps
 find_front p q [] = elim (stripped p q) as (λ m. None ≡ looked m []) [ None ↦ refl | Some key ↦ refl ]
 find_front p q (e ∷ ps) = (λ i. cond (eq_front p q e.0 i) (Some e.1) (find_front p q ps i)) ∙ sym (looked_cons (stripped p q) e ps)
-
-or_else : Option (List ℕ) → Option (List ℕ) → Option (List ℕ)
-or_else None b = b
-or_else (Some a) b = Some a
 
 find_append : (q : List ℕ) (ps qs : Paths) → find R q ps ≡ None → find R q (ps ++ qs) ≡ find R q qs
 find_append q [] qs e = refl

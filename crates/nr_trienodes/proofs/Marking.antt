@@ -1,6 +1,5 @@
 -- Nodes that are kept: what is marked, and that there are no more of them than at and below the roots.
 use Rattle.std.proofs.Common.{◌≡◌, ◌<◌, ◌≤◌, ◌+◌, ◌-◌, ℕ, zero, suc, Bool, true, false, cond, List, [], ◌∷◌, ◌++◌, length, take, drop, map, get_or, set, Option, Some, None, refl, ap, sym, ◌∙◌, subst, inl, inr, add-one, arith}
-use mathlib.Core.Bool.{false≢true}
 use Rattle.std.specs.Prelude.{is_some, count_by, sum_by, ◌⊎◌}
 use Rattle.std.specs.Option.{option_map}
 use Rattle.std.specs.List.{AllByRecursion}
@@ -101,9 +100,6 @@ weight_none count names (suc n) none =
     nothing false = refl
 
 -- ---- a row
-pub row_none : (row : List (Option ℕ)) (names : Names) (n : ℕ) → RowMarked (take 0 row) names names n
-row_none row names n = record { marks = record { same = refl; kept = λ c h. h; own = λ c h. h }; row = λ x c e. absurd cc; weight = λ count. omega arith; rest = refl }
-
 pub row_nothing : (row : List (Option ℕ)) (names : Names) (n : ℕ) → row ≡ no_children → RowMarked row names names n
 row_nothing row names n e = subst (λ (cs : List (Option ℕ)). RowMarked cs names names n) (sym e) (record {
   marks = record { same = refl; kept = λ c h. h; own = λ c h. h };
@@ -186,13 +182,6 @@ later [] (y ∷ b) (suc n) (suc id) le e = later [] b n id (omega arith) (drop_n
 later (x ∷ a) [] (suc n) (suc id) le e = later a [] n id (omega arith) (e ∙ sym (drop_none n [] refl))
 later (x ∷ a) (y ∷ b) (suc n) (suc id) le e = later a b n id (omega arith) e
 
-pub below_start : (nodes : List Shape) (oldest : ℕ) (names : Names) → length names ≡ length nodes → BelowMarked nodes oldest names names (length nodes)
-below_start nodes oldest names len = record {
-  marks = record { same = refl; kept = λ c h. h; own = λ c h. h };
-  closed = λ id le lt. absurd (omega arith);
-  few = let le : length names ≤ length nodes = omega arith in omega (arith, ap (count_by is_some) (drop_of_length-le names le));
-}
-
 pub below_kept : (nodes : List Shape) (oldest n : ℕ) (old mid new : Names) → Sound nodes → oldest ≤ n → n < length nodes → length mid ≡ length nodes → BelowMarked nodes oldest old mid (suc n) → IsKept mid n → RowMarked (shape_at nodes n).below mid new n → BelowMarked nodes oldest old new n
 below_kept nodes oldest n old mid new sound young lt len h kept row = record {
   marks = marks_all old mid new h.marks row.marks;
@@ -206,18 +195,6 @@ below_kept nodes oldest n old mid new sound young lt len h kept row = record {
       omega (arith, ap (count_by is_some) row.rest, count_drop mid n (omega arith), one, many, row.weight (young_at nodes oldest), h.few, young_is nodes oldest n (back_sound nodes sound) young lt);
 }
 
-pub below_passed : (nodes : List Shape) (oldest n : ℕ) (old mid : Names) → n < length nodes → length mid ≡ length nodes → BelowMarked nodes oldest old mid (suc n) → is_some (new_name mid n) ≡ false → BelowMarked nodes oldest old mid n
-below_passed nodes oldest n old mid lt len h none = record {
-  marks = h.marks;
-  closed = λ id le less is x c e. elim (eq-or-lt_of_le le) as (λ _. IsKept mid c) [
-    | inl same ↦ absurd (false≢true (sym none ∙ ap (λ i. is_some (new_name mid i)) same ∙ is))
-    | inr above ↦ h.closed id above less is x c e
-  ];
-  few =
-      let no : cond {A = ℕ} (is_some (new_name mid n)) 1 0 ≡ 0 = ap (λ b. cond {A = ℕ} b 1 0) none in
-      omega (arith, count_drop mid n (omega arith), no, h.few);
-}
-
 pub below_on : (nodes : List Shape) (oldest left : ℕ) (old mid new : Names) → Sound nodes → oldest < left
     → left ≤ length nodes → length old ≡ length nodes → BelowMarked nodes oldest old mid left
     → is_some (new_name mid (left - 1)) ≡ true → RowMarked (shape_at nodes (left - 1)).below mid new (left - 1)
@@ -225,11 +202,6 @@ pub below_on : (nodes : List Shape) (oldest left : ℕ) (old mid new : Names) �
 below_on nodes oldest left old mid new sound some le len h kept row =
     let e : left ≡ suc (left - 1) = omega arith in
     below_kept nodes oldest (left - 1) old mid new sound (omega arith) (omega arith) (h.marks.same ∙ len) (subst (BelowMarked nodes oldest old mid) e h) kept row
-
-pub below_off : (nodes : List Shape) (oldest left : ℕ) (old mid : Names) → 0 < left → left ≤ length nodes → length old ≡ length nodes → BelowMarked nodes oldest old mid left → is_some (new_name mid (left - 1)) ≡ false → BelowMarked nodes oldest old mid (left - 1)
-below_off nodes oldest left old mid some le len h none =
-    let e : left ≡ suc (left - 1) = omega arith in
-    below_passed nodes oldest (left - 1) old mid (omega arith) (h.marks.same ∙ len) (subst (BelowMarked nodes oldest old mid) e h) none
 
 -- ---- the roots
 roots_more : (a b : Names) (roots : List (Option NodeId)) → Marks a b → AllByRecursion (HasName a) roots → AllByRecursion (HasName b) roots

@@ -25,22 +25,11 @@ use Rattle.nr_trienodes.proofs.Climbing.{costs-set, costs_less, found_of}
 use Rattle.nr_trienodes.proofs.Plugs.{plug_same, plug_sets, plug_grown, hung_opened, hung_closed, open_grown, levels_grown, costs_grown, levels_cost_grown}
 
 -- ---- the key along the way
-drop_front : (p r : List ℕ) → drop (length p) (p ++ r) ≡ r
-drop_front [] r = refl
-drop_front (x ∷ p) r = drop_front p r
-
--- what is left of a key that goes along
-pub along_at : (key p r : List ℕ) (n : ℕ) → nibbles key ≡ p ++ r → n ≡ length p → nibbles key ≡ p ++ left key n
-along_at key p r n e same = e ∙ ap (λ (k : List ℕ). p ++ k) (sym (ap (λ m. drop m (nibbles key)) same ∙ ap (drop (length p)) e ∙ drop_front p r))
-
 pub path_length : (l : Level) (ls : List Level) → length (path (l ∷ ls)) ≡ length (path ls) + length l.node.part + 1
 path_length l ls = omega (arith, length-append (path ls) (l.node.part ++ l.nibble ∷ []), length-append l.node.part (l.nibble ∷ []))
 
 path_more : (l : Level) (ls : List Level) (r : List ℕ) → path (l ∷ ls) ++ r ≡ path ls ++ (l.node.part ++ l.nibble ∷ r)
 path_more l ls r = append_assoc (path ls) (l.node.part ++ l.nibble ∷ []) r ∙ ap (λ (k : List ℕ). path ls ++ k) (append_assoc l.node.part (l.nibble ∷ []) r)
-
-pub along_up : (key : List ℕ) (l : Level) (ls : List Level) (r : List ℕ) (n : ℕ) → nibbles key ≡ path (l ∷ ls) ++ r → n ≡ length (path ls) → nibbles key ≡ path ls ++ left key n
-along_up key l ls r n e same = along_at key (path ls) (l.node.part ++ l.nibble ∷ r) n (e ∙ path_more l ls r) same
 
 pub along_down : (key : List ℕ) (w : OpenWay) (x next : ℕ) → IsAlong key w → stripped w.top.part (left key w.at) ≡ Some (x ∷ left key next) → nibbles key ≡ path (left_by w.top x ∷ w.levels) ++ left key next
 along_down key w x next along e =
@@ -80,12 +69,6 @@ grows_trans a b c w u v i j k l m n g h e =
 
 pub steady_trans : (a b c : List Shape) (w u v : OpenWay) (i j k l m n : ℕ) → Steady a b w u i j → Steady b c u v k l → i + k + n ≤ m + j + l → Steady a c w v m n
 steady_trans a b c w u v i j k l m n g h e = record { more = grows_trans a b c w u v i j k l m n g.more h.more e; same = λ q. h.same q ∙ g.same q }
-
-pub grows_as : (a b : List Shape) (w v : OpenWay) (i j m n : ℕ) → Grows a b w v i j → i + n ≤ m + j → Grows a b w v m n
-grows_as a b w v i j m n g le = record { grows = g.grows; way = g.way; few = omega (arith, g.few); cost = omega (arith, g.cost) }
-
-pub steady_as : (a b : List Shape) (w v : OpenWay) (i j m n : ℕ) → Steady a b w v i j → i + n ≤ m + j → Steady a b w v m n
-steady_as a b w v i j m n g le = record { more = grows_as a b w v i j m n g.more le; same = g.same }
 
 pub steady_refl : (nodes : List Shape) (w : OpenWay) (n : ℕ) → IsWay nodes w → Steady nodes nodes w w n n
 steady_refl nodes w n way = record { more = record { grows = extends_refl nodes; way = way; few = omega arith; cost = omega arith }; same = λ q. refl }
@@ -361,9 +344,6 @@ next_take : (n : ℕ) (k : List ℕ) → n < length k → take (suc n) k ≡ tak
 next_take n [] lt = absurd (omega arith)
 next_take zero (b ∷ k) lt = refl
 next_take (suc n) (b ∷ k) lt = ap (λ (l : List ℕ). b ∷ l) (next_take n k (omega arith))
-
-pub shared_none : (a b : List ℕ) → take 0 a ≡ take 0 b
-shared_none a b = refl
 
 pub shared_more : (a b : List ℕ) (n m : ℕ) → take n a ≡ take n b → n < length a → n < length b → get_or a n 0 ≡ get_or b n 0 → m ≡ n + 1 → take m a ≡ take m b
 shared_more a b n m e la lb same em =

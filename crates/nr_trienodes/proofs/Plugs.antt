@@ -6,7 +6,7 @@ use Rattle.std.proofs.lemmas.Bool.{eqb-true}
 use Rattle.nr_trienodes.specs.Shape.{Shape, child}
 use Rattle.nr_trienodes.specs.Tries.{Answer, nothing, answer, stripped, given, found, found_in, node_cost, cost_at}
 use Rattle.nr_trienodes.specs.Turns.{Sets, Extends}
-use Rattle.nr_trienodes.specs.Opened.{IsOpen, IsLevel, path, stands, hung, via, plug, open_cost, levels_cost}
+use Rattle.nr_trienodes.specs.Opened.{IsOpen, IsLevel, path, hung, via, plug, open_cost, levels_cost}
 use Rattle.nr_trienodes.specs.declared.open_way.OpenNode.{OpenNode}
 use Rattle.nr_trienodes.specs.declared.open_way.Level.{Level}
 use Rattle.nr_trienodes.proofs.Folds.{not_same}
@@ -93,14 +93,6 @@ plug_grown old new [] f grows all q = refl
 plug_grown old new (l ∷ ls) f grows all q =
     plug_grown old new ls (via new l f) grows all.1 q
     ∙ plug_same old ls (via new l f) (via old l f) (λ k. hung_grown old new l.node l.nibble f grows all.0.0 (stripped l.node.part k)) q
-
-given_grown : (old new : List Shape) (n : OpenNode) → Extends old new → IsOpen old n → (m : Option (List ℕ)) → given n.value (map (option_map (found new)) n.row) m ≡ given n.value (map (option_map (found old)) n.row) m
-given_grown old new n grows is None = refl
-given_grown old new n grows is (Some []) = refl
-given_grown old new n grows is (Some (y ∷ k)) = given_on new n.value n.row y k ∙ in_grown old new (child n.row y) k grows (λ d e. is.back y d e) ∙ sym (given_on old n.value n.row y k)
-
-pub stands_grown : (old new : List Shape) (n : OpenNode) → Extends old new → IsOpen old n → (q : List ℕ) → stands new n q ≡ stands old n q
-stands_grown old new n grows is q = given_grown old new n grows is (stripped n.part q)
 
 pub open_grown : (old new : List Shape) (n : OpenNode) → Extends old new → IsOpen old n → IsOpen new n
 open_grown old new n grows is = record { small = is.small; back = λ x c e. let lt : c < length old = is.back x c e in omega (arith, extends_longer old new grows); sixteen = is.sixteen }

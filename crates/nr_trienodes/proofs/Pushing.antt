@@ -1,7 +1,6 @@
 -- Places that wait to be listed: the children of a node behind its key.
 use Rattle.std.proofs.Common.{◌≡◌, ◌<◌, ◌≤◌, ◌+◌, ◌-◌, ◌*◌, ◌%◌, ℕ, zero, suc, List, [], ◌∷◌, ◌++◌, length, drop, map, get_or, Option, Some, None, refl, ap, sym, ◌∙◌, subst, arith, append_assoc}
-use Rattle.std.proofs.Math.ListN.{drop_of_length-le}
-use Rattle.std.proofs.lemmas.List.{length-map, append-nil, map-append}
+use Rattle.std.proofs.lemmas.List.{append-nil, map-append}
 use Rattle.std.proofs.lemmas.List.Sums.{sum_by-cons}
 use mathlib.Core.Bool.{false≢true}
 use Rattle.std.specs.Borrow.{Bor}
@@ -74,18 +73,6 @@ drop_children : {A : Type 0} (f : ℕ → A) (row : List (Option ℕ)) (j : ℕ)
 drop_children f [] j lt = absurd (omega arith)
 drop_children f (c ∷ row) zero lt = refl
 drop_children f (c ∷ row) (suc j) lt = drop_children f row j (omega arith)
-
-pub row_start : (nodes : List Shape) (row : List (Option ℕ)) (key : List ℕ) (places : List Place) → length row ≡ 16 → RowPushed nodes row key 16 places places
-row_start nodes row key places sixteen =
-    let few : length (map (option_map (paths_at nodes)) row) ≤ 16 = omega (arith, length-map row (option_map (paths_at nodes))) in
-    let fewer : length (map (option_map (count_at nodes)) row) ≤ 16 = omega (arith, length-map row (option_map (count_at nodes))) in
-    let none : drop 16 (map (option_map (paths_at nodes)) row) ≡ [] = drop_of_length-le (map (option_map (paths_at nodes)) row) few in
-    let nobody : drop 16 (map (option_map (count_at nodes)) row) ≡ [] = drop_of_length-le (map (option_map (count_at nodes)) row) fewer in
-    record {
-      paths = ap (λ (bs : List (Option Paths)). in_front key (paths_from 16 bs) ++ paths_of nodes places) (sym none);
-      count = omega (arith, ap (sum_by or_zero) nobody);
-      places = λ h. h;
-    }
 
 abbrev Stays : List Shape → List (Option ℕ) → List ℕ → ℕ → List Place → List Place → List Place → Option ℕ → Type 0
 Stays nodes row key j old mid new c = get_or row j None ≡ c → PushesSo mid new c key j → RowPushed nodes row key j old new
@@ -184,13 +171,6 @@ own_none nodes id key before e = nothing (shape_at nodes id).value e
     nothing None h = sym (append-nil before)
     nothing (Some v) h = absurd (false≢true (sym h))
 
-pub own_some : (nodes : List Shape) (id : ℕ) (key bytes : List ℕ) (before listed : List (List ℕ)) → is_some (shape_at nodes id).value ≡ true → bytes ≡ paired key → listed ≡ before ++ bytes ∷ [] → listed ≡ before ++ own_keys nodes id key
-own_some nodes id key bytes before listed e is more = something (shape_at nodes id).value e
-  where
-    something : (o : Option (List ℕ)) → is_some o ≡ true → listed ≡ before ++ keys_in (in_front key (own_path o))
-    something None h = absurd (false≢true h)
-    something (Some v) h = more ∙ ap (λ (b : List ℕ). before ++ b ∷ []) (is ∙ ap paired (sym (append-nil key)))
-
 pub copied_some : {A : Type 0} (o : Option (Bor A)) → is_some (option_copied o) ≡ is_some o
 copied_some None = refl
 copied_some (Some x) = refl
@@ -217,9 +197,6 @@ place_listed nodes p key before listed old new sound lt e whole is pushed =
     }
 
 -- ---- all of them
-pub first_place : (nodes : List Shape) (p : Place) → paths_of nodes (p ∷ []) ≡ place_paths nodes p
-first_place nodes p = refl
-
 -- the last place taken off
 pub last_place : (nodes : List Shape) (places rest : List Place) (p : Place) → places ≡ rest ++ p ∷ [] → paths_of nodes places ≡ place_paths nodes p ++ paths_of nodes rest
 last_place nodes places rest p e = ap (paths_of nodes) e ∙ paths_push nodes rest p

@@ -1,5 +1,5 @@
 -- The queue of nodes whose hashes are to be made: how it is gathered, and how it is worked off from its end.
-use Rattle.std.proofs.Common.{◌≡◌, ◌≢◌, ◌==◌, ◌<◌, ◌≤◌, ◌+◌, ◌-◌, ◌++◌, ℕ, zero, suc, Bool, true, false, cond, not, List, [], ◌∷◌, length, take, drop, get_or, map, Option, Some, None, refl, ap, sym, ◌∙◌, subst, add-one, length-append, append_assoc, inl, inr, arith}
+use Rattle.std.proofs.Common.{◌≡◌, ◌≢◌, ◌==◌, ◌<◌, ◌≤◌, ◌+◌, ◌-◌, ◌++◌, ℕ, zero, suc, Bool, true, false, cond, List, [], ◌∷◌, length, take, drop, get_or, map, Option, Some, None, refl, ap, sym, ◌∙◌, subst, add-one, length-append, append_assoc, inl, inr, arith}
 use Rattle.std.specs.Prelude.{is_some, sum_by}
 use Rattle.std.specs.Option.{option_map}
 use Rattle.std.proofs.lemmas.Bool.{eqb-true, cases_lt}
@@ -16,9 +16,6 @@ use Rattle.nr_trienodes.proofs.Climbing.{cost_new}
 use Rattle.nr_trienodes.proofs.Hashed.{warm_trans, warm_one, warm_here, weight_same, weight_pos}
 
 -- ---- the children that are cold
-pub cold_nil : (nodes : List Shape) (row : List (Option ℕ)) → cold nodes (take 0 row) ≡ []
-cold_nil nodes row = refl
-
 cold_step : (nodes : List Shape) (row : List (Option ℕ)) (i : ℕ) → i < length row → cold nodes (take (suc i) row) ≡ cold nodes (take i row) ++ cold nodes (get_or row i None ∷ [])
 cold_step nodes [] i lt = absurd (omega arith)
 cold_step nodes (None ∷ row) zero lt = refl
@@ -258,9 +255,6 @@ pub record Warming (old now : List Shape) (queue left : List ℕ) : Type 0 where
   pub prefix : left ≡ take (length left) queue
   pub done : (j : ℕ) → length left ≤ j → j < length queue → is_hashed now (get_or queue j 0) ≡ true
 
-pub warming_first : (nodes : List Shape) (queue : List ℕ) → Warms nodes nodes → Warming nodes nodes queue queue
-warming_first nodes queue w = record { warms = w; prefix = sym (take_all queue (length queue) (omega arith)); done = λ j le lt. absurd (omega arith) }
-
 popped : (a : List ℕ) (x n : ℕ) (q : List ℕ) → a ++ x ∷ [] ≡ take n q → (a ≡ take (length a) q) × (get_or q (length a) 0 ≡ x) × (length a < length q)
 popped [] x zero q e = absurd cc
 popped [] x (suc n) [] e = absurd cc
@@ -316,16 +310,9 @@ warming_next old now new queue before left id hash q w e n k =
 pub left_weights : (old now : List Shape) (before left : List ℕ) (id : ℕ) → before ≡ left ++ id ∷ [] → Warms old now → id < length old → sum_by (weight_at old) before ≡ sum_by (weight_at old) left + weight_at now id
 left_weights old now before left id e w lt = omega (arith, ap (sum_by (weight_at old)) e, sum_by_push (weight_at old) left id, weight_same old now id w lt)
 
-pub warmed : (old now : List Shape) (queue left : List ℕ) → Warming old now queue left → left ≡ [] → (j : ℕ) → j < length queue → is_hashed now (get_or queue j 0) ≡ true
-warmed old now queue left w e j lt = w.done j (omega (arith, ap length e)) lt
-
 pub root_warm : (old now : List Shape) (root : ℕ) (queue : List ℕ) → Gathers old root queue → root < length old → Warms old now → ((j : ℕ) → j < length queue → is_hashed now (get_or queue j 0) ≡ true) → is_hashed now root ≡ true
 root_warm old now root queue g lt w all = by_hash (is_hashed old root) refl
   where
     by_hash : (b : Bool) → is_hashed old root ≡ b → is_hashed now root ≡ true
     by_hash true e = w.more root lt e
     by_hash false e = let k = g.top e in ap (is_hashed now) (sym k.1.1) ∙ all k.0 k.1.0
-
-pub by_not : (b : Bool) → not b ≡ false → b ≡ true
-by_not true e = refl
-by_not false e = absurd cc

@@ -1,5 +1,5 @@
 -- Rows of children, and the usage of a part.
-use Rattle.std.proofs.Common.{◌≡◌, ◌==◌, ◌<◌, ◌≤◌, ◌+◌, ◌-◌, ◌*◌, ◌/◌, ◌%◌, ℕ, zero, suc, Bool, true, false, cond, List, [], ◌∷◌, ◌++◌, length, map, take, replicate, get_or, Option, Some, None, refl, ap, sym, ◌∙◌, subst, eq-eqb, length-append, inl, inr, arith}
+use Rattle.std.proofs.Common.{◌≡◌, ◌==◌, ◌<◌, ◌+◌, ◌-◌, ◌*◌, ◌/◌, ◌%◌, ℕ, zero, suc, Bool, true, false, cond, List, [], ◌∷◌, ◌++◌, length, map, replicate, get_or, Option, Some, None, refl, ap, sym, ◌∙◌, subst, eq-eqb, length-append, inl, inr, arith}
 use Rattle.std.specs.Prelude.{is_some, count_by}
 use mathlib.Core.Bool.{false≢true}
 use Rattle.std.proofs.lemmas.Bool.{ne_eqb, eqb-true, cases_lt}
@@ -105,11 +105,3 @@ each_same f [] (y ∷ ys) e h = absurd (omega arith)
 each_same f (x ∷ xs) [] e h = absurd (omega arith)
 each_same f (x ∷ xs) (y ∷ ys) e h =
     (λ i. h 0 (omega arith) i ∷ each_same f xs ys (omega arith) (λ k lt. h (suc k) (omega arith)) i)
-
--- ---- a short part
-pub take_made : (xs ys : List ℕ) → length xs ≤ length ys → ((k : ℕ) → k < length xs → get_or ys k 0 ≡ get_or xs k 0)
-    → take (length xs) ys ≡ xs
-take_made [] ys le h = refl
-take_made (x ∷ xs) [] le h = absurd (omega arith)
-take_made (x ∷ xs) (y ∷ ys) le h =
-    (λ i. h 0 (omega arith) i ∷ take_made xs ys (omega arith) (λ k lt. h (suc k) (omega arith)) i)

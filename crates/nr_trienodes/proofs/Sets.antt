@@ -5,7 +5,6 @@ use Rattle.std.proofs.lemmas.Bool.{eqb-true}
 use Rattle.nr_trienodes.specs.Shape.{Shape, no_children, child, shape_at, fold}
 use Rattle.nr_trienodes.specs.Tries.{Answer, nothing, answer, stripped, asked, given, found, found_in}
 use Rattle.nr_trienodes.specs.Turns.{Sets, Extends, stands_for}
-use Rattle.nr_trienodes.specs.Views.{IsIn}
 use Rattle.nr_trienodes.proofs.Folds.{not_same, shape_append, fold_append, fold_newest, child-map}
 use Rattle.nr_trienodes.proofs.Keys.{stripped_is}
 
@@ -34,10 +33,6 @@ extends_shape old new id h lt = ap (λ (l : List Shape). shape_at l id) h.is ∙
 
 pub extends_fold : {A : Type 0} (f : Shape → List (Option A) → A) (none : A) (old new : List Shape) (id : ℕ) → Extends old new → id < length old → fold f none new id ≡ fold f none old id
 extends_fold f none old new id h lt = ap (λ (l : List Shape). fold f none l id) h.is ∙ fold_append f none h.more old id lt
-
-pub is_in_more : (n m : ℕ) (id : Option ℕ) → n ≤ m → IsIn n id → IsIn m id
-is_in_more n m None le h = tt
-is_in_more n m (Some id) le h = omega arith
 
 -- ---- children
 pub child-set : (cs : List (Option ℕ)) (x : ℕ) (c : Option ℕ) → x < length cs → child (set cs x c) x ≡ c

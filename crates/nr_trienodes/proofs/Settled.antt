@@ -1,5 +1,5 @@
 -- A node put in place of another: what it stands for, and what its hash costs.
-use Rattle.std.proofs.Common.{◌≡◌, ◌≢◌, ◌==◌, ◌&&◌, ◌<◌, ◌≤◌, ◌+◌, ◌++◌, ℕ, zero, suc, Bool, true, false, cond, List, [], ◌∷◌, length, take, drop, get_or, set, map, Option, Some, None, refl, ap, sym, ◌∙◌, subst, eq-eqb, inl, inr, arith}
+use Rattle.std.proofs.Common.{◌≡◌, ◌≢◌, ◌==◌, ◌&&◌, ◌<◌, ◌≤◌, ◌+◌, ◌++◌, ℕ, zero, suc, Bool, true, false, cond, List, [], ◌∷◌, length, take, get_or, set, map, Option, Some, None, refl, ap, sym, ◌∙◌, subst, eq-eqb, inl, inr, arith}
 use Rattle.std.specs.Prelude.{is_some, count_by, sum_by}
 use Rattle.std.specs.Option.{option_map}
 use Rattle.std.proofs.lemmas.Bool.{eqb-true, cases_lt}
@@ -65,10 +65,6 @@ pub some_linked : (value : Option (List ℕ)) (row : List (Option ℕ)) → is_s
 some_linked None row some e = absurd cc
 some_linked (Some value) row some e = let ne : count_by is_some row ≢ 0 = not_same (count_by is_some row) 0 (and_one (count_by is_some row == 0) e) in omega arith
 
-pub several_linked : (value : Option (List ℕ)) (row : List (Option ℕ)) → 2 ≤ count_by is_some row → IsLinked value row
-several_linked None row two e = omega arith
-several_linked (Some value) row two e = omega arith
-
 pub leaf_linked : (value : List ℕ) → IsLinked (Some value) no_children
 leaf_linked value = some_linked (Some value) no_children refl
 
@@ -82,22 +78,10 @@ back_set n (d ∷ row) zero below back is (suc y) c e = back (suc y) c e
 back_set n (d ∷ row) (suc x) below back is zero c e = back 0 c e
 back_set n (d ∷ row) (suc x) below back is (suc y) c e = back_set n row x below (λ z b f. back (suc z) b f) is y c e
 
-pub drop_small : (n : ℕ) (part : List ℕ) → IsNibbles part → IsNibbles (drop n part)
-drop_small zero part h = h
-drop_small (suc n) [] h = h
-drop_small (suc n) (x ∷ part) h = drop_small n part (λ i. h (suc i))
-
 pub take_small : (n : ℕ) (part : List ℕ) → IsNibbles part → IsNibbles (take n part)
 take_small zero part h = λ i. omega arith
 take_small (suc n) [] h = h
 take_small (suc n) (x ∷ part) h = λ i. elim i as (λ j. get_or (x ∷ take n part) j 0 < 16) [ zero ↦ h 0 | suc j ↦ take_small n part (λ k. h (suc k)) j ]
-
-pub append_small : (a b : List ℕ) → IsNibbles a → IsNibbles b → IsNibbles (a ++ b)
-append_small [] b h k = k
-append_small (x ∷ a) b h k = λ i. elim i as (λ j. get_or (x ∷ (a ++ b)) j 0 < 16) [ zero ↦ h 0 | suc j ↦ append_small a b (λ n. h (suc n)) k j ]
-
-pub one_small : (x : ℕ) → x < 16 → IsNibbles (x ∷ [])
-one_small x lt = λ i. elim i as (λ j. get_or (x ∷ []) j 0 < 16) [ zero ↦ lt | suc j ↦ omega arith ]
 
 -- ---- how many children
 -- the same of the first n

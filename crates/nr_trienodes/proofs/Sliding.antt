@@ -3,7 +3,7 @@ use Rattle.std.proofs.Common.{◌≡◌, ◌≢◌, ◌<◌, ◌≤◌, ◌+◌,
 use mathlib.Core.Bool.{false≢true}
 use Rattle.std.specs.Prelude.{is_some, count_by, ◌⊎◌}
 use Rattle.std.proofs.Math.Nat.{eq-or-lt_of_le}
-use Rattle.std.proofs.lemmas.List.{length-set, get_or-set_same, get_or-set_other}
+use Rattle.std.proofs.lemmas.List.{length-set, get_or-set_same, get_or-set_other, get_or_default}
 use Rattle.std.proofs.lemmas.List.Sums.{sum_by-cons}
 use Rattle.nr_trienodes.specs.Shape.{Shape, shape_at, child}
 use Rattle.nr_trienodes.specs.Naming.{Names, new_name, renamed, with_names, HaveOwn, IsKept, IsNamed, AreNamed, IsClosed, IsSlid, Slides}
@@ -15,7 +15,7 @@ use Rattle.nr_trienodes.specs.declared.nodes.Node.{Node}
 use Rattle.nr_trienodes.proofs.Folds.{Back}
 use Rattle.nr_trienodes.proofs.Renaming.{old_child}
 use Rattle.nr_trienodes.proofs.Sounds.{back_sound}
-use Rattle.nr_trienodes.proofs.Views.{shapes_at, shapes-length, get_or_any}
+use Rattle.nr_trienodes.proofs.Views.{shapes_at, shapes-length}
 
 -- names that are the same at the children make the same node
 names_same : (a b : Names) (s : Shape) → ((x c : ℕ) → child s.below x ≡ Some c → new_name a c ≡ new_name b c) → with_names a s ≡ with_names b s
@@ -213,7 +213,7 @@ moved nodes new id to n m names lt le e is swapped =
     each : (i : ℕ) → i < length nodes → length new ≡ length nodes → i ≢ id → i ≢ to → shape_at (shapes new) i ≡ shape_at (shapes nodes) i
     each i less len ne other =
         let x : Node = get_or nodes i m in
-        let old : x ≡ get_or nodes i x = get_or_any nodes i m x less in
+        let old : x ≡ get_or nodes i x = get_or_default nodes i m x less in
         let now : x ≡ get_or new i x = old ∙ sym (swapped.2 i x other ne ∙ get_or-set_other nodes id i m x ne) in
         shapes_at new i x (omega arith) now ∙ sym (shapes_at nodes i x less old)
 
@@ -223,7 +223,7 @@ shape_take [] taken n i e le lt = absurd (omega arith)
 shape_take (m ∷ nodes) taken n i e le lt =
     let x : Node = get_or (m ∷ nodes) i m in
     let first : i < length (m ∷ nodes) = omega arith in
-    let old : x ≡ get_or (m ∷ nodes) i x = get_or_any (m ∷ nodes) i m x first in
+    let old : x ≡ get_or (m ∷ nodes) i x = get_or_default (m ∷ nodes) i m x first in
     let len : length taken ≡ n = ap length e ∙ omega (arith, length-take n (m ∷ nodes)) in
     let now : x ≡ get_or taken i x = old ∙ sym (ap (λ (t : List Node). get_or t i x) e ∙ get_or-take n (m ∷ nodes) i x lt) in
     shapes_at taken i x (omega arith) now ∙ sym (shapes_at (m ∷ nodes) i x first old)

@@ -6,6 +6,7 @@ use Rattle.std.proofs.lemmas.List.Sums.{sum_by-cons}
 use Rattle.std.proofs.Math.Seq.{drop-append_seam}
 use Rattle.std.specs.Prelude.{is_some, count_by, sum_by}
 use Rattle.std.specs.List.{AllByRecursion, range_with_len}
+use mathlib.Core.Bool.{and-false}
 use Rattle.nr_triedef.specs.declared.hash.Summary.{Summary}
 use Rattle.nr_triedef.specs.Node.{summary, key_part}
 use Rattle.nr_triedef.specs.Root.{Paths, common, front, behind, value_here, under, leaf, leaf_with, branch, with_front, sixteen, trie, depth, summary_of}
@@ -316,12 +317,8 @@ few_from n (None ∷ bs) (Some m ∷ ns) h = absurd h
 few_from n (Some ps ∷ bs) (None ∷ ns) h = absurd h
 few_from n (Some ps ∷ bs) (Some m ∷ ns) h = omega (arith, sum_by-cons or_zero (Some m) ns, count-some ps bs, h.0, few_from (suc n) bs ns h.1, length-append (in_front (n ∷ []) ps) (paths_from (suc n) bs), length-front (n ∷ []) ps)
 
-not_leaf : (b : Bool) → (b && false) ≡ false
-not_leaf true = refl
-not_leaf false = refl
-
 two_links : (value : Option (List ℕ)) (n : ℕ) → (is_leaf value n ≡ false → 2 ≤ cond (is_some value) 1 0 + n) → 2 ≤ 2 * cond (is_some value) 1 0 + n
-two_links None n h = let two : 2 ≤ 0 + n = h (not_leaf (n == 0)) in omega arith
+two_links None n h = let two : 2 ≤ 0 + n = h (and-false (n == 0)) in omega arith
 two_links (Some value) n h = omega arith
 
 pub few_at : (nodes : List Shape) → Sound nodes → (id : ℕ) → id < length nodes → count_at nodes id + 1 ≤ 2 * length (paths_at nodes id)

@@ -1,7 +1,7 @@
 -- The nodes of an arena, newest first: reads, one node more, fewer, and a hash that is kept.
 use Rattle.std.proofs.Common.{◌≡◌, ◌≢◌, ◌==◌, ◌<◌, ◌≤◌, ◌-◌, ◌+◌, ◌^◌, ℕ, zero, suc, Bool, true, false, cond, List, [], ◌∷◌, ◌++◌, length, reverse, take, drop, get_or, set, map, Option, Some, None, refl, ap, sym, ◌∙◌, subst, eq-eqb, length-append, length-drop, arith}
 use Rattle.std.proofs.lemmas.Bool.{ne_eqb, eqb-true}
-use Rattle.std.proofs.lemmas.List.{reverse-append, map-append, length-map, length-reverse, length-set, get_or-set_same, get_or-set_other, take-append-drop, length-take}
+use Rattle.std.proofs.lemmas.List.{reverse-append, map-append, length-map, length-reverse, length-set, get_or-set_same, get_or-set_other, take-append-drop, length-take, get_or_default}
 use Rattle.std.proofs.Math.Seq.{drop-append_seam}
 use Rattle.std.specs.Prelude.{is_some, count_by, sum_by}
 use Rattle.std.specs.Option.{option_map}
@@ -44,11 +44,6 @@ shapes_at (m ∷ nodes) (suc id) n lt e =
 
 pub shapes-push : (nodes : List Node) (n : Node) → shapes (nodes ++ n ∷ []) ≡ shape n ∷ shapes nodes
 shapes-push nodes n = ap reverse (map-append shape nodes (n ∷ [])) ∙ reverse-append (map shape nodes) (shape n ∷ [])
-
-pub get_or_any : {A : Type 0} (l : List A) (i : ℕ) (d e : A) → i < length l → get_or l i d ≡ get_or l i e
-get_or_any [] i d e lt = absurd (omega arith)
-get_or_any (x ∷ l) zero d e lt = refl
-get_or_any (x ∷ l) (suc i) d e lt = get_or_any l i d e (omega arith)
 
 pub node_view : (nodes : List Node) (v : List Shape) (id : ℕ) (n : Node) → shapes nodes ≡ v → id < length v → n ≡ get_or nodes id n → shape n ≡ shape_at v id
 node_view nodes v id n e lt en =
@@ -154,8 +149,8 @@ kept_view nodes v id n m hash e sound few can en es =
     let others = λ (k : ℕ) (lt : k < length v) (ne : k ≢ id).
     let in_nodes : k < length nodes = omega arith in
     let o : Node = get_or nodes k m in
-    shapes_at new k o (omega (arith, length-set nodes id m)) (sym (get_or-set_other nodes id k m o ne ∙ get_or_any nodes k o m in_nodes))
-    ∙ node_view nodes v k o e lt (sym (get_or_any nodes k o m in_nodes)) in
+    shapes_at new k o (omega (arith, length-set nodes id m)) (sym (get_or-set_other nodes id k m o ne ∙ get_or_default nodes k o m in_nodes))
+    ∙ node_view nodes v k o e lt (sym (get_or_default nodes k o m in_nodes)) in
     record {
       keeps = record { same = len; here = here; others = others; sound = kept v (shapes new) id hash (subst Sound e sound) can len here others };
       few = omega (arith, length-set nodes id m);

@@ -15,6 +15,8 @@ use Rattle.std.proofs.lemmas.Map.Views.{any-filter_same}
 use Rattle.std.proofs.lemmas.List.{nil_from_length, drop_more, length-map}
 use Rattle.std.proofs.lemmas.List.Folds.{list_any-append}
 use Rattle.std.proofs.lemmas.List.Sums.{sum_by-cons}
+use Rattle.std.proofs.lemmas.Option.{same_Some}
+use Rattle.nr_bytes.proofs.Basics.{left_of, right_of}
 use Rattle.nr_triedef.specs.Node.{nibbles}
 use Rattle.nr_triedef.specs.Root.{Contents}
 use Rattle.nr_triedef.specs.Stores.{most_entries, keys_below, IsSizedEntry, IsSized}
@@ -57,14 +59,6 @@ no_later q (e ∷ es) h =
       | Greater ↦ λ i. absurd i
     ] h
 
-left_of : (a b : Bool) → T (a && b) → T a
-left_of true b h = tt
-left_of false b h = h
-
-right_of : (a b : Bool) → T (a && b) → T b
-right_of true b h = h
-right_of false b h = absurd h
-
 get-merged : (es : List (List ℕ × List ℕ)) (m : Contents) (q : List ℕ) → T (is_sorted R es) → get (merged (map change_of es) m) q ≡ picked (find R q es) (get m q)
 get-merged [] m q s = refl
 get-merged (e ∷ es) m q s =
@@ -101,13 +95,10 @@ over_put p m k held = same (over (insert p k held) m) (with_value (over p m) k (
     ∙ sym (get-with_value (over p m) k (kept held) q))
 
 -- ---- the sizes
-same_value : {A : Type 0} (x y : A) → Some x ≡ Some y → x ≡ y
-same_value x y e = cc
-
 shorter : (held w : List ℕ) → kept held ≡ Some w → length w ≤ length held
 shorter [] w e = absurd (false≢true (ap is_some e))
 shorter (zero ∷ v) w e = absurd (false≢true (ap is_some e))
-shorter (suc n ∷ v) w e = let same : length v ≡ length w = ap length (same_value v w e) in omega arith
+shorter (suc n ∷ v) w e = let same : length v ≡ length w = ap length (same_Some v w e) in omega arith
 
 pub sized_over : (p m : Contents) → IsSized p → IsSized m → length (entries (over p m)) ≤ most_entries → IsSized (over p m)
 sized_over p m h i few = record { few = few; each = λ q w e. each q w (get p q) refl (sym (get-over p m q) ∙ e) }

@@ -2,7 +2,7 @@
 
 ghost use Rattle.std.specs.Prelude.{◌≡◌, ◌+◌, ◌*◌};
 ghost use Rattle.nr_fees.specs.Fees.{FitsIn, exec_gas, attached_gas};
-ghost use Rattle.nr_txconvert.specs.Costs.{sending_gas, whole_gas};
+ghost use Rattle.nr_txconvert.specs.Costs.{sending_gas};
 ghost use Rattle.nr_txconvert.specs.Parts.{CountsCost};
 
 use nr_config::Config;

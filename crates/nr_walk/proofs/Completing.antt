@@ -5,6 +5,7 @@ use Rattle.std.specs.List.{AllByRecursion}
 use Rattle.std.specs.FinMap.{get, entries}
 use Rattle.std.proofs.lemmas.Bool.{eqb-true}
 use Rattle.std.proofs.lemmas.List.Sums.{sum_by-cons, sum_by-append}
+use Rattle.nr_bytes.proofs.Basics.{all_both}
 use Rattle.nr_bytes.specs.Reading.{◌>>=◌}
 use Rattle.nr_ids.specs.declared.key.Hash32.{Hash32}
 use Rattle.nr_triedef.specs.Node.{digest, node_text, key_part, usage_of}
@@ -36,7 +37,7 @@ use Rattle.nr_walk.specs.Shown.{behind_all, IsOf, is_empty_root, walk_of}
 use Rattle.nr_walk.proofs.Fitting.{fitting}
 use Rattle.nr_walk.proofs.Pairs.{part_back}
 use Rattle.nr_walk.proofs.Passing.{passes}
-use Rattle.nr_walk.proofs.Placing.{map-append, all-append}
+use Rattle.nr_walk.proofs.Placing.{map-append}
 use Rattle.nr_walk.proofs.Rows.{Path}
 use Rattle.nr_walk.proofs.ShownMaps.{all_nibbles, stepped}
 use Rattle.nr_walk.proofs.Stepping.{Job, spot_of, IsJob, IsNext, job_weight, spared_most}
@@ -153,7 +154,7 @@ all_pass texts searched root m is holds (suc n) (j ∷ jobs) all few =
     let order : CanWalk top = walk_whole m top refl (all_nibbles (entries m) is.bytes) in
     let v = visit_ok texts searched root m j is holds all.0 in
     let s = stepped texts searched top j v.0 is.agrees (fitting (entries m) order is.sizes is.few) all.0.job v.1 in
-    let looked = all-append (IsLookedJob texts searched top) s.jobs jobs (all_next texts searched top j.place j.ps s.jobs all.0.looked s.all s.near) all.1 in
+    let looked = all_both (IsLookedJob texts searched top) s.jobs jobs (all_next texts searched top j.place j.ps s.jobs all.0.looked s.all s.near) all.1 in
     let lighter : sum_by job_weight (s.jobs ++ jobs) ≤ n = omega (arith, s.lighter, sum_by-append job_weight s.jobs jobs, sum_by-cons job_weight j jobs) in
     let more = all_pass texts searched root m is holds n (s.jobs ++ jobs) looked lighter in
     let spots : map spot_of (s.jobs ++ jobs) ≡ v.0.below ++ map spot_of jobs = map-append spot_of s.jobs jobs ∙ ap (λ (xs : List Spot). xs ++ map spot_of jobs) s.spots in (

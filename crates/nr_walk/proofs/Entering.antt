@@ -4,6 +4,7 @@ use Rattle.std.specs.Prelude.{is_some, count_by, sum_by}
 use Rattle.std.specs.List.{AllByRecursion, flat_map}
 use Rattle.std.proofs.lemmas.List.Sums.{sum_by-cons, sum_by-append}
 use Rattle.std.proofs.lemmas.List.{append-nil}
+use Rattle.nr_bytes.proofs.Basics.{all_both}
 use Rattle.nr_bytes.specs.Reading.{◌>>=◌}
 use Rattle.nr_ids.specs.declared.key.Hash32.{Hash32}
 use Rattle.nr_triedef.specs.Node.{IsNibbles, key_part, node_text, digest, summary, links}
@@ -27,7 +28,7 @@ use Rattle.nr_walk.specs.Tries.{children, branch_of, top_over, top_of, IsBelow, 
 use Rattle.nr_walk.specs.Tries.IsBelow.{Behind, Under}
 use Rattle.nr_walk.specs.Shown.{placed, behind_all, Shows}
 use Rattle.nr_walk.proofs.Pairs.{part_back}
-use Rattle.nr_walk.proofs.Placing.{placed_placed, placed-append, placed_cut, map-append, flat-append, all-append, values_behind, exact_cut, exact_under}
+use Rattle.nr_walk.proofs.Placing.{placed_placed, placed-append, placed_cut, map-append, flat-append, values_behind, exact_cut, exact_under}
 use Rattle.nr_walk.proofs.Rows.{Path, rows, own_value, rows_all}
 use Rattle.nr_walk.proofs.Showing.{gains_none, value_shown}
 use Rattle.nr_walk.proofs.Stepping.{Job, spot_of, all_of, IsJob, IsStep, IsNext, job_weight, weight, spared_most, spared_parted, spared_shared}
@@ -84,7 +85,7 @@ jobs_are : (texts : Contents) (top : Paths) (place : List ℕ) (ps : Paths) (n c
     → AllByRecursion (IsJob texts top) (jobs_from place ps n c)
 jobs_are texts top place ps n zero e b many f h v x = tt
 jobs_are texts top place ps n (suc c) e b many f h v x =
-    all-append (IsJob texts top) (job_at place n (under n ps)) (jobs_from place ps (suc n) c)
+    all_both (IsJob texts top) (job_at place n (under n ps)) (jobs_from place ps (suc n) c)
     (job_one texts top place n (under n ps) (Under ps n b many f (omega arith)) (walk_under n ps h) (values_under (IsOwn texts) n ps v) (exact_under place n top ps x))
     (jobs_are texts top place ps (suc n) c (omega arith) b many f h v x)
 
@@ -95,7 +96,7 @@ near_one searched place ps n (p ∷ qs) is lt l many e = ((l, many, inr (record 
 jobs_near : (searched : List Searched) (place : List ℕ) (ps : Paths) (n c : ℕ) → n + c ≡ 16 → looks searched place ≡ true → 2 ≤ length ps → front ps ≡ [] → AllByRecursion (IsNext searched place ps) (jobs_from place ps n c)
 jobs_near searched place ps n zero s l many e = tt
 jobs_near searched place ps n (suc c) s l many e =
-    all-append (IsNext searched place ps) (job_at place n (under n ps)) (jobs_from place ps (suc n) c) (near_one searched place ps n (under n ps) refl (omega arith) l many e) (jobs_near searched place ps (suc n) c (omega arith) l many e)
+    all_both (IsNext searched place ps) (job_at place n (under n ps)) (jobs_from place ps (suc n) c) (near_one searched place ps n (under n ps) refl (omega arith) l many e) (jobs_near searched place ps (suc n) c (omega arith) l many e)
 
 light_one : (place : List ℕ) (n : ℕ) (qs : Paths) → CanWalk qs → sum_by job_weight (job_at place n qs) + 2 * cond (is_some (whole qs)) 1 0 ≤ 3 * length qs
 light_one place n [] h = subst (λ (o : Option Summary). sum_by job_weight (job_at place n []) + 2 * cond (is_some o) 1 0 ≤ 0) (sym (whole_none [] refl)) (omega arith)

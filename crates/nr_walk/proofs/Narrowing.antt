@@ -6,12 +6,13 @@ use Rattle.std.specs.List.{list_any, starts_with}
 use Rattle.std.proofs.lemmas.Bool.{eqb-true}
 use Rattle.std.proofs.lemmas.Map.Keys.{any_passes_from_place}
 use Rattle.std.proofs.lemmas.Option.{slice_get_read}
+use mathlib.Core.Bool.{or-true}
+use Rattle.nr_bytes.proofs.Basics.{all_both, left_true, right_true}
 use Rattle.nr_walk.specs.declared.searched.Searched.{Searched}
 use Rattle.nr_walk.specs.declared.sought.Step.{Step}
 use Rattle.nr_walk.specs.Searched.{is_met, is_found, looks, finds}
 use Rattle.nr_walk.specs.Sought.{AreSteps, Decides, IsStep, covers}
-use Rattle.nr_walk.proofs.Placing.{all-append}
-use Rattle.nr_walk.proofs.Searches.{left_true, right_true, met_shorter, met_on_way}
+use Rattle.nr_walk.proofs.Searches.{met_shorter, met_on_way}
 
 -- ---- lists
 -- what a second test passes is among what the first one does
@@ -74,11 +75,7 @@ met_below one place k c =
     let on = longer one.path place k (right_true one.below (starts_with ◌==◌ place one.path) c) in
     ap (λ b. starts_with ◌==◌ one.path (place ++ k) || (b && starts_with ◌==◌ (place ++ k) one.path)) below
     ∙ ap (λ b. starts_with ◌==◌ one.path (place ++ k) || b) on
-    ∙ or_last (starts_with ◌==◌ one.path (place ++ k))
-  where
-    or_last : (b : Bool) → (b || true) ≡ true
-    or_last true = refl
-    or_last false = refl
+    ∙ or-true (starts_with ◌==◌ one.path (place ++ k))
 
 found_below : (one : Searched) (place k : List ℕ) → covers place one ≡ true → is_found (place ++ k) one ≡ true
 found_below one place k c =
@@ -141,7 +138,7 @@ popped_met searched old new r e h = parted new r (subst (λ (xs : List Step). Ar
 
 pub met_more : (searched : List Searched) (steps more : List Step) (step : Step) → more ≡ steps ++ step ∷ [] → IsStep searched step → AreSteps searched steps → AreSteps searched more
 met_more searched steps more step e m h =
-    subst (λ (xs : List Step). AreSteps searched xs) (sym e) (all-append (IsStep searched) steps (step ∷ []) h (m, tt))
+    subst (λ (xs : List Step). AreSteps searched xs) (sym e) (all_both (IsStep searched) steps (step ∷ []) h (m, tt))
 
 some_is : (a b : Step) → Some a ≡ Some b → a ≡ b
 some_is a b e = cc

@@ -6,6 +6,7 @@ use Rattle.std.specs.FinMap.{get, entries}
 use Rattle.nr_bytes.specs.Reading.{◌>>=◌}
 use Rattle.std.proofs.lemmas.Bool.{le-leb}
 use Rattle.std.proofs.lemmas.List.Sums.{sum_by-cons}
+use Rattle.nr_bytes.proofs.Basics.{left_true, right_true}
 use Rattle.nr_ids.specs.declared.key.Hash32.{Hash32}
 use Rattle.nr_triedef.specs.Node.{IsNode, nibbles, digest, node_text, usage_of}
 use Rattle.nr_triedef.specs.Reading.{Fits, node_at}
@@ -34,7 +35,6 @@ use Rattle.nr_walk.proofs.Fitting.{fitting}
 use Rattle.nr_walk.proofs.ShownMaps.{all_nibbles}
 use Rattle.nr_walk.proofs.Pairs.{part_back}
 use Rattle.nr_walk.proofs.Rows.{Path}
-use Rattle.nr_walk.proofs.Searches.{left_true, right_true}
 use Rattle.nr_walk.proofs.Tops.{whole_is, top_node, many_cut, front_cut, top_leaf, top_parted, top_shared}
 
 -- ---- a child that is held

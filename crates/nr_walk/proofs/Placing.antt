@@ -26,7 +26,7 @@ pub placed_none : (ps : Paths) → placed [] ps ≡ ps
 placed_none [] = refl
 placed_none (p ∷ ps) = ap (λ (rs : Paths). p ∷ rs) (placed_none ps)
 
-joined_back : (s k : List ℕ) → Begins s k → s ++ drop (length s) k ≡ k
+pub joined_back : (s k : List ℕ) → Begins s k → s ++ drop (length s) k ≡ k
 joined_back [] k h = refl
 joined_back (x ∷ s) [] h = absurd h
 joined_back (x ∷ s) (y ∷ k) h =
@@ -56,10 +56,6 @@ map-append f (x ∷ xs) ys = ap (λ zs. f x ∷ zs) (map-append f xs ys)
 pub flat-append : {A B : Type 0} (f : A → List B) (xs ys : List A) → flat_map f (xs ++ ys) ≡ flat_map f xs ++ flat_map f ys
 flat-append f [] ys = refl
 flat-append f (x ∷ xs) ys = ap (λ zs. f x ++ zs) (flat-append f xs ys) ∙ sym (append_assoc (f x) (flat_map f xs) (flat_map f ys))
-
-pub all-append : {A : Type 0} (P : A → Type 0) (xs ys : List A) → AllByRecursion P xs → AllByRecursion P ys → AllByRecursion P (xs ++ ys)
-all-append P [] ys h g = g
-all-append P (x ∷ xs) ys h g = (h.0, all-append P xs ys h.1 g)
 
 -- ---- what holds of each value
 pub values_behind : (V : List ℕ → Type 0) (n : ℕ) (ps : Paths) → AllByRecursion (λ (p : Path). V p.1) ps → AllByRecursion (λ (p : Path). V p.1) (behind n ps)

@@ -2,26 +2,15 @@
 use Rattle.std.proofs.Common.{◌≡◌, ◌==◌, ℕ, Bool, true, false, List, [], ◌∷◌, ◌++◌, length, refl, sym, ap, ◌∙◌, arith, eq-eqb, inl, inr}
 use Rattle.std.specs.Prelude.{◌||◌, ◌&&◌, ◌⊎◌}
 use Rattle.std.specs.List.{list_any, starts_with}
-use Rattle.std.proofs.lemmas.Bool.{eqb-true}
+use Rattle.std.proofs.lemmas.Bool.{eqb-true, or_cases}
+use Rattle.nr_bytes.proofs.Basics.{left_true, right_true}
 use Rattle.nr_walk.specs.declared.searched.Searched.{Searched}
 use Rattle.nr_walk.specs.Searched.{is_met, is_found, looks, finds}
-
-pub left_true : (a b : Bool) → (a && b) ≡ true → a ≡ true
-left_true true b h = refl
-left_true false b h = h
-
-pub right_true : (a b : Bool) → (a && b) ≡ true → b ≡ true
-right_true true b h = h
-right_true false b h = absurd cc
 
 or_true : (a b c d : Bool) → (a ≡ true → c ≡ true) → (b ≡ true → d ≡ true) → (a || b) ≡ true → (c || d) ≡ true
 or_true true b c d f g h = ap (λ x. x || d) (f refl)
 or_true false b true d f g h = refl
 or_true false b false d f g h = g h
-
-either : (a b : Bool) → (a || b) ≡ true → (a ≡ true) ⊎ (b ≡ true)
-either true b h = inl refl
-either false b h = inr h
 
 begins_nothing : (path : List ℕ) → starts_with ◌==◌ path [] ≡ true
 begins_nothing [] = refl
@@ -45,7 +34,7 @@ on_way (x ∷ place) k (y ∷ path) below h o =
 pub met_on_way : (place k : List ℕ) (one : Searched) → is_found (place ++ k) one ≡ true → is_met place one ≡ true
 met_on_way place k one h =
     let begins = left_true (starts_with ◌==◌ (place ++ k) one.path) (one.below || (length (place ++ k) == length one.path)) h in
-    let ends = either one.below (length (place ++ k) == length one.path) (right_true (starts_with ◌==◌ (place ++ k) one.path) (one.below || (length (place ++ k) == length one.path)) h) in
+    let ends = or_cases one.below (length (place ++ k) == length one.path) (right_true (starts_with ◌==◌ (place ++ k) one.path) (one.below || (length (place ++ k) == length one.path)) h) in
     on_way place k one.path one.below begins (elim ends [ inl e ↦ inl e | inr e ↦ inr (eqb-true (length (place ++ k)) (length one.path) e) ])
 
 pub finds_looks : (searched : List Searched) (place k : List ℕ) → finds searched (place ++ k) ≡ true → looks searched place ≡ true
@@ -69,7 +58,7 @@ begins_shorter (x ∷ place) k (y ∷ path) h =
 
 pub met_shorter : (place k : List ℕ) (one : Searched) → is_met (place ++ k) one ≡ true → is_met place one ≡ true
 met_shorter place k one h =
-    elim (either (starts_with ◌==◌ one.path (place ++ k)) (one.below && starts_with ◌==◌ (place ++ k) one.path) h) [
+    elim (or_cases (starts_with ◌==◌ one.path (place ++ k)) (one.below && starts_with ◌==◌ (place ++ k) one.path) h) [
       | inl e ↦ ap (λ b. b || (one.below && starts_with ◌==◌ place one.path)) (begins_shorter place k one.path e)
       | inr e ↦ on_way place k one.path one.below (right_true one.below (starts_with ◌==◌ (place ++ k) one.path) e) (inl (left_true one.below (starts_with ◌==◌ (place ++ k) one.path) e))
     ]

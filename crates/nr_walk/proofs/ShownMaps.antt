@@ -6,6 +6,7 @@ use Rattle.std.specs.FinMap.{entries}
 use Rattle.std.specs.Cmp.Lexicographic.{pointwise}
 use Rattle.std.proofs.lemmas.Bool.{eqb-true}
 use Rattle.std.proofs.lemmas.List.{append-nil}
+use Rattle.nr_bytes.proofs.Basics.{all_both, left_true, right_true}
 use Rattle.nr_bytes.specs.Answers.{Gives}
 use Rattle.nr_bytes.specs.Numbers.{IsBytes}
 use Rattle.nr_bytes.specs.Reading.{◌>>=◌}
@@ -31,9 +32,8 @@ use Rattle.nr_walk.specs.Walking.{entered, passed, visited, walk_from, most_node
 use Rattle.nr_walk.specs.Tries.{top_of, IsOwn, Agrees, AreFitting}
 use Rattle.nr_walk.specs.Tries.IsBelow.{Top}
 use Rattle.nr_walk.specs.Shown.{placed, Shows, IsOf, is_empty_root, walk_of}
-use Rattle.nr_walk.proofs.Placing.{placed_none, map-append, flat-append, all-append}
+use Rattle.nr_walk.proofs.Placing.{placed_none, map-append, flat-append}
 use Rattle.nr_walk.proofs.Rows.{Path}
-use Rattle.nr_walk.proofs.Searches.{left_true, right_true}
 use Rattle.nr_walk.proofs.Showing.{looked, Shows-append}
 use Rattle.nr_walk.proofs.Stepping.{Job, spot_of, all_of, IsJob, IsStep, step_beside}
 use Rattle.nr_walk.proofs.Entering.{step_entered}
@@ -103,7 +103,7 @@ all_shown texts searched top agrees fits (suc n) (j ∷ jobs) gains all h =
     let s = stepped texts searched top j w.visit agrees fits all.0 w.first in
     let spots : map spot_of (s.jobs ++ jobs) ≡ w.visit.below ++ map spot_of jobs = map-append spot_of s.jobs jobs ∙ ap (λ (xs : List Spot). xs ++ map spot_of jobs) s.spots in
     let behind : Shows searched top w.more (flat_map all_of (s.jobs ++ jobs)) =
-    all_shown texts searched top agrees fits n (s.jobs ++ jobs) w.more (all-append (IsJob texts top) s.jobs jobs s.all all.1) (ap (walk_from texts searched n) spots ∙ w.others) in
+    all_shown texts searched top agrees fits n (s.jobs ++ jobs) w.more (all_both (IsJob texts top) s.jobs jobs s.all all.1) (ap (walk_from texts searched n) spots ∙ w.others) in
     let together = Shows-append searched top (option_list w.visit.gain) w.more s.own (flat_map all_of (s.jobs ++ jobs)) s.shows behind in
     let same : s.own ++ flat_map all_of (s.jobs ++ jobs) ≡ all_of j ++ flat_map all_of jobs =
     ap (λ (xs : Paths). s.own ++ xs) (flat-append all_of s.jobs jobs) ∙ sym (append_assoc s.own (flat_map all_of s.jobs) (flat_map all_of jobs)) ∙ ap (λ (xs : Paths). xs ++ flat_map all_of jobs) (sym s.is) in

@@ -17,10 +17,6 @@ abbrev pub after : List Gain → Result (List Gain) WalkFault → Result (List G
 after gains (Ok more) = Ok (gains ++ more)
 after gains (Err fault) = Err fault
 
-after_nothing : (r : Result (List Gain) WalkFault) → after [] r ≡ r
-after_nothing (Ok more) = refl
-after_nothing (Err fault) = refl
-
 after_after : (a b : List Gain) (r : Result (List Gain) WalkFault) → after a (after b r) ≡ after (a ++ b) r
 after_after a b (Ok more) = ap (λ (xs : List Gain). Ok xs) (sym (append_assoc a b more))
 after_after a b (Err fault) = refl
@@ -32,11 +28,6 @@ bound_after a (Err fault) = refl
 -- the node that is looked at next, and those behind it
 pub popped : (waiting left : List Spot) (spot : Spot) → waiting ≡ left ++ spot ∷ [] → reverse waiting ≡ spot ∷ reverse left
 popped waiting left spot h = ap (λ (xs : List Spot). reverse xs) h ∙ reverse-append left (spot ∷ [])
-
-pub begun : (texts : Contents) (searched : List Searched) (n : ℕ) (waiting : List Spot) (top : Spot) (gains : List Gain) → waiting ≡ top ∷ [] → gains ≡ []
-    → after gains (walk_from texts searched n (reverse waiting)) ≡ walk_from texts searched n (top ∷ [])
-begun texts searched n waiting top gains h g =
-    ap (λ (xs : List Gain). after xs (walk_from texts searched n (reverse waiting))) g ∙ after_nothing (walk_from texts searched n (reverse waiting)) ∙ ap (λ (xs : List Spot). walk_from texts searched n (reverse xs)) h
 
 pub one_more : (texts : Contents) (searched : List Searched) (n : ℕ) (spot : Spot) (spots : List Spot) (visit : Visit) → visited texts searched spot ≡ Ok visit
     → walk_from texts searched (suc n) (spot ∷ spots) ≡ after (option_list visit.gain) (walk_from texts searched n (visit.below ++ spots))

@@ -1,9 +1,8 @@
 //! Looking at one node: finding its text, and checking it against the held texts of its children.
 
-ghost use Rattle.std.specs.Prelude.{◌≡◌, ◌≤◌, ◌+◌, ◌&&◌, is_some, length, IfOk};
+ghost use Rattle.std.specs.Prelude.{◌≡◌, ◌+◌, ◌&&◌, is_some, length, IfOk};
 ghost use Rattle.std.specs.FinMap as map;
 ghost use Rattle.nr_bytes.specs.Answers.{Gives};
-ghost use Rattle.nr_triedef.specs.declared.node.Node.{Node as Nodes};
 ghost use Rattle.nr_walk.specs.Texts.{memory_fault, text_at, known};
 ghost use Rattle.nr_walk.specs.Looking.{node_in, is_branch_held, is_ended, is_joined, is_sum, is_summed, known_usage};
 ghost use Rattle.nr_walk.specs.Looking.{sum_known, are_known, looked_at, value_text};

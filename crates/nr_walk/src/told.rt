@@ -1,7 +1,7 @@
 //! What a node's text tells: the nibbles of its part, where its value's key ends, its children, and
 //! the memory usage of the node alone.
 
-ghost use Rattle.std.specs.Prelude.{◌≡◌, ◌∷◌, ◌++◌, ◌<◌, ◌+◌, ◌*◌, ◌^◌, [], length, IfOk, OnOk, Some};
+ghost use Rattle.std.specs.Prelude.{◌≡◌, ◌++◌, ◌<◌, ◌+◌, ◌*◌, ◌^◌, [], length, IfOk, OnOk, Some};
 ghost use Rattle.nr_walk.specs.Told.{part_nibbles, ending_of, children_of, own_usage, spots_of, spots_from, spot_at};
 ghost use Rattle.nr_walk.specs.Told.{has_value, is_branch};
 

@@ -4,7 +4,7 @@ ghost use Rattle.std.specs.Prelude.{◌≡◌, ◌∷◌, ◌++◌, [], reverse,
 ghost use Rattle.nr_bytes.specs.Answers.{Gives};
 ghost use Rattle.nr_walk.specs.Texts.{memory_fault};
 ghost use Rattle.nr_walk.specs.Told.{option_list};
-ghost use Rattle.nr_walk.specs.Walking.{stub_of, ended, entered, visited, walk_from, most_nodes, packed};
+ghost use Rattle.nr_walk.specs.Walking.{stub_of, ended, visited, walk_from, most_nodes, packed};
 
 use crate::fault::WalkFault;
 use crate::looking::{look_at, value_text};

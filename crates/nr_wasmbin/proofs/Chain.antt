@@ -3,6 +3,7 @@ use Rattle.std.proofs.Common.{◌≡◌, ◌≢◌, ◌⊎◌, ℕ, zero, suc, �
 use Rattle.std.proofs.lemmas.Bool.{eqb-true, eq-eqb}
 use Rattle.std.proofs.lemmas.Bool.Decides.{eqb_tells}
 use Rattle.std.proofs.lemmas.List.{length-append}
+use Rattle.nr_bytes.proofs.Basics.{bind_ok}
 use Rattle.nr_bytes.specs.Reading.{Input, past, ◌>>=◌}
 use Rattle.nr_bytes.specs.Spelling.{before, behind}
 use Rattle.nr_bytes.specs.Fields.{mapped, pair}
@@ -11,7 +12,7 @@ use Rattle.nr_wasmbin.specs.Fields.{Read, begins, name_at, sized_at, whole}
 use Rattle.nr_wasmbin.specs.Modules.{custom_at, customs_at, skipped, entered, held, section_at}
 use Rattle.nr_wasmbin.specs.Grammar.{Language, ◌▸◌, byte, u32, many, sized, custom, customs, section}
 use Rattle.nr_wasmbin.specs.declared.fault.DecodeFault.{DecodeFault}
-use Rattle.nr_wasmbin.proofs.Laws.{Takes, Law, bind_ok, goes, answer, ok_is, given, given_is, name_law, sized_taken, sized_again, whole_taken, whole_again, regroup, behind_both}
+use Rattle.nr_wasmbin.proofs.Laws.{Takes, Law, goes, answer, ok_is, given, given_is, name_law, sized_taken, sized_again, whole_taken, whole_again, regroup, behind_both}
 
 -- ---- a first byte
 first_is : (id : ℕ) (left : List ℕ) → begins id left ≡ true → left ≡ id ∷ drop 1 left

@@ -3,6 +3,7 @@ use Rattle.std.proofs.Common.{◌≡◌, ℕ, zero, suc, ◌+◌, ◌≤◌, Boo
 use Rattle.std.proofs.lemmas.Bool.{ltb-false, leb-true, le-leb, le-ltb}
 use Rattle.std.proofs.lemmas.List.{append-nil, take_at, drop_at, take-append-drop, length-append, length-take}
 use Rattle.std.specs.Str.{is_utf8}
+use Rattle.nr_bytes.proofs.Basics.{bind_ok}
 use Rattle.nr_bytes.specs.Reading.{Input, past, ◌>>=◌}
 use Rattle.nr_bytes.specs.Spelling.{before, behind}
 use Rattle.nr_bytes.specs.Fields.{mapped, pair, items_at}
@@ -22,10 +23,6 @@ pub record Law {X : Type 0} (reading : Input → Read X) (grammar : X → Langua
   pub again : (v : X) (text : List ℕ) (at : ℕ) (rest : List ℕ) → grammar v text → reading (before text at rest) ≡ Ok (v, behind text at rest)
 
 -- ---- steps
-pub bind_ok : {A B F : Type 0} (r : Result A F) (f : A → Result B F) (y : B) → (r >>= f) ≡ Ok y → (x : A) × (r ≡ Ok x) × (f x ≡ Ok y)
-bind_ok (Ok x) f y e = (x, refl, e)
-bind_ok (Err d) f y e = absurd cc
-
 pub goes : {A B F : Type 0} (r : Result A F) (f : A → Result B F) (x : A) (y : Result B F) → r ≡ Ok x → f x ≡ y → (r >>= f) ≡ y
 goes r f x y e h = ap (λ r. r >>= f) e ∙ h
 
@@ -123,21 +120,6 @@ mapped_law {X} {Y} to from r g back there law = record {
       subst (λ (p : Y × Input). Takes s (g (from p.0)) p.1) (ok_is made p x.2) (subst (λ (x : X). Takes s (g x) made.1) (sym (back x.0.0)) one);
   again = λ v text at rest t.
       ap (λ (m : Read X). m >>= λ n. Ok (to n.0, n.1)) (law.again (from v) text at rest t) ∙ ap (λ (y : Y). answer (y, behind text at rest)) (there v);
-}
-
--- a value that is made of others, and may not determine them
-abbrev pub Image : {X Y : Type 0} → (X → Y) → (X → Language) → Y → Language
-Image {X} to g y text = (x : X) × g x text × (to x ≡ y)
-
-pub image_law : {X Y : Type 0} (to : X → Y) (r : Input → Read X) (g : X → Language) → Law r g → Law (mapped to r) (Image to g)
-image_law {X} {Y} to r g law = record {
-  taken = λ s p e.
-      let x = bind_ok (r s) (λ m. Ok (to m.0, m.1)) p e in
-      let made : Y × Input = (to x.0.0, x.0.1) in
-      let one = law.taken s x.0 x.1 in
-      subst (λ (p : Y × Input). Takes s (Image to g p.0) p.1) (ok_is made p x.2) (one.0, one.1, (x.0.0, one.2, refl));
-  again = λ v text at rest t.
-      ap (λ (m : Read X). m >>= λ n. Ok (to n.0, n.1)) (law.again t.0 text at rest t.1) ∙ ap (λ (y : Y). answer (y, behind text at rest)) t.2;
 }
 
 -- the same reading, where the grammar is written otherwise

@@ -4,6 +4,7 @@ use Rattle.std.proofs.lemmas.Bool.{eqb-true, eq-eqb, ltb-false, le-ltb}
 use Rattle.std.proofs.lemmas.List.{append-nil, length-append, take_at, drop_at, take-append-drop}
 use Rattle.std.specs.Str.{bytes_eq}
 use Rattle.std.proofs.lemmas.Slice.Eq.{bytes_eq-Decides}
+use Rattle.nr_bytes.proofs.Basics.{bind_ok}
 use Rattle.nr_bytes.specs.Reading.{Input, past, ◌>>=◌}
 use Rattle.nr_bytes.specs.Spelling.{before, behind}
 use Rattle.nr_bytes.specs.Fields.{pair, items_at}
@@ -26,7 +27,7 @@ use Rattle.nr_wasmbin.specs.Grammar as grammar
 use Rattle.nr_wasmbin.specs.Grammar.{Language, ◌▸◌, exactly, u32, items, list, func_type, import, table, limits, global, export, element, body, segment, customs, section, IsModule}
 use Rattle.nr_wasmbin.specs.declared.fault.DecodeFault.{DecodeFault}
 use Rattle.nr_wasmbin.specs.declared.fault.DecodeFault.TheVariants as fault
-use Rattle.nr_wasmbin.proofs.Laws.{Takes, Law, bind_ok, goes, answer, given, given_is, test_ok, guard_ok, Takes-then, turns_again, u32_law, list_law, count_ok, count_again, items_taken, items_again}
+use Rattle.nr_wasmbin.proofs.Laws.{Takes, Law, goes, answer, given, given_is, test_ok, guard_ok, Takes-then, turns_again, u32_law, list_law, count_ok, count_again, items_taken, items_again}
 use Rattle.nr_wasmbin.proofs.PartLaws.{func_type_law, import_law, table_law, limits_law, global_law, export_law, element_law, segment_law}
 use Rattle.nr_wasmbin.proofs.PlainLaws.{body_law}
 use Rattle.nr_wasmbin.proofs.Chain.{from, Rest, rest_where, Leads, section_rest, section_leads, pair_leads, mapped_leads, skipped_taken, skipped_none, skipped_ends, customs_again}
@@ -208,9 +209,6 @@ all_rest =
 -- the same by the module itself
 abbrev parts : Module → Language
 parts m text = (length m.bodies ≡ length m.funcs) × (grammar.front m ▸ grammar.middle m ▸ grammar.back m) text
-
-front_of_module : Module → Front
-front_of_module m = record { types = m.types; imports = m.imports; funcs = m.funcs }
 
 parts_are : (m : Module) (text : List ℕ) → all_language m text → parts m text
 parts_are m text h =

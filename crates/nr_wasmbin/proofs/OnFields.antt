@@ -11,9 +11,6 @@ use Rattle.nr_wasmbin.specs.declared.fault.DecodeFault.TheVariants as fault
 pub goes : {A B F : Type 0} (r : Result A F) (f : A → Result B F) (x : A) (y : Result B F) → r ≡ Ok x → f x ≡ y → (r >>= f) ≡ y
 goes r f x y e h = ap (λ r. r >>= f) e ∙ h
 
-pub fails : {A B F : Type 0} (r : Result A F) (f : A → Result B F) (e : F) → r ≡ Err e → (r >>= f) ≡ Err e
-fails r f e h = ap (λ r. r >>= f) h
-
 pub filled_more : (bytes : List ℕ) (at : ℕ) → at < length bytes → filled_of (drop at bytes) at ≡ Err (fault.Section at)
 filled_more bytes at h = ap (λ l. filled_of l at) (drop_more bytes at 0 h)
 

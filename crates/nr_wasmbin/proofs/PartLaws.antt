@@ -2,6 +2,7 @@
 use Rattle.std.proofs.Common.{◌≡◌, ◌⊎◌, ℕ, zero, suc, ◌+◌, ◌≤◌, Bool, true, false, cond, eqb, leb, List, [], ◌∷◌, ◌++◌, length, replicate, Option, Some, None, Ok, Err, refl, sym, ap, subst, ◌∙◌, inl, inr}
 use Rattle.std.proofs.lemmas.Bool.{eqb-true, eq-eqb, leb-true, le-leb}
 use Rattle.std.proofs.lemmas.List.{append-nil}
+use Rattle.nr_bytes.proofs.Basics.{bind_ok}
 use Rattle.nr_bytes.specs.Reading.{Input, ◌>>=◌}
 use Rattle.nr_bytes.specs.Spelling.{before, behind}
 use Rattle.nr_bytes.specs.Fields.{mapped, pair}
@@ -34,7 +35,7 @@ use Rattle.nr_wasmbin.specs.Expressions.{block_type_of, block_type_at}
 use Rattle.nr_wasmbin.specs.Grammar.{Language, ◌▸◌, nothing, byte, opcode, u32, s32, s64, list, bytes, name, val_type, block_type, result, func_type, limits_with, limits, table, mutable, global_type, constant, const_expr, import_kind, import, global, export_kind, export, element, segment, group, groups, locals}
 use Rattle.nr_wasmbin.specs.declared.fault.DecodeFault.{DecodeFault}
 use Rattle.nr_wasmbin.specs.declared.fault.DecodeFault.TheVariants as fault
-use Rattle.nr_wasmbin.proofs.Laws.{Takes, Law, bind_ok, goes, answer, ok_is, test_ok, Takes-then, turns_again, nothing_behind, u32_law, s32_law, s64_law, pair_law, mapped_law, law_where, head, head_law, byte_taken, list_law, bytes_law, name_law, count_ok, count_again}
+use Rattle.nr_wasmbin.proofs.Laws.{Takes, Law, goes, answer, ok_is, test_ok, Takes-then, turns_again, nothing_behind, u32_law, s32_law, s64_law, pair_law, mapped_law, law_where, head, head_law, byte_taken, list_law, bytes_law, name_law, count_ok, count_again}
 
 -- ---- a first byte
 abbrev same_byte : ℕ → ℕ
@@ -54,9 +55,6 @@ and_nothing P text h = (text, [], sym (append-nil text), h, refl)
 
 pub takes_nothing : (s : Input) → Takes s nothing s
 takes_nothing s = ([], refl, refl)
-
-abbrev Arm : {X : Type 0} → (X → ℕ) → (X → Language) → ℕ → Input → X × Input → Type 0
-Arm tag inner n s p = (n ≡ tag p.0) × Takes s (inner p.0) p.1
 
 -- the byte says what follows
 pub byte_law : {X : Type 0} (body : ℕ → ℕ × Input → Read X) (tag : X → ℕ) (inner : X → Language)

@@ -2,6 +2,7 @@
 use Rattle.std.proofs.Common.{◌≡◌, ◌≢◌, ℕ, ◌≤◌, Bool, true, false, cond, eqb, List, [], ◌∷◌, ◌++◌, length, Ok, Err, refl, sym, ap, subst, ◌∙◌, arith}
 use Rattle.std.proofs.lemmas.Bool.{eqb-true, eq-eqb}
 use Rattle.std.proofs.lemmas.List.{length-append}
+use Rattle.nr_bytes.proofs.Basics.{bind_ok}
 use Rattle.nr_bytes.specs.Reading.{Input, ◌>>=◌}
 use Rattle.nr_bytes.specs.Spelling.{before, behind}
 use Rattle.nr_bytes.specs.Fields.{pair}
@@ -19,7 +20,7 @@ use Rattle.nr_wasmbin.specs.Modules.{body_of, inner_body_at, body_at}
 use Rattle.nr_wasmbin.specs.Grammar.{Language, ◌▸◌, byte, u32, s32, s64, list, operands, plain_op, IsSequence, expression, locals, body}
 use Rattle.nr_wasmbin.specs.declared.fault.DecodeFault.{DecodeFault}
 use Rattle.nr_wasmbin.specs.declared.fault.DecodeFault.TheVariants as fault
-use Rattle.nr_wasmbin.proofs.Laws.{Takes, Law, bind_ok, answer, ok_is, test_ok, nothing_behind, u32_law, s32_law, s64_law, pair_law, mapped_law, byte_taken, list_law, sized_law}
+use Rattle.nr_wasmbin.proofs.Laws.{Takes, Law, answer, ok_is, test_ok, nothing_behind, u32_law, s32_law, s64_law, pair_law, mapped_law, byte_taken, list_law, sized_law}
 use Rattle.nr_wasmbin.proofs.PartLaws.{failed, mapped_case, mapped_again, locals_law, block_type_law}
 use Rattle.nr_wasmbin.proofs.SequenceTaken as taken
 use Rattle.nr_wasmbin.proofs.SequenceAgain as back

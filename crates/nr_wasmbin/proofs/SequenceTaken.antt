@@ -1,6 +1,7 @@
 -- What is read as a sequence is one, by its grammar.
-use Rattle.std.proofs.Common.{◌≡◌, ℕ, zero, suc, ◌+◌, ◌<◌, List, [], ◌∷◌, ◌++◌, Option, Bool, true, false, cond, Ok, Err, Result, refl, sym, ap, subst, ◌∙◌, append_assoc, inl, inr}
+use Rattle.std.proofs.Common.{◌≡◌, ℕ, zero, suc, ◌+◌, ◌<◌, List, [], ◌∷◌, ◌++◌, Option, Bool, true, false, cond, Ok, Err, refl, sym, ap, subst, ◌∙◌, append_assoc, inl, inr}
 use Rattle.std.proofs.lemmas.Bool.{cases_lt, lt-ltb, le-ltb}
+use Rattle.nr_bytes.proofs.Basics.{bind_ok}
 use Rattle.nr_wasmtypes.specs.declared.instr.ValType.{ValType}
 use Rattle.nr_wasmtypes.specs.declared.instr.Plain.{Plain}
 use Rattle.nr_wasmtypes.specs.Code.{Code, End, Then, Block, Loop, Choice}
@@ -27,11 +28,6 @@ answer c e t = Ok ((c, e), t)
 
 abbrev read_type : Read (Option ValType) → Read (Option ValType)
 read_type r = r
-
--- a bind that gave a value
-bind_ok : {A B F : Type 0} (r : Result A F) (f : A → Result B F) (y : B) → (r >>= f) ≡ Ok y → (x : A) × (r ≡ Ok x) × (f x ≡ Ok y)
-bind_ok (Ok x) f y e = (x, refl, e)
-bind_ok (Err d) f y e = absurd cc
 
 -- what is read is a sequence with its end, and an `else` only where it may stand
 abbrev IsRead : ℕ → Bool → Input → (Code × Bool) × Input → Type 0

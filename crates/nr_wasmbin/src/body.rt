@@ -1,6 +1,6 @@
 //! Bodies of functions.
 
-ghost use Rattle.std.specs.Prelude.{◌≡◌, ◌≤◌, ◌+◌, Ok, OnOk, IfOk, length};
+ghost use Rattle.std.specs.Prelude.{◌≤◌, ◌+◌, Ok, OnOk, IfOk, length};
 ghost use Rattle.nr_wasmbin.specs.Fields.{Gives, GivesAll, whole};
 ghost use Rattle.nr_wasmbin.specs.Parts.{group_at, group_count_at, groups_at, locals_at};
 ghost use Rattle.nr_wasmbin.specs.Modules.{body_at, inner_body_at};

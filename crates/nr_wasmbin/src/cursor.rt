@@ -1,6 +1,6 @@
 //! Reading of fields, one after the other.
 
-ghost use Rattle.std.specs.Prelude.{◌≡◌, ◌+◌, ◌<◌, ◌≤◌, ◌==◌, OnOk, Some, None, length};
+ghost use Rattle.std.specs.Prelude.{◌≡◌, ◌+◌, ◌<◌, ◌≤◌, ◌==◌, OnOk, length};
 ghost use Rattle.nr_bytes.specs.Answers.{GivesAs};
 ghost use Rattle.nr_bytes.specs.Reading.{past};
 ghost use Rattle.nr_wasmbin.specs.Fields.{Gives, begins, byte_at, u32_at, s32_at, s64_at, count_at, bytes_at, name_at};

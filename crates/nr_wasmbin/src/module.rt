@@ -1,13 +1,11 @@
 //! Whole modules.
 
-ghost use Rattle.std.specs.Prelude.{◌≡◌, ◌≤◌, Ok, IfOk, length};
-ghost use Rattle.nr_bytes.specs.Answers.{GivesAs};
+ghost use Rattle.std.specs.Prelude.{◌≤◌, Ok, IfOk, length};
 ghost use Rattle.nr_config.specs.Config.{max_code};
 ghost use Rattle.nr_wasmbin.specs.Fields.{Gives, GivesAll};
 ghost use Rattle.nr_wasmbin.specs.Grammar.{IsModule};
 ghost use Rattle.nr_wasmtypes.specs.declared.module.Module.{Module as Modules};
 ghost use Rattle.nr_wasmbin.specs.Modules.{back_at, decoded, ended, front_at, middle_at, module_at, word_at};
-ghost use Rattle.nr_wasmbin.specs.declared.fault.DecodeFault.TheVariants.{Memory};
 
 use crate::cursor::Cursor;
 use crate::fault::DecodeFault;

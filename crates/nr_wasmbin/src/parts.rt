@@ -1,9 +1,8 @@
 //! The entries of a module's sections.
 
-ghost use Rattle.std.specs.Prelude.{◌≡◌, ◌≤◌, ◌<◌, ◌∷◌, Ok, OnOk, length};
-ghost use Rattle.nr_bytes.specs.Answers.{GivesAs};
+ghost use Rattle.std.specs.Prelude.{◌≤◌, ◌<◌, Ok, OnOk, length};
 ghost use Rattle.nr_bytes.specs.Reading.{Input};
-ghost use Rattle.nr_wasmbin.specs.Fields.{Gives, u32_at, byte_at, bytes_at};
+ghost use Rattle.nr_wasmbin.specs.Fields.{Gives, u32_at};
 ghost use Rattle.nr_wasmbin.specs.Parts.{const_expr_at, constant_at, element_at, end_at, exact_at, export_at};
 ghost use Rattle.nr_wasmbin.specs.Parts.{export_kind_at, func_type_at, global_at, global_type_at, import_at};
 ghost use Rattle.nr_wasmbin.specs.Parts.{import_kind_at, limits_at, mutable_at, result_at, segment_at, table_at};

@@ -1,6 +1,6 @@
 //! Instructions that hold no others, and the types of those that do.
 
-ghost use Rattle.std.specs.Prelude.{◌≡◌, ◌<◌, ◌≤◌, OnOk, length};
+ghost use Rattle.std.specs.Prelude.{◌<◌, ◌≤◌, OnOk, length};
 ghost use Rattle.nr_wasmbin.specs.Fields.{Gives};
 ghost use Rattle.nr_wasmbin.specs.Expressions.{plain_at, block_type_at, opened};
 ghost use Rattle.nr_wasmtypes.specs.declared.opcode.Op.TheVariants as op;

@@ -1,6 +1,6 @@
 //! Sections, with custom ones between them.
 
-ghost use Rattle.std.specs.Prelude.{◌≡◌, ◌<◌, ◌≤◌, OnOk, length, true};
+ghost use Rattle.std.specs.Prelude.{◌≡◌, ◌<◌, OnOk, length, true};
 ghost use Rattle.nr_bytes.specs.Answers.{GivesAs};
 ghost use Rattle.nr_bytes.specs.Fields.{items_at};
 ghost use Rattle.nr_wasmbin.specs.Fields.{Gives, GivesAll, begins, list_at, whole};

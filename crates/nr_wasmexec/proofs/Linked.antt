@@ -3,6 +3,7 @@ use Rattle.std.proofs.Common.{◌≡◌, ℕ, zero, suc, ◌+◌, ◌-◌, ◌<�
 use Rattle.std.specs.Prelude.{slice_get, is_some, option_and_then, codes, ◌⊎◌}
 use Rattle.std.specs.List.{cons_option}
 use Rattle.std.specs.Str.{bytes_eq}
+use Rattle.std.proofs.lemmas.Bool.{and_parts}
 use Rattle.nr_bytes.specs.Reading.{◌>>=◌}
 use Rattle.nr_wasmtypes.specs.declared.host.HostFn.{HostFn}
 use Rattle.nr_wasmtypes.specs.declared.module.FuncType.{FuncType}
@@ -27,10 +28,6 @@ pub use Rattle.nr_wasmvalid.proofs.Whole.{holds_first}
 pub both_ok : (r s : Result (Unit {0}) ValidFault) → (r >>= λ x. s) ≡ Ok tt → (r ≡ Ok tt) × (s ≡ Ok tt)
 both_ok (Ok x) s e = (refl, e)
 both_ok (Err f) s e = absurd cc
-
-both_true : (a b : Bool) → (a && b) ≡ true → (a ≡ true) × (b ≡ true)
-both_true true b e = (refl, e)
-both_true false b e = cc
 
 -- ---- the parts of a valid module
 module _ (pages : ℕ) (m : Module) where
@@ -74,7 +71,7 @@ first_linked : (types : List FuncType) (n : ℕ) (i : Import) (kind : ImportKind
 first_linked types n i (imported.Func t) ds e =
     let first = holds_first (is_some (slice_get types t)) _ _ e in
     let second = holds_first (bytes_eq i.module (codes "env") && has_sig (host_named i.name) (slice_get types t)) _ _ first.1 in
-    let sig = sig_of_host (host_named i.name) (slice_get types t) (both_true (bytes_eq i.module (codes "env")) (has_sig (host_named i.name) (slice_get types t)) second.0).1 in
+    let sig = sig_of_host (host_named i.name) (slice_get types t) (and_parts (bytes_eq i.module (codes "env")) (has_sig (host_named i.name) (slice_get types t)) second.0).1 in
     (t, sig.0, sig.1, refl, sig.2, sig.3, sig.4, second.1)
 first_linked types n i imported.Table ds e = absurd cc
 first_linked types n i imported.Memory ds e = absurd cc
@@ -161,9 +158,6 @@ less a b h = grind (arith)
 
 not_less : (a b : ℕ) → b ≤ a → nat_lt a b ≡ false
 not_less a b h = grind (arith)
-
-less_is : (a b : ℕ) → nat_lt a b ≡ true → a < b
-less_is a b h = grind (arith)
 
 coded_is : (sig : Option FuncType) (body : Option Body) (func : Func) → coded sig body ≡ Some func → (s : FuncType) × (b : Body) × (sig ≡ Some s) × (body ≡ Some b) × (func ≡ Coded s b)
 coded_is None body func e = cc

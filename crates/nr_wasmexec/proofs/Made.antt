@@ -2,7 +2,7 @@
 use Rattle.std.proofs.Common.{◌≡◌, ℕ, zero, suc, ◌+◌, ◌≤◌, Bool, true, false, ◌&&◌, List, [], ◌∷◌, ◌++◌, length, map, replicate, nat_le, nat_eq, Option, Some, None, Ok, refl, sym, ap, ◌∙◌, subst, arith}
 use Rattle.std.specs.Prelude.{slice_get, slice_set, is_some, option_and_then, if◌then◌else◌}
 use Rattle.std.specs.List.{list_all}
-use Rattle.std.proofs.lemmas.Bool.{leb-true}
+use Rattle.std.proofs.lemmas.Bool.{leb-true, and_parts}
 use Rattle.nr_config.specs.Config.{Config, regular_op_cost, max_pages, least, greatest, IsValidConfig}
 use Rattle.nr_config.specs.Table.{table}
 use Rattle.nr_wasmtypes.specs.declared.module.Global.{Global}
@@ -76,14 +76,10 @@ one_there funcs (x ∷ t) zero g is h (suc k) f e = h (suc k) f e
 one_there funcs (x ∷ t) (suc at) g is h zero f e = h zero f e
 one_there funcs (x ∷ t) (suc at) g is h (suc k) f e = one_there funcs t at g is (λ k f e. h (suc k) f e) k f e
 
-both_true : (a b : Bool) → (a && b) ≡ true → (a ≡ true) × (b ≡ true)
-both_true true b e = (refl, e)
-both_true false b e = cc
-
 placed_there : (funcs : List ℕ) (fs : List ℕ) (t : List (Option ℕ)) (at : ℕ) → list_all (λ f. is_some (slice_get funcs f)) fs ≡ true → AreThere funcs t → AreThere funcs (placed t at fs)
 placed_there funcs [] t at e h = h
 placed_there funcs (g ∷ fs) t at e h =
-    let parts = both_true (is_some (slice_get funcs g)) (list_all (λ f. is_some (slice_get funcs f)) fs) e in
+    let parts = and_parts (is_some (slice_get funcs g)) (list_all (λ f. is_some (slice_get funcs f)) fs) e in
     placed_there funcs fs (slice_set t at (Some g)) (at + 1) parts.1 (one_there funcs t at g parts.0 h)
 
 put_there : (funcs : List ℕ) (t u : List (Option ℕ)) (at : ℕ) (fs : List ℕ) → list_all (λ f. is_some (slice_get funcs f)) fs ≡ true → AreThere funcs t → put_funcs t at fs ≡ Some u → AreThere funcs u

@@ -171,8 +171,3 @@ module _ {S : Type 0} (m : HostMeaning S) (law : IsHost m) (s : Runtime S) where
   led_near locals code cs (Returns values) t r e = return_near values locals cs cs (omega arith) t r e
   led_near locals code cs (Traps kind) t r e = cc
   led_near locals code cs Stuck t r e = cc
-
-pub left_shorter : (p q : Place) (cs : List Context) → left p cs ≡ Some q → length q.contexts + 1 ≡ length cs
-left_shorter p q [] e = cc
-left_shorter p q (InLabel values n again code ∷ around) e = subst (λ (q : Place). length q.contexts + 1 ≡ length (InLabel values n again code ∷ around)) (some_is _ q e) (omega arith)
-left_shorter p q (InFrame values n outer code ∷ around) e = subst (λ (q : Place). length q.contexts + 1 ≡ length (InFrame values n outer code ∷ around)) (some_is _ q e) (omega arith)

@@ -4,6 +4,7 @@ use Rattle.std.specs.Prelude.{◌≢◌, ◌⊎◌, reverse, slice_get, slice_se
 use Rattle.std.proofs.lemmas.List.{length-reverse, length-take-le}
 use Rattle.std.proofs.lemmas.Bool.Decides.{Decides-eqb}
 use mathlib.Core.Logic.{inl, inr}
+use Rattle.std.proofs.lemmas.Bool.{and_parts}
 use Rattle.nr_wasmtypes.specs.declared.instr.ValType.{ValType}
 use Rattle.nr_wasmtypes.specs.declared.instr.ValType.TheVariants.{I32}
 use Rattle.nr_wasmtypes.specs.declared.instr.Plain.{Plain as Op}
@@ -34,7 +35,7 @@ use Rattle.nr_wasmexec.specs.Reduction.{effect, Step, To, Over, Branching, Retur
 use Rattle.nr_wasmexec.specs.Reduction.{call_of, behind_call, reduce, has_instr, is_too_large, paid, stepped, Config}
 use Rattle.nr_wasmexec.specs.Reduction.{Outcome, Halted, NeverFits, turn, runs, run_in, run_by}
 use Rattle.nr_wasmexec.specs.Place as place
-use Rattle.nr_wasmexec.specs.Place.{Place, InLabel, InFrame, whole_of, onward, branched, returned, left, arrived, Led, Leads, Halts, Nowhere, with_store, given, asked, led}
+use Rattle.nr_wasmexec.specs.Place.{Place, InLabel, InFrame, whole_of, onward, branched, returned, arrived, Led, Leads, Halts, Nowhere, with_store, asked, led}
 use Rattle.nr_wasmexec.specs.Making.{is_method}
 use Rattle.nr_wasmexec.specs.Standing.{FuncFits, IsSound, IsGuest, IsBody, Round, Stands}
 use Rattle.nr_wasmexec.proofs.Branches.{some_is}
@@ -133,14 +134,10 @@ label_is : (ts : Types?) (o : Option Types?) → is_label ts o ≡ true → o �
 label_is ts None e = cc
 label_is ts (Some us) e = ap Some (sym (same_types_are ts us e))
 
-both_true : (a b : Bool) → (a && b) ≡ true → (a ≡ true) × (b ≡ true)
-both_true true b e = (refl, e)
-both_true false b e = cc
-
 pub label_at : (ts : Types?) (labels : List Types?) (ls : List ℕ) (v other : ℕ) → are_labels ts labels ls ≡ true → slice_get labels other ≡ Some ts → slice_get labels (chosen (slice_get ls v) other) ≡ Some ts
 label_at ts labels [] v other e h = h
-label_at ts labels (l ∷ ls) zero other e h = label_is ts (slice_get labels l) (both_true (is_label ts (slice_get labels l)) (are_labels ts labels ls) e).0
-label_at ts labels (l ∷ ls) (suc v) other e h = label_at ts labels ls v other (both_true (is_label ts (slice_get labels l)) (are_labels ts labels ls) e).1 h
+label_at ts labels (l ∷ ls) zero other e h = label_is ts (slice_get labels l) (and_parts (is_label ts (slice_get labels l)) (are_labels ts labels ls) e).0
+label_at ts labels (l ∷ ls) (suc v) other e h = label_at ts labels ls v other (and_parts (is_label ts (slice_get labels l)) (are_labels ts labels ls) e).1 h
 
 module _ (safe : (c : Context) (bs : List Open) (ts : List ValType) → NeverStuck c bs ts) (starts : (c : Context) (code : Code) → IsTyped c code → GoesOn c [] code []) (p : Program) (sound : IsSound p) where
   module _ (c : Context) (bs : List Open) (rest : Code) (body : IsBody p c) where
@@ -549,7 +546,7 @@ module _ (safe : (c : Context) (bs : List Open) (ts : List ValType) → NeverStu
       by_parts [] None m = (refl, refl)
       by_parts [] (Some t) m = absurd cc
       by_parts (t ∷ ps) ty m =
-          let none : length (t ∷ ps) ≡ 0 = (Decides-eqb (length (t ∷ ps)) 0).0 (both_true (nat_eq (length (t ∷ ps)) 0) (not (is_some ty)) m).0 in
+          let none : length (t ∷ ps) ≡ 0 = (Decides-eqb (length (t ∷ ps)) 0).0 (and_parts (nat_eq (length (t ∷ ps)) 0) (not (is_some ty)) m).0 in
           absurd (omega (arith, none))
 
   method_fits : (s : Runtime S) (func : Func) (n : ℕ) → IsGuest w.program s.guest → FuncFits w.program.code func → IsTrue (is_method (Some func)) → run_in w s (Some func) n ≢ NeverFits

@@ -1,7 +1,7 @@
 //! Machines.
 
-ghost use Rattle.std.specs.Prelude.{◌≡◌, ◌≤◌, ℕ, IfOk, IfSome, IsTrue};
-ghost use Rattle.nr_bytes.specs.Answers.{Gives, GivesAs};
+ghost use Rattle.std.specs.Prelude.{◌≡◌, ◌≤◌, IfOk, IfSome, IsTrue};
+ghost use Rattle.nr_bytes.specs.Answers.{Gives};
 ghost use Rattle.nr_config.specs.Config.{max_pages};
 ghost use Rattle.nr_wasmvalid.specs.Modules.{IsValid};
 ghost use Rattle.nr_wasmexec.specs.declared.making.MakeFault.TheVariants as make;
@@ -9,7 +9,7 @@ ghost use Rattle.nr_wasmexec.specs.Functions.{func_at};
 ghost use Rattle.nr_wasmexec.specs.Reduction.{run_by};
 ghost use Rattle.nr_wasmexec.specs.Machine.{rules_of, runtime, Ends};
 ghost use Rattle.nr_wasmexec.specs.Making.{MachineView, IsMachine, FitsFirst, most_of, memory_of, guest_answer};
-ghost use Rattle.nr_wasmexec.specs.Making.{first_guest, limits_of, machine_of, is_method, method_as, method_in};
+ghost use Rattle.nr_wasmexec.specs.Making.{first_guest, limits_of, machine_of, is_method, method_as};
 ghost use Rattle.nr_wasmexec.specs.Making.{method_of};
 
 use crate::exports::{export_named, takes_and_leaves_nothing};

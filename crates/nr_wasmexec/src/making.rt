@@ -1,7 +1,6 @@
 //! What a module's guest is before its first run.
 
-ghost use Rattle.std.specs.Prelude.{◌≡◌, ◌≤◌, ◌+◌, IfOk, Some, None, length, replicate, slice_get};
-ghost use Rattle.nr_wasmmem.specs.Bytes.{put_over};
+ghost use Rattle.std.specs.Prelude.{◌≡◌, ◌≤◌, ◌+◌, IfOk, Some, None, length, replicate};
 ghost use Rattle.nr_wasmexec.specs.Functions.{link_as, links};
 ghost use Rattle.nr_wasmexec.specs.Making.{or_zero, constant_of, globals_of, entries_of, placed, put_funcs, all_into};
 ghost use Rattle.nr_wasmexec.specs.Making.{element_into, segment_into};

@@ -1,6 +1,6 @@
 //! Instructions that compute.
 
-ghost use Rattle.std.specs.Prelude.{◌≡◌, ◌∷◌};
+ghost use Rattle.std.specs.Prelude.{◌∷◌};
 ghost use Rattle.nr_wasmnum.specs.Integers.{arith_of, compare_of, zero_test_of, bit_count_of, convert_of};
 ghost use Rattle.nr_wasmexec.specs.Reduction.{Goes, on_top, on_two, computed};
 ghost use Rattle.nr_wasmexec.specs.Executing.{by, Moves};

@@ -1,6 +1,6 @@
 //! What runs: valid code with its functions.
 
-ghost use Rattle.std.specs.Prelude.{◌≡◌, Some, None, slice_get, length, nat_lt};
+ghost use Rattle.std.specs.Prelude.{Some, slice_get};
 ghost use Rattle.nr_wasmexec.specs.Functions.{func_at, host_func, own_func};
 ghost use Rattle.nr_wasmexec.specs.Executing.{FindsFunc};
 

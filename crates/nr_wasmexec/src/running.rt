@@ -1,7 +1,6 @@
 //! Runs of functions.
 
-ghost use Rattle.std.specs.Prelude.{◌≡◌, ◌≤◌, ◌<◌, ◌+◌, ◌∷◌, ◌||◌, drop, replicate, IsTrue, IfOk, OnOk, Some, None};
-ghost use Rattle.std.specs.Prelude.{MatchOption, IsSomeAnd, slice_get};
+ghost use Rattle.std.specs.Prelude.{◌≡◌, ◌≤◌, ◌<◌, ◌||◌, replicate, IsTrue, IfOk, OnOk, Some, None};
 ghost use Rattle.nr_wasmexec.specs.Reduction.{stepped, run_of, run_in, run_by};
 ghost use Rattle.nr_wasmtypes.specs.Code.{after, put, code_of};
 ghost use Rattle.nr_wasmexec.specs.Executing.{SameShape, func_of};

@@ -1,6 +1,6 @@
 //! Where a run stands in its code, with its operands and locals.
 
-ghost use Rattle.std.specs.Prelude.{◌≡◌, ℕ, ◌≤◌, ◌+◌, [], ◌∷◌, ◌++◌, length, drop, take, reverse, replicate, slice_get};
+ghost use Rattle.std.specs.Prelude.{◌≡◌, ◌≤◌, ◌+◌, [], ◌∷◌, ◌++◌, length, drop, take, reverse, replicate, slice_get};
 ghost use Rattle.std.specs.Prelude.{IfOk, OnOk, MatchOption};
 ghost use Rattle.nr_wasmexec.specs.Place.{Place, InLabel, InFrame};
 ghost use Rattle.nr_wasmtypes.specs.Code.{End, code_of, put, after};

@@ -1,8 +1,7 @@
 //! The bytes of a guest.
 
-ghost use Rattle.std.specs.Prelude.{◌≡◌, ℕ, ◌+◌, ◌*◌, ◌≤◌, ◌<◌, [], length, IfOk, IfSome, Some, None, MatchResult};
+ghost use Rattle.std.specs.Prelude.{◌≡◌, ◌+◌, ◌*◌, ◌≤◌, ◌<◌, [], length, IfOk, Some, None, MatchResult};
 ghost use Rattle.std.specs.Prelude.{MatchOption};
-ghost use Rattle.std.specs.Option.{option_copied};
 ghost use Rattle.nr_bytes.specs.Numbers.{little, number};
 ghost use Rattle.nr_wasmmem.specs.Bytes.{MemoryView, IsMemory, IsWidth, pages_of, zeros, range_in, number_in};
 ghost use Rattle.nr_wasmmem.specs.Bytes.{number_over, put_over, Finds, Puts, Grows};

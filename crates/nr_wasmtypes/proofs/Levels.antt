@@ -1,5 +1,5 @@
 -- The tree of a list of instructions, by its first.
-use Rattle.std.proofs.Common.{◌≡◌, Option, Vec, Box, Global, rules, ap, ◌∙◌, List, [], ◌∷◌, drop, refl, sym, true}
+use Rattle.std.proofs.Common.{◌≡◌, Option, Vec, Box, Global, rules, ap, ◌∙◌, refl, sym, true}
 use Rattle.nr_wasmtypes.specs.Code as tree
 use Rattle.nr_wasmtypes.specs.Code.{Code, code_of, put, instr_step}
 use Rattle.nr_wasmtypes.proofs.Counts.{put_is}
@@ -35,27 +35,6 @@ pub put_if : (i : Instr) (ty : Option ValType) (arms : Box (Vec Instr Global × 
 put_if i ty arms rest e = ap (λ (j : Instr). put j rest) e ∙ if_put ty arms rest
 
 -- ---- the first of a list
-after_level : (level : Instr-F (Code → Code)) (rest : Code) → tree.after (instr_step level rest) ≡ rest
-after_level (Instr-F.Plain p) rest = refl
-after_level (Instr-F.Block ty body) rest = refl
-after_level (Instr-F.Loop ty body) rest = refl
-after_level (Instr-F.If ty arms) rest = refl
-
-pub after_put : (i : Instr) (rest : Code) → tree.after (put i rest) ≡ rest
-after_put i rest =
-    let level = put_is i in
-    ap (λ (f : Code → Code). tree.after (f rest)) level.1 ∙ after_level level.0 rest
-
-pub after_code : (is : List Instr) → tree.after (code_of is) ≡ code_of (drop 1 is)
-after_code [] = refl
-after_code (i ∷ is) = after_put i (code_of is)
-
-pub first_code : (is : List Instr) (i : Instr) → is ≡ i ∷ drop 1 is → code_of is ≡ put i (tree.after (code_of is))
-first_code [] i e = cc
-first_code (j ∷ is) i e =
-    let same : j ≡ i = cc in
-    ap (λ (k : Instr). put k (code_of is)) same ∙ ap (put i) (sym (after_code (j ∷ is)))
-
 begins_level : (level : Instr-F (Code → Code)) (rest : Code) → tree.begins (instr_step level rest) ≡ true
 begins_level (Instr-F.Plain p) rest = refl
 begins_level (Instr-F.Block ty body) rest = refl

@@ -1,7 +1,6 @@
 -- NEAR Nomicon, "Bindings Spec": the functions of the host, by name and type.
 use Rattle.std.specs.Prelude.{ℕ, List, [], ◌∷◌, replicate, find, Option, Some, None, codes}
 use Rattle.std.specs.Str.{bytes_eq}
-use Rattle.nr_wasmtypes.specs.declared.instr.ValType.{ValType}
 use Rattle.nr_wasmtypes.specs.declared.instr.ValType.TheVariants.{I32, I64}
 use Rattle.nr_wasmtypes.specs.declared.module.FuncType.{FuncType}
 use Rattle.nr_wasmtypes.specs.declared.host.HostFn.{HostFn}

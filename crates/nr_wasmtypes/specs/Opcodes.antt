@@ -1,6 +1,5 @@
 -- WebAssembly Core 1.0, "Binary Format", "Instructions": the opcodes.
 use Rattle.std.specs.Prelude.{ℕ, List, [], ◌∷◌, ◌++◌, map, replicate, get_or}
-use Rattle.nr_wasmtypes.specs.declared.instr.ValType.{ValType}
 use Rattle.nr_wasmtypes.specs.declared.instr.ValType.TheVariants.{I32, I64}
 use Rattle.nr_wasmtypes.specs.declared.instr.Arith.{Arith}
 use Rattle.nr_wasmtypes.specs.declared.instr.Arith.TheVariants as arith

@@ -8,6 +8,7 @@ use Rattle.std.specs.Cmp.Lexicographic.{slice_cmp, nat_list_cmp_total, texts_tie
 use Rattle.std.specs.BTreeMap.{is_at}
 use Rattle.std.specs.List.{list_any}
 use Rattle.std.specs.Str.{bytes_eq}
+use mathlib.Core.Bool.{or-false, or_comm}
 use Rattle.nr_wasmtypes.specs.declared.module.Export.{Export}
 use Rattle.nr_wasmvalid.specs.Parts.{has_name}
 
@@ -21,17 +22,8 @@ seen_more k q b =
     as_or (eq_by_cmp (slice_cmp nat_cmp) k q) b
     ∙ ap (λ t. t || b) (sym (texts_ties q k ∙ (eq_by_cmp_equiv nat_list_cmp_total).symm q k))
 
-or_none : (b : Bool) → (b || false) ≡ b
-or_none true = refl
-or_none false = refl
-
-or_turned : (a b : Bool) → (a || b) ≡ (b || a)
-or_turned true true = refl
-or_turned true false = refl
-or_turned false b = sym (or_none b)
-
 any_at_end : (q : List ℕ) (xs : List Export) (x : Export) → list_any (has_name q) (xs ++ x ∷ []) ≡ (list_any (has_name q) xs || has_name q x)
-any_at_end q [] x = or_none (has_name q x)
+any_at_end q [] x = or-false (has_name q x)
 any_at_end q (y ∷ xs) x = ap (λ b. has_name q y || b) (any_at_end q xs x) ∙ together (has_name q y) (list_any (has_name q) xs) (has_name q x)
   where
     together : (a b c : Bool) → (a || (b || c)) ≡ ((a || b) || c)
@@ -42,7 +34,7 @@ pub any_more : (q : List ℕ) (xs : List Export) (n : ℕ) (x : Export) → n < 
 any_more q xs n x h is =
     ap (list_any (has_name q)) (take_more xs n x h ∙ ap (λ (y : Export). take n xs ++ y ∷ []) (sym is))
     ∙ any_at_end q (take n xs) x
-    ∙ or_turned (list_any (has_name q) (take n xs)) (has_name q x)
+    ∙ or_comm (list_any (has_name q) (take n xs)) (has_name q x)
 
 pub one_seen : (name key : List ℕ) (xs : List Export) (fresh has : Bool) → fresh ≡ not has → has ≡ list_any (has_name key) xs → key ≡ name → fresh ≡ not (list_any (has_name name) xs)
 one_seen name key xs fresh has f h k = f ∙ ap not (h ∙ ap (λ q. list_any (has_name q) xs) k)

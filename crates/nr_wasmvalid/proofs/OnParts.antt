@@ -1,6 +1,6 @@
 -- The demands of a module's parts, one after the other.
-use Rattle.std.proofs.Common.{if◌then◌else◌, ◌≡◌, ℕ, ◌+◌, ◌<◌, ◌≤◌, List, [], ◌∷◌, ◌++◌, length, drop, get_or, Bool, true, false, Result, Ok, Err, refl, sym, ap, ◌∙◌}
-use Rattle.std.proofs.lemmas.List.{drop_more, drop_all}
+use Rattle.std.proofs.Common.{if◌then◌else◌, ◌≡◌, ℕ, ◌+◌, ◌<◌, List, [], ◌∷◌, ◌++◌, length, drop, get_or, Bool, true, false, Result, Ok, Err, refl, sym, ap, ◌∙◌}
+use Rattle.std.proofs.lemmas.List.{drop_more}
 use Rattle.nr_bytes.specs.Reading.{◌>>=◌}
 use Rattle.nr_wasmvalid.specs.declared.fault.ValidFault.{ValidFault}
 use Rattle.nr_wasmvalid.specs.Parts.{Demand, outcome, each}
@@ -20,12 +20,6 @@ met ds es e = outcome-append ds es ∙ ap (λ r. r >>= λ x. outcome es) e
 pub unmet : (ds es : List Demand) (f : ValidFault) → outcome ds ≡ Err f → outcome (ds ++ es) ≡ Err f
 unmet ds es f e = outcome-append ds es ∙ ap (λ r. r >>= λ x. outcome es) e
 
-pub one_met : (d : Demand) (es : List Demand) → outcome (d ∷ []) ≡ Ok tt → outcome (d ∷ es) ≡ outcome es
-one_met d es e = met (d ∷ []) es e
-
-pub one_unmet : (d : Demand) (es : List Demand) (f : ValidFault) → outcome (d ∷ []) ≡ Err f → outcome (d ∷ es) ≡ Err f
-one_unmet d es f e = unmet (d ∷ []) es f e
-
 -- ---- the entries of a list, up to the one at which a loop stands
 entry : {X : Type 0} (asks : ℕ → X → List Demand) (xs : List X) (i : ℕ) (x : X) → i < length xs → x ≡ get_or xs i x → each asks i (drop i xs) ≡ asks i x ++ each asks (i + 1) (drop (i + 1) xs)
 entry asks xs i x h e = ap (each asks i) (drop_more xs i x h) ∙ ap (λ y. asks i y ++ each asks (i + 1) (drop (i + 1) xs)) (sym e)
@@ -39,6 +33,3 @@ pub entry_unmet : {X : Type 0} (asks : ℕ → X → List Demand) (xs : List X) 
     → outcome (each asks i (drop i xs)) ≡ all → all ≡ Err f
 entry_unmet asks xs i x all f h e breaks so_far =
     sym so_far ∙ ap outcome (entry asks xs i x h e) ∙ unmet (asks i x) (each asks (i + 1) (drop (i + 1) xs)) f breaks
-
-pub all_met : {X : Type 0} (asks : ℕ → X → List Demand) (xs : List X) (i : ℕ) (all : Result (Unit {0}) ValidFault) → length xs ≤ i → outcome (each asks i (drop i xs)) ≡ all → all ≡ Ok tt
-all_met asks xs i all h so_far = sym so_far ∙ ap (λ ys. outcome (each asks i ys)) (drop_all i xs h)

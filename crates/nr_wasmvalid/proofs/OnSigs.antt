@@ -1,7 +1,8 @@
 -- The types of the host's functions.
-use Rattle.std.proofs.Common.{◌≡◌, ◌≢◌, suc, ◌&&◌, List, [], ◌∷◌, length, replicate, Bool, true, false, refl, sym, ap, ◌∙◌}
+use Rattle.std.proofs.Common.{◌≡◌, ◌≢◌, suc, ◌&&◌, List, [], ◌∷◌, length, replicate, false, refl, sym, ap, ◌∙◌}
 use Rattle.std.specs.List.{list_all}
 use Rattle.std.specs.Cmp.Lexicographic.{pointwise}
+use mathlib.Core.Bool.{and-false}
 use Rattle.nr_wasmtypes.specs.declared.instr.ValType.{ValType}
 use Rattle.nr_wasmtypes.specs.declared.module.FuncType.{FuncType}
 use Rattle.nr_wasmvalid.specs.Rules.{same_type, same_types}
@@ -17,15 +18,11 @@ same_sig_is s h t alike same =
     ap (λ (qs : List ValType). pointwise same_type s.params qs && same_types s.result h.result) ps
     ∙ ap (λ b. b && same_types s.result h.result) (all_alike s.params t)
 
-and_false : (b : Bool) → (b && false) ≡ false
-and_false true = refl
-and_false false = refl
-
 unlike : (ps ts : List ValType) → length ps ≢ length ts → pointwise same_type ps ts ≡ false
 unlike [] [] ne = absurd (ne refl)
 unlike [] (t ∷ ts) ne = refl
 unlike (p ∷ ps) [] ne = refl
-unlike (p ∷ ps) (t ∷ ts) ne = ap (λ b. same_type p t && b) (unlike ps ts (λ e. ne (ap suc e))) ∙ and_false (same_type p t)
+unlike (p ∷ ps) (t ∷ ts) ne = ap (λ b. same_type p t && b) (unlike ps ts (λ e. ne (ap suc e))) ∙ and-false (same_type p t)
 
 pub other_length : (s h : FuncType) → length s.params ≢ length h.params → same_sig s h ≡ false
 other_length s h ne = ap (λ b. b && same_types s.result h.result) (unlike s.params h.params ne)

@@ -1,6 +1,6 @@
 -- From the checks of parts and bodies to the module.
-use Rattle.std.proofs.Common.{◌≡◌, ◌≢◌, ℕ, zero, suc, ◌+◌, ◌<◌, ◌≤◌, List, [], ◌∷◌, ◌++◌, length, drop, get_or, min, nat_eq, Some, is_some, slice_get, Bool, true, false, if◌then◌else◌, Result, Ok, Err, refl, sym, ap, subst, ◌∙◌, inl, inr, arith}
-use Rattle.std.proofs.lemmas.List.{drop_more, drop_all}
+use Rattle.std.proofs.Common.{◌≡◌, ◌≢◌, ℕ, zero, suc, ◌+◌, ◌<◌, List, [], ◌∷◌, ◌++◌, length, drop, get_or, min, nat_eq, Some, is_some, slice_get, Bool, true, false, if◌then◌else◌, Result, Ok, Err, refl, sym, ap, subst, ◌∙◌, inl, inr, arith}
+use Rattle.std.proofs.lemmas.List.{drop_more}
 use Rattle.std.proofs.lemmas.Option.{slice_get_read}
 use Rattle.std.proofs.lemmas.Bool.Decides.{Decides-eqb}
 use Rattle.nr_bytes.specs.Reading.{◌>>=◌}
@@ -41,10 +41,6 @@ breach_in m n sig b (body.Label place) v other = (place, refusal.Label, v, refl)
 breach_in m n sig b (body.Limit place) v other = (place, refusal.Limit, v, refl)
 breach_in m n sig b body.Memory v other = absurd (other refl)
 
-pub func_typed : (m : Module) (funcs : List ℕ) (locals : List ValType) (sig : FuncType) (b : Body) (code : Code) → funcs ≡ func_indices m → locals ≡ sig.params ++ b.locals → code ≡ b.code
-    → Verdict (context m funcs locals sig.result []) code (Ok tt) → IsTyped (func_context m sig b) b.code
-func_typed m funcs locals sig b code f l e v = moved m funcs locals sig b code (Ok tt) f l e v
-
 pub func_breaks : (m : Module) (funcs : List ℕ) (locals : List ValType) (sig : FuncType) (b : Body) (code : Code) (n : ℕ) (e : BodyFault) (whole : ValidFault) → funcs ≡ func_indices m → locals ≡ sig.params ++ b.locals → code ≡ b.code → whole ≡ in_func n e
     → Verdict (context m funcs locals sig.result []) code (Err e) → whole ≢ fault.Memory → IsBreachIn m n sig b whole
 func_breaks m funcs locals sig b code n e whole f l k is v other =
@@ -79,9 +75,6 @@ breaks_here m n types ts bs k t b sig e all h g is at low sig_is breaks = λ oth
     let here : FirstIn m n (t ∷ drop (k + 1) ts) (b ∷ drop (k + 1) bs) e = inl (sig, found m types t sig all low sig_is, breaks other) in
     subst (λ (xs : List ℕ). FirstIn m n xs (drop k bs) e) (sym front)
     (subst (λ (ys : List Body). FirstIn m n (t ∷ drop (k + 1) ts) ys e) (sym front-2) here)
-
-pub all_judged : (m : Module) (n : ℕ) (ts : List ℕ) (bs : List Body) (k : ℕ) → length ts ≤ k → FuncsJudge m n (drop k ts) (drop k bs) (Ok tt)
-all_judged m n ts bs k h = subst (λ (xs : List ℕ). AreTyped m xs (drop k bs)) (sym (drop_all k ts h)) tt
 
 -- ---- what passed parts say
 both_ok : (r s : Result (Unit {0}) ValidFault) → (r >>= λ x. s) ≡ Ok tt → (r ≡ Ok tt) × (s ≡ Ok tt)

@@ -1,6 +1,6 @@
 //! Checking a body block by block.
 
-ghost use Rattle.std.specs.Prelude.{◌≡◌, ◌+◌, ◌<◌, ◌^◌, ◌∷◌, [], OnOk, IfOk, IfErr, None};
+ghost use Rattle.std.specs.Prelude.{◌≡◌, ◌+◌, ◌<◌, [], OnOk, IfOk, IfErr, None};
 ghost use Rattle.nr_wasmvalid.specs.declared.refusal.BodyFault.TheVariants.{Memory};
 ghost use Rattle.nr_wasmtypes.specs.Code.{code_of, count_of, put, End};
 ghost use Rattle.nr_wasmvalid.specs.Rules.{types, within, ending};

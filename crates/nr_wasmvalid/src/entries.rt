@@ -1,6 +1,6 @@
 //! The entries of a module's lists.
 
-ghost use Rattle.std.specs.Prelude.{◌≡◌, ℕ, ◌&&◌, not, Some, take, codes};
+ghost use Rattle.std.specs.Prelude.{◌≡◌, ◌&&◌, not, Some, take, codes};
 ghost use Rattle.std.specs.List.{list_any, list_all};
 ghost use Rattle.std.specs.Prelude.{is_some, slice_get};
 ghost use Rattle.std.specs.Str.{bytes_eq};

@@ -1,10 +1,7 @@
 //! The first breach of a module.
 
-ghost use Rattle.std.specs.Prelude.{◌≡◌, ◌<◌, ◌^◌, Err};
-ghost use Rattle.nr_bytes.specs.Answers.{Gives};
+ghost use Rattle.std.specs.Prelude.{◌≡◌, ◌<◌};
 ghost use Rattle.nr_wasmvalid.specs.Modules.{in_func};
-ghost use Rattle.nr_wasmvalid.specs.Parts.{outside};
-ghost use Rattle.nr_wasmvalid.specs.declared.fault.ValidFault.TheVariants as fault;
 
 use crate::refusal::BodyFault;
 use std::alloc::{AllocError, AllocFailed};

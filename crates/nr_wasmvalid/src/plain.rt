@@ -1,6 +1,6 @@
 //! Checking the plain instructions, a function for each kind.
 
-ghost use Rattle.std.specs.Prelude.{◌≡◌, ◌∷◌, [], OnOk, slice_get, option_copied, Ok, Err, ℕ, if◌then◌else◌};
+ghost use Rattle.std.specs.Prelude.{◌≡◌, ◌∷◌, [], OnOk, slice_get, option_copied, Ok, Err, if◌then◌else◌};
 ghost use Rattle.nr_wasmtypes.specs.declared.instr.Plain.TheVariants as op;
 ghost use Rattle.nr_wasmvalid.specs.Rules.{func_type, are_labels, is_label, same_types, Take, Give, Leave};
 ghost use Rattle.nr_wasmvalid.specs.Shapes.{asked_all};

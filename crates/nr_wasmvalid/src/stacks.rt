@@ -1,9 +1,9 @@
 //! The operand stack and the control stack of the validation algorithm.
 
-ghost use Rattle.std.specs.Prelude.{◌≡◌, ◌≢◌, [], ◌∷◌, OnOk, IfOk, None, length, option_copied, slice_get, reverse};
+ghost use Rattle.std.specs.Prelude.{◌≡◌, ◌≢◌, [], ◌∷◌, OnOk, None, length, slice_get, reverse};
 ghost use Rattle.std.specs.Prelude.{true};
 ghost use Rattle.nr_wasmvalid.specs.Rules.{types, Types?, Take, Give, TakeAny, Alike, Empty, Leave};
-ghost use Rattle.nr_wasmvalid.specs.Shapes.{asked, fresh, top, take_one, take_all, give_all, alike, no_more, on_top};
+ghost use Rattle.nr_wasmvalid.specs.Shapes.{asked, fresh, top, take_one, take_all, give_all, alike, on_top};
 ghost use Rattle.nr_wasmvalid.specs.Shapes.{can_be, both};
 ghost use Rattle.nr_wasmvalid.specs.Frames.{SameAround, Passes, Leaves, entered};
 

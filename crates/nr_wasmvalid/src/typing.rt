@@ -1,6 +1,6 @@
 //! The typing of a body.
 
-ghost use Rattle.std.specs.Prelude.{◌≡◌, ℕ, [], Ok, Err};
+ghost use Rattle.std.specs.Prelude.{ℕ, [], Ok, Err};
 ghost use Rattle.nr_bytes.specs.Answers.{Gives};
 ghost use Rattle.nr_wasmtypes.specs.Code.{code_of};
 ghost use Rattle.nr_wasmvalid.specs.Faults.{fault_at};

@@ -40,7 +40,6 @@ impl Model for Valid {
     ghost use Rattle.std.specs.Prelude.{ℕ};
     ghost use Rattle.nr_wasmtypes.specs.declared.module.Module.{Module as Whole};
     ghost use Rattle.nr_wasmvalid.specs.Modules.{IsValid};
-    ghost use Rattle.std.specs.Coded.{codes};
     ghost use Rattle.nr_wasmtypes.specs.contracts.module.Module as module_type;
 
     ghost Value = { Whole };

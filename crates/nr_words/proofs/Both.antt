@@ -1,5 +1,5 @@
 -- Tests of two parts.
-use Rattle.std.proofs.Common.{◌≡◌, ◌&&◌, ◌||◌, Bool, true, false, cond, not, refl, sym}
+use Rattle.std.proofs.Common.{◌≡◌, ◌&&◌, ◌||◌, Bool, true, false, cond, refl}
 
 pub both_left : (a b : Bool) → (a && b) ≡ true → a ≡ true
 both_left true b e = refl
@@ -16,18 +16,6 @@ either_left false b e = refl
 pub either_right : (a b : Bool) → (a || b) ≡ false → b ≡ false
 either_right true b e = absurd cc
 either_right false b e = e
-
-pub and-false : (b : Bool) → (b && false) ≡ false
-and-false true = refl
-and-false false = refl
-
-pub or-true : (b : Bool) → (b || true) ≡ true
-or-true true = refl
-or-true false = refl
-
-pub not_so : (b : Bool) → not b ≡ true → b ≡ false
-not_so true e = sym e
-not_so false e = refl
 
 pub cond-same : {A : Type 0} (b : Bool) (x : A) → cond b x x ≡ x
 cond-same true x = refl

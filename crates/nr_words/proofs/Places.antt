@@ -3,10 +3,11 @@ use Rattle.std.proofs.Common.{◌≡◌, ◌≢◌, ◌⊎◌, ◌<◌, ◌≤�
 use Rattle.std.specs.List.{list_all, list_any}
 use Rattle.std.specs.Option.{option_map_or}
 use Rattle.std.specs.Str.{bytes_eq}
-use Rattle.std.proofs.lemmas.Bool.{eq-eqb, eqb-true, leb-true}
+use Rattle.std.proofs.lemmas.Bool.{eq-eqb, eqb-true, leb-true, not-true}
 use Rattle.std.proofs.Math.Nat.{le-min, min-eq_left, min-le_right}
 use Rattle.std.proofs.lemmas.List.{length-map}
 use Rattle.std.proofs.lemmas.Slice.Eq.{bytes_eq-Decides}
+use mathlib.Core.Bool.{and-false, or-true}
 use Rattle.clap.specs.Lexer.{usize_max}
 use Rattle.clap.specs.Kinds.{Kinds, or_else}
 use Rattle.clap.specs.Faults.{check_fault, default_fault, defaults_fault, positional_fault, settle_fault, step_fault, stray_fault, use_fault}
@@ -19,7 +20,7 @@ use Rattle.clap.specs.declared.error.kind.ErrorKind.TheVariants.{InvalidSubcomma
 use Rattle.clap.specs.declared.parser.matches.ValueSource.TheVariants.{CommandLine}
 use Rattle.nr_words.specs.Forms.{Form, Place, Value, are_distinct, before, is_form, is_plain, name_of, place_value, values}
 use Rattle.nr_words.specs.Parsing.{form_app, forms_app, values_by, word_rule}
-use Rattle.nr_words.proofs.Both.{and-false, both_left, both_right, cond-same, either_left, either_right, not_so, or-true}
+use Rattle.nr_words.proofs.Both.{both_left, both_right, cond-same, either_left, either_right}
 use Rattle.nr_words.proofs.Plain.{form_fails, form_fault, form_rows, placed, placed_fault}
 
 -- ---- the rules of names from position i on, as they are built
@@ -78,7 +79,7 @@ knows i (n ∷ ns) few differ =
     let less : i < after i = subst (λ k. i < k) (sym (after-is i room)) (omega arith) in
     let rest : (i + 1) + length ns ≤ usize_max = omega (arith, few) in
     let fewer : after i + length ns ≤ usize_max = subst (λ k. k + length ns ≤ usize_max) (sym (after-is i room)) rest in
-    let other : list_any (bytes_eq n) ns ≡ false = not_so (list_any (bytes_eq n) ns) (both_left (not (list_any (bytes_eq n) ns)) (are_distinct ns) differ) in (
+    let other : list_any (bytes_eq n) ns ≡ false = not-true (list_any (bytes_eq n) ns) (both_left (not (list_any (bytes_eq n) ns)) (are_distinct ns) differ) in (
       rw (eq-eqb i i refl) refl,
       rw (same_text n) refl,
       hides_none (rules (after i) ns) i (after i) n ns less (after_small i) other (knows (after i) ns fewer (both_right (not (list_any (bytes_eq n) ns)) (are_distinct ns) differ)),
@@ -104,7 +105,7 @@ AreFresh rows (n ∷ ns) = (has_row n rows ≡ false) × (list_any (bytes_eq n) 
 
 fresh : (names : List Text) → are_distinct names ≡ true → AreFresh [] names
 fresh [] e = tt
-fresh (n ∷ ns) e = (refl, not_so (list_any (bytes_eq n) ns) (both_left (not (list_any (bytes_eq n) ns)) (are_distinct ns) e), fresh ns (both_right (not (list_any (bytes_eq n) ns)) (are_distinct ns) e))
+fresh (n ∷ ns) e = (refl, not-true (list_any (bytes_eq n) ns) (both_left (not (list_any (bytes_eq n) ns)) (are_distinct ns) e), fresh ns (both_right (not (list_any (bytes_eq n) ns)) (are_distinct ns) e))
 
 no_row : (rows : List Row) (n m word : Text) → has_row m rows ≡ false → bytes_eq n m ≡ false → has_row m (rows ++ row n word ∷ []) ≡ false
 no_row [] n m word none other = rw other refl

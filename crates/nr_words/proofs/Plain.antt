@@ -2,13 +2,15 @@
 use Rattle.std.proofs.Common.{◌≡◌, ◌==◌, ℕ, Bool, true, false, not, cond, ◌&&◌, List, [], ◌∷◌, ◌++◌, Option, Some, None, codes, fold, refl, sym, ap, ap₂, ◌∙◌, append_assoc, append-nil, true≢false, is_some}
 use Rattle.std.specs.List.{list_all}
 use Rattle.std.specs.Str.{bytes_eq}
+use mathlib.Core.Bool.{and-false}
+use Rattle.std.proofs.lemmas.Bool.{not-true}
 use Rattle.clap.specs.Kinds.{Kinds, or_else}
 use Rattle.clap.specs.Faults.{built_fault, check_fault, defaults_fault, entered_fault, level_fault, settle_fault, step_fault, stray_fault, turn_fault, walk_fault, word_fault}
 use Rattle.clap.specs.Simple.{App, Shape, entered, names_of}
 use Rattle.clap.specs.Walk.{Held, Names, Rule, Step, Text, Waiting, Walk, after_step, arg_by_index, finished, idle, is_multiple, nothing_held, option, positional, rows_after, settled, subcommand_met, to_positional, value, walk, walk_from, walked, walked_from, word_met}
 use Rattle.clap.specs.declared.error.kind.ErrorKind.{ErrorKind}
 use Rattle.nr_words.specs.Forms.{is_plain}
-use Rattle.nr_words.proofs.Both.{and-false, both_left, both_right, not_so}
+use Rattle.nr_words.proofs.Both.{both_left, both_right}
 
 -- ---- one word, where nothing but a positional may take it
 abbrev is_option : Waiting → Bool
@@ -19,15 +21,15 @@ is_option positional = false
 goes_on : (c : List Rule) (is_trailing : Bool) (waiting : Waiting) (i : ℕ) (word : Text) (h : Held) → is_option waiting ≡ false → is_plain word ≡ true → word_met c [] is_trailing waiting i word h ≡ (h, value)
 goes_on c t w i [] h ready e = absurd (true≢false (sym e))
 goes_on c true w i (x ∷ xs) h ready e = refl
-goes_on c false idle i (x ∷ xs) h ready e = rw (not_so (x == 45) e, not_so (x == 45) e) refl
-goes_on c false positional i (x ∷ xs) h ready e = rw (not_so (x == 45) e, not_so (x == 45) e) refl
+goes_on c false idle i (x ∷ xs) h ready e = rw (not-true (x == 45) e, not-true (x == 45) e) refl
+goes_on c false positional i (x ∷ xs) h ready e = rw (not-true (x == 45) e, not-true (x == 45) e) refl
 goes_on c false (option id) i (x ∷ xs) h ready e = absurd (true≢false ready)
 
 has_no_fault : (s : Shape) (is_trailing : Bool) (waiting : Waiting) (word : Text) (h : Held) → is_option waiting ≡ false → is_plain word ≡ true → word_fault s [] is_trailing waiting word h ≡ []
 has_no_fault s t w [] h ready e = absurd (true≢false (sym e))
 has_no_fault s true w (x ∷ xs) h ready e = refl
-has_no_fault s false idle (x ∷ xs) h ready e = rw (not_so (x == 45) e, not_so (x == 45) e) refl
-has_no_fault s false positional (x ∷ xs) h ready e = rw (not_so (x == 45) e, not_so (x == 45) e) refl
+has_no_fault s false idle (x ∷ xs) h ready e = rw (not-true (x == 45) e, not-true (x == 45) e) refl
+has_no_fault s false positional (x ∷ xs) h ready e = rw (not-true (x == 45) e, not-true (x == 45) e) refl
 has_no_fault s false (option id) (x ∷ xs) h ready e = absurd (true≢false ready)
 
 abbrev IsReady : Walk → Type 0
@@ -141,7 +143,7 @@ module _ (a : App) (word name : Text) (rest : List Text) (met : subcommand_met (
 -- ---- a word that names no form, where the program has no words of its own
 strays : (a : App) (word : Text) → arg_by_index a.top.rules 1 ≡ None → subcommand_met (names_of a) idle word ≡ None → is_plain word ≡ true → turn_fault a.top (names_of a) (walk_from nothing_held) word ≡ stray_fault a.top
 strays a [] none met e = absurd (true≢false (sym e))
-strays a (x ∷ xs) none met e = rw (met, not_so (x == 45) e, not_so (x == 45) e, none) refl
+strays a (x ∷ xs) none met e = rw (met, not-true (x == 45) e, not-true (x == 45) e, none) refl
 
 pub stray_fails : (a : App) (word : Text) (rest : List Text) (k : ErrorKind) (ks : Kinds) → arg_by_index a.top.rules 1 ≡ None → subcommand_met (names_of a) idle word ≡ None → is_plain word ≡ true → stray_fault a.top ≡ k ∷ ks
     → built_fault a nothing_held (word ∷ rest) ≡ k ∷ ks

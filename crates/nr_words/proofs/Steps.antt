@@ -1,14 +1,13 @@
 -- One step over the places of a form, over a table and over the words of a place.
-use Rattle.std.proofs.Common.{◌≡◌, ◌<◌, ◌≤◌, ◌+◌, ℕ, true, false, not, cond, List, [], ◌∷◌, ◌++◌, Option, Some, None, drop, get_or, length, ltb, map, option_and_then, option_map, position, take, refl, sym, ap, ap₂, ◌∙◌, append_assoc, append-nil}
+use Rattle.std.proofs.Common.{◌≡◌, ◌<◌, ◌≤◌, ◌+◌, ℕ, not, cond, List, [], ◌∷◌, ◌++◌, Option, Some, None, drop, get_or, length, ltb, map, option_and_then, option_map, position, take, refl, sym, ap, ap₂, ◌∙◌, append_assoc, append-nil}
 use Rattle.std.specs.Borrow.{Bor}
 use Rattle.std.specs.List.{prefix_len}
 use Rattle.std.specs.Str.{bytes_eq}
 use Rattle.std.proofs.lemmas.List.{at_drop_all, at_drop_more, length-map, map_more, map_push}
 use Rattle.clap.specs.Words.{Row, first_of}
-use Rattle.nr_words.specs.Forms.{Value, before, form_of, name_of, place_value}
+use Rattle.nr_words.specs.Forms.{Value, before, name_of, place_value}
 use Rattle.nr_words.specs.Parsing.{rules_of, values_by, word_rule}
-use Rattle.nr_words.specs.Words.{form_in, place_in, places_in, table_in, value_in}
-use Rattle.nr_words.specs.declared.forms.Form.{Form as LentForm}
+use Rattle.nr_words.specs.Words.{place_in, places_in, value_in}
 use Rattle.nr_words.specs.declared.forms.Place.{Place as LentPlace}
 use Rattle.nr_words.specs.declared.forms.Value.{Value as LentValue}
 
@@ -51,17 +50,6 @@ values_end rows so_far places i all =
 pub values_start : (o : Option (List Value)) (none : List LentValue) → none ≡ [] → o ≡ option_map (λ (rest : List Value). map value_in none ++ rest) o
 values_start None none is = refl
 values_start (Some r) none is = (λ j. Some (map value_in (sym is j) ++ r))
-
--- ---- forms
-pub form_here : (table : List LentForm) (i : ℕ) (d : LentForm) (verb : List ℕ) → i < length table → bytes_eq (form_in (get_or table i d)).verb verb ≡ true → form_of (table_in (drop i table)) verb ≡ Some (form_in (get_or table i d))
-form_here table i d verb less is =
-    at_drop_more (λ (fs : List LentForm). form_of (table_in fs) verb) table i d less
-    ∙ ap (λ b. cond b (Some (form_in (get_or table i d))) (form_of (table_in (drop (i + 1) table)) verb)) is
-
-pub form_later : (table : List LentForm) (i : ℕ) (d : LentForm) (verb : List ℕ) → i < length table → bytes_eq (form_in (get_or table i d)).verb verb ≡ false → form_of (table_in (drop i table)) verb ≡ form_of (table_in (drop (i + 1) table)) verb
-form_later table i d verb less is =
-    at_drop_more (λ (fs : List LentForm). form_of (table_in fs) verb) table i d less
-    ∙ ap (λ b. cond b (Some (form_in (get_or table i d))) (form_of (table_in (drop (i + 1) table)) verb)) is
 
 -- ---- the words of a place
 module _ (word : List ℕ) where

@@ -4,6 +4,7 @@ use Rattle.std.specs.List.{list_all, list_any}
 use Rattle.std.specs.Option.{option_map_or}
 use Rattle.std.specs.Str.{bytes_eq}
 use Rattle.std.proofs.lemmas.Slice.Eq.{bytes_eq-Decides}
+use Rattle.std.proofs.lemmas.Bool.{and_from}
 use Rattle.clap.specs.Kinds.{Kinds, or_else}
 use Rattle.clap.specs.Faults.{built_fault, check_fault, defaults_fault, entered_fault, fault_of, has_free_rules, is_simple_and_free, level_fault, walk_fault}
 use Rattle.clap.specs.Simple.{App, Shape, built, built_leaf, entered, inherited, is_buildable, is_in_order, is_ready, is_ready_leaf, is_simple_leaf, label_of, names_of, rows_at, subcommand_of}
@@ -61,12 +62,9 @@ built_is program [] = refl
 built_is program (form ∷ table) = ap (app (built_top program (form ∷ table))) (leaves_are (built_top program (form ∷ table)) (λ f. refl) (form ∷ table))
 
 -- ---- it is of those of which clap says what it reads
-both : (a b : Bool) → a ≡ true → b ≡ true → (a && b) ≡ true
-both a b p q = rw (p, q) refl
-
 all_forms : (test : Shape → Bool) (f : Form → Shape) → ((form : Form) → test (f form) ≡ true) → (table : List Form) → list_all test (map f table) ≡ true
 all_forms test f each [] = refl
-all_forms test f each (form ∷ table) = both (test (f form)) (list_all test (map f table)) (each form) (all_forms test f each table)
+all_forms test f each (form ∷ table) = and_from (test (f form)) (list_all test (map f table)) (each form) (all_forms test f each table)
 
 simple_words : (names : List Text) → list_all (λ (a : Rule). a.is_simple) (map word_rule names) ≡ true
 simple_words [] = refl
@@ -87,7 +85,7 @@ none_early k i (n ∷ ns) = none_early k (after i) ns
 ready : (form : Form) → is_ready_leaf (leaf form) ≡ true
 ready form =
     let names : List Text = map name_of form.places in
-    both (list_all (λ (a : Rule). a.is_simple) (rules 1 names)) (is_in_order (rules 1 names)) (simple_rules 1 names) (ap not (none_early (count_by (λ (a : Rule). is_some a.index) (rules 1 names)) 1 names))
+    and_from (list_all (λ (a : Rule). a.is_simple) (rules 1 names)) (is_in_order (rules 1 names)) (simple_rules 1 names) (ap not (none_early (count_by (λ (a : Rule). is_some a.index) (rules 1 names)) 1 names))
 
 abbrev are_ready : App → Bool
 are_ready a = is_ready a.top && list_all is_ready_leaf a.subs
@@ -104,7 +102,7 @@ bare_simple program table =
     let buildable : is_buildable a ≡ true = all_forms is_simple_leaf (λ form. (form_app form).top) (λ form. simple_words (map name_of form.places)) table in
     let are : are_ready (built a) ≡ true = ap are_ready (built_is program table) ∙ all_forms is_ready_leaf leaf ready table in
     let free : are_free (built a) ≡ true = ap are_free (built_is program table) ∙ all_forms has_free_rules leaf (λ form. free_rules 1 (map name_of form.places)) table in
-    both (is_buildable a && are_ready (built a)) (are_free (built a)) (both (is_buildable a) (are_ready (built a)) buildable are) free
+    and_from (is_buildable a && are_ready (built a)) (are_free (built a)) (and_from (is_buildable a) (are_ready (built a)) buildable are) free
 
 pub table_simple : (program : Text) (table : List Form) → is_simple_and_free (table_app program table) ≡ true
 table_simple program table = ap is_simple_and_free (table_is program table) ∙ bare_simple program table

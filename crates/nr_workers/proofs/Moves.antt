@@ -1,6 +1,6 @@
 -- Each step of a worker leaves it where the serial run is.
 use Rattle.std.proofs.Common.{◌≡◌, ℕ, ◌+◌, ◌-◌, ◌<◌, ◌≤◌, Bool, true, false, cond, List, [], ◌∷◌, ◌++◌, Some, None, Option, length, max, refl, sym, ap, ◌∙◌, subst, arith}
-use Rattle.std.specs.Prelude.{nat_lt, ◌^◌, IfSome}
+use Rattle.std.specs.Prelude.{nat_lt, IfSome}
 use Rattle.std.specs.Option.{option_map, option_to_list}
 use Rattle.std.specs.List.{flat_map}
 use Rattle.std.proofs.lemmas.List.{append-nil}
@@ -18,14 +18,14 @@ use Rattle.nr_overlap.specs.Outcome.{report_at, reports_to}
 use Rattle.nr_workers.specs.Taking.{pairs_before, source_after, done_after, HasClaimed, Finds, IsInbox}
 use Rattle.nr_workers.specs.Left.{slot_of}
 use Rattle.nr_workers.specs.declared.left.Left.{Left}
-use Rattle.nr_workers.specs.Stages.{IsBetween, IsStage, IsAt}
+use Rattle.nr_workers.specs.Stages.{IsBetween, IsAt}
 use Rattle.nr_workers.specs.declared.inbox.Inbox.{Inbox}
 use Rattle.nr_workers.specs.declared.inbox.Found.TheVariants.{Passed}
 use Rattle.nr_workers.specs.declared.worker.Stage.{Stage}
 use Rattle.nr_workers.specs.declared.worker.Stage.TheVariants.{Idle, Opened, Sealed, Ended}
 use Rattle.nr_overlap.proofs.Orders.{flat_map_more}
-use Rattle.nr_workers.proofs.Takings.{last_small, last_there, last_missing, still_claimed}
-use Rattle.nr_workers.proofs.Rows.{no_list_yet, not_yet, list_after}
+use Rattle.nr_workers.proofs.Takings.{last_small, last_missing, still_claimed}
+use Rattle.nr_workers.proofs.Rows.{no_list_yet, list_after}
 use Rattle.nr_workers.proofs.Pairs.{work_opened, work_takes, work_whole, may_take}
 
 module _ {W K L R : Type 0} (r : Rules W K L R) where
@@ -40,13 +40,6 @@ module _ {W K L R : Type 0} (r : Rules W K L R) where
 
   pub reports_missing : (s h : ℕ) → r.present s (h + 1) ≡ false → reports_to r s (h + 1) ≡ reports_to r s h
   reports_missing s h missing = reports_more s h ∙ ap (λ o. reports_to r s h ++ option_to_list (option_map (λ (z : Sealing W L R). z.report) o)) (sealing_missing r s h missing) ∙ append-nil (reports_to r s h)
-
-  pub first_there : (s h : ℕ) → r.present s (h + 1) ≡ true → first_due r s (h + 1) ≡ h + 1
-  first_there s h there = let e = last_there r s h there in omega arith
-
-  -- the number of the next list fits where that of the height does
-  pub first_fits : (s h done : ℕ) → done + 1 ≡ first_due r s h → h < 2 ^ 64 → done + 1 < 2 ^ 64
-  first_fits s h done is fits = let small = last_small r s h in omega arith
 
   -- a list that was sent is of a chunk that is there
   pub sent_there : (t done s : ℕ) (list : L) → list_to r (sealing_at r t (done + 1)) s ≡ Some list → r.present t (done + 1) ≡ true
@@ -132,20 +125,6 @@ module _ {P W K L R : Type 0} (rules : P → Rules W K L R) (e : ExchangeView (S
         reports_are = at.reports_are;
       }
 
-  -- nothing came into the chunk
-  pub waits : (s h : ℕ) (i i' : Inbox P W K L R) (working : K) (reports : List R) → IsAt rules e s i h (Opened working) reports → IsInbox rules e i' → i'.port.note.shard ≡ i.port.note.shard → i'.port.note.number ≡ i.port.note.number
-      → i'.done ≡ i.done → i'.source ≡ i.source → IsAt rules e s i' h (Opened working) reports
-  waits s h i i' working reports at inbox shard number done source =
-      let r = rules e.run.0 in
-      record {
-        inbox = inbox;
-        shard_is = shard ∙ at.shard_is;
-        number_is = at.number_is ∙ sym number;
-        within = at.within;
-        stage_is = subst (λ (n : ℕ). IsStage r s h n i'.source (Opened working)) (sym done) (subst (λ (n : ℕ). IsStage r s h i.done n (Opened working)) (sym source) at.stage_is);
-        reports_are = at.reports_are;
-      }
-
   -- the chunk at work has taken all that is due
   pub works_whole : (s h : ℕ) (i : Inbox P W K L R) (working : K) (reports : List R) → IsAt rules e s i h (Opened working) reports → h ≤ i.done → working ≡ last_work (rules e.run.0) s h
   works_whole s h i working reports at all =
@@ -173,50 +152,6 @@ module _ {P W K L R : Type 0} (rules : P → Rules W K L R) (e : ExchangeView (S
           b.whole all,
         );
         reports_are = reports_is ∙ (λ j. at.reports_are j ++ (report_is ∙ ap (λ k. (r.seals k).report) whole) j ∷ []) ∙ sym (reports_there r s h at.stage_is.2);
-      }
-
-  -- the port of an inbox, after a step that claims nothing
-  another_port : (i i' : Inbox P W K L R) → IsInbox rules e i → IsPortOf (serial_plan rules) e i'.port → ((t : ℕ) → (link i'.port.note t).claimed ≡ (link i.port.note t).claimed) → i'.done ≡ i.done → i'.source ≡ i.source → IsInbox rules e i'
-  another_port i i' inbox port_of claims done source =
-      let r = rules e.run.0 in
-      record {
-        port_of = port_of;
-        source_there = subst (λ (n : ℕ). n < r.shards) (sym source) inbox.source_there;
-        claimed = subst (λ (n : ℕ). HasClaimed r i'.port.note n i'.source) (sym done) (subst (λ (n : ℕ). HasClaimed r i'.port.note i.done n) (sym source)
-            (still_claimed r i.port.note i'.port.note i.done i.source inbox.claimed claims));
-      }
-
-  -- the lists of a sealed chunk are published
-  pub publishes : (s h : ℕ) (i i' : Inbox P W K L R) (world : W) (lists : List L) (reports : List R) → IsAt rules e s i h (Sealed world lists) reports
-      → IsPortOf (serial_plan rules) e i'.port → i'.port.note.shard ≡ i.port.note.shard → i'.port.note.number ≡ i.port.note.number + 1 → ((t : ℕ) → (link i'.port.note t).claimed ≡ (link i.port.note t).claimed) → i'.done ≡ i.done → i'.source ≡ i.source
-      → IsAt rules e s i' (h + 1) (Idle world) reports
-  publishes s h i i' world lists reports at port_of shard number claims done source =
-      let r = rules e.run.0 in
-      record {
-        inbox = another_port i i' at.inbox port_of claims done source;
-        shard_is = shard ∙ at.shard_is;
-        number_is = ap (λ (n : ℕ). n + 1) at.number_is ∙ sym number;
-        within = (let below = at.stage_is.2 in omega arith);
-        stage_is = (
-          at.stage_is.0,
-          (let all = at.stage_is.4 in let f = first_there r s h at.stage_is.3 in omega arith),
-          source ∙ at.stage_is.5,
-        );
-        reports_are = at.reports_are;
-      }
-
-  -- or they come back
-  pub stays_sealed : (s h : ℕ) (i i' : Inbox P W K L R) (world : W) (lists lists' : List L) (reports : List R) → IsAt rules e s i h (Sealed world lists) reports
-      → IsPortOf (serial_plan rules) e i'.port → i'.port.note.shard ≡ i.port.note.shard → i'.port.note.number ≡ i.port.note.number → ((t : ℕ) → (link i'.port.note t).claimed ≡ (link i.port.note t).claimed) → i'.done ≡ i.done → i'.source ≡ i.source → lists' ≡ lists
-      → IsAt rules e s i' h (Sealed world lists') reports
-  stays_sealed s h i i' world lists lists' reports at port_of shard number claims done source same =
-      record {
-        inbox = another_port i i' at.inbox port_of claims done source;
-        shard_is = shard ∙ at.shard_is;
-        number_is = at.number_is ∙ sym number;
-        within = at.within;
-        stage_is = (at.stage_is.0, same ∙ at.stage_is.1, at.stage_is.2, at.stage_is.3, at.stage_is.4 ∙ sym done, source ∙ at.stage_is.5);
-        reports_are = at.reports_are;
       }
 
   -- behind the last height
@@ -263,28 +198,6 @@ module _ {P W K L R : Type 0} (rules : P → Rules W K L R) (e : ExchangeView (S
           },
           between_after (first_due r s h) h i.done i.source i'.done i'.source at.stage_is.3 found.0 found.2 found.3,
         );
-        reports_are = at.reports_are;
-      }
-
-  -- a source without one
-  pub passes_left : (s h : ℕ) (i i' : Inbox P W K L R) (world : W) (left : Left L) (reports : List R) → IsAt rules e s i h (Ended world left) reports → IsInbox rules e i' → i'.port.note.shard ≡ i.port.note.shard → i'.port.note.number ≡ i.port.note.number
-      → Finds (rules e.run.0) i.port.note.shard h i.done i.source (Passed None) i'.done i'.source → IsAt rules e s i' h (Ended world left) reports
-  passes_left s h i i' world left reports at inbox shard number found =
-      let r = rules e.run.0 in
-      keeps_left s h i i' world left left None reports at inbox shard number found refl
-      (at.stage_is.2.lists_are i.source (i.done + 1) at.inbox.source_there ∙ not_yet r s (first_due r s h) i.done i.source) (λ t k apart. refl)
-
-  -- nothing came behind the last height
-  pub stays : (s h : ℕ) (i i' : Inbox P W K L R) (world : W) (left : Left L) (reports : List R) → IsAt rules e s i h (Ended world left) reports → IsInbox rules e i' → i'.port.note.shard ≡ i.port.note.shard → i'.port.note.number ≡ i.port.note.number
-      → i'.done ≡ i.done → i'.source ≡ i.source → IsAt rules e s i' h (Ended world left) reports
-  stays s h i i' world left reports at inbox shard number done source =
-      let r = rules e.run.0 in
-      record {
-        inbox = inbox;
-        shard_is = shard ∙ at.shard_is;
-        number_is = at.number_is ∙ sym number;
-        within = at.within;
-        stage_is = subst (λ (n : ℕ). IsStage r s h n i'.source (Ended world left)) (sym done) (subst (λ (n : ℕ). IsStage r s h i.done n (Ended world left)) (sym source) at.stage_is);
         reports_are = at.reports_are;
       }
 

@@ -25,16 +25,6 @@ module _ {W K L R : Type 0} (r : Rules W K L R) where
       ap (λ (n : ℕ). list_among r s first (cond (nat_lt t n) (done + 1) done) t h) none
       ∙ ap (λ (n : ℕ). list_among r s first n t h) (none_of t 0 (done + 1) done (omega arith)) ∙ none_among s first done t h e
 
-  -- the next height of a source
-  pub not_yet : (s first done source : ℕ) → list_among r s first (taken_to r done source source) source (done + 1) ≡ None
-  not_yet s first done source =
-      ap (λ (n : ℕ). list_among r s first n source (done + 1)) (none_of source source (done + 1) done (omega arith))
-      ∙ ap (λ b. cond (nat_lt (done + 1) first) None (cond b None (list_to r (sealing_at r source (done + 1)) s))) (is_lt done (done + 1) (omega arith)) ∙ nothing (nat_lt (done + 1) first)
-    where
-      nothing : (b : Bool) → ◌≡◌ {A = Option L} (cond b None None) None
-      nothing true = refl
-      nothing false = refl
-
   among_here : (s first h t : ℕ) → first ≤ h → list_among r s first h t h ≡ list_to r (sealing_at r t h) s
   among_here s first h t from =
       ap (λ b. cond b None (cond (nat_lt h h) None (list_to r (sealing_at r t h) s))) (not_lt h first from)

@@ -1,25 +1,24 @@
 -- Accounts are counted as what they own, and what is owned has its account, exactly where the entries pass.
 use Rattle.std.proofs.Common.{◌≡◌, ℕ, ◌+◌, Bool, true, false, cond, List, [], ◌∷◌, ◌++◌, ◌&&◌, length, Option, Some, None, refl, sym, ap, subst, ◌∙◌, arith}
-use Rattle.std.specs.Prelude.{◌==◌, IsSome, is_none, is_some, not, sum_by}
-use Rattle.std.specs.FinMap.{FinMap, entries, get}
-use Rattle.std.specs.List.{AllByRecursion, list_all}
+use Rattle.std.specs.Prelude.{◌==◌, is_some, not, sum_by}
+use Rattle.std.specs.FinMap.{entries, get}
+use Rattle.std.specs.List.{list_all}
 use Rattle.std.specs.Option.{option_map, option_and_then}
 use Rattle.std.specs.Str.{bytes_eq}
-use Rattle.std.proofs.lemmas.Bool.{eq-eqb, eqb-true}
+use Rattle.std.proofs.lemmas.Bool.{eq-eqb, eqb-true, and_from}
 use Rattle.std.proofs.lemmas.Slice.Eq.{bytes_eq-Decides}
+use Rattle.nr_bytes.proofs.Basics.{left_true, right_true, same_test}
 use Rattle.nr_bytes.specs.Numbers.{IsBytes}
 use Rattle.nr_config.specs.Config.{Config, account_bytes_entry, extra_record_bytes}
 use Rattle.nr_ids.specs.Grammar.{is_system}
 use Rattle.nr_ids.specs.Keys.{key_bytes}
 use Rattle.nr_ids.specs.declared.key.Hash32.{Hash32}
 use Rattle.nr_ids.specs.declared.key.PublicKey.{PublicKey}
-use Rattle.nr_records.specs.AccessKeys.{access_key_bytes}
 use Rattle.nr_records.specs.declared.access_key.AccessKey.{AccessKey}
 use Rattle.nr_records.specs.declared.account.Account.{Account}
 use Rattle.nr_triedef.specs.Root.{Contents}
 use Rattle.nr_columns.specs.Columns.{Columns}
 use Rattle.nr_columns.specs.Entries.{contents_of}
-use Rattle.nr_columns.specs.Orders.{key_cmp, pair_cmp}
 use Rattle.nr_columns.specs.Tables.{Table, key_of, part}
 use Rattle.nr_columns.specs.View.{accounts_table, at_first, code_table, columns_in, data_table, key_of_rest, keys_table, spelled_key, with_key}
 use Rattle.nr_columns.specs.declared.entry.Entry.{Entry}
@@ -30,16 +29,16 @@ use Rattle.nr_entries.specs.Order.{rises}
 use Rattle.nr_entries.specs.Told.{AreBytes, are_told, is_id, is_owned, is_owned_key, is_told, is_told_in}
 use Rattle.nr_entries.proofs.Columns.{IsOf, account_of, datum_of, key_of_entry, tail_bytes}
 use Rattle.nr_entries.proofs.Contents.{read_from}
-use Rattle.nr_entries.proofs.Rising.{all_pass, both, found_holds, holds_found, left, pass_all, right}
-use Rattle.nr_entries.proofs.UsageSums.{datum_counts, key_counts, usage_sum}
-use Rattle.nr_state.specs.Changes.{or_none, usage_of_code}
+use Rattle.nr_entries.proofs.Rising.{all_pass, found_holds, holds_found, pass_all}
+use Rattle.nr_entries.proofs.UsageSums.{usage_sum}
+use Rattle.nr_state.specs.Changes.{or_none}
 use Rattle.nr_state.specs.Usage.{datum_usage, key_usage}
 use Rattle.nr_state.specs.Valid.{AreAccounts, hash_of_code, owned_usage, usage_in}
 use Rattle.nr_state.specs.View.{world_in}
 use Rattle.nr_state.specs.World.{World}
 use Rattle.nr_worlds.specs.Tests.{account_told, account_told_as, accounts_told, code_bytes, entry_fits, entry_fits_in, has_owner, is_owner}
-use Rattle.nr_worlds.specs.Valid.{account_fits, accounts_fit, is_account}
-use Rattle.nr_worlds.proofs.Tested.{each_of, same_test}
+use Rattle.nr_worlds.specs.Valid.{account_fits, accounts_fit}
+use Rattle.nr_worlds.proofs.Tested.{each_of}
 
 turned : (a b : List ℕ) → bytes_eq a b ≡ bytes_eq b a
 turned a b = same_test (bytes_eq a b) (bytes_eq b a)
@@ -116,28 +115,28 @@ module _ (c : Config) (es : List Entry) (bytes : AreBytes es) (order : rises es 
     unfolding entry_fits account_told
     account_fits_so id a is =
         let one = read_from accounts_law contents id a is in
-        let t : account_told_as c k (owned id) id (Some a) ≡ true = subst (λ o. account_told_as c k (owned id) id o ≡ true) one.read (right _ _ (fits_found (0 ∷ id) one.value one.there)) in
+        let t : account_told_as c k (owned id) id (Some a) ≡ true = subst (λ o. account_told_as c k (owned id) id o ≡ true) one.read (right_true _ _ (fits_found (0 ∷ id) one.value one.there)) in
         let A : Bool = not (is_system id) in
         let B : Bool = a.storage_usage == account_bytes_entry c + code_bytes (get k.code id) + owned id in
         let C : Bool = bytes_eq a.code_hash.0 (hash_of_code (get k.code id)).0 in
-        both _ _ (both _ _ (left A B (left (A && B) C t)) (ap (λ n. a.storage_usage == n) (sym (sums id)) ∙ right A B (left (A && B) C t))) (right (A && B) C t)
+        and_from _ _ (and_from _ _ (left_true A B (left_true (A && B) C t)) (ap (λ n. a.storage_usage == n) (sym (sums id)) ∙ right_true A B (left_true (A && B) C t))) (right_true (A && B) C t)
 
     pub accounts_fit_so : accounts_fit c w ≡ true
     unfolding entry_fits
     accounts_fit_so =
-        both _ _ (both _ _ (both _ _
+        and_from _ _ (and_from _ _ (and_from _ _
         (each_of accounts_law.total accounts_law.exact w.accounts (account_fits c w) account_fits_so)
         (each_of keys_law.total keys_law.exact w.keys _ (λ q a is.
         let one = read_from keys_law contents q a is in
         let rest : List ℕ = q.0 ++ 2 ∷ key_bytes q.1 in
-        right _ _ (sym (key_owner k q (at_first 2 rest) (unchecked keys_table (2 ∷ rest) (key_of_rest rest) q one.at)) ∙ fits_found (2 ∷ rest) one.value one.there))))
+        right_true _ _ (sym (key_owner k q (at_first 2 rest) (unchecked keys_table (2 ∷ rest) (key_of_rest rest) q one.at)) ∙ fits_found (2 ∷ rest) one.value one.there))))
         (each_of code_law.total code_law.exact w.code _ (λ id v is.
         let one = read_from code_law contents id v is in
-        right _ _ (fits_found (1 ∷ id) one.value one.there))))
+        right_true _ _ (fits_found (1 ∷ id) one.value one.there))))
         (each_of data_law.total data_law.exact w.data_of _ (λ q v is.
         let one = read_from data_law contents q v is in
         let rest : List ℕ = q.0 ++ 44 ∷ q.1 in
-        right _ _ (ap (has_owner k) (sym (unchecked data_table (9 ∷ rest) (at_first 44 rest) q one.at)) ∙ fits_found (9 ∷ rest) one.value one.there)))
+        right_true _ _ (ap (has_owner k) (sym (unchecked data_table (9 ∷ rest) (at_first 44 rest) q one.at)) ∙ fits_found (9 ∷ rest) one.value one.there)))
 
   -- ---- the accounts fit
   module _ (are : AreAccounts c w) where
@@ -151,19 +150,19 @@ module _ (c : Config) (es : List Entry) (bytes : AreBytes es) (order : rises es 
             let is : get k.accounts one.key ≡ Some one.value = in_map accounts_law contents (0 ∷ rest) v one there in
             let same : one.key ≡ rest = (let h : 0 ∷ rest ≡ 0 ∷ one.key = back accounts_table (0 ∷ rest) one.key one.at in sym (ap tail h)) in
             let at_id : get k.accounts rest ≡ Some one.value = subst (λ id. get k.accounts id ≡ Some one.value) same is in
-            both _ _ (left _ _ t)
+            and_from _ _ (left_true _ _ t)
             (ap (account_told_as c k (owned rest) rest) one.read
-            ∙ both _ _ (both _ _ (ap not (are.no_system rest (ap is_some at_id)))
+            ∙ and_from _ _ (and_from _ _ (ap not (are.no_system rest (ap is_some at_id)))
             (eq-eqb _ _ (are.usage rest one.value at_id ∙ sym (sums rest))))
             ((bytes_eq-Decides _ _).1 (ap (λ (hash : Hash32). hash.0) (are.code_hash rest one.value at_id))))
 
         code : get contents (1 ∷ rest) ≡ Some v → is_told_in 1 rest v ≡ true → is_owner k rest ≡ true
         code there t =
             let is : get k.code rest ≡ Some v = get_part code_law contents rest (spells code_table rest refl) ∙ ap (option_and_then code_table.read) there in
-            both _ _ t (are.code rest (ap is_some is))
+            and_from _ _ t (are.code rest (ap is_some is))
 
         key_id : (o : Option (List ℕ × PublicKey)) (q : List ℕ × PublicKey) → o ≡ Some q → is_owned_key o ≡ true → is_id q.0 ≡ true
-        key_id o q e h = left _ _ (subst (λ o. is_owned_key o ≡ true) e h)
+        key_id o q e h = left_true _ _ (subst (λ o. is_owned_key o ≡ true) e h)
 
         owned_id : (o : Option (List ℕ × List ℕ)) (q : List ℕ × List ℕ) → o ≡ Some q → is_owned o ≡ true → is_id q.0 ≡ true
         owned_id o q e h = subst (λ o. is_owned o ≡ true) e h
@@ -174,14 +173,14 @@ module _ (c : Config) (es : List Entry) (bytes : AreBytes es) (order : rises es 
             let is : get k.keys one.key ≡ Some one.value = in_map keys_law contents (2 ∷ rest) v one there in
             let at : key_of_rest rest ≡ Some one.key = unchecked keys_table (2 ∷ rest) (key_of_rest rest) one.key one.at in
             key_owner k one.key (at_first 2 rest) at
-            ∙ both _ _ (key_id (key_of_rest rest) one.key at (left _ _ t)) (are.keys one.key (ap is_some is))
+            ∙ and_from _ _ (key_id (key_of_rest rest) one.key at (left_true _ _ t)) (are.keys one.key (ap is_some is))
 
         datum : get contents (9 ∷ rest) ≡ Some v → is_told_in 9 rest v ≡ true → has_owner k (at_first 44 rest) ≡ true
         datum there t =
             let one = datum_of rest v t in
             let is : get k.data_of one.key ≡ Some one.value = in_map data_law contents (9 ∷ rest) v one there in
             let at : at_first 44 rest ≡ Some one.key = unchecked data_table (9 ∷ rest) (at_first 44 rest) one.key one.at in
-            ap (has_owner k) at ∙ both _ _ (owned_id (at_first 44 rest) one.key at t) (are.data_of one.key (ap is_some is))
+            ap (has_owner k) at ∙ and_from _ _ (owned_id (at_first 44 rest) one.key at t) (are.data_of one.key (ap is_some is))
 
         at_9 : (b : Bool) → (n == 9) ≡ b → cond b (has_owner k (at_first 44 rest)) true ≡ true
         at_9 true e = datum (subst (λ j. get contents (j ∷ rest) ≡ Some v) (eqb-true n 9 e) there) (subst (λ j. is_told_in j rest v ≡ true) (eqb-true n 9 e) t)

@@ -1,19 +1,15 @@
 -- Tokens that are added, and whether they are too many.
-use Rattle.std.proofs.Common.{◌≡◌, ◌⊎◌, ℕ, ◌+◌, ◌<◌, ◌≤◌, ◌^◌, Bool, true, false, ◌&&◌, List, [], ◌∷◌, length, Option, Some, None, refl, sym, ap, ◌∙◌, inl, inr, arith}
+use Rattle.std.proofs.Common.{◌≡◌, ℕ, ◌+◌, ◌<◌, ◌≤◌, ◌^◌, Bool, false, ◌&&◌, List, [], ◌∷◌, length, Some, None, sym, ap, ◌∙◌, inl, inr, arith}
 use Rattle.std.specs.Prelude.{nat_le, sum_by}
 use Rattle.std.specs.List.{list_all}
 use Rattle.std.proofs.lemmas.Bool.Decides.{nat_tests}
+use mathlib.Core.Bool.{and-false}
 use Rattle.nr_config.specs.Config.{Config}
 use Rattle.nr_records.specs.declared.account.Account.{Account}
 use Rattle.nr_records.specs.declared.receipt.Receipt.{Receipt}
-use Rattle.nr_state.specs.Tokens.{list_tokens}
 use Rattle.nr_state.specs.World.{account_tokens}
 use Rattle.nr_worlds.specs.Tests.{Adds, are_bounded, tokens_of}
 use Rattle.nr_worlds.specs.Valid.{is_bounded}
-
-and_false : (a : Bool) → (a && false) ≡ false
-and_false true = refl
-and_false false = refl
 
 too_many : (n : ℕ) → 2 ^ 128 ≤ n → nat_le n (2 ^ 127) ≡ false
 too_many n h = grind (arith, nat_tests)
@@ -29,7 +25,7 @@ module _ (c : Config) (accounts : List Account) (postponed delayed : List Receip
   all = tokens_of c accounts postponed delayed
 
   past : 2 ^ 128 ≤ all → false ≡ are_bounded c accounts postponed delayed
-  past h = sym (ap (λ b. P && D && b) (too_many all h) ∙ and_false (P && D))
+  past h = sym (ap (λ b. P && D && b) (too_many all h) ∙ and-false (P && D))
 
   pub over_accounts : 2 ^ 128 ≤ sum_by account_tokens accounts → false ≡ are_bounded c accounts postponed delayed
   over_accounts h = past (omega (arith, h))
@@ -42,7 +38,7 @@ module _ (c : Config) (accounts : List Account) (postponed delayed : List Receip
 
   pub over_delayed : (own kept : ℕ) → own ≡ sum_by account_tokens accounts → Adds c own postponed (Some kept) → Adds c kept delayed None → false ≡ are_bounded c accounts postponed delayed
   over_delayed own kept e first h = elim h [
-    | inl b ↦ sym (ap (λ b. P && b && nat_le all (2 ^ 127)) b ∙ ap (λ b. b && nat_le all (2 ^ 127)) (and_false P))
+    | inl b ↦ sym (ap (λ b. P && b && nat_le all (2 ^ 127)) b ∙ ap (λ b. b && nat_le all (2 ^ 127)) (and-false P))
     | inr t ↦ past (omega (arith, t, e, first.1))
   ]
 

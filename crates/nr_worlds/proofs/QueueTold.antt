@@ -1,21 +1,20 @@
 -- Entries are those of a delayed queue exactly where their keys begin with its byte and its numbers are told.
-use Rattle.std.proofs.Common.{◌≡◌, ℕ, ◌+◌, Bool, true, false, cond, List, [], ◌∷◌, ◌++◌, ◌&&◌, length, Option, Some, None, Ordering, refl, sym, ap, subst, ◌∙◌}
-use Rattle.std.specs.Prelude.{T, ◌==◌, is_some}
+use Rattle.std.proofs.Common.{◌≡◌, ℕ, Bool, true, false, List, [], ◌∷◌, ◌&&◌, Option, Some, None, Ordering, refl, sym, ap, subst, ◌∙◌}
+use Rattle.std.specs.Prelude.{T, ◌==◌}
 use Rattle.std.specs.FinMap.{FinMap, empty, entries, entries_sorted, get, get-empty, same_map}
 use Rattle.std.specs.FinMap.Entries.{is_sorted}
-use Rattle.std.specs.List.{AllByRecursion, list_all}
 use Rattle.std.specs.Option.{option_map}
 use Rattle.nr_bytes.specs.Numbers.{IsBytes}
-use Rattle.std.proofs.lemmas.Bool.{eqb-true}
-use Rattle.nr_ids.specs.Keys.{key_bytes}
+use Rattle.std.proofs.lemmas.Bool.{eqb-true, and_from, false_from_ne_true}
+use Rattle.nr_bytes.proofs.Basics.{left_true, right_true, none≢some, same_test}
 use Rattle.nr_ids.specs.declared.key.Hash32.{Hash32}
 use Rattle.nr_records.specs.declared.receipt.Receipt.{Receipt}
 use Rattle.nr_triedef.specs.Root.{Contents}
 use Rattle.nr_columns.specs.Columns.{Columns}
-use Rattle.nr_columns.specs.Entries.{contents_of, pairs_of}
+use Rattle.nr_columns.specs.Entries.{contents_of}
 use Rattle.nr_columns.specs.Orders.{bytes_cmp, pair_cmp}
 use Rattle.nr_columns.specs.Tables.{Table, part}
-use Rattle.nr_columns.specs.View.{ColumnsView, accounts_table, awaited_table, code_table, columns_in, data_table, keys_table, missing_table, postponed_table, received_table}
+use Rattle.nr_columns.specs.View.{ColumnsView, columns_in}
 use Rattle.nr_columns.specs.declared.entry.Entry.{Entry}
 use Rattle.nr_columns.proofs.Laid.{accounts_law, awaited_law, canon, canon_of, code_law, data_law, keys_law, missing_law, postponed_law, received_law}
 use Rattle.nr_columns.proofs.Tables.{IsTable}
@@ -24,9 +23,9 @@ use Rattle.nr_entries.specs.Told.{AreBytes, are_told, is_told, is_told_in}
 use Rattle.nr_entries.proofs.ColumnSums.{delayed_count}
 use Rattle.nr_entries.proofs.Columns.{IsOf, account_of, awaited_of, code_of, datum_of, key_of_entry, missing_of, postponed_of, received_of, tail_bytes}
 use Rattle.nr_entries.proofs.Contents.{other_byte, read_from}
-use Rattle.nr_entries.proofs.Rising.{all_pass, both, found_holds, holds_found, left, pass_all, right, rises_of}
+use Rattle.nr_entries.proofs.Rising.{all_pass, found_holds, holds_found, pass_all, rises_of}
 use Rattle.nr_state.specs.Flat.{awaited_in, flat, missing_in, missing_inputs}
-use Rattle.nr_state.specs.FromEntries.{AreWholeEntries, world_from}
+use Rattle.nr_state.specs.FromEntries.{world_from}
 use Rattle.nr_state.specs.View.{ArePostponed, world_in}
 use Rattle.nr_state.specs.World.{World}
 use Rattle.nr_state.proofs.Awaiting.{Key, pair_exact, pair_total, waiter}
@@ -37,12 +36,9 @@ use Rattle.nr_worlds.specs.Tests.{StandsFor, are_of_queue, is_of_queue, queue_to
 use Rattle.nr_worlds.proofs.AccountsTold.{in_map}
 use Rattle.nr_worlds.proofs.Queues.{queue_so}
 use Rattle.nr_worlds.proofs.Sound.{none_postponed, sound_queue}
-use Rattle.nr_worlds.proofs.Tested.{lists_so, not_true, same_test}
+use Rattle.nr_worlds.proofs.Tested.{lists_so}
 use Rattle.nr_worlds.proofs.ToldAgain.{told_by}
 use Rattle.nr_worlds.proofs.WorldTold.{numbers_told_fit, whole_told}
-
-none≢some : {A : Type 0} (x : A) → ◌≡◌ {A = Option A} None (Some x) → ⊥
-none≢some x e = cc
 
 -- nothing is found in a map without entries
 not_in : {K X : Type 0} {R : K → K → Ordering} (m : FinMap R X) (key : K) (x : X) → m ≡ empty → get m key ≡ Some x → ⊥
@@ -109,7 +105,7 @@ module _ (es : List Entry) (bytes : AreBytes es) (order : rises es ≡ true) (to
   unfolding is_queue
   queue_passes h =
       let whole = whole_told es bytes order told h awaited_is missing_is are in
-      both _ _ (lists_so _ _ (ap (λ u. entries (flat u)) alone ∙ pairs_again es whole)) (numbers_told_fit es bytes order told h)
+      and_from _ _ (lists_so _ _ (ap (λ u. entries (flat u)) alone ∙ pairs_again es whole)) (numbers_told_fit es bytes order told h)
 
 -- ---- the entries of a queue
 module _ (es : List Entry) (bytes : AreBytes es) (h : is_queue es ≡ true) where
@@ -192,14 +188,14 @@ module _ (es : List Entry) (bytes : AreBytes es) (h : is_queue es ≡ true) wher
 
 -- ---- the answers
 pub queue_told_is : (es : List Entry) → AreBytes es → are_of_queue es ≡ true → (rises es && are_told es) ≡ true → queue_told (columns_in (contents_of es)) es ≡ is_queue es
-queue_told_is es bytes of_queue told = same_test _ _ (queue_passes es bytes (left _ _ told) (right _ _ told) of_queue) (queue_numbers es bytes)
+queue_told_is es bytes of_queue told = same_test _ _ (queue_passes es bytes (left_true _ _ told) (right_true _ _ told) of_queue) (queue_numbers es bytes)
 
 pub queue_untold_is : (es : List Entry) → AreBytes es → (rises es && are_told es) ≡ false → is_queue es ≡ false
-queue_untold_is es bytes untold = not_true (is_queue es) (λ h.
-    let no : true ≡ false = sym (both _ _ (queue_rises es bytes h) (queue_are_told es bytes h)) ∙ untold in cc)
+queue_untold_is es bytes untold = false_from_ne_true (is_queue es) (λ h.
+    let no : true ≡ false = sym (and_from _ _ (queue_rises es bytes h) (queue_are_told es bytes h)) ∙ untold in cc)
 
 pub queue_other_is : (es : List Entry) → AreBytes es → are_of_queue es ≡ false → is_queue es ≡ false
-queue_other_is es bytes other = not_true (is_queue es) (λ h. let no : true ≡ false = sym (all_of_queue es bytes h) ∙ other in cc)
+queue_other_is es bytes other = false_from_ne_true (is_queue es) (λ h. let no : true ≡ false = sym (all_of_queue es bytes h) ∙ other in cc)
 
 pub queue_told_as : (es : List Entry) (v : ColumnsView) → AreBytes es → are_of_queue es ≡ true → StandsFor es (Some v) → queue_told v.columns es ≡ is_queue es
 queue_told_as es v bytes of_queue stands = ap (λ k. queue_told k es) stands.1 ∙ queue_told_is es bytes of_queue stands.0

@@ -1,13 +1,14 @@
 -- A delayed queue that is told by its columns.
-use Rattle.std.proofs.Common.{◌≡◌, ℕ, zero, suc, ◌+◌, ◌-◌, ◌<◌, ◌≤◌, ◌^◌, Bool, true, false, cond, List, [], ◌∷◌, ◌++◌, ◌&&◌, length, Option, Some, None, Ordering, refl, sym, ap, subst, ◌∙◌, arith}
+use Rattle.std.proofs.Common.{◌≡◌, ℕ, zero, suc, ◌+◌, ◌<◌, ◌≤◌, Bool, true, false, cond, List, [], ◌∷◌, ◌++◌, length, Option, Some, None, refl, sym, ap, subst, ◌∙◌, arith}
 use Rattle.std.specs.Prelude.{◌==◌, nat_le, nat_lt, sum_by}
 use Rattle.std.specs.FinMap.{FinMap, entries, from_entries, get}
 use Rattle.std.specs.FinMap.Entries.{find}
 use Rattle.std.specs.List.{AllByRecursion, flat_map, range_with_len}
 use Rattle.std.specs.Option.{option_to_list}
 use Rattle.std.specs.Ordering.{eq_by_cmp, nat_cmp}
-use Rattle.std.proofs.lemmas.Bool.{eq-eqb, eqb-true}
+use Rattle.std.proofs.lemmas.Bool.{eq-eqb, eqb-true, and_from}
 use Rattle.std.proofs.lemmas.Bool.Decides.{nat_tests}
+use Rattle.nr_bytes.proofs.Basics.{left_true, right_true}
 use Rattle.nr_records.specs.declared.receipt.Receipt.{Receipt}
 use Rattle.nr_columns.specs.Columns.{Columns}
 use Rattle.nr_columns.specs.declared.entry.Entry.{Entry}
@@ -15,7 +16,6 @@ use Rattle.nr_columns.proofs.Laid.{delayed_law}
 use Rattle.nr_columns.proofs.Tables.{tested}
 use Rattle.nr_entries.specs.Counting.{count_in}
 use Rattle.nr_entries.proofs.Listed.{AreApart, counted, listed_map, one_each}
-use Rattle.nr_entries.proofs.Rising.{both, left, right}
 use Rattle.nr_state.specs.Flat.{numbered, queue_in}
 use Rattle.nr_state.specs.View.{delayed_in, served_in, waiting_in, world_in}
 use Rattle.nr_worlds.specs.Tests.{numbers_told, queue_told}
@@ -80,22 +80,22 @@ are_numbers s n q served e = by ((s + n) == 0) refl e
     by true t e = subst (λ q. AreNumbers q n) e (record { told = refl; waiting = grind (arith, nat_tests) })
     by false t e =
         subst (λ q. AreNumbers q n) e (record {
-          told = both _ _ (let h : nat_lt 0 (s + n) ≡ true = grind (arith, nat_tests) in h) (let h : nat_le s (s + n) ≡ true = grind (arith, nat_tests) in h);
+          told = and_from _ _ (let h : nat_lt 0 (s + n) ≡ true = grind (arith, nat_tests) in h) (let h : nat_le s (s + n) ≡ true = grind (arith, nat_tests) in h);
           waiting = omega arith;
         })
 
 -- ---- the columns of a queue
 module _ (k : Columns) (es : List Entry) (count : count_in 7 es ≡ sum_by one_each (entries k.delayed)) where
   pub queue_is : queue_told k es ≡ true → queue_in (world_in k) ≡ k.queue
-  queue_is h = numbers_are k.queue (length (delayed_in k)) (left _ _ (left _ _ h)) (eqb-true _ _ (right _ _ h))
+  queue_is h = numbers_are k.queue (length (delayed_in k)) (left_true _ _ (left_true _ _ h)) (eqb-true _ _ (right_true _ _ h))
 
   pub delayed_is : queue_told k es ≡ true → from_entries (numbered (served_in k.queue) (delayed_in k)) ≡ k.delayed
   delayed_is h =
-      let len : length (delayed_in k) ≡ waiting_in k.queue = eqb-true _ _ (right _ _ h) in
+      let len : length (delayed_in k) ≡ waiting_in k.queue = eqb-true _ _ (right_true _ _ h) in
       sym (listed_map delayed_law.total delayed_law.exact (numbered (served_in k.queue) (delayed_in k)) k.delayed
       (numbered_apart (served_in k.queue) (delayed_in k))
       (all_found k.delayed (served_in k.queue) (waiting_in k.queue) len)
-      (sym count ∙ eqb-true _ _ (right _ _ (left _ _ h)) ∙ sym len ∙ sym (length_numbered (served_in k.queue) (delayed_in k))))
+      (sym count ∙ eqb-true _ _ (right_true _ _ (left_true _ _ h)) ∙ sym len ∙ sym (length_numbered (served_in k.queue) (delayed_in k))))
 
   pub queue_so : queue_in (world_in k) ≡ k.queue → from_entries (numbered (served_in k.queue) (delayed_in k)) ≡ k.delayed → queue_told k es ≡ true
   queue_so queue delayed =
@@ -104,4 +104,4 @@ module _ (k : Columns) (es : List Entry) (count : count_in 7 es ≡ sum_by one_e
       count ∙ ap (λ (m : FinMap nat_cmp Receipt). sum_by one_each (entries m)) (sym delayed)
       ∙ counted delayed_law.total delayed_law.exact (numbered (served_in k.queue) (delayed_in k)) (numbered_apart (served_in k.queue) (delayed_in k))
       ∙ length_numbered (served_in k.queue) (delayed_in k) in
-      both _ _ (both _ _ n.told (eq-eqb _ _ (all ∙ n.waiting))) (eq-eqb _ _ n.waiting)
+      and_from _ _ (and_from _ _ n.told (eq-eqb _ _ (all ∙ n.waiting))) (eq-eqb _ _ n.waiting)

@@ -1,5 +1,5 @@
 -- Ids that are seen twice.
-use Rattle.std.proofs.Common.{◌≡◌, ℕ, zero, suc, Bool, true, false, cond, List, [], ◌∷◌, ◌||◌, drop, map, refl, sym, ap, subst, ◌∙◌}
+use Rattle.std.proofs.Common.{◌≡◌, ℕ, zero, suc, Bool, true, false, cond, List, [], ◌∷◌, ◌||◌, drop, map, refl, sym, ap, ◌∙◌}
 use Rattle.std.specs.Prelude.{not}
 use Rattle.std.specs.BTreeMap.{is_at}
 use Rattle.std.specs.Cmp.{eq_by_cmp_equiv}
@@ -7,6 +7,7 @@ use Rattle.std.specs.Cmp.Lexicographic.{nat_list_cmp_total, texts_ties}
 use Rattle.std.specs.List.{list_any}
 use Rattle.std.specs.Ordering.{eq_by_cmp}
 use Rattle.std.specs.Str.{bytes_eq}
+use mathlib.Core.Bool.{or-true}
 use Rattle.nr_columns.specs.Orders.{bytes_cmp}
 use Rattle.nr_ids.specs.declared.key.Hash32.{Hash32}
 use Rattle.nr_state.specs.Repeats.{has_repeat}
@@ -25,15 +26,11 @@ seen_more k q b = as_or (eq_by_cmp bytes_cmp k q) b ∙ ap (λ t. t || b) (sym (
 abbrev bytes_of : List Hash32 → List (List ℕ)
 bytes_of ids = map (λ (id : Hash32). id.0) ids
 
-or_true : (b : Bool) → (b || true) ≡ true
-or_true true = refl
-or_true false = refl
-
 -- what stands twice behind a place stands twice
 repeats_behind : (n : ℕ) (ids : List Hash32) → has_repeat (bytes_of (drop n ids)) ≡ true → has_repeat (bytes_of ids) ≡ true
 repeats_behind zero ids h = h
 repeats_behind (suc n) [] h = h
-repeats_behind (suc n) (id ∷ ids) h = ap (λ b. list_any (bytes_eq id.0) (bytes_of ids) || b) (repeats_behind n ids h) ∙ or_true _
+repeats_behind (suc n) (id ∷ ids) h = ap (λ b. list_any (bytes_eq id.0) (bytes_of ids) || b) (repeats_behind n ids h) ∙ or-true _
 
 had : (fresh has : Bool) → fresh ≡ false → fresh ≡ not has → has ≡ true
 had true has f n = absurd (let never : true ≡ false = f in cc)

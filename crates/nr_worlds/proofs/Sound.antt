@@ -1,23 +1,20 @@
 -- Entries that pass the tests of a world are those of one.
-use Rattle.std.proofs.Common.{◌≡◌, ℕ, ◌+◌, ◌<◌, ◌≤◌, ◌^◌, Bool, true, false, cond, List, [], ◌∷◌, ◌++◌, ◌&&◌, ◌||◌, length, Option, Some, None, refl, sym, ap, subst, ◌∙◌, inl, inr, arith}
-use Rattle.std.specs.Prelude.{◌==◌, IsSome, is_none, is_some, not, nat_le, nat_lt}
+use Rattle.std.proofs.Common.{◌≡◌, ℕ, ◌+◌, ◌<◌, ◌≤◌, ◌^◌, Bool, true, false, List, [], ◌∷◌, ◌++◌, ◌&&◌, ◌||◌, length, Option, Some, None, refl, sym, ap, subst, ◌∙◌, inl, inr, arith}
+use Rattle.std.specs.Prelude.{◌==◌, IsSome, is_none, not, nat_le, nat_lt}
 use Rattle.std.specs.FinMap.{get, entries, get-empty}
 use Rattle.std.specs.List.{AllByRecursion, flat_map, list_all, list_any, range_with_len}
 use Rattle.std.specs.Option.{option_to_list}
 use Rattle.std.specs.Str.{bytes_eq}
-use Rattle.std.specs.Cmp.Lexicographic.{nat_list_cmp_total}
-use Rattle.std.proofs.lemmas.Bool.{eq-eqb, eqb-true, or_cases}
+use Rattle.std.proofs.lemmas.Bool.{eqb-true, or_cases, and_from, not-true}
 use Rattle.std.proofs.lemmas.Bool.Decides.{nat_tests}
-use Rattle.std.proofs.lemmas.Map.Lookups.{exact_bytes}
 use Rattle.std.proofs.lemmas.Slice.Eq.{bytes_eq-Decides}
-use Rattle.nr_bytes.proofs.Fields.{blob_law}
+use Rattle.nr_bytes.proofs.Basics.{left_true, right_true, none≢some}
 use Rattle.nr_bytes.specs.Numbers.{IsBytes}
 use Rattle.nr_bytes.specs.Spelling.{IsCounted}
 use Rattle.nr_bytes.specs.Writing.{counted_bytes}
 use Rattle.nr_config.specs.Config.{Config}
 use Rattle.nr_ids.specs.Grammar.{id_fault, is_system}
 use Rattle.nr_ids.specs.Keys.{IsKey}
-use Rattle.nr_ids.specs.declared.fault.IdFault.{IdFault}
 use Rattle.nr_ids.specs.declared.key.Hash32.{Hash32}
 use Rattle.nr_ids.specs.declared.key.PublicKey.{PublicKey}
 use Rattle.nr_ids.specs.declared.key.PublicKey.TheVariants.{Ed25519, Secp256k1}
@@ -38,16 +35,15 @@ use Rattle.nr_columns.specs.Entries.{contents_of, pairs_of}
 use Rattle.nr_columns.specs.View.{columns_in}
 use Rattle.nr_columns.specs.declared.entry.Entry.{Entry}
 use Rattle.nr_columns.proofs.Laid.{accounts_law, code_law, data_law, delayed_law, keys_law, postponed_law, received_law}
-use Rattle.nr_entries.specs.Told.{AreBytes, is_id, is_id_and_hash, is_key, same_pair}
+use Rattle.nr_entries.specs.Told.{AreBytes, is_id, is_id_and_hash, is_key}
 use Rattle.nr_entries.proofs.Columns.{received_law as received_read, taken}
 use Rattle.nr_entries.proofs.Contents.{read_from}
-use Rattle.nr_entries.proofs.Rising.{both, holds_found, left, right}
-use Rattle.nr_state.specs.Entries.{IsReadBack}
-use Rattle.nr_state.specs.Flat.{columns_of, flat, inputs_of}
-use Rattle.nr_state.specs.FromEntries.{AreWholeEntries, world_from}
+use Rattle.nr_entries.proofs.Rising.{holds_found}
+use Rattle.nr_state.specs.Flat.{flat, inputs_of}
+use Rattle.nr_state.specs.FromEntries.{world_from}
 use Rattle.nr_state.specs.Tokens.{world_tokens}
 use Rattle.nr_state.specs.Valid.{AreAccounts, AreWaiting, IsBounded, IsValidWorld, code_hash_in, usage_in}
-use Rattle.nr_state.specs.View.{ArePostponed, IsWhole, delayed_in, has_input, repeats_input, world_in}
+use Rattle.nr_state.specs.View.{ArePostponed, has_input}
 use Rattle.nr_state.specs.World.{World}
 use Rattle.nr_state.specs.Worlds.{IsWorld}
 use Rattle.nr_state.proofs.EntryWorlds.{entries_again, entries_whole}
@@ -74,10 +70,6 @@ below_is a b h = grind (arith, nat_tests)
 
 most_is : (a b : ℕ) → nat_le a b ≡ true → a ≤ b
 most_is a b h = grind (arith, nat_tests)
-
-not_is : (a : Bool) → not a ≡ true → a ≡ false
-not_is true h = absurd (let no : false ≡ true = h in cc)
-not_is false h = refl
 
 -- ---- what is read from bytes fits
 module _ (es : List Entry) (bytes : AreBytes es) where
@@ -106,44 +98,44 @@ module _ (es : List Entry) (bytes : AreBytes es) where
 
   pub world_fits : names_fit world ≡ true → numbers_fit world ≡ true → IsWorld world
   world_fits names numbers =
-      let upto_received = left (accounts_named world && keys_named world && code_named world && data_named world && received_named world) (postponed_named world) names in
-      let upto_data = left (accounts_named world && keys_named world && code_named world && data_named world) (received_named world) upto_received in
-      let upto_code = left (accounts_named world && keys_named world && code_named world) (data_named world) upto_data in
-      let upto_keys = left (accounts_named world && keys_named world) (code_named world) upto_code in
+      let upto_received = left_true (accounts_named world && keys_named world && code_named world && data_named world && received_named world) (postponed_named world) names in
+      let upto_data = left_true (accounts_named world && keys_named world && code_named world && data_named world) (received_named world) upto_received in
+      let upto_code = left_true (accounts_named world && keys_named world && code_named world) (data_named world) upto_data in
+      let upto_keys = left_true (accounts_named world && keys_named world) (code_named world) upto_code in
       record {
         accounts = λ id a is.
             let one = read_from accounts_law contents id a is in
-            let name = each_so accounts_law.total accounts_law.exact columns.accounts (λ id a. is_id id) (left (accounts_named world) (keys_named world) upto_keys) id a is in
+            let name = each_so accounts_law.total accounts_law.exact columns.accounts (λ id a. is_id id) (left_true (accounts_named world) (keys_named world) upto_keys) id a is in
             (id_is id name, (taken account_at account_bytes IsAccount account_law one.value a (value_bytes _ one.value one.there) one.read).0);
         keys = λ k a is.
             let one = read_from keys_law contents k a is in
-            let name = each_so keys_law.total keys_law.exact columns.keys (λ k a. is_id k.0 && is_key k.1) (right (accounts_named world) (keys_named world) upto_keys) k a is in (
-              id_is k.0 (left (is_id k.0) (is_key k.1) name),
+            let name = each_so keys_law.total keys_law.exact columns.keys (λ k a. is_id k.0 && is_key k.1) (right_true (accounts_named world) (keys_named world) upto_keys) k a is in (
+              id_is k.0 (left_true (is_id k.0) (is_key k.1) name),
               (
-                key_is k.1 (right (is_id k.0) (is_key k.1) name),
+                key_is k.1 (right_true (is_id k.0) (is_key k.1) name),
                 (taken access_key_at access_key_bytes IsAccessKey access_key_law one.value a (value_bytes _ one.value one.there) one.read).0,
               ),
             );
-        code = λ id v is. id_is id (each_so code_law.total code_law.exact columns.code (λ id v. is_id id) (right (accounts_named world && keys_named world) (code_named world) upto_code) id v is);
+        code = λ id v is. id_is id (each_so code_law.total code_law.exact columns.code (λ id v. is_id id) (right_true (accounts_named world && keys_named world) (code_named world) upto_code) id v is);
         data_of = λ k v is.
-            id_is k.0 (each_so data_law.total data_law.exact columns.data_of (λ k v. is_id k.0) (right (accounts_named world && keys_named world && code_named world) (data_named world) upto_data) k v is);
+            id_is k.0 (each_so data_law.total data_law.exact columns.data_of (λ k v. is_id k.0) (right_true (accounts_named world && keys_named world && code_named world) (data_named world) upto_data) k v is);
         received = λ k v is.
             let one = read_from received_law contents k v is in
             let name = each_so received_law.total received_law.exact columns.received (λ k v. is_id_and_hash k)
-            (right (accounts_named world && keys_named world && code_named world && data_named world) (received_named world) upto_received) k v is in (
-              id_is k.0 (left (is_id k.0) (length k.1 == 32) name),
+            (right_true (accounts_named world && keys_named world && code_named world && data_named world) (received_named world) upto_received) k v is in (
+              id_is k.0 (left_true (is_id k.0) (length k.1 == 32) name),
               (
-                eqb-true _ _ (right (is_id k.0) (length k.1 == 32) name),
+                eqb-true _ _ (right_true (is_id k.0) (length k.1 == 32) name),
                 (taken (option_at blob_at) (option_bytes counted_bytes) (IsOption IsCounted) received_read one.value v (value_bytes _ one.value one.there) one.read).0,
               ),
             );
         postponed = λ k r is.
             let one = read_from postponed_law contents k r is in
             let name = each_so postponed_law.total postponed_law.exact columns.postponed (λ k r. is_id_and_hash k)
-            (right (accounts_named world && keys_named world && code_named world && data_named world && received_named world) (postponed_named world) names) k r is in (
-              id_is k.0 (left (is_id k.0) (length k.1 == 32) name),
+            (right_true (accounts_named world && keys_named world && code_named world && data_named world && received_named world) (postponed_named world) names) k r is in (
+              id_is k.0 (left_true (is_id k.0) (length k.1 == 32) name),
               (
-                eqb-true _ _ (right (is_id k.0) (length k.1 == 32) name),
+                eqb-true _ _ (right_true (is_id k.0) (length k.1 == 32) name),
                 (taken receipt_at receipt_bytes IsReceipt receipt_law one.value r (value_bytes _ one.value one.there) one.read).0,
               ),
             );
@@ -153,11 +145,11 @@ module _ (es : List Entry) (bytes : AreBytes es) where
 
 -- ---- a valid world
 bounded_is : (c : Config) (r : Receipt) → is_bounded c r ≡ true → IsBounded c r
-bounded_is c r h = record { price = below_is _ _ (left _ _ h); gas = below_is _ _ (right _ _ h) }
+bounded_is c r h = record { price = below_is _ _ (left_true _ _ h); gas = below_is _ _ (right_true _ _ h) }
 
 all_bounded : (c : Config) (rs : List Receipt) → list_all (is_bounded c) rs ≡ true → AllByRecursion (IsBounded c) rs
 all_bounded c [] h = tt
-all_bounded c (r ∷ rs) h = (bounded_is c r (left _ _ h), all_bounded c rs (right _ _ h))
+all_bounded c (r ∷ rs) h = (bounded_is c r (left_true _ _ h), all_bounded c rs (right_true _ _ h))
 
 hash_is : (a b : Hash32) → bytes_eq a.0 b.0 ≡ true → a ≡ b
 hash_is a b h = ap (λ (l : List ℕ). record { 0 = l }) ((bytes_eq-Decides a.0 b.0).0 h)
@@ -176,22 +168,22 @@ module _ (c : Config) (w : World) (h : accounts_fit c w ≡ true) where
   data_each = each w.data_of (λ k value. is_account w k.0)
 
   upto_code : (accounts_each && keys_each && code_each) ≡ true
-  upto_code = left (accounts_each && keys_each && code_each) data_each h
+  upto_code = left_true (accounts_each && keys_each && code_each) data_each h
 
   upto_keys : (accounts_each && keys_each) ≡ true
-  upto_keys = left (accounts_each && keys_each) code_each upto_code
+  upto_keys = left_true (accounts_each && keys_each) code_each upto_code
 
   one_fits : (id : List ℕ) (a : Account) → get w.accounts id ≡ Some a → account_fits c w id a ≡ true
-  one_fits = each_so accounts_law.total accounts_law.exact w.accounts (account_fits c w) (left accounts_each keys_each upto_keys)
+  one_fits = each_so accounts_law.total accounts_law.exact w.accounts (account_fits c w) (left_true accounts_each keys_each upto_keys)
 
   key_owned : (k : List ℕ × PublicKey) (a : AccessKey) → get w.keys k ≡ Some a → is_account w k.0 ≡ true
-  key_owned = each_so keys_law.total keys_law.exact w.keys (λ k access. is_account w k.0) (right accounts_each keys_each upto_keys)
+  key_owned = each_so keys_law.total keys_law.exact w.keys (λ k access. is_account w k.0) (right_true accounts_each keys_each upto_keys)
 
   code_owned : (id v : List ℕ) → get w.code id ≡ Some v → is_account w id ≡ true
-  code_owned = each_so code_law.total code_law.exact w.code (λ id code. is_account w id) (right (accounts_each && keys_each) code_each upto_code)
+  code_owned = each_so code_law.total code_law.exact w.code (λ id code. is_account w id) (right_true (accounts_each && keys_each) code_each upto_code)
 
   datum_owned : (k : List ℕ × List ℕ) (v : List ℕ) → get w.data_of k ≡ Some v → is_account w k.0 ≡ true
-  datum_owned = each_so data_law.total data_law.exact w.data_of (λ k value. is_account w k.0) (right (accounts_each && keys_each && code_each) data_each h)
+  datum_owned = each_so data_law.total data_law.exact w.data_of (λ k value. is_account w k.0) (right_true (accounts_each && keys_each && code_each) data_each h)
 
   owner_of : {X : Type 0} (id : List ℕ) (o : Option X) → IsSome o → ((x : X) → o ≡ Some x → is_account w id ≡ true) → IsSome (get w.accounts id)
   owner_of id None has f = absurd (let no : false ≡ true = has in cc)
@@ -208,11 +200,11 @@ module _ (c : Config) (w : World) (h : accounts_fit c w ≡ true) where
         code = λ id has. owner_of id (get w.code id) has (code_owned id);
         data_of = λ k has. owner_of k.0 (get w.data_of k) has (datum_owned k);
         no_system = λ id has. not_system id (get w.accounts id) has (λ a is.
-            not_is (is_system id) (left (not (is_system id)) (a.storage_usage == usage_in c w id) (left (not (is_system id) && a.storage_usage == usage_in c w id) (bytes_eq a.code_hash.0 (code_hash_in w id).0) (one_fits id a is))));
+            not-true (is_system id) (left_true (not (is_system id)) (a.storage_usage == usage_in c w id) (left_true (not (is_system id) && a.storage_usage == usage_in c w id) (bytes_eq a.code_hash.0 (code_hash_in w id).0) (one_fits id a is))));
         usage = λ id a is.
-            eqb-true _ _ (right (not (is_system id)) (a.storage_usage == usage_in c w id) (left (not (is_system id) && a.storage_usage == usage_in c w id) (bytes_eq a.code_hash.0 (code_hash_in w id).0) (one_fits id a is)));
+            eqb-true _ _ (right_true (not (is_system id)) (a.storage_usage == usage_in c w id) (left_true (not (is_system id) && a.storage_usage == usage_in c w id) (bytes_eq a.code_hash.0 (code_hash_in w id).0) (one_fits id a is)));
         code_hash = λ id a is.
-            hash_is _ _ (right (not (is_system id) && a.storage_usage == usage_in c w id) (bytes_eq a.code_hash.0 (code_hash_in w id).0) (one_fits id a is));
+            hash_is _ _ (right_true (not (is_system id) && a.storage_usage == usage_in c w id) (bytes_eq a.code_hash.0 (code_hash_in w id).0) (one_fits id a is));
       }
 
 -- an input of both
@@ -231,39 +223,39 @@ postponed_are c w h apart =
     record {
       each = λ k r is.
           let fits = each_so postponed_law.total postponed_law.exact w.postponed _ h k r is in
-          let upto_distinct = left _ _ (left _ _ fits) in
+          let upto_distinct = left_true _ _ (left_true _ _ fits) in
           record {
-            keyed = pair_is k (r.receiver, r.receipt_id.0) (left _ _ (left _ _ upto_distinct));
-            distinct = not_is _ (right _ _ upto_distinct);
+            keyed = pair_is k (r.receiver, r.receipt_id.0) (left_true _ _ (left_true _ _ upto_distinct));
+            distinct = not-true _ (right_true _ _ upto_distinct);
           };
       apart = λ j k q r id e f same p g.
           let one = each_so postponed_law.total postponed_law.exact w.postponed _ (each_so postponed_law.total postponed_law.exact w.postponed _ apart j q e) k r f in
           elim (or_cases _ _ one) [
             | inl t ↦ pair_is j k t
             | inr t ↦
-                let shares : shares_input q r ≡ true = both _ _ ((bytes_eq-Decides q.receiver r.receiver).1 same) (input_shared q r id p g) in
-                absurd (let no : true ≡ false = sym shares ∙ not_is _ t in cc)
+                let shares : shares_input q r ≡ true = and_from _ _ ((bytes_eq-Decides q.receiver r.receiver).1 same) (input_shared q r id p g) in
+                absurd (let no : true ≡ false = sym shares ∙ not-true _ t in cc)
           ];
     }
 
 waiting_are : (c : Config) (w : World) → waiting_fits c w ≡ true → AreWaiting c w
 waiting_are c w h =
-    let both_tests = left (each w.postponed (postponed_fits c w) && inputs_apart w) (list_all (is_bounded c) w.delayed) h in
-    let fits = λ (k : List ℕ × List ℕ) (r : Receipt) (is : get w.postponed k ≡ Some r). each_so postponed_law.total postponed_law.exact w.postponed (postponed_fits c w) (left (each w.postponed (postponed_fits c w)) (inputs_apart w) both_tests) k r is in
+    let both_tests = left_true (each w.postponed (postponed_fits c w) && inputs_apart w) (list_all (is_bounded c) w.delayed) h in
+    let fits = λ (k : List ℕ × List ℕ) (r : Receipt) (is : get w.postponed k ≡ Some r). each_so postponed_law.total postponed_law.exact w.postponed (postponed_fits c w) (left_true (each w.postponed (postponed_fits c w)) (inputs_apart w) both_tests) k r is in
     record {
-      postponed = postponed_are c w (left (each w.postponed (postponed_fits c w)) (inputs_apart w) both_tests) (right (each w.postponed (postponed_fits c w)) (inputs_apart w) both_tests);
-      actions = λ k r is. right _ _ (left _ _ (left _ _ (left _ _ (fits k r is))));
-      waits = λ k r is. right _ _ (left _ _ (fits k r is));
-      bounded = λ k r is. bounded_is c r (right _ _ (fits k r is));
-      delayed = all_bounded c w.delayed (right (each w.postponed (postponed_fits c w) && inputs_apart w) (list_all (is_bounded c) w.delayed) h);
+      postponed = postponed_are c w (left_true (each w.postponed (postponed_fits c w)) (inputs_apart w) both_tests) (right_true (each w.postponed (postponed_fits c w)) (inputs_apart w) both_tests);
+      actions = λ k r is. right_true _ _ (left_true _ _ (left_true _ _ (left_true _ _ (fits k r is))));
+      waits = λ k r is. right_true _ _ (left_true _ _ (fits k r is));
+      bounded = λ k r is. bounded_is c r (right_true _ _ (fits k r is));
+      delayed = all_bounded c w.delayed (right_true (each w.postponed (postponed_fits c w) && inputs_apart w) (list_all (is_bounded c) w.delayed) h);
     }
 
 pub world_valid : (c : Config) (w : World) → is_valid_world c w ≡ true → IsValidWorld c w
 world_valid c w h =
     record {
-      accounts = accounts_are c w (left (accounts_fit c w) (waiting_fits c w) (left (accounts_fit c w && waiting_fits c w) (nat_le (world_tokens c w) (2 ^ 127)) h));
-      waiting = waiting_are c w (right (accounts_fit c w) (waiting_fits c w) (left (accounts_fit c w && waiting_fits c w) (nat_le (world_tokens c w) (2 ^ 127)) h));
-      tokens = most_is _ _ (right (accounts_fit c w && waiting_fits c w) (nat_le (world_tokens c w) (2 ^ 127)) h);
+      accounts = accounts_are c w (left_true (accounts_fit c w) (waiting_fits c w) (left_true (accounts_fit c w && waiting_fits c w) (nat_le (world_tokens c w) (2 ^ 127)) h));
+      waiting = waiting_are c w (right_true (accounts_fit c w) (waiting_fits c w) (left_true (accounts_fit c w && waiting_fits c w) (nat_le (world_tokens c w) (2 ^ 127)) h));
+      tokens = most_is _ _ (right_true (accounts_fit c w && waiting_fits c w) (nat_le (world_tokens c w) (2 ^ 127)) h);
     }
 
 -- ---- the entries of a world
@@ -271,17 +263,14 @@ pub sound : (c : Config) (es : List Entry) → AreBytes es → is_world c es ≡
 unfolding is_world
 sound c es bytes h =
     let w : World = world_from es in
-    let upto_numbers = left (are_entries_of w es && names_fit w && numbers_fit w) (is_valid_world c w) h in
-    let upto_names = left (are_entries_of w es && names_fit w) (numbers_fit w) upto_numbers in
-    let fits = world_fits es bytes (right (are_entries_of w es) (names_fit w) upto_names) (right (are_entries_of w es && names_fit w) (numbers_fit w) upto_numbers) in
-    let valid = world_valid c w (right (are_entries_of w es && names_fit w && numbers_fit w) (is_valid_world c w) h) in
-    let pairs : pairs_of es ≡ entries (flat w) = sym (lists_are (entries (flat w)) (pairs_of es) (left (are_entries_of w es) (names_fit w) upto_names)) in
+    let upto_numbers = left_true (are_entries_of w es && names_fit w && numbers_fit w) (is_valid_world c w) h in
+    let upto_names = left_true (are_entries_of w es && names_fit w) (numbers_fit w) upto_numbers in
+    let fits = world_fits es bytes (right_true (are_entries_of w es) (names_fit w) upto_names) (right_true (are_entries_of w es && names_fit w) (numbers_fit w) upto_numbers) in
+    let valid = world_valid c w (right_true (are_entries_of w es && names_fit w && numbers_fit w) (is_valid_world c w) h) in
+    let pairs : pairs_of es ≡ entries (flat w) = sym (lists_are (entries (flat w)) (pairs_of es) (left_true (are_entries_of w es) (names_fit w) upto_names)) in
     record { fits = fits; valid = valid; whole = entries_whole w fits valid.waiting.postponed es pairs; pairs = pairs }
 
 -- ---- the entries of a delayed queue
-none≢some : {A : Type 0} (x : A) → ◌≡◌ {A = Option A} None (Some x) → ⊥
-none≢some x e = cc
-
 pub none_postponed : (w : World) → ArePostponed (queue_of w)
 none_postponed w =
     record {
@@ -306,8 +295,8 @@ pub sound_queue : (es : List Entry) → AreBytes es → is_queue es ≡ true →
 unfolding is_queue
 sound_queue es bytes h =
     let q : World = queue_of (world_from es) in
-    let fits = queue_fits es bytes (right (are_entries_of q es) (numbers_fit (world_from es)) h) in
-    let pairs : pairs_of es ≡ entries (flat q) = sym (lists_are (entries (flat q)) (pairs_of es) (left (are_entries_of q es) (numbers_fit (world_from es)) h)) in
+    let fits = queue_fits es bytes (right_true (are_entries_of q es) (numbers_fit (world_from es)) h) in
+    let pairs : pairs_of es ≡ entries (flat q) = sym (lists_are (entries (flat q)) (pairs_of es) (left_true (are_entries_of q es) (numbers_fit (world_from es)) h)) in
     let again : world_from es ≡ q = entries_again q fits (none_postponed (world_from es)) es pairs in
     record {
       fits = subst IsWorld (sym again) fits;

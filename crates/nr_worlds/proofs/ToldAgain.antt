@@ -1,40 +1,32 @@
 -- The entries of a world are told by their columns.
-use Rattle.std.proofs.Common.{◌≡◌, ℕ, suc, Bool, true, false, cond, List, [], ◌∷◌, ◌++◌, ◌&&◌, length, Option, Some, None, refl, sym, ap, subst, ◌∙◌}
-use Rattle.std.specs.Prelude.{◌==◌, is_none, is_some}
-use Rattle.std.specs.FinMap.{FinMap, get}
-use Rattle.std.specs.List.{list_all}
-use Rattle.std.specs.Option.{option_map, option_and_then}
+use Rattle.std.proofs.Common.{◌≡◌, ℕ, Bool, true, false, cond, List, [], ◌∷◌, length, Option, Some, None, refl, sym, ap, subst, ◌∙◌}
+use Rattle.std.specs.Prelude.{◌==◌, is_some}
+use Rattle.std.specs.FinMap.{get}
+use Rattle.std.specs.Option.{option_map}
 use Rattle.std.specs.Ordering.{eq_by_cmp}
-use Rattle.std.proofs.lemmas.Bool.{eq-eqb, eqb-true}
+use Rattle.std.proofs.lemmas.Bool.{eq-eqb, eqb-true, and_from}
+use Rattle.nr_bytes.proofs.Basics.{none≢some}
 use Rattle.nr_bytes.proofs.Numbers.{length-little}
 use Rattle.nr_bytes.specs.Numbers.{little, number}
-use Rattle.nr_ids.specs.Keys.{key_bytes}
-use Rattle.nr_ids.specs.declared.key.PublicKey.{PublicKey}
-use Rattle.nr_records.specs.declared.receipt.Receipt.{Receipt}
 use Rattle.nr_triedef.specs.Root.{Contents}
-use Rattle.nr_columns.specs.Columns.{Columns, queue_bytes}
+use Rattle.nr_columns.specs.Columns.{queue_bytes}
 use Rattle.nr_columns.specs.Entries.{contents_of}
 use Rattle.nr_columns.specs.Orders.{bytes_cmp}
-use Rattle.nr_columns.specs.Tables.{Table, checked, key_of, part}
+use Rattle.nr_columns.specs.Tables.{Table, checked, key_of}
 use Rattle.nr_columns.specs.View.{accounts_table, at_first, awaited_table, code_table, columns_in, data_table, delayed_table, key_of_rest, keys_table, missing_table, postponed_table, queue_of, received_table}
 use Rattle.nr_columns.specs.declared.entry.Entry.{Entry}
 use Rattle.nr_columns.specs.Keys.{queue_key}
 use Rattle.nr_ids.specs.Grammar.{id_fault}
-use Rattle.nr_columns.proofs.Laid.{other_head, accounts_law, awaited_law, canon, canon_of, code_law, data_law, delayed_law, keys_law, missing_law, postponed_law, received_law}
-use Rattle.nr_columns.proofs.Tables.{IsTable, back, claim, claimed, over, unchecked}
-use Rattle.nr_entries.specs.Told.{are_told, is_id, is_id_and_hash, is_kept, is_owned, is_owned_key, is_received, is_told, is_told_in, same_pair}
+use Rattle.nr_columns.proofs.Laid.{other_head, accounts_law, canon, code_law, data_law, keys_law, postponed_law, received_law}
+use Rattle.nr_columns.proofs.Tables.{back, claim, claimed, over, unchecked}
+use Rattle.nr_entries.specs.Told.{is_kept, is_owned, is_owned_key, is_received, is_told, is_told_in}
 use Rattle.nr_entries.proofs.Columns.{IsOf}
 use Rattle.nr_entries.proofs.Names.{key_fits}
-use Rattle.nr_entries.proofs.Rising.{both, found_holds, pass_all, rises_of}
 use Rattle.nr_state.specs.View.{ArePostponed, world_in}
-use Rattle.nr_state.specs.World.{World}
 use Rattle.nr_state.specs.Worlds.{IsWorld}
 use Rattle.nr_worlds.proofs.AccountsTold.{in_map}
 use Rattle.nr_worlds.proofs.Passing.{hash_so, id_so}
 use Rattle.nr_worlds.proofs.Tested.{same_so}
-
-none≢some : {A : Type 0} (x : A) → ◌≡◌ {A = Option A} None (Some x) → ⊥
-none≢some x e = cc
 
 over_none : (o : Option (List ℕ)) → over o None ≡ o
 over_none None = refl
@@ -88,7 +80,7 @@ module _ (es : List Entry) (fits : IsWorld (world_in (columns_in (contents_of es
     account_told there h =
         let one = claimed_of accounts_table (0 ∷ rest) v (sym (over_none _) ∙ h) in
         let same : one.key ≡ rest = (let e : ◌≡◌ {A = Option (List ℕ)} (Some rest) (Some one.key) = unchecked accounts_table (0 ∷ rest) (Some rest) one.key one.at in cc) in
-        both _ _ (id_so rest (subst (λ id. id_fault_none id) same (fits.accounts one.key one.value (in_map accounts_law contents (0 ∷ rest) v one there)).0)) (is_there _ one.value one.read)
+        and_from _ _ (id_so rest (subst (λ id. id_fault_none id) same (fits.accounts one.key one.value (in_map accounts_law contents (0 ∷ rest) v one there)).0)) (is_there _ one.value one.read)
 
     code_told : get contents (1 ∷ rest) ≡ Some v → canon (1 ∷ rest) (Some v) ≡ Some v → is_told_in 1 rest v ≡ true
     code_told there h =
@@ -100,23 +92,23 @@ module _ (es : List Entry) (fits : IsWorld (world_in (columns_in (contents_of es
     key_told there h =
         let one = claimed_of keys_table (2 ∷ rest) v (sym (over_none _) ∙ h) in
         let name = fits.keys one.key one.value (in_map keys_law contents (2 ∷ rest) v one there) in
-        both _ _ (ap is_owned_key (unchecked keys_table (2 ∷ rest) (key_of_rest rest) one.key one.at) ∙ both _ _ (id_so one.key.0 name.0) (key_fits one.key.1 name.1.0)) (is_there _ one.value one.read)
+        and_from _ _ (ap is_owned_key (unchecked keys_table (2 ∷ rest) (key_of_rest rest) one.key one.at) ∙ and_from _ _ (id_so one.key.0 name.0) (key_fits one.key.1 name.1.0)) (is_there _ one.value one.read)
 
     received_told : get contents (3 ∷ rest) ≡ Some v → canon (3 ∷ rest) (Some v) ≡ Some v → is_told_in 3 rest v ≡ true
     received_told there h =
         let one = claimed_of received_table (3 ∷ rest) v (sym (over_none _) ∙ h) in
         let name = fits.received one.key one.value (in_map received_law contents (3 ∷ rest) v one there) in
-        both _ _ (ap is_received (unchecked received_table (3 ∷ rest) (at_first 44 rest) one.key one.at) ∙ hash_so one.key name.0 name.1.0) (is_there _ one.value one.read)
+        and_from _ _ (ap is_received (unchecked received_table (3 ∷ rest) (at_first 44 rest) one.key one.at) ∙ hash_so one.key name.0 name.1.0) (is_there _ one.value one.read)
 
     awaited_told : canon (4 ∷ rest) (Some v) ≡ Some v → is_told_in 4 rest v ≡ true
     awaited_told h =
         let one = claimed_of awaited_table (4 ∷ rest) v (sym (over_none _) ∙ h) in
-        both _ _ (is_there _ one.key (unchecked awaited_table (4 ∷ rest) (at_first 44 rest) one.key one.at)) (is_there _ one.value one.read)
+        and_from _ _ (is_there _ one.key (unchecked awaited_table (4 ∷ rest) (at_first 44 rest) one.key one.at)) (is_there _ one.value one.read)
 
     missing_told : canon (5 ∷ rest) (Some v) ≡ Some v → is_told_in 5 rest v ≡ true
     missing_told h =
         let one = claimed_of missing_table (5 ∷ rest) v (sym (over_none _) ∙ h) in
-        both _ _ (is_there _ one.key (unchecked missing_table (5 ∷ rest) (at_first 44 rest) one.key one.at)) (is_there _ one.value one.read)
+        and_from _ _ (is_there _ one.key (unchecked missing_table (5 ∷ rest) (at_first 44 rest) one.key one.at)) (is_there _ one.value one.read)
 
     postponed_told : get contents (6 ∷ rest) ≡ Some v → canon (6 ∷ rest) (Some v) ≡ Some v → is_told_in 6 rest v ≡ true
     postponed_told there h =
@@ -124,7 +116,7 @@ module _ (es : List Entry) (fits : IsWorld (world_in (columns_in (contents_of es
         let is = in_map postponed_law contents (6 ∷ rest) v one there in
         let name = fits.postponed one.key one.value is in
         let at : at_first 44 rest ≡ Some one.key = unchecked postponed_table (6 ∷ rest) (at_first 44 rest) one.key one.at in
-        both _ _ (ap is_received at ∙ hash_so one.key name.0 name.1.0)
+        and_from _ _ (ap is_received at ∙ hash_so one.key name.0 name.1.0)
         ((λ i. is_kept (at i) (one.read i)) ∙ same_so one.key (one.value.receiver, one.value.receipt_id.0) (are.each one.key one.value is).keyed)
 
     datum_told : get contents (9 ∷ rest) ≡ Some v → canon (9 ∷ rest) (Some v) ≡ Some v → is_told_in 9 rest v ≡ true
@@ -146,7 +138,7 @@ module _ (es : List Entry) (fits : IsWorld (world_in (columns_in (contents_of es
       let one = claimed_of delayed_table (7 ∷ b ∷ bs) v (sym (over_none _) ∙ h) in
       let key : 7 ∷ b ∷ bs ≡ 7 ∷ little 8 one.key = back delayed_table (7 ∷ b ∷ bs) one.key one.at in
       let size : length (b ∷ bs) ≡ 8 = ap (λ (l : List ℕ). length (rest_of l)) key ∙ length-little 8 one.key in
-      both _ _ (eq-eqb _ _ size) (is_there _ one.value one.read)
+      and_from _ _ (eq-eqb _ _ size) (is_there _ one.value one.read)
     where
       rest_of : List ℕ → List ℕ
       rest_of [] = []

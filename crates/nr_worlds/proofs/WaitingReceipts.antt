@@ -1,38 +1,26 @@
 -- Postponed receipts that wait for inputs of their own, told by the columns of who waits and of how many inputs are missing.
-use Rattle.std.proofs.Common.{◌≡◌, ℕ, suc, ◌+◌, Bool, true, false, cond, T, List, [], ◌∷◌, ◌++◌, ◌&&◌, ◌||◌, length, map, Option, Some, None, Ordering, refl, sym, ap, subst, ◌∙◌, inl, inr, arith}
-use Rattle.std.specs.Prelude.{◌==◌, bytes_eq, is_some, nat_lt, not, sum_by}
-use Rattle.std.specs.FinMap.{FinMap, entries, entries_sorted, find, from_entries, get, get-entries, is_sorted, values}
+use Rattle.std.proofs.Common.{◌≡◌, ℕ, suc, ◌+◌, Bool, true, false, cond, T, List, [], ◌∷◌, ◌++◌, ◌&&◌, ◌||◌, length, map, Option, Some, None, refl, sym, ap, subst, ◌∙◌, arith}
+use Rattle.std.specs.Prelude.{bytes_eq}
+use Rattle.std.specs.FinMap.{FinMap, find, get, is_sorted}
 use Rattle.std.specs.FinMap.Entries.{below_all}
-use Rattle.std.specs.List.{AllByRecursion, flat_map, list_all, list_any}
-use Rattle.std.specs.Option.{option_map}
-use Rattle.std.specs.Ordering.{eq_by_cmp, is_lt}
-use Rattle.std.specs.declared.cmp.Ordering.TheVariants.{Less, Equal, Greater}
-use Rattle.std.specs.Cmp.{eq_by_cmp_equiv, tied_itself}
-use Rattle.std.proofs.lemmas.Bool.{eq-eqb, eqb-true, or_cases}
+use Rattle.std.specs.List.{AllByRecursion, list_all, list_any}
+use Rattle.std.specs.Ordering.{is_lt}
+use Rattle.std.specs.Cmp.{tied_itself}
+use Rattle.std.proofs.lemmas.Bool.{eq-eqb, eqb-true}
 use Rattle.std.proofs.lemmas.List.{length-append}
 use Rattle.std.proofs.lemmas.List.Sums.{sum_by-cons}
 use Rattle.std.proofs.lemmas.Slice.Eq.{bytes_eq-Decides}
+use Rattle.nr_bytes.proofs.Basics.{left_of, right_of, left_true, right_true, all_both}
 use Rattle.nr_ids.specs.declared.key.Hash32.{Hash32}
 use Rattle.nr_records.specs.declared.receipt.Receipt.{Receipt}
 use Rattle.nr_columns.specs.Columns.{Columns}
 use Rattle.nr_columns.specs.Orders.{pair_cmp}
-use Rattle.nr_columns.specs.declared.entry.Entry.{Entry}
-use Rattle.nr_columns.proofs.Laid.{postponed_law}
-use Rattle.nr_columns.proofs.Tables.{first, second}
-use Rattle.nr_entries.specs.Counting.{count_in}
-use Rattle.nr_entries.proofs.Listed.{AreApart, counted, listed_map, one_each, rising_apart}
-use Rattle.nr_entries.proofs.Rising.{both, left, right}
-use Rattle.nr_state.specs.Flat.{awaited_in, awaits, inputs_of, missing_in, missing_inputs}
-use Rattle.nr_state.specs.Queues.{is_act}
+use Rattle.nr_entries.proofs.Listed.{AreApart}
+use Rattle.nr_state.specs.Flat.{awaits, inputs_of}
 use Rattle.nr_state.specs.Repeats.{has_repeat}
-use Rattle.nr_state.specs.View.{ArePostponed, has_input, repeats_input, world_in}
-use Rattle.nr_state.specs.World.{World}
-use Rattle.nr_state.proofs.Awaiting.{Held, Key, either, all_awaits, find-both, has_waits, key_is, no_waiter, one_waiter, pair_exact, pair_total, same_key, waiter}
-use Rattle.nr_state.proofs.Missing.{missing_at}
-use Rattle.nr_state.proofs.OwnInputs.{waits_lacking}
-use Rattle.nr_worlds.specs.Tests.{are_all, are_awaited, inputs_count, is_hash, is_lacking, is_number, is_waiting, waiting_told}
-use Rattle.nr_worlds.specs.Valid.{each}
-use Rattle.nr_worlds.proofs.Tested.{each_of, each_so}
+use Rattle.nr_state.specs.View.{repeats_input}
+use Rattle.nr_state.proofs.Awaiting.{Held, Key, either, all_awaits, find-both, key_is, pair_total, same_key}
+use Rattle.nr_worlds.specs.Tests.{are_awaited, inputs_count, is_hash, is_number}
 
 -- ---- tests
 pub is_hash_so : (id : Hash32) (o : Option Hash32) → is_hash id o ≡ true → o ≡ Some id
@@ -49,18 +37,10 @@ is_number_so n (Some m) h = ap (λ x. Some x) (eqb-true m n h)
 pub is_number_of : (n : ℕ) (o : Option ℕ) → o ≡ Some n → is_number n o ≡ true
 is_number_of n o e = ap (is_number n) e ∙ eq-eqb n n refl
 
-pub not_is : (a : Bool) → not a ≡ true → a ≡ false
-not_is true h = absurd (let no : false ≡ true = h in cc)
-not_is false h = refl
-
 -- a test of the values is one of the entries
 pub values_each : {K X : Type 0} (p : X → Bool) (es : List (K × X)) → list_all p (map (λ (e : K × X). e.1) es) ≡ list_all (λ (e : K × X). p e.1) es
 values_each p [] = refl
 values_each p (e ∷ es) = ap (λ b. p e.1 && b) (values_each p es)
-
-all_both : {A : Type 0} (P : A → Type 0) (xs ys : List A) → AllByRecursion P xs → AllByRecursion P ys → AllByRecursion P (xs ++ ys)
-all_both P [] ys h g = g
-all_both P (x ∷ xs) ys h g = (h.0, all_both P xs ys h.1 g)
 
 -- ---- entries under keys that stand once
 abbrev pub Found : {X : Type 0} → FinMap pair_cmp X → Key × X → Type 0
@@ -106,7 +86,7 @@ pub record Good (k : Columns) (e : Key × Receipt) : Type 0 where
 module _ (k : Columns) where
   pub awaited_all : (r : Receipt) (ids : List Hash32) → are_awaited k r ids ≡ true → AllByRecursion (Found k.awaited) (map (λ (input : Hash32). ((r.receiver, input.0), r.receipt_id)) ids)
   awaited_all r [] h = tt
-  awaited_all r (id ∷ ids) h = (is_hash_so r.receipt_id _ (left _ _ h), awaited_all r ids (right _ _ h))
+  awaited_all r (id ∷ ids) h = (is_hash_so r.receipt_id _ (left_true _ _ h), awaited_all r ids (right_true _ _ h))
 
   pub all_found : (ps : Held) → AllByRecursion (Good k) ps → AllByRecursion (Found k.awaited) (all_awaits ps)
   all_found [] all = tt
@@ -138,11 +118,11 @@ module _ (k : Columns) where
       split : (find pair_cmp x (all_awaits ps) ≡ Some by → Own x by ps) → (o : Option Hash32) → find pair_cmp x (awaits p.1) ≡ o → either o (find pair_cmp x (all_awaits ps)) ≡ Some by → Own x by (p ∷ ps)
       split rest None e h =
           let later = rest h in
-          record { found = later.found; below = λ key t. later.below key (second _ _ t) }
+          record { found = later.found; below = λ key t. later.below key (right_of _ _ t) }
       split rest (Some a) e h =
           let one = found_one x p.1 (inputs_of p.1.body) by all.0.awaited (e ∙ h) in
           let same : ◌≡◌ {A = Key} p.0 (x.0, by.0) = all.0.keyed ∙ (λ i. (one.1.0 i, (one.1.1 i).0)) in
-          record { found = one.0; below = λ key t. subst (λ (q : Key). T (is_lt (pair_cmp key q))) same (first _ _ t) }
+          record { found = one.0; below = λ key t. subst (λ (q : Key). T (is_lt (pair_cmp key q))) same (left_of _ _ t) }
 
   no_less : (q : Key) → T (is_lt (pair_cmp q q)) → ⊥
   no_less q h = subst (λ r. T (is_lt r)) (tied_itself pair_total q) h
@@ -165,8 +145,8 @@ module _ (k : Columns) where
   pub awaits_apart : (ps : Held) → T (is_sorted pair_cmp ps) → AllByRecursion (Good k) ps → AreApart pair_cmp (all_awaits ps)
   awaits_apart [] sorted all = tt
   awaits_apart (p ∷ ps) sorted all =
-      apart_both (awaits p.1) (all_awaits ps) (inputs_apart p.1.receiver p.1.receipt_id (inputs_of p.1.body) all.0.distinct) (awaits_apart ps (second _ _ sorted) all.1)
-      (none_later p ps all.0 all.1 (first _ _ sorted) (inputs_of p.1.body) all.0.awaited)
+      apart_both (awaits p.1) (all_awaits ps) (inputs_apart p.1.receiver p.1.receipt_id (inputs_of p.1.body) all.0.distinct) (awaits_apart ps (right_of _ _ sorted) all.1)
+      (none_later p ps all.0 all.1 (left_of _ _ sorted) (inputs_of p.1.body) all.0.awaited)
 
 -- ---- how many inputs there are
 pub length_awaits : (ps : Held) → length (all_awaits ps) ≡ inputs_count (map (λ (e : Key × Receipt). e.1) ps)

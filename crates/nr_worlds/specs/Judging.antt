@@ -1,6 +1,6 @@
 -- Which entries are the trie entries of a valid world, and which are those of a delayed queue and of nothing else.
 -- After the Nomicon, Data Structures, Merkle Proofs and Trie; the columns are this project's.
-use Rattle.std.specs.Prelude.{ℕ, ◌&&◌, Bool, List}
+use Rattle.std.specs.Prelude.{◌&&◌, Bool, List}
 use Rattle.std.specs.FinMap.{entries}
 use Rattle.std.specs.Cmp.Lexicographic.{pointwise}
 use Rattle.nr_columns.specs.Entries.{pairs_of}

@@ -1,6 +1,6 @@
 //! Accounts that are counted as what they own.
 
-ghost use Rattle.std.specs.Prelude.{◌≡◌, ◌&&◌, ◌==◌, ◌+◌, ℕ, List, Some, None, cond, IfOk};
+ghost use Rattle.std.specs.Prelude.{◌≡◌, ◌&&◌, ◌==◌, ◌+◌, Some, None, cond, IfOk};
 ghost use Rattle.std.specs.Option.{option_copied};
 ghost use Rattle.nr_entries.specs.Told.{is_id};
 ghost use Rattle.nr_state.specs.Valid.{hash_of_code};

@@ -1,14 +1,13 @@
 //! Entries of a delayed queue.
 
 ghost use Rattle.std.specs.Prelude.{◌≡◌, Some, None, cond, IfOk};
-ghost use Rattle.std.specs.List.{list_all};
 ghost use Rattle.nr_bytes.specs.Answers.{Gives};
 ghost use Rattle.nr_columns.specs.Entries.{contents_of};
 ghost use Rattle.nr_columns.specs.View.{columns_in};
 ghost use Rattle.nr_state.specs.View.{delayed_in};
 ghost use Rattle.nr_worlds.specs.Answers.{memory_fault, queue_checked};
 ghost use Rattle.nr_worlds.specs.Judging.{is_queue};
-ghost use Rattle.nr_worlds.specs.Tests.{Numbers, are_of_queue, is_of_queue, numbers_told, queue_told};
+ghost use Rattle.nr_worlds.specs.Tests.{Numbers, are_of_queue, is_of_queue, queue_told};
 
 use crate::fault::WorldFault;
 use crate::told::columns_of;

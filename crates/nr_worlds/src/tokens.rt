@@ -3,7 +3,7 @@
 ghost use Rattle.std.specs.Prelude.{◌≡◌, sum_by};
 ghost use Rattle.nr_fees.specs.Fees.{FitsIn};
 ghost use Rattle.nr_state.specs.World.{account_tokens};
-ghost use Rattle.nr_worlds.specs.Tests.{Adds, are_bounded, tokens_of};
+ghost use Rattle.nr_worlds.specs.Tests.{Adds, are_bounded};
 
 use nr_config::Config;
 use nr_fees::receipt_tokens;

@@ -1,8 +1,6 @@
 //! The columns that entries stand for.
 
-ghost use Rattle.std.specs.Prelude.{◌≡◌, ◌&&◌, IfOk, true, false};
-ghost use Rattle.nr_columns.specs.Entries.{contents_of};
-ghost use Rattle.nr_columns.specs.View.{columns_in};
+ghost use Rattle.std.specs.Prelude.{IfOk};
 ghost use Rattle.nr_entries.specs.Order.{rises};
 ghost use Rattle.nr_entries.specs.Told.{AreBytes, are_told};
 ghost use Rattle.nr_worlds.specs.Tests.{StandsFor};

@@ -1,6 +1,6 @@
 //! `prove CONFIG GENESIS BLOCKS HEIGHT SHARD KIND PLACE`.
 
-ghost use Rattle.std.specs.Prelude.{◌≡◌, Some};
+ghost use Rattle.std.specs.Prelude.{Some};
 ghost use Rattle.nr_blocks.specs.Genesis.{IsSoundGenesis};
 ghost use Rattle.nr_chunk.specs.Runs.{chain_in};
 ghost use Rattle.nr_course.specs.Course.{CanRun};

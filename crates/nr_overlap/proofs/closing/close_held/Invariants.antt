@@ -1,5 +1,5 @@
 -- What holds at the loops of `closing::close_held`.
-use Rattle.std.proofs.Common.{◌≡◌, ◌+◌, ℕ, Some, length, map}
+use Rattle.std.proofs.Common.{◌≡◌, ◌+◌, Some, length, map}
 use Rattle.std.specs.List.{range_with_len}
 use Rattle.std.specs.Vec.Iter.{into_iter_items}
 use Rattle.nr_overlap.specs.Held.{held_world}

@@ -1,5 +1,5 @@
 -- The goals of `closing::close_rows` that no tactic closes.
-use Rattle.std.proofs.Common.{◌≡◌, ◌+◌, length, refl, ap, arith}
+use Rattle.std.proofs.Common.{◌+◌, length, refl, ap, arith}
 use Rattle.std.specs.Vec.Iter.{into_iter_items}
 use Rattle.nr_overlap.specs.Outcome.{IsLastRow, left_by_source, reports_to}
 use Rattle.nr_overlap.proofs.Orders.{next_holds, flat_map_longer, map_longer}

@@ -1,5 +1,5 @@
 -- What holds at the loops of `closing::close_rows`.
-use Rattle.std.proofs.Common.{◌≡◌, ◌+◌, ◌++◌, ℕ, length, map}
+use Rattle.std.proofs.Common.{◌≡◌, ◌+◌, ◌++◌, length, map}
 use Rattle.std.specs.List.{flat_map, range_with_len}
 use Rattle.std.specs.Vec.Iter.{into_iter_items}
 use Rattle.nr_overlap.specs.Outcome.{IsLastRow, left_by_source, reports_to}

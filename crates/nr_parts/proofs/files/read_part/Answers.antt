@@ -1,5 +1,5 @@
 -- The goals of `files::read_part` that no tactic closes.
-use Rattle.std.proofs.Common.{sym, ap, subst, ◌∙◌, arith}
+use Rattle.std.proofs.Common.{ap, subst, ◌∙◌, arith}
 use Rattle.nr_bytes.specs.Answers.{Gives}
 use Rattle.nr_parts.specs.Checking.{memory_fault}
 use Rattle.nr_parts.specs.Files.{part_in}

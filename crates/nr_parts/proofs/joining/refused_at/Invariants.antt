@@ -1,5 +1,5 @@
 -- What holds at the loops of `joining::refused_at`.
-use Rattle.std.proofs.Common.{◌≡◌, ◌≤◌, length, drop}
+use Rattle.std.proofs.Common.{◌≡◌, drop}
 use Rattle.nr_parts.specs.Joining.{first_refused}
 use Rattle.nr_parts.proofs.joining.refused_at.Given as goal
 

@@ -1,5 +1,5 @@
 -- The goals of `bounds::is_within` that no tactic closes.
-use Rattle.std.proofs.Common.{◌≡◌, ◌+◌, ◌^◌, List, length, sym, ap, subst, ◌∙◌}
+use Rattle.std.proofs.Common.{◌+◌, ◌^◌, List, length, ap, subst, ◌∙◌}
 use Rattle.std.specs.Prelude.{◌&&◌, nat_le, sum_by}
 use Rattle.nr_fees.specs.Fees.{FitsIn}
 use Rattle.nr_records.specs.declared.account.Account.{Account}

@@ -5,7 +5,6 @@ use Rattle.nr_entries.specs.Told.{AreBytes}
 use Rattle.nr_receipt.specs.Keeping.{HasSmallCalls}
 use Rattle.nr_records.specs.declared.receipt.Receipt.{Receipt}
 use Rattle.nr_state.specs.FromEntries.{world_from}
-use Rattle.nr_worlds.specs.Laws.{AreOfWorld}
 use Rattle.nr_recheck.specs.Bounds.{are_within}
 use Rattle.nr_recheck.specs.Rechecking.{is_placed}
 use Rattle.nr_recheck.specs.declared.fault.RecheckFault.TheVariants.{Bounds, Place}

@@ -1,5 +1,5 @@
 -- The goals of `rechecking::recheck` that no tactic closes.
-use Rattle.std.proofs.Common.{◌≡◌, ℕ, List, ap, subst, ◌∙◌}
+use Rattle.std.proofs.Common.{ℕ, List, ap, subst, ◌∙◌}
 use Rattle.std.specs.FinMap.{entries}
 use Rattle.std.specs.List.{AllByRecursion}
 use Rattle.nr_bytes.specs.Numbers.{IsBytes}

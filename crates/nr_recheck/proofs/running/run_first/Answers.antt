@@ -1,5 +1,5 @@
 -- The goals of `running::run_first` that no tactic closes.
-use Rattle.std.proofs.Common.{◌≡◌, ap, sym, subst, ◌∙◌}
+use Rattle.std.proofs.Common.{ap, sym, subst, ◌∙◌}
 use Rattle.nr_chunk.specs.Chain.{Chain, CanOpen, rules_of}
 use Rattle.nr_chunk.specs.Runs.{chain_in}
 use Rattle.nr_chunk.specs.Views.{Kept, Working}

@@ -1,5 +1,5 @@
 -- The goals of `written::summary_of` that no tactic closes.
-use Rattle.std.proofs.Common.{List, ℕ, ◌++◌, ap, subst, sym, ◌∙◌}
+use Rattle.std.proofs.Common.{List, ℕ, ◌++◌, ap, sym, ◌∙◌}
 use Rattle.sha2.specs.Sha256.{sha256}
 use Rattle.nr_course.specs.Texts.{leg_text}
 use Rattle.nr_top.specs.Run.{chain}

@@ -1,8 +1,7 @@
 -- The goals of `checking::add_step` that no tactic closes.
-use Rattle.std.proofs.Common.{◌++◌, refl, sym, ap, subst, ◌∙◌}
+use Rattle.std.proofs.Common.{◌++◌, refl, sym, ap, ◌∙◌}
 use Rattle.nr_chunk.specs.Chain.{rules_of}
 use Rattle.nr_chunk.specs.Runs.{chain_in}
-use Rattle.nr_overlap.specs.Inside.{IsInside}
 use Rattle.nr_schedule.specs.Checking.{refused_line}
 use Rattle.nr_schedule.specs.Driving.{standing_of}
 use Rattle.nr_schedule.proofs.Drives.{on_any, on_one, same_driven, same_stand, step_inside}

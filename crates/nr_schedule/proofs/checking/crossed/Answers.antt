@@ -1,8 +1,7 @@
 -- The goals of `checking::crossed` that no tactic closes.
-use Rattle.std.proofs.Common.{sym, ap, subst, ◌∙◌}
+use Rattle.std.proofs.Common.{subst}
 use Rattle.nr_chunk.specs.Chain.{IsChain}
 use Rattle.nr_chunk.specs.Runs.{chain_in}
-use Rattle.nr_course.specs.Course.{CanTurn}
 use Rattle.nr_schedule.proofs.Drives.{crossed_driven, crossed_stand}
 use Rattle.nr_schedule.proofs.checking.crossed.Goals as goal
 

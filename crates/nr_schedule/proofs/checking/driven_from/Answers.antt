@@ -2,7 +2,7 @@
 use Rattle.std.proofs.Common.{subst}
 use Rattle.nr_chunk.specs.Chain.{IsChain}
 use Rattle.nr_chunk.specs.Runs.{chain_in}
-use Rattle.nr_schedule.proofs.Drives.{opened_driven, opened_stand}
+use Rattle.nr_schedule.proofs.Drives.{opened_driven}
 use Rattle.nr_schedule.proofs.checking.driven_from.Goals as goal
 
 pub returns-clause-driven : goal.returns-clause-driven

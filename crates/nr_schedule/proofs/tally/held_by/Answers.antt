@@ -1,11 +1,9 @@
 -- The goals of `tally::held_by` that no tactic closes.
-use Rattle.std.proofs.Common.{sym, ap, subst, ◌∙◌, ◌≡◌, ◌≤◌, ◌^◌, true}
+use Rattle.std.proofs.Common.{sym, ap, subst, ◌∙◌, ◌≤◌, ◌^◌}
 use Rattle.std.specs.Option.{option_copied}
-use Rattle.nr_chunk.specs.Chain.{AreBounded, IsCountable, rules_of, working_tokens}
-use Rattle.nr_overlap.specs.Positions.{at}
+use Rattle.nr_chunk.specs.Chain.{AreBounded, IsCountable, working_tokens}
 use Rattle.nr_state.specs.Valid.{IsValidWorld}
-use Rattle.nr_chunk.specs.Runs.{chain_in}
-use Rattle.nr_schedule.proofs.Standing.{countable, countable_world, holds_some}
+use Rattle.nr_schedule.proofs.Standing.{countable, countable_world}
 use Rattle.nr_schedule.proofs.tally.held_by.Goals as goal
 
 pub tally_world-requires : goal.tally_world-requires

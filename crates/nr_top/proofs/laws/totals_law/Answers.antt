@@ -1,7 +1,6 @@
 -- The goals of `laws::totals_law` that no tactic closes.
 use Rattle.std.proofs.Common.{◌≡◌, ◌∙◌}
 use Rattle.nr_blocks.specs.Genesis.{AreSoundEntries, supply}
-use Rattle.nr_blocks.specs.declared.genesis.Genesis.{Genesis}
 use Rattle.nr_chainfiles.specs.declared.loading.ChainFiles.{ChainFiles}
 use Rattle.nr_chunk.specs.StartSums.{genesis_tokens}
 use Rattle.nr_course.specs.Totals.{AddUp as AddUpFrom}

@@ -1,8 +1,7 @@
 -- The goals of `run::report` that no tactic closes.
-use Rattle.std.proofs.Common.{sym, ap, subst, ◌∙◌}
+use Rattle.std.proofs.Common.{sym, ap, ◌∙◌}
 use Rattle.nr_chunk.specs.Runs.{chain_in}
 use Rattle.nr_chunk.specs.Start.{start_tokens}
-use Rattle.nr_course.specs.Course.{CanTurn}
 use Rattle.nr_top.specs.Run.{loaded}
 use Rattle.nr_top.proofs.BothLegs.{can_turn, report_is}
 use Rattle.nr_top.proofs.run.report.Goals as goal

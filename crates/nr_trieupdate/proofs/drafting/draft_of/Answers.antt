@@ -1,5 +1,5 @@
 -- The goals of `drafting::draft_of` that no tactic closes.
-use Rattle.std.proofs.Common.{◌+◌, length, take, arith}
+use Rattle.std.proofs.Common.{take, arith}
 use Rattle.nr_trieupdate.proofs.Standing.{both_moved, moved_kept}
 use Rattle.nr_trieupdate.proofs.Drafts.{draft_first, few_top, few_draft, length-rest, short_drop, count_beside, draft_more, draft_done}
 use Rattle.nr_trieupdate.proofs.drafting.draft_of.Goals as goal

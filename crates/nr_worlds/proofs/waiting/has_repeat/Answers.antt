@@ -1,5 +1,5 @@
 -- The goals of `waiting::has_repeat` that no tactic closes.
-use Rattle.std.proofs.Common.{◌≡◌, ◌-◌, ◌∷◌, ◌||◌, List, drop, map, sym, ap, ◌∙◌, arith}
+use Rattle.std.proofs.Common.{◌-◌, ◌||◌, List, map, sym, ap, ◌∙◌, arith}
 use Rattle.std.specs.List.{list_any}
 use Rattle.std.specs.Str.{bytes_eq}
 use Rattle.nr_ids.specs.declared.key.Hash32.{Hash32}

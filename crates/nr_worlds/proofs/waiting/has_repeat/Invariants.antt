@@ -1,5 +1,5 @@
 -- What holds at the loops of `waiting::has_repeat`.
-use Rattle.std.proofs.Common.{◌≡◌, ◌≤◌, ℕ, List, Bool, false, length, drop, map}
+use Rattle.std.proofs.Common.{◌≡◌, ◌≤◌, ℕ, List, false, length, drop, map}
 use Rattle.std.specs.BTreeSet.{contains}
 use Rattle.std.specs.List.{list_any}
 use Rattle.std.specs.Str.{bytes_eq}

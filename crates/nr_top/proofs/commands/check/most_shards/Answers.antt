@@ -1,5 +1,5 @@
 -- The goals of `commands::check::most_shards` that no tactic closes.
-use Rattle.std.proofs.Common.{ℕ, ◌+◌, cond, Option, length, sym, ap, ◌∙◌}
+use Rattle.std.proofs.Common.{◌+◌, cond, Option, length, sym, ap, ◌∙◌}
 use Rattle.std.specs.Prelude.{nat_lt}
 use Rattle.nr_course.specs.Course.{turn_by}
 use Rattle.nr_reshard.specs.declared.reshard.Reshard.{Reshard}

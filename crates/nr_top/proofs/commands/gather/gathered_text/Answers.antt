@@ -1,5 +1,5 @@
 -- The goals of `commands::gather::gathered_text` that no tactic closes.
-use Rattle.std.proofs.Common.{ℕ, ◌<◌, arith}
+use Rattle.std.proofs.Common.{arith}
 use Rattle.nr_top.specs.Moments.{chain_of}
 use Rattle.nr_top.proofs.Entered.{is_chunk}
 use Rattle.nr_top.proofs.commands.gather.gathered_text.Goals as goal

@@ -1,7 +1,6 @@
 -- The goals of `commands::roots::roots_of` that no tactic closes.
-use Rattle.std.proofs.Common.{List, ℕ, ◌++◌, ap, ◌∙◌}
+use Rattle.std.proofs.Common.{ap, ◌∙◌}
 use Rattle.nr_chunk.specs.Runs.{chain_in}
-use Rattle.nr_top.specs.Proving.{later_roots, leg_roots}
 use Rattle.nr_top.specs.Run.{loaded}
 use Rattle.nr_top.proofs.BothLegs.{can_turn}
 use Rattle.nr_top.proofs.commands.roots.roots_of.Goals as goal

@@ -1,11 +1,11 @@
 -- The goals of `host::HostFn::of_name` that no tactic closes.
-use Rattle.std.proofs.Common.{◌≡◌, ℕ, ◌+◌, ◌<◌, ◌≤◌, Bool, true, List, ◌∷◌, cond, length, drop, get_or, Option, Some, None, sym, ap, ◌∙◌, arith}
+use Rattle.std.proofs.Common.{◌≡◌, ℕ, ◌+◌, ◌<◌, ◌≤◌, Bool, true, List, cond, length, drop, get_or, Some, None, sym, ap, ◌∙◌, arith}
 use Rattle.std.proofs.lemmas.List.{drop_more, drop_all}
 use Rattle.std.specs.List.{find}
 use Rattle.std.specs.Str.{bytes_eq}
 use Rattle.nr_wasmtypes.specs.declared.host.HostFn.{HostFn}
 use Rattle.nr_wasmtypes.specs.declared.host.HostFn.TheVariants.{ReadRegister}
-use Rattle.nr_wasmtypes.specs.Host.{host_name, host_named, host_functions}
+use Rattle.nr_wasmtypes.specs.Host.{host_name, host_named}
 use Rattle.nr_wasmtypes.proofs.host.HostFn.of_name.Goals as goal
 
 hit : (test : HostFn → Bool) (fs : List HostFn) (i : ℕ) (d : HostFn) → i < length fs → test (get_or fs i d) ≡ true → find test (drop i fs) ≡ find test fs → Some (get_or fs i d) ≡ find test fs

@@ -1,5 +1,5 @@
 -- The goals of `module::FuncType::is` that no tactic closes.
-use Rattle.std.proofs.Common.{rules, ◌≡◌, ℕ, length, Bool, true, false, List, Option, Some, None, refl, sym, ap, ◌∙◌}
+use Rattle.std.proofs.Common.{◌≡◌, Bool, true, false, List, Option, Some, None, refl, sym, ap, ◌∙◌}
 use Rattle.std.specs.Bool.{Decides}
 use Rattle.std.specs.Option.{option_eq}
 use Rattle.std.specs.Cmp.Lexicographic.{pointwise}

@@ -1,5 +1,5 @@
 -- The goals of `opcode::Op::of` that no tactic closes.
-use Rattle.std.proofs.Common.{◌≡◌, ◌<◌, ℕ, List, length, get_or, refl, ap, ◌∙◌, arith}
+use Rattle.std.proofs.Common.{◌≡◌, List, length, get_or, refl, ap, ◌∙◌, arith}
 use Rattle.std.proofs.lemmas.List.{get_or_default}
 use Rattle.nr_wasmtypes.specs.declared.opcode.Op.{Op}
 use Rattle.nr_wasmtypes.specs.declared.opcode.Op.TheVariants as op
