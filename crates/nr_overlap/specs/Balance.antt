@@ -8,10 +8,8 @@ use Rattle.nr_overlap.specs.Moment.{world_at, working_at, report_at, flight_at}
 use Rattle.nr_overlap.specs.declared.position.Position.{Position}
 
 -- How much of it worlds, working states, lists and reports hold, and how much of it was made in a chunk so far and in
--- the whole.
--- A working state is that of a shard after a height with so many lists taken, a report that of a shard at a height:
--- so an
--- amount may count what no value keeps, as the receipts that a chunk executed.
+-- the whole. A working state is that of a shard after a height with so many lists taken, a report that of a shard at
+-- a height: so an amount may count what no value keeps, as the receipts that a chunk executed.
 pub record Amount (W K L R : Type 0) : Type 0 where
   pub world : W → ℕ
   pub working : ℕ → ℕ → ℕ → K → ℕ

@@ -1,5 +1,5 @@
--- The walk over the texts of a part: which nodes are looked
--- at, in which order, and what each claims. This project's own.
+-- The walk over the texts of a part: which nodes are looked at, in which order, and what each claims. This project's
+-- own.
 use Rattle.std.specs.Prelude.{ℕ, zero, suc, ◌+◌, ◌-◌, ◌^◌, cond, List, [], ◌∷◌, ◌++◌, length, Option, Some, None}
 use Rattle.std.specs.Prelude.{Result, Ok, Err}
 use Rattle.nr_bytes.specs.Reading.{◌>>=◌}

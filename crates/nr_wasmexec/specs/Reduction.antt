@@ -1,7 +1,6 @@
--- WebAssembly Core 1.0, "Execution", "Instructions": running
--- code by rewriting sequences of instructions, one row for each
--- instruction. The numbers of traps, gas and limits are this
--- project's own: an instruction is paid for before its effect.
+-- WebAssembly Core 1.0, "Execution", "Instructions": running code by rewriting sequences of instructions, one row for
+-- each instruction. The numbers of traps, gas and limits are this project's own: an instruction is paid for before
+-- its effect.
 use Rattle.std.specs.Prelude.{ℕ, zero, suc, ◌+◌, ◌-◌, ◌%◌, ◌^◌, ◌==◌, nat_lt, Bool, ◌||◌, if◌then◌else◌, List, [], ◌∷◌}
 use Rattle.std.specs.Prelude.{◌++◌, length, take, drop, reverse, replicate, Option, Some, None, Result, Ok, Err}
 use Rattle.std.specs.Prelude.{slice_get, slice_set}
