@@ -186,13 +186,13 @@ pub fn take_postponed<S: Store>(
     Ok(receipt)
 }
 
-/// Puts a receipt at the end of the delayed queue. With it at most 2^63 receipts were ever delayed, counted
-/// from the genesis or the last change of boundaries.
+/// Puts a receipt at the end of the delayed queue.
 ///
 /// # Errors
 ///
-/// Where memory ran out, a size of the store would be passed, or more than 2^63 receipts would ever
-/// have been delayed. Nothing is said of the state then.
+/// Where memory ran out, a size of the store would be passed, or more than 2^63 receipts would have
+/// been delayed since the genesis or the last change of boundaries. Nothing is said of the state
+/// then.
 pub fn add_delayed<S: Store>(
     _alloc: Global,
     state: &mut ShardState<S>,
