@@ -44,7 +44,8 @@ IsPlaced (trace.HostFault k) kind at = ⊥
 IsPlaced trace.Memory kind at = Unit {0}
 
 -- A run comes to its end after some number of steps; a trap is told with its place.
-abbrev pub EndsAt : {S : Type 0} → Result (Unit {0}) TraceStop → Program → S → Guest → (ℕ → Outcome S) → (ℕ → Trail) → Type 0
+abbrev pub EndsAt : {S : Type 0} → Result (Unit {0}) TraceStop → Program → S → Guest → (ℕ → Outcome S) → (ℕ → Trail)
+    → Type 0
 EndsAt (Ok u) p host guest outcome trail = (n : ℕ) × (outcome n ≡ Done (runtime host guest))
 EndsAt (Err (trace.Trap kind func place)) p host guest outcome trail =
     (n : ℕ) × (outcome n ≡ Halted (runtime host guest) (Trap kind)) × ((func, place) ≡ place_in p (trail n))
@@ -55,6 +56,7 @@ EndsAt (Err (trace.HostFault kind)) p host guest outcome trail =
 EndsAt (Err trace.Memory) p host guest outcome trail = Unit {0}
 
 -- The same where no one sees the guest any more.
-pub record Traces {S : Type 0} (result : Result (Unit {0}) TraceStop) (p : Program) (host : S) (outcome : ℕ → Outcome S) (trail : ℕ → Trail) : Type 0 where
+pub record Traces {S : Type 0} (result : Result (Unit {0}) TraceStop) (p : Program) (host : S)
+    (outcome : ℕ → Outcome S) (trail : ℕ → Trail) : Type 0 where
   pub guest : Guest
   pub ends : EndsAt result p host guest outcome trail

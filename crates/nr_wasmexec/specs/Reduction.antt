@@ -166,8 +166,12 @@ plain_effect p guest locals values (op.GlobalGet n) =
 plain_effect p guest locals values (op.GlobalSet n) =
     on_top values (λ v rest. if nat_lt n (length guest.globals) then Writes
     (record guest { globals = slice_set guest.globals n v }) rest else Stuck)
-plain_effect p guest locals values (op.Load what align offset) = on_top values (λ at rest. read (number_in guest.memory.bytes (place_at at offset) (width_of_load what)) (λ v. Goes locals (load_of what v ∷ rest)))
-plain_effect p guest locals values (op.Store what align offset) = on_two values (λ at v rest. written guest (number_over guest.memory.bytes (place_at at offset) (width_of_store what) v) rest)
+plain_effect p guest locals values (op.Load what align offset) =
+    on_top values (λ at rest. read (number_in guest.memory.bytes (place_at at offset) (width_of_load what))
+    (λ v. Goes locals (load_of what v ∷ rest)))
+plain_effect p guest locals values (op.Store what align offset) =
+    on_two values (λ at v rest. written guest
+    (number_over guest.memory.bytes (place_at at offset) (width_of_store what) v) rest)
 plain_effect p guest locals values op.MemorySize = Goes locals (pages_of guest.memory.bytes ∷ values)
 plain_effect p guest locals values op.MemoryGrow =
     on_top values (λ v rest. grows guest (grown guest.memory (v % 2 ^ 32)) rest)
