@@ -50,7 +50,9 @@ if_some f (Some x) = f x
 module _ {W K L R : Type 0} (r : Rules W K L R) (m : Amount W K L R) where
   -- in the world or the working state of a shard
   abbrev pub held_by : List Position → ℕ → ℕ
-  held_by ps s = if_some m.world (world_at r s (at ps s)) + if_some (m.working s (at ps s).number (at ps s).taken) (working_at r s (at ps s))
+  held_by ps s =
+      if_some m.world (world_at r s (at ps s))
+      + if_some (m.working s (at ps s).number (at ps s).taken) (working_at r s (at ps s))
 
   -- in the chunk that a shard sealed at a height, and in its lists that were not taken
   abbrev pub sealed_by : List Position → ℕ → ℕ → ℕ
