@@ -8,7 +8,8 @@ use Rattle.nr_trace.specs.declared.trail.TraceStop.{TraceStop}
 use Rattle.nr_trace.specs.declared.trail.TraceStop.TheVariants as trace
 use Rattle.nr_wasmexec.specs.Machine.{runtime}
 use Rattle.nr_wasmexec.specs.Place.{Place, whole_of}
-use Rattle.nr_wasmexec.specs.Reduction.{Trap, GasExceeded, HostFault, To, Runtime, Rules, Outcome, Done, Halted, NeverFits}
+use Rattle.nr_wasmexec.specs.Reduction.{Trap, GasExceeded, HostFault, To, Runtime, Rules, Outcome, Done, Halted}
+use Rattle.nr_wasmexec.specs.Reduction.{NeverFits}
 use Rattle.nr_trace.specs.Trail.{Trail, left_by, place_in, trails}
 
 -- the trail of the run from a place, to which a step led that left this one
