@@ -86,6 +86,10 @@ fn make(alloc: Global, task: Task, chunk: &ChunkResult) -> Result<(), AllocError
 }
 
 /// Makes what the task asks for, in each of its turns.
+///
+/// # Errors
+///
+/// Where memory ran out.
 pub fn run(alloc: Global, task: Task) -> Result<(), AllocError> {
     let chunk = chunk_of(alloc, task.items)?;
     for _turn in 0..task.turns {

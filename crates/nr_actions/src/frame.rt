@@ -11,7 +11,8 @@ pub struct Frame {
     /// The account that made the receipt.
     pub predecessor: AccountId,
     pub receiver: AccountId,
-    /// The account that acts: the predecessor first; the receiver, once it was made here.
+    /// The account that acts: the predecessor first; the receiver, once it was made here; the predecessor
+    /// again, once the receiver was deleted.
     pub actor: AccountId,
     pub act: ActionReceipt,
     pub receipt_id: Hash32,

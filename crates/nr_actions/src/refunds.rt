@@ -29,6 +29,10 @@ fn refund_body(
 
 /// A refund: a receipt from `system` with one transfer, without gas, that goes back to a signer's
 /// transaction. The amount is in the ledger's smallest unit.
+///
+/// # Errors
+///
+/// Where memory ran out.
 pub fn refund(
     alloc: Global,
     receiver: AccountId,
@@ -49,6 +53,10 @@ pub fn refund(
 
 /// A refund of a deposit, which goes back to no transaction: its signer is `system` with a key of
 /// zeros. The amount is in the ledger's smallest unit.
+///
+/// # Errors
+///
+/// Where memory ran out.
 pub fn deposit_refund(
     alloc: Global,
     receiver: AccountId,

@@ -1,5 +1,5 @@
--- The words of the command line: `gather CONFIG GENESIS BLOCKS`,
--- `help` or `version`. The commands are this project's own.
+-- The words of the command line: `gather CONFIG GENESIS BLOCKS`, `help` or `version`. The commands are this project's
+-- own.
 use Rattle.std.specs.Prelude.{ℕ, List, [], ◌∷◌, cond, Option, Some, None, codes, option_and_then}
 use Rattle.std.specs.Str.{bytes_eq}
 use Rattle.nr_words.specs.Command.{Names}

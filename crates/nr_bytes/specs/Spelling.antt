@@ -24,7 +24,8 @@ pub record Takes (s : Input) (text : List ℕ) (t : Input) : Type 0 where
 -- What is read fits and is spelled so, and nothing behind it is taken. What fits is read from its spelling.
 pub record IsRead {F X : Type 0} (reading : Input → Read F X) (spelling : X → List ℕ) (fits : X → Type 0) : Type 0 where
   pub taken : (s : Input) (p : X × Input) → IsBytes s.left → reading s ≡ Ok p → fits p.0 × Takes s (spelling p.0) p.1
-  pub again : (v : X) (at : ℕ) (rest : List ℕ) → fits v → reading (before (spelling v) at rest) ≡ Ok (v, behind (spelling v) at rest)
+  pub again : (v : X) (at : ℕ) (rest : List ℕ) → fits v
+      → reading (before (spelling v) at rest) ≡ Ok (v, behind (spelling v) at rest)
 
 abbrev pub HasLength : ℕ → List ℕ → Type 0
 HasLength k bytes = length bytes ≡ k

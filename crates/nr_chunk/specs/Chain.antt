@@ -125,8 +125,8 @@ pub record IsCountable (c : Config) (w : Kept) : Type 0 where
 abbrev pub working_tokens : Config → Working → ℕ
 working_tokens c k = world_tokens c k.world + list_tokens c k.outgoing + k.burnt
 
--- the world is valid, the list's receipts fit in their numbers,
--- and with what the list brings there are at most 2^127 tokens
+-- the world is valid, the list's receipts fit in their numbers, and with what the list brings there are at most 2^127
+-- tokens
 pub record CanTake (x : Chain) (k : Working) (list : List Receipt) : Type 0 where
   pub whole : k.whole ≡ true
   pub config : k.config ≡ x.config

@@ -52,8 +52,8 @@ const ELEMENT_LAST: [u8; 47] = [
     103, 111, 0, 0, 9, 7, 1, 0, 65, 0, 11, 1, 0, 10, 4, 1, 2, 0, 11,
 ];
 
-/// Methods that trap, one that ends and one that calls the host; the function 0 is imported, and 5 is called by the table.
-/// A custom section stands before the code, and its locals and numbers take several bytes.
+/// Methods that trap, one that ends and one that calls the host; the function 0 is imported, and 5 is called by the
+/// table. A custom section stands before the code, and its locals and numbers take several bytes.
 const TRAPS: [u8; 387] = [
     0, 97, 115, 109, 1, 0, 0, 0, 1, 12, 3, 96, 0, 0, 96, 1, 126, 0, 96, 0, 1, 127, 2, 13, 1, 3,
     101, 110, 118, 5, 105, 110, 112, 117, 116, 0, 1, 3, 16, 15, 0, 0, 0, 0, 0, 2, 0, 0, 0, 0, 0, 0,

@@ -20,6 +20,10 @@ use std::alloc::AllocError;
 
 impl<S: Store> Columns<S> {
     /// An account; `None` where there is none.
+    ///
+    /// # Errors
+    ///
+    /// Where memory ran out.
     pub fn account(&self, id: &AccountId) -> Result<Option<Account>, AllocError>
         ensures { IfOk result (λ found. found ≡ map.get self.now.columns.accounts id.now) }
     {
@@ -28,6 +32,10 @@ impl<S: Store> Columns<S> {
     }
 
     /// Writes an account.
+    ///
+    /// # Errors
+    ///
+    /// Where memory ran out or a size of the store would be passed. All is then as it was.
     pub fn set_account(&mut self, id: &AccountId, account: &Account) -> Result<(), AllocError>
         ensures ok { OnOk result (self.new ≡ with_columns self.old
             (record self.old.columns { accounts = map.insert self.old.columns.accounts id.now account.now })) }
@@ -40,6 +48,10 @@ impl<S: Store> Columns<S> {
     }
 
     /// Takes an account out; `false` where it wasn't there.
+    ///
+    /// # Errors
+    ///
+    /// Where memory ran out. All is then as it was.
     pub fn remove_account(&mut self, id: &AccountId) -> Result<bool, AllocError>
         ensures found { IfOk result (λ found. found ≡ is_some (map.get self.old.columns.accounts id.now)) }
         ensures ok { OnOk result (self.new ≡ with_columns self.old
@@ -52,6 +64,10 @@ impl<S: Store> Columns<S> {
     }
 
     /// An access key; `None` where there is none.
+    ///
+    /// # Errors
+    ///
+    /// Where memory ran out.
     pub fn access_key(
         &self,
         id: &AccountId,
@@ -64,6 +80,10 @@ impl<S: Store> Columns<S> {
     }
 
     /// An access key, lent as it is spelled; `None` where there is none.
+    ///
+    /// # Errors
+    ///
+    /// Where memory ran out.
     pub fn spelled_key(
         &self,
         id: &AccountId,
@@ -96,6 +116,10 @@ impl<S: Store> Columns<S> {
     }
 
     /// Writes an access key that is spelled already.
+    ///
+    /// # Errors
+    ///
+    /// Where memory ran out or a size of the store would be passed. All is then as it was.
     pub fn set_spelled_key(
         &mut self,
         id: &AccountId,
@@ -113,6 +137,10 @@ impl<S: Store> Columns<S> {
     }
 
     /// Takes an access key out; `false` where it wasn't there.
+    ///
+    /// # Errors
+    ///
+    /// Where memory ran out. All is then as it was.
     pub fn remove_access_key(&mut self, id: &AccountId, key: &PublicKey) -> Result<bool, AllocError>
         ensures found { IfOk result (λ found. found ≡ is_some (map.get self.old.columns.keys (id.now, key.now))) }
         ensures ok { OnOk result (self.new ≡ with_columns self.old
@@ -125,6 +153,10 @@ impl<S: Store> Columns<S> {
     }
 
     /// Takes all access keys of an owner out.
+    ///
+    /// # Errors
+    ///
+    /// Where memory ran out. Some of them may then be out.
     pub fn remove_access_keys(&mut self, id: &AccountId) -> Result<(), AllocError>
         ensures ok { OnOk result (self.new ≡ with_columns self.old
             (record self.old.columns { keys = without_owner self.old.columns.keys id.now })) }

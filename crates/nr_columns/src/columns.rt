@@ -90,6 +90,10 @@ impl<S: Store> Columns<S> {
     }
 
     /// All entries of the trie, in the order of their keys' bytes.
+    ///
+    /// # Errors
+    ///
+    /// Where memory ran out.
     pub fn entries(&self) -> Result<List<Entry>, AllocError>
         ensures { IfOk result (λ found. pairs_of found ≡ map.entries (laid_columns self.now.columns)) }
     {
@@ -99,6 +103,10 @@ impl<S: Store> Columns<S> {
     }
 
     /// The root of the trie: 32 zero bytes where there is no entry.
+    ///
+    /// # Errors
+    ///
+    /// Where memory ran out.
     pub fn root<L: Ledger>(&mut self, steps: &mut Steps<L>) -> Result<NodeHash, AllocError>
         ensures root { IfOk result (λ root. root ≡ (root_of (laid_columns self.old.columns)).hash) }
         ensures same { self.new ≡ self.old }
@@ -108,6 +116,10 @@ impl<S: Store> Columns<S> {
 
     /// Makes room for `n` more checkpoints where there is room for fewer. There are at most eight,
     /// standing and spare together.
+    ///
+    /// # Errors
+    ///
+    /// Where memory ran out. The spare is then as it was.
     pub fn reserve_marks(&mut self, n: usize) -> Result<(), AllocError>
         requires { length self.old.marks + n ≤ 8 }
         ensures columns { self.new.columns ≡ self.old.columns }

@@ -15,6 +15,10 @@ use std::alloc::AllocError;
 
 impl<S: Store> Columns<S> {
     /// An account's code; `None` where there is none.
+    ///
+    /// # Errors
+    ///
+    /// Where memory ran out.
     pub fn code(&self, id: &AccountId) -> Result<Option<&[u8]>, AllocError>
         ensures { IfOk result (λ found. option_copied found ≡ map.get self.now.columns.code id.now) }
     {
@@ -23,6 +27,10 @@ impl<S: Store> Columns<S> {
     }
 
     /// Writes an account's code.
+    ///
+    /// # Errors
+    ///
+    /// Where memory ran out or a size of the store would be passed. All is then as it was.
     pub fn set_code(&mut self, id: &AccountId, code: &[u8]) -> Result<(), AllocError>
         ensures ok { OnOk result (self.new ≡ with_columns self.old
             (record self.old.columns { code = map.insert self.old.columns.code id.now code.now })) }
@@ -35,6 +43,10 @@ impl<S: Store> Columns<S> {
     }
 
     /// Takes an account's code out; `false` where it wasn't there.
+    ///
+    /// # Errors
+    ///
+    /// Where memory ran out. All is then as it was.
     pub fn remove_code(&mut self, id: &AccountId) -> Result<bool, AllocError>
         ensures found { IfOk result (λ found. found ≡ is_some (map.get self.old.columns.code id.now)) }
         ensures ok { OnOk result (self.new ≡ with_columns self.old
@@ -47,6 +59,10 @@ impl<S: Store> Columns<S> {
     }
 
     /// A datum of an account; `None` where there is none.
+    ///
+    /// # Errors
+    ///
+    /// Where memory ran out.
     pub fn datum(&self, id: &AccountId, key: &[u8]) -> Result<Option<&[u8]>, AllocError>
         ensures { IfOk result (λ found. option_copied found ≡ map.get self.now.columns.data_of (id.now, key.now)) }
     {
@@ -55,6 +71,10 @@ impl<S: Store> Columns<S> {
     }
 
     /// Writes a datum of an account.
+    ///
+    /// # Errors
+    ///
+    /// Where memory ran out or a size of the store would be passed. All is then as it was.
     pub fn set_datum(&mut self, id: &AccountId, key: &[u8], value: &[u8]) -> Result<(), AllocError>
         ensures ok { OnOk result (self.new ≡ with_columns self.old
             (record self.old.columns { data_of = map.insert self.old.columns.data_of (id.now, key.now) value.now })) }
@@ -67,6 +87,10 @@ impl<S: Store> Columns<S> {
     }
 
     /// Takes a datum out; `false` where it wasn't there.
+    ///
+    /// # Errors
+    ///
+    /// Where memory ran out. All is then as it was.
     pub fn remove_datum(&mut self, id: &AccountId, key: &[u8]) -> Result<bool, AllocError>
         ensures found { IfOk result (λ found. found ≡ is_some (map.get self.old.columns.data_of (id.now, key.now))) }
         ensures ok { OnOk result (self.new ≡ with_columns self.old
@@ -79,6 +103,10 @@ impl<S: Store> Columns<S> {
     }
 
     /// Takes all data of an owner out.
+    ///
+    /// # Errors
+    ///
+    /// Where memory ran out. Some of them may then be out.
     pub fn remove_data(&mut self, id: &AccountId) -> Result<(), AllocError>
         ensures ok { OnOk result (self.new ≡ with_columns self.old
             (record self.old.columns { data_of = without_owner self.old.columns.data_of id.now })) }

@@ -19,6 +19,10 @@ use std::alloc::AllocError;
 
 impl<S: Store> Columns<S> {
     /// A datum that a receiver has received; `None` where there is none.
+    ///
+    /// # Errors
+    ///
+    /// Where memory ran out.
     pub fn received(
         &self,
         receiver: &AccountId,
@@ -31,6 +35,10 @@ impl<S: Store> Columns<S> {
     }
 
     /// Writes a received datum.
+    ///
+    /// # Errors
+    ///
+    /// Where memory ran out or a size of the store would be passed. All is then as it was.
     pub fn set_received(
         &mut self,
         receiver: &AccountId,
@@ -51,6 +59,10 @@ impl<S: Store> Columns<S> {
     }
 
     /// Takes a received datum out; `false` where it wasn't there.
+    ///
+    /// # Errors
+    ///
+    /// Where memory ran out. All is then as it was.
     pub fn remove_received(
         &mut self,
         receiver: &AccountId,
@@ -71,6 +83,10 @@ impl<S: Store> Columns<S> {
     }
 
     /// The id of the postponed receipt that waits for a datum; `None` where there is none.
+    ///
+    /// # Errors
+    ///
+    /// Where memory ran out.
     pub fn awaited(
         &self,
         receiver: &AccountId,
@@ -83,6 +99,10 @@ impl<S: Store> Columns<S> {
     }
 
     /// Writes which postponed receipt waits for a datum.
+    ///
+    /// # Errors
+    ///
+    /// Where memory ran out or a size of the store would be passed. All is then as it was.
     pub fn set_awaited(
         &mut self,
         receiver: &AccountId,
@@ -107,6 +127,10 @@ impl<S: Store> Columns<S> {
     }
 
     /// Takes out which postponed receipt waits for a datum; `false` where it wasn't there.
+    ///
+    /// # Errors
+    ///
+    /// Where memory ran out. All is then as it was.
     pub fn remove_awaited(
         &mut self,
         receiver: &AccountId,
@@ -124,6 +148,10 @@ impl<S: Store> Columns<S> {
     }
 
     /// How many inputs a postponed receipt lacks; `None` where there is none.
+    ///
+    /// # Errors
+    ///
+    /// Where memory ran out.
     pub fn missing(
         &self,
         receiver: &AccountId,
@@ -136,6 +164,10 @@ impl<S: Store> Columns<S> {
     }
 
     /// Writes how many inputs a postponed receipt lacks.
+    ///
+    /// # Errors
+    ///
+    /// Where memory ran out or a size of the store would be passed. All is then as it was.
     pub fn set_missing(
         &mut self,
         receiver: &AccountId,
@@ -155,6 +187,10 @@ impl<S: Store> Columns<S> {
     }
 
     /// Takes out how many inputs a postponed receipt lacks; `false` where it wasn't there.
+    ///
+    /// # Errors
+    ///
+    /// Where memory ran out. All is then as it was.
     pub fn remove_missing(
         &mut self,
         receiver: &AccountId,

@@ -37,6 +37,10 @@ fn records_at<S: Store, T: Spelled>(
 
 impl<S: Store> Columns<S> {
     /// All accounts, in the order of their ids.
+    ///
+    /// # Errors
+    ///
+    /// Where memory ran out.
     pub fn accounts(&self) -> Result<List<Account>, AllocError>
         ensures { IfOk result (λ found. found ≡ map.values self.now.columns.accounts) }
     {
@@ -47,6 +51,10 @@ impl<S: Store> Columns<S> {
 
     /// All postponed receipts, in the order of their receivers and ids. Each receiver is an account
     /// id.
+    ///
+    /// # Errors
+    ///
+    /// Where memory ran out.
     pub fn postponed_receipts(&self) -> Result<List<Receipt>, AllocError>
         requires { (k : Items ℕ × Items ℕ) → IsSome (map.get self.now.columns.postponed k) → id_fault k.0 ≡ None }
         ensures { IfOk result (λ found. found ≡ map.values self.now.columns.postponed) }

@@ -18,6 +18,10 @@ use std::alloc::AllocError;
 
 impl<S: Store> Columns<S> {
     /// A postponed receipt; `None` where there is none.
+    ///
+    /// # Errors
+    ///
+    /// Where memory ran out.
     pub fn postponed(
         &self,
         receiver: &AccountId,
@@ -30,6 +34,10 @@ impl<S: Store> Columns<S> {
     }
 
     /// Writes a postponed receipt, under this receiver and id.
+    ///
+    /// # Errors
+    ///
+    /// Where memory ran out or a size of the store would be passed. All is then as it was.
     pub fn set_postponed(
         &mut self,
         receiver: &AccountId,
@@ -50,6 +58,10 @@ impl<S: Store> Columns<S> {
     }
 
     /// Takes a postponed receipt out; `false` where it wasn't there.
+    ///
+    /// # Errors
+    ///
+    /// Where memory ran out. All is then as it was.
     pub fn remove_postponed(
         &mut self,
         receiver: &AccountId,
@@ -71,6 +83,10 @@ impl<S: Store> Columns<S> {
 
     /// How many delayed receipts were served, and the number that the next one gets; `None` where
     /// none was ever delayed.
+    ///
+    /// # Errors
+    ///
+    /// Where memory ran out.
     pub fn queue(&self) -> Result<Option<(u64, u64)>, AllocError>
         ensures { IfOk result (λ found. found ≡ self.now.columns.queue) }
     {
@@ -78,6 +94,10 @@ impl<S: Store> Columns<S> {
     }
 
     /// Writes how many delayed receipts were served, and the number that the next one gets.
+    ///
+    /// # Errors
+    ///
+    /// Where memory ran out or a size of the store would be passed. All is then as it was.
     pub fn set_queue(&mut self, served: u64, next: u64) -> Result<(), AllocError>
         ensures ok { OnOk result (self.new ≡ with_columns self.old
             (record self.old.columns { queue = Some (served, next) })) }
@@ -88,6 +108,10 @@ impl<S: Store> Columns<S> {
     }
 
     /// A delayed receipt, by its number; `None` where there is none.
+    ///
+    /// # Errors
+    ///
+    /// Where memory ran out.
     pub fn delayed(&self, number: u64) -> Result<Option<Receipt>, AllocError>
         ensures { IfOk result (λ found. found ≡ map.get self.now.columns.delayed number) }
     {
@@ -96,6 +120,10 @@ impl<S: Store> Columns<S> {
     }
 
     /// Writes a delayed receipt under its number.
+    ///
+    /// # Errors
+    ///
+    /// Where memory ran out or a size of the store would be passed. All is then as it was.
     pub fn set_delayed(&mut self, number: u64, receipt: &Receipt) -> Result<(), AllocError>
         ensures ok { OnOk result (self.new ≡ with_columns self.old
             (record self.old.columns { delayed = map.insert self.old.columns.delayed number receipt.now })) }
@@ -108,6 +136,10 @@ impl<S: Store> Columns<S> {
     }
 
     /// Takes a delayed receipt out; `false` where it wasn't there.
+    ///
+    /// # Errors
+    ///
+    /// Where memory ran out. All is then as it was.
     pub fn remove_delayed(&mut self, number: u64) -> Result<bool, AllocError>
         ensures found { IfOk result (λ found. found ≡ is_some (map.get self.old.columns.delayed number)) }
         ensures ok { OnOk result (self.new ≡ with_columns self.old

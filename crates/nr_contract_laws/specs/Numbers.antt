@@ -13,8 +13,8 @@ pub record FitsContext (x : CallContext) : Type 0 where
   pub time : x.timestamp < 2 ^ 64
   pub inputs : length x.inputs < 2 ^ 64
 
--- the same of a state: gas is within its limit, all registers have no more bytes than they may, and so many promises may
--- be made
+-- the same of a state: gas is within its limit, all registers have no more bytes than they may, and so many promises
+-- may be made
 pub record FitsState (s : HostState) : Type 0 where
   pub within : s.gas.burnt + s.gas.promised ≤ s.gas.limit
   pub limit : s.gas.limit < 2 ^ 64

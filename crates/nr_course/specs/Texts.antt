@@ -1,6 +1,5 @@
--- The text of a course that is over: the lines of the chunks
--- of each leg, by height and then shard, and the lines of the
--- totals. This project's own.
+-- The text of a course that is over: the lines of the chunks of each leg, by height and then shard, and the lines of
+-- the totals. This project's own.
 use Rattle.std.specs.Prelude.{ℕ, List, ◌++◌, Option, Some, None}
 use Rattle.nr_chunk.specs.Chain.{Chain, rules_of}
 use Rattle.nr_course.specs.Course.{Course, second}

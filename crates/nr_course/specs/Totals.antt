@@ -17,9 +17,8 @@ use Rattle.nr_places.specs.Replay.{PlacesAddUp}
 use Rattle.nr_places.specs.Totals.{plus, tally_at}
 use Rattle.nr_report.specs.declared.totals.Totals.{Totals}
 
--- ---- what is past where a leg is over: what was burnt, and
--- the receipts that were routed and executed; all else stands
--- in what follows
+-- ---- what is past where a leg is over: what was burnt, and the receipts that were routed and executed; all else
+-- stands in what follows
 abbrev pub past_in : Tally → Tally
 past_in t =
     record {

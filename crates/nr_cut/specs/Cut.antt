@@ -51,8 +51,8 @@ cut_world boundaries worlds shard =
 abbrev pub cut_worlds : List (List ℕ) → List World → List World
 cut_worlds boundaries worlds = map (cut_world boundaries worlds) (range_with_len 0 (length boundaries + 1))
 
--- what each shard gets of the lists that were sent, by source
--- and then by destination: list after list, each in its order
+-- what each shard gets of the lists that were sent, by source and then by destination: list after list, each in its
+-- order
 abbrev pub carried : List (List ℕ) → List (List Receipt) → List (List Receipt)
 carried boundaries lists = parts boundaries (length boundaries + 1) (flat_map (λ list. list) lists)
 

@@ -1,5 +1,6 @@
 -- What clauses say of an exchange and its ports. This project's own.
-use Rattle.std.specs.Prelude.{◌≡◌, ℕ, ◌+◌, ◌%◌, ◌^◌, ◌<◌, ◌≤◌, Bool, true, List, Option, Some, None, Result, Ok, Err, length, nat_le, slice_get, slice_index}
+use Rattle.std.specs.Prelude.{◌≡◌, ℕ, ◌+◌, ◌%◌, ◌^◌, ◌<◌, ◌≤◌, Bool, true, List, Option, Some, None, Result, Ok, Err}
+use Rattle.std.specs.Prelude.{length, nat_le, slice_get, slice_index}
 use Rattle.nr_exchange.specs.declared.note.Link.{Link}
 use Rattle.nr_exchange.specs.declared.note.Room.{Room}
 use Rattle.nr_exchange.specs.declared.note.Note.{Note}

@@ -21,7 +21,8 @@ module _ {P L : Type 0} (p : Plan L) where
     pub each : (s : ℕ) → slice_index taken s ≡ (link v s).given
     pub whole : (s : ℕ) → (link v s).given ≡ chunks_to p s (link v s).claimed
 
-  pub record IsSeated (me : Me (Option L) (Note P)) (shard : ℕ) (abandoned : Bool) (published : ℕ) (taken : List ℕ) : Type 0 where
+  pub record IsSeated (me : Me (Option L) (Note P)) (shard : ℕ) (abandoned : Bool) (published : ℕ)
+      (taken : List ℕ) : Type 0 where
     pub shard_is : shard ≡ me.0.shard
     pub abandoned_is : abandoned ≡ me.0.abandoned
     pub published_are : published ≡ sent p me.0

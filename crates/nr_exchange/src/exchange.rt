@@ -38,7 +38,11 @@ impl<P: Planned> Model for Exchange<P> {
 
     ghost Value = { ExchangeView P };
 
-    ghost view = { λ e. record { name = e.table.shared.table_id; run = e.table.shared.key; seats = map (λ p. p.seat) e.ports.value.items } };
+    ghost view = { λ e. record {
+      name = e.table.shared.table_id;
+      run = e.table.shared.key;
+      seats = map (λ p. p.seat) e.ports.value.items;
+    } };
 
     ghost invariant = { λ e. IsSized (P.plan e.table.shared.key) e.table.shared.table_id e.shards
         × P.is_run e.table.shared.key };
@@ -83,7 +87,8 @@ fn split_all<P: Planned>(
     requires seat { (seat.table_id ≡ exchange.now.name)
         × (seat.me ≡ (fresh exchange.now.run (P.plan exchange.now.run).shards 0 1, [])) }
     requires some { 0 < (P.plan exchange.now.run).shards }
-    ensures { let n = (P.plan exchange.now.run).shards in IfOk result (λ ports. AreSplit exchange.now.name exchange.now.run n n ports.items) }
+    ensures { let n = (P.plan exchange.now.run).shards in
+        IfOk result (λ ports. AreSplit exchange.now.name exchange.now.run n n ports.items) }
 {
     let shards = exchange.shards as usize;
     let mut ports = Vec::new(alloc);

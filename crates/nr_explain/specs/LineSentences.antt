@@ -95,38 +95,108 @@ refusals =
 -- receipts that failed
 unfoldable pub failures : List Form
 failures =
-    (word (codes "run") (codes "Receipt ") ∷ hash (codes " failed at action ") ∷ word (codes "failure") [] ∷ number (codes " (from 0): ") ∷ figure (codes "1") (codes "the account to be made stands. ") ∷ figure (codes "0") [] ∷ number (codes " gas and ") ∷ amount (codes " tokens were burnt.") ∷ [])
-    ∷ (word (codes "run") (codes "Receipt ") ∷ hash (codes " failed at action ") ∷ word (codes "failure") [] ∷ number (codes " (from 0): ") ∷ figure (codes "2") (codes "the receiver has no account. ") ∷ figure (codes "0") [] ∷ number (codes " gas and ") ∷ amount (codes " tokens were burnt.") ∷ [])
-    ∷ (word (codes "run") (codes "Receipt ") ∷ hash (codes " failed at action ") ∷ word (codes "failure") [] ∷ number (codes " (from 0): ") ∷ figure (codes "3") (codes "the id is `system`, or a short one without a dot that only `registrar` makes. ") ∷ figure (codes "0") [] ∷ number (codes " gas and ") ∷ amount (codes " tokens were burnt.") ∷ [])
-    ∷ (word (codes "run") (codes "Receipt ") ∷ hash (codes " failed at action ") ∷ word (codes "failure") [] ∷ number (codes " (from 0): ") ∷ figure (codes "4") (codes "the id isn't a name, a dot and the predecessor's id. ") ∷ figure (codes "0") [] ∷ number (codes " gas and ") ∷ amount (codes " tokens were burnt.") ∷ [])
-    ∷ (word (codes "run") (codes "Receipt ") ∷ hash (codes " failed at action ") ∷ word (codes "failure") [] ∷ number (codes " (from 0): ") ∷ figure (codes "5") (codes "only the receiver itself may do this. ") ∷ figure (codes "0") [] ∷ number (codes " gas and ") ∷ amount (codes " tokens were burnt.") ∷ [])
-    ∷ (word (codes "run") (codes "Receipt ") ∷ hash (codes " failed at action ") ∷ word (codes "failure") [] ∷ number (codes " (from 0): ") ∷ figure (codes "6") (codes "the key to be deleted doesn't stand. ") ∷ figure (codes "0") [] ∷ number (codes " gas and ") ∷ amount (codes " tokens were burnt.") ∷ [])
-    ∷ (word (codes "run") (codes "Receipt ") ∷ hash (codes " failed at action ") ∷ word (codes "failure") [] ∷ number (codes " (from 0): ") ∷ figure (codes "7") (codes "the key to be added stands. ") ∷ figure (codes "0") [] ∷ number (codes " gas and ") ∷ amount (codes " tokens were burnt.") ∷ [])
-    ∷ (word (codes "run") (codes "Receipt ") ∷ hash (codes " failed at action ") ∷ word (codes "failure") [] ∷ number (codes " (from 0): ") ∷ figure (codes "8") (codes "the account to be deleted has locked tokens. ") ∷ figure (codes "0") [] ∷ number (codes " gas and ") ∷ amount (codes " tokens were burnt.") ∷ [])
-    ∷ (word (codes "run") (codes "Receipt ") ∷ hash (codes " failed at action ") ∷ word (codes "failure") [] ∷ number (codes " (from 0): ") ∷ figure (codes "9") (codes "the account to be deleted has too much state. ") ∷ figure (codes "0") [] ∷ number (codes " gas and ") ∷ amount (codes " tokens were burnt.") ∷ [])
-    ∷ (word (codes "run") (codes "Receipt ") ∷ hash (codes " failed after its actions (") ∷ word (codes "failure") [] ∷ number (codes " in all): ") ∷ figure (codes "10") (codes "the receiver can't pay for its storage. ") ∷ figure (codes "0") [] ∷ number (codes " gas and ") ∷ amount (codes " tokens were burnt.") ∷ [])
-    ∷ (word (codes "run") (codes "Receipt ") ∷ hash (codes " failed at action ") ∷ word (codes "failure") [] ∷ number (codes " (from 0): ") ∷ figure (codes "11") (codes "only a transfer makes an account with an id of 64 hexadecimal digits. ") ∷ figure (codes "0") [] ∷ number (codes " gas and ") ∷ amount (codes " tokens were burnt.") ∷ [])
-    ∷ (word (codes "run") (codes "Receipt ") ∷ hash (codes " failed at action ") ∷ word (codes "failure") [] ∷ number (codes " (from 0): ") ∷ figure (codes "12") (codes "the called account has no code. ") ∷ figure (codes "0") [] ∷ number (codes " gas and ") ∷ amount (codes " tokens were burnt.") ∷ [])
-    ∷ (word (codes "run") (codes "Receipt ") ∷ hash (codes " failed at action ") ∷ word (codes "failure") [] ∷ number (codes " (from 0): ") ∷ figure (codes "14") (codes "its code has no such method. ") ∷ figure (codes "0") [] ∷ number (codes " gas and ") ∷ amount (codes " tokens were burnt.") ∷ [])
-    ∷ (word (codes "run") (codes "Receipt ") ∷ hash (codes " failed at action ") ∷ word (codes "failure") [] ∷ number (codes " (from 0): ") ∷ figure (codes "17") (codes "the call used up its gas. ") ∷ figure (codes "0") [] ∷ number (codes " gas and ") ∷ amount (codes " tokens were burnt.") ∷ [])
+    (word (codes "run") (codes "Receipt ") ∷ hash (codes " failed at action ") ∷ word (codes "failure") []
+    ∷ number (codes " (from 0): ") ∷ figure (codes "1") (codes "the account to be made stands. ")
+    ∷ figure (codes "0") [] ∷ number (codes " gas and ") ∷ amount (codes " tokens were burnt.") ∷ [])
+    ∷ (word (codes "run") (codes "Receipt ") ∷ hash (codes " failed at action ") ∷ word (codes "failure") []
+    ∷ number (codes " (from 0): ") ∷ figure (codes "2") (codes "the receiver has no account. ")
+    ∷ figure (codes "0") [] ∷ number (codes " gas and ") ∷ amount (codes " tokens were burnt.") ∷ [])
+    ∷ (word (codes "run") (codes "Receipt ") ∷ hash (codes " failed at action ") ∷ word (codes "failure") []
+    ∷ number (codes " (from 0): ")
+    ∷ figure (codes "3") (codes "the id is `system`, or a short one without a dot that only `registrar` makes. ")
+    ∷ figure (codes "0") [] ∷ number (codes " gas and ") ∷ amount (codes " tokens were burnt.") ∷ [])
+    ∷ (word (codes "run") (codes "Receipt ") ∷ hash (codes " failed at action ") ∷ word (codes "failure") []
+    ∷ number (codes " (from 0): ")
+    ∷ figure (codes "4") (codes "the id isn't a name, a dot and the predecessor's id. ") ∷ figure (codes "0") []
+    ∷ number (codes " gas and ") ∷ amount (codes " tokens were burnt.") ∷ [])
+    ∷ (word (codes "run") (codes "Receipt ") ∷ hash (codes " failed at action ") ∷ word (codes "failure") []
+    ∷ number (codes " (from 0): ") ∷ figure (codes "5") (codes "only the receiver itself may do this. ")
+    ∷ figure (codes "0") [] ∷ number (codes " gas and ") ∷ amount (codes " tokens were burnt.") ∷ [])
+    ∷ (word (codes "run") (codes "Receipt ") ∷ hash (codes " failed at action ") ∷ word (codes "failure") []
+    ∷ number (codes " (from 0): ") ∷ figure (codes "6") (codes "the key to be deleted doesn't stand. ")
+    ∷ figure (codes "0") [] ∷ number (codes " gas and ") ∷ amount (codes " tokens were burnt.") ∷ [])
+    ∷ (word (codes "run") (codes "Receipt ") ∷ hash (codes " failed at action ") ∷ word (codes "failure") []
+    ∷ number (codes " (from 0): ") ∷ figure (codes "7") (codes "the key to be added stands. ") ∷ figure (codes "0") []
+    ∷ number (codes " gas and ") ∷ amount (codes " tokens were burnt.") ∷ [])
+    ∷ (word (codes "run") (codes "Receipt ") ∷ hash (codes " failed at action ") ∷ word (codes "failure") []
+    ∷ number (codes " (from 0): ") ∷ figure (codes "8") (codes "the account to be deleted has locked tokens. ")
+    ∷ figure (codes "0") [] ∷ number (codes " gas and ") ∷ amount (codes " tokens were burnt.") ∷ [])
+    ∷ (word (codes "run") (codes "Receipt ") ∷ hash (codes " failed at action ") ∷ word (codes "failure") []
+    ∷ number (codes " (from 0): ") ∷ figure (codes "9") (codes "the account to be deleted has too much state. ")
+    ∷ figure (codes "0") [] ∷ number (codes " gas and ") ∷ amount (codes " tokens were burnt.") ∷ [])
+    ∷ (word (codes "run") (codes "Receipt ") ∷ hash (codes " failed after its actions (") ∷ word (codes "failure") []
+    ∷ number (codes " in all): ") ∷ figure (codes "10") (codes "the receiver can't pay for its storage. ")
+    ∷ figure (codes "0") [] ∷ number (codes " gas and ") ∷ amount (codes " tokens were burnt.") ∷ [])
+    ∷ (word (codes "run") (codes "Receipt ") ∷ hash (codes " failed at action ") ∷ word (codes "failure") []
+    ∷ number (codes " (from 0): ")
+    ∷ figure (codes "11") (codes "only a transfer makes an account with an id of 64 hexadecimal digits. ")
+    ∷ figure (codes "0") [] ∷ number (codes " gas and ") ∷ amount (codes " tokens were burnt.") ∷ [])
+    ∷ (word (codes "run") (codes "Receipt ") ∷ hash (codes " failed at action ") ∷ word (codes "failure") []
+    ∷ number (codes " (from 0): ") ∷ figure (codes "12") (codes "the called account has no code. ")
+    ∷ figure (codes "0") [] ∷ number (codes " gas and ") ∷ amount (codes " tokens were burnt.") ∷ [])
+    ∷ (word (codes "run") (codes "Receipt ") ∷ hash (codes " failed at action ") ∷ word (codes "failure") []
+    ∷ number (codes " (from 0): ") ∷ figure (codes "14") (codes "its code has no such method. ")
+    ∷ figure (codes "0") [] ∷ number (codes " gas and ") ∷ amount (codes " tokens were burnt.") ∷ [])
+    ∷ (word (codes "run") (codes "Receipt ") ∷ hash (codes " failed at action ") ∷ word (codes "failure") []
+    ∷ number (codes " (from 0): ") ∷ figure (codes "17") (codes "the call used up its gas. ") ∷ figure (codes "0") []
+    ∷ number (codes " gas and ") ∷ amount (codes " tokens were burnt.") ∷ [])
     ∷ []
 
 -- calls of code that is no module
 unfoldable pub bad_codes : List Form
 bad_codes =
-    (word (codes "run") (codes "Receipt ") ∷ hash (codes " failed at action ") ∷ word (codes "failure") [] ∷ number (codes " (from 0): ") ∷ figure (codes "13") (codes "the code is no valid module: ") ∷ figure (codes "1") (codes "a field is too short. ") ∷ number (codes " gas and ") ∷ amount (codes " tokens were burnt.") ∷ [])
-    ∷ (word (codes "run") (codes "Receipt ") ∷ hash (codes " failed at action ") ∷ word (codes "failure") [] ∷ number (codes " (from 0): ") ∷ figure (codes "13") (codes "the code is no valid module: ") ∷ figure (codes "2") (codes "a LEB128 is too long or has wrong bits. ") ∷ number (codes " gas and ") ∷ amount (codes " tokens were burnt.") ∷ [])
-    ∷ (word (codes "run") (codes "Receipt ") ∷ hash (codes " failed at action ") ∷ word (codes "failure") [] ∷ number (codes " (from 0): ") ∷ figure (codes "13") (codes "the code is no valid module: ") ∷ figure (codes "3") (codes "the magic number, the version, or the id, order, size or count of a section or a body is wrong. ") ∷ number (codes " gas and ") ∷ amount (codes " tokens were burnt.") ∷ [])
-    ∷ (word (codes "run") (codes "Receipt ") ∷ hash (codes " failed at action ") ∷ word (codes "failure") [] ∷ number (codes " (from 0): ") ∷ figure (codes "13") (codes "the code is no valid module: ") ∷ figure (codes "4") (codes "a byte is no opcode, type, kind or flag that may stand there. ") ∷ number (codes " gas and ") ∷ amount (codes " tokens were burnt.") ∷ [])
-    ∷ (word (codes "run") (codes "Receipt ") ∷ hash (codes " failed at action ") ∷ word (codes "failure") [] ∷ number (codes " (from 0): ") ∷ figure (codes "13") (codes "the code is no valid module: ") ∷ figure (codes "5") (codes "it has a float. ") ∷ number (codes " gas and ") ∷ amount (codes " tokens were burnt.") ∷ [])
-    ∷ (word (codes "run") (codes "Receipt ") ∷ hash (codes " failed at action ") ∷ word (codes "failure") [] ∷ number (codes " (from 0): ") ∷ figure (codes "13") (codes "the code is no valid module: ") ∷ figure (codes "6") (codes "a name isn't UTF-8. ") ∷ number (codes " gas and ") ∷ amount (codes " tokens were burnt.") ∷ [])
-    ∷ (word (codes "run") (codes "Receipt ") ∷ hash (codes " failed at action ") ∷ word (codes "failure") [] ∷ number (codes " (from 0): ") ∷ figure (codes "13") (codes "the code is no valid module: ") ∷ figure (codes "7") (codes "it has too many bytes of code, entries of a list, locals, blocks in one another or results of a type. ") ∷ number (codes " gas and ") ∷ amount (codes " tokens were burnt.") ∷ [])
-    ∷ (word (codes "run") (codes "Receipt ") ∷ hash (codes " failed at action ") ∷ word (codes "failure") [] ∷ number (codes " (from 0): ") ∷ figure (codes "13") (codes "the code is no valid module: ") ∷ figure (codes "11") (codes "an operand, a result or a constant has another type. ") ∷ number (codes " gas and ") ∷ amount (codes " tokens were burnt.") ∷ [])
-    ∷ (word (codes "run") (codes "Receipt ") ∷ hash (codes " failed at action ") ∷ word (codes "failure") [] ∷ number (codes " (from 0): ") ∷ figure (codes "13") (codes "the code is no valid module: ") ∷ figure (codes "12") (codes "a type, function, table, memory, global or local isn't there, an export's name stands twice, or a constant global is assigned. ") ∷ number (codes " gas and ") ∷ amount (codes " tokens were burnt.") ∷ [])
-    ∷ (word (codes "run") (codes "Receipt ") ∷ hash (codes " failed at action ") ∷ word (codes "failure") [] ∷ number (codes " (from 0): ") ∷ figure (codes "13") (codes "the code is no valid module: ") ∷ figure (codes "13") (codes "a branch leads past the open blocks, or to labels of unequal type. ") ∷ number (codes " gas and ") ∷ amount (codes " tokens were burnt.") ∷ [])
-    ∷ (word (codes "run") (codes "Receipt ") ∷ hash (codes " failed at action ") ∷ word (codes "failure") [] ∷ number (codes " (from 0): ") ∷ figure (codes "13") (codes "the code is no valid module: ") ∷ figure (codes "14") (codes "a limit is passed. ") ∷ number (codes " gas and ") ∷ amount (codes " tokens were burnt.") ∷ [])
-    ∷ (word (codes "run") (codes "Receipt ") ∷ hash (codes " failed at action ") ∷ word (codes "failure") [] ∷ number (codes " (from 0): ") ∷ figure (codes "13") (codes "the code is no valid module: ") ∷ figure (codes "15") (codes "an import is no function that a contract may have. ") ∷ number (codes " gas and ") ∷ amount (codes " tokens were burnt.") ∷ [])
-    ∷ (word (codes "run") (codes "Receipt ") ∷ hash (codes " failed at action ") ∷ word (codes "failure") [] ∷ number (codes " (from 0): ") ∷ figure (codes "13") (codes "the code is no valid module: ") ∷ figure (codes "21") (codes "an element or a segment doesn't fit. ") ∷ number (codes " gas and ") ∷ amount (codes " tokens were burnt.") ∷ [])
+    (word (codes "run") (codes "Receipt ") ∷ hash (codes " failed at action ") ∷ word (codes "failure") []
+    ∷ number (codes " (from 0): ") ∷ figure (codes "13") (codes "the code is no valid module: ")
+    ∷ figure (codes "1") (codes "a field is too short. ") ∷ number (codes " gas and ")
+    ∷ amount (codes " tokens were burnt.") ∷ [])
+    ∷ (word (codes "run") (codes "Receipt ") ∷ hash (codes " failed at action ") ∷ word (codes "failure") []
+    ∷ number (codes " (from 0): ") ∷ figure (codes "13") (codes "the code is no valid module: ")
+    ∷ figure (codes "2") (codes "a LEB128 is too long or has wrong bits. ") ∷ number (codes " gas and ")
+    ∷ amount (codes " tokens were burnt.") ∷ [])
+    ∷ (word (codes "run") (codes "Receipt ") ∷ hash (codes " failed at action ") ∷ word (codes "failure") []
+    ∷ number (codes " (from 0): ") ∷ figure (codes "13") (codes "the code is no valid module: ")
+    ∷ figure (codes "3") (codes "the magic number, the version, or the id, order, size or count of a section or a body is wrong. ")
+    ∷ number (codes " gas and ") ∷ amount (codes " tokens were burnt.") ∷ [])
+    ∷ (word (codes "run") (codes "Receipt ") ∷ hash (codes " failed at action ") ∷ word (codes "failure") []
+    ∷ number (codes " (from 0): ") ∷ figure (codes "13") (codes "the code is no valid module: ")
+    ∷ figure (codes "4") (codes "a byte is no opcode, type, kind or flag that may stand there. ")
+    ∷ number (codes " gas and ") ∷ amount (codes " tokens were burnt.") ∷ [])
+    ∷ (word (codes "run") (codes "Receipt ") ∷ hash (codes " failed at action ") ∷ word (codes "failure") []
+    ∷ number (codes " (from 0): ") ∷ figure (codes "13") (codes "the code is no valid module: ")
+    ∷ figure (codes "5") (codes "it has a float. ") ∷ number (codes " gas and ")
+    ∷ amount (codes " tokens were burnt.") ∷ [])
+    ∷ (word (codes "run") (codes "Receipt ") ∷ hash (codes " failed at action ") ∷ word (codes "failure") []
+    ∷ number (codes " (from 0): ") ∷ figure (codes "13") (codes "the code is no valid module: ")
+    ∷ figure (codes "6") (codes "a name isn't UTF-8. ") ∷ number (codes " gas and ")
+    ∷ amount (codes " tokens were burnt.") ∷ [])
+    ∷ (word (codes "run") (codes "Receipt ") ∷ hash (codes " failed at action ") ∷ word (codes "failure") []
+    ∷ number (codes " (from 0): ") ∷ figure (codes "13") (codes "the code is no valid module: ")
+    ∷ figure (codes "7") (codes "it has too many bytes of code, entries of a list, locals, blocks in one another or results of a type. ")
+    ∷ number (codes " gas and ") ∷ amount (codes " tokens were burnt.") ∷ [])
+    ∷ (word (codes "run") (codes "Receipt ") ∷ hash (codes " failed at action ") ∷ word (codes "failure") []
+    ∷ number (codes " (from 0): ") ∷ figure (codes "13") (codes "the code is no valid module: ")
+    ∷ figure (codes "11") (codes "an operand, a result or a constant has another type. ") ∷ number (codes " gas and ")
+    ∷ amount (codes " tokens were burnt.") ∷ [])
+    ∷ (word (codes "run") (codes "Receipt ") ∷ hash (codes " failed at action ") ∷ word (codes "failure") []
+    ∷ number (codes " (from 0): ") ∷ figure (codes "13") (codes "the code is no valid module: ")
+    ∷ figure (codes "12") (codes "a type, function, table, memory, global or local isn't there, an export's name stands twice, or a constant global is assigned. ")
+    ∷ number (codes " gas and ") ∷ amount (codes " tokens were burnt.") ∷ [])
+    ∷ (word (codes "run") (codes "Receipt ") ∷ hash (codes " failed at action ") ∷ word (codes "failure") []
+    ∷ number (codes " (from 0): ") ∷ figure (codes "13") (codes "the code is no valid module: ")
+    ∷ figure (codes "13") (codes "a branch leads past the open blocks, or to labels of unequal type. ")
+    ∷ number (codes " gas and ") ∷ amount (codes " tokens were burnt.") ∷ [])
+    ∷ (word (codes "run") (codes "Receipt ") ∷ hash (codes " failed at action ") ∷ word (codes "failure") []
+    ∷ number (codes " (from 0): ") ∷ figure (codes "13") (codes "the code is no valid module: ")
+    ∷ figure (codes "14") (codes "a limit is passed. ") ∷ number (codes " gas and ")
+    ∷ amount (codes " tokens were burnt.") ∷ [])
+    ∷ (word (codes "run") (codes "Receipt ") ∷ hash (codes " failed at action ") ∷ word (codes "failure") []
+    ∷ number (codes " (from 0): ") ∷ figure (codes "13") (codes "the code is no valid module: ")
+    ∷ figure (codes "15") (codes "an import is no function that a contract may have. ") ∷ number (codes " gas and ")
+    ∷ amount (codes " tokens were burnt.") ∷ [])
+    ∷ (word (codes "run") (codes "Receipt ") ∷ hash (codes " failed at action ") ∷ word (codes "failure") []
+    ∷ number (codes " (from 0): ") ∷ figure (codes "13") (codes "the code is no valid module: ")
+    ∷ figure (codes "21") (codes "an element or a segment doesn't fit. ") ∷ number (codes " gas and ")
+    ∷ amount (codes " tokens were burnt.") ∷ [])
     ∷ []
 
 -- calls that trapped
@@ -257,28 +327,58 @@ modules =
     ∷ (word (codes "make") (codes "Nothing was run: ") ∷ figure (codes "21")
     (codes "an element or a segment doesn't fit.") ∷ [])
     ∷ (word (codes "method") (codes "The module has no such method.") ∷ [])
-    ∷ (word (codes "decode") (codes "The module can't be read: ") ∷ figure (codes "1") (codes "a field is too short, at byte ") ∷ number (codes " (from 0).") ∷ [])
-    ∷ (word (codes "decode") (codes "The module can't be read: ") ∷ figure (codes "2") (codes "a LEB128 is too long or has wrong bits, at byte ") ∷ number (codes " (from 0).") ∷ [])
-    ∷ (word (codes "decode") (codes "The module can't be read: ") ∷ figure (codes "3") (codes "the magic number, the version, or the id, order, size or count of a section or a body is wrong, at byte ") ∷ number (codes " (from 0).") ∷ [])
-    ∷ (word (codes "decode") (codes "The module can't be read: ") ∷ figure (codes "4") (codes "a byte is no opcode, type, kind or flag that may stand there, at byte ") ∷ number (codes " (from 0).") ∷ [])
-    ∷ (word (codes "decode") (codes "The module can't be read: ") ∷ figure (codes "5") (codes "it has a float, at byte ") ∷ number (codes " (from 0).") ∷ [])
-    ∷ (word (codes "decode") (codes "The module can't be read: ") ∷ figure (codes "6") (codes "a name isn't UTF-8, at byte ") ∷ number (codes " (from 0).") ∷ [])
-    ∷ (word (codes "decode") (codes "The module can't be read: ") ∷ figure (codes "7") (codes "it has too many bytes of code, entries of a list, locals, blocks in one another or results of a type, at byte ") ∷ number (codes " (from 0).") ∷ [])
+    ∷ (word (codes "decode") (codes "The module can't be read: ")
+    ∷ figure (codes "1") (codes "a field is too short, at byte ") ∷ number (codes " (from 0).") ∷ [])
+    ∷ (word (codes "decode") (codes "The module can't be read: ")
+    ∷ figure (codes "2") (codes "a LEB128 is too long or has wrong bits, at byte ")
+    ∷ number (codes " (from 0).") ∷ [])
+    ∷ (word (codes "decode") (codes "The module can't be read: ")
+    ∷ figure (codes "3") (codes "the magic number, the version, or the id, order, size or count of a section or a body is wrong, at byte ")
+    ∷ number (codes " (from 0).") ∷ [])
+    ∷ (word (codes "decode") (codes "The module can't be read: ")
+    ∷ figure (codes "4") (codes "a byte is no opcode, type, kind or flag that may stand there, at byte ")
+    ∷ number (codes " (from 0).") ∷ [])
+    ∷ (word (codes "decode") (codes "The module can't be read: ")
+    ∷ figure (codes "5") (codes "it has a float, at byte ") ∷ number (codes " (from 0).") ∷ [])
+    ∷ (word (codes "decode") (codes "The module can't be read: ")
+    ∷ figure (codes "6") (codes "a name isn't UTF-8, at byte ") ∷ number (codes " (from 0).") ∷ [])
+    ∷ (word (codes "decode") (codes "The module can't be read: ")
+    ∷ figure (codes "7") (codes "it has too many bytes of code, entries of a list, locals, blocks in one another or results of a type, at byte ")
+    ∷ number (codes " (from 0).") ∷ [])
     ∷ []
 
 -- modules that aren't valid
 unfoldable pub invalid_modules : List Form
 invalid_modules =
-    (word (codes "valid") (codes "The module isn't valid: ") ∷ figure (codes "11") (codes "an operand, a result or a constant has another type") ∷ figure (codes "4294967295") (codes ", outside of functions, at entry ") ∷ number (codes " (from 0).") ∷ [])
-    ∷ (word (codes "valid") (codes "The module isn't valid: ") ∷ figure (codes "11") (codes "an operand, a result or a constant has another type, in function ") ∷ number (codes " at instruction ") ∷ number (codes " (from 0).") ∷ [])
-    ∷ (word (codes "valid") (codes "The module isn't valid: ") ∷ figure (codes "12") (codes "a type, function, table, memory, global or local isn't there, an export's name stands twice, or a constant global is assigned") ∷ figure (codes "4294967295") (codes ", outside of functions, at entry ") ∷ number (codes " (from 0).") ∷ [])
-    ∷ (word (codes "valid") (codes "The module isn't valid: ") ∷ figure (codes "12") (codes "a type, function, table, memory, global or local isn't there, an export's name stands twice, or a constant global is assigned, in function ") ∷ number (codes " at instruction ") ∷ number (codes " (from 0).") ∷ [])
-    ∷ (word (codes "valid") (codes "The module isn't valid: ") ∷ figure (codes "13") (codes "a branch leads past the open blocks, or to labels of unequal type") ∷ figure (codes "4294967295") (codes ", outside of functions, at entry ") ∷ number (codes " (from 0).") ∷ [])
-    ∷ (word (codes "valid") (codes "The module isn't valid: ") ∷ figure (codes "13") (codes "a branch leads past the open blocks, or to labels of unequal type, in function ") ∷ number (codes " at instruction ") ∷ number (codes " (from 0).") ∷ [])
-    ∷ (word (codes "valid") (codes "The module isn't valid: ") ∷ figure (codes "14") (codes "a limit is passed") ∷ figure (codes "4294967295") (codes ", outside of functions, at entry ") ∷ number (codes " (from 0).") ∷ [])
-    ∷ (word (codes "valid") (codes "The module isn't valid: ") ∷ figure (codes "14") (codes "a limit is passed, in function ") ∷ number (codes " at instruction ") ∷ number (codes " (from 0).") ∷ [])
-    ∷ (word (codes "valid") (codes "The module isn't valid: ") ∷ figure (codes "15") (codes "an import is no function that a contract may have") ∷ figure (codes "4294967295") (codes ", outside of functions, at entry ") ∷ number (codes " (from 0).") ∷ [])
-    ∷ (word (codes "valid") (codes "The module isn't valid: ") ∷ figure (codes "15") (codes "an import is no function that a contract may have, in function ") ∷ number (codes " at instruction ") ∷ number (codes " (from 0).") ∷ [])
+    (word (codes "valid") (codes "The module isn't valid: ")
+    ∷ figure (codes "11") (codes "an operand, a result or a constant has another type")
+    ∷ figure (codes "4294967295") (codes ", outside of functions, at entry ") ∷ number (codes " (from 0).") ∷ [])
+    ∷ (word (codes "valid") (codes "The module isn't valid: ")
+    ∷ figure (codes "11") (codes "an operand, a result or a constant has another type, in function ")
+    ∷ number (codes " at instruction ") ∷ number (codes " (from 0).") ∷ [])
+    ∷ (word (codes "valid") (codes "The module isn't valid: ")
+    ∷ figure (codes "12") (codes "a type, function, table, memory, global or local isn't there, an export's name stands twice, or a constant global is assigned")
+    ∷ figure (codes "4294967295") (codes ", outside of functions, at entry ") ∷ number (codes " (from 0).") ∷ [])
+    ∷ (word (codes "valid") (codes "The module isn't valid: ")
+    ∷ figure (codes "12") (codes "a type, function, table, memory, global or local isn't there, an export's name stands twice, or a constant global is assigned, in function ")
+    ∷ number (codes " at instruction ") ∷ number (codes " (from 0).") ∷ [])
+    ∷ (word (codes "valid") (codes "The module isn't valid: ")
+    ∷ figure (codes "13") (codes "a branch leads past the open blocks, or to labels of unequal type")
+    ∷ figure (codes "4294967295") (codes ", outside of functions, at entry ") ∷ number (codes " (from 0).") ∷ [])
+    ∷ (word (codes "valid") (codes "The module isn't valid: ")
+    ∷ figure (codes "13") (codes "a branch leads past the open blocks, or to labels of unequal type, in function ")
+    ∷ number (codes " at instruction ") ∷ number (codes " (from 0).") ∷ [])
+    ∷ (word (codes "valid") (codes "The module isn't valid: ") ∷ figure (codes "14") (codes "a limit is passed")
+    ∷ figure (codes "4294967295") (codes ", outside of functions, at entry ") ∷ number (codes " (from 0).") ∷ [])
+    ∷ (word (codes "valid") (codes "The module isn't valid: ")
+    ∷ figure (codes "14") (codes "a limit is passed, in function ") ∷ number (codes " at instruction ")
+    ∷ number (codes " (from 0).") ∷ [])
+    ∷ (word (codes "valid") (codes "The module isn't valid: ")
+    ∷ figure (codes "15") (codes "an import is no function that a contract may have")
+    ∷ figure (codes "4294967295") (codes ", outside of functions, at entry ") ∷ number (codes " (from 0).") ∷ [])
+    ∷ (word (codes "valid") (codes "The module isn't valid: ")
+    ∷ figure (codes "15") (codes "an import is no function that a contract may have, in function ")
+    ∷ number (codes " at instruction ") ∷ number (codes " (from 0).") ∷ [])
     ∷ []
 
 -- runs that trapped, and where

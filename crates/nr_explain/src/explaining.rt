@@ -99,9 +99,9 @@ pub fn told_of(alloc: Global, words: &[String]) -> Result<Option<Blob>, AllocErr
 
 /// One sentence for a whole line that a program writes, with a line feed: a status and what it tells of it,
 /// a line of a report, of a schedule or of what another command of a chain writes, or what `near_module
-/// check`, `run`, `call` and `list` say. The words are those of the line, behind the name of the program (`near_serial`,
-/// `near_replay`, `near_audit`, `near_module` or `near_files`) or alone; alone, `ok` is a step of a schedule.
-/// `None` where no such line has these words.
+/// check`, `run`, `trap`, `call` and `list` say. The words are those of the line, behind the name of the program
+/// (`near_serial`, `near_replay`, `near_audit`, `near_module` or `near_files`) or alone; alone, `ok` is a step of a
+/// schedule. `None` where no such line has these words.
 ///
 /// # Errors
 ///

@@ -1,5 +1,5 @@
--- A chunk of a run with all that it is run again from. After the
--- Nomicon, Chain Specification (Chunks and cross-shard receipts).
+-- A chunk of a run with all that it is run again from. After the Nomicon, Chain Specification (Chunks and cross-shard
+-- receipts).
 use Rattle.std.specs.Prelude.{ℕ, ◌+◌, List, [], ◌++◌, Option, unwrap_or}
 use Rattle.std.specs.FinMap.{entries}
 use Rattle.std.specs.List.{flat_map}

@@ -57,7 +57,8 @@ flag_line at byte = placed (codes "the field at byte ") at (codes " is neither 0
 -- a byte that names none of what may stand there
 abbrev pub kind_line : List ℕ → ℕ → Option ℕ → List ℕ
 kind_line kinds at None = at_line at
-kind_line kinds at (Some byte) = placed (codes "the field at byte ") at (codes " is no kind of " ++ (kinds ++ (codes ": " ++ decimal byte)))
+kind_line kinds at (Some byte) =
+    placed (codes "the field at byte ") at (codes " is no kind of " ++ (kinds ++ (codes ": " ++ decimal byte)))
 
 -- a wrong ordinal: another word at the front, or none of what may stand there
 abbrev pub ordinal_line : List ℕ → List ℕ → List ℕ → ℕ → List ℕ
@@ -76,8 +77,10 @@ field_line first kinds whole bytes (BadUtf8 at) = placed (codes "the text at byt
 field_line first kinds whole bytes (BadOrdinal at) = ordinal_line first kinds bytes at
 field_line first kinds whole bytes (BadAccountId at) = placed (codes "the text at byte ") at (codes " is no account id")
 field_line first kinds whole bytes (Stake at) = stake_line at
-field_line first kinds whole bytes (TooManyBoundaries at) = placed (codes "the boundaries at byte ") at (codes " are more than 15")
-field_line first kinds whole bytes (BoundaryOrder at) = placed (codes "the boundary at byte ") at (codes " isn't above the one before it")
+field_line first kinds whole bytes (TooManyBoundaries at) =
+    placed (codes "the boundaries at byte ") at (codes " are more than 15")
+field_line first kinds whole bytes (BoundaryOrder at) =
+    placed (codes "the boundary at byte ") at (codes " isn't above the one before it")
 field_line first kinds whole bytes Memory = []
 
 abbrev pub place_of : RecordFault → ℕ
@@ -150,17 +153,20 @@ abbrev pub word_line : List ℕ → List ℕ → List ℕ
 word_line first bytes = cond (nat_lt (length bytes) 4) (ended_line 0) (or_begun bytes first)
 
 unfoldable pub place_line : List ℕ → Bool → List ℕ → ℕ → List ℕ → List ℕ
-place_line first whole bytes at line = cond whole (rest_line at (length bytes - at)) (cond (at == 0) (word_line first bytes) line)
+place_line first whole bytes at line =
+    cond whole (rest_line at (length bytes - at)) (cond (at == 0) (word_line first bytes) line)
 
 abbrev pub is_part : List ℕ → Bool
 is_part bytes = is_ok (part_in bytes)
 
 -- a part has no field but numbers and bytes, so it ends too early where it doesn't go on
 abbrev pub part_damage : List ℕ → ℕ → List ℕ
-part_damage bytes at = place_line (codes "the file doesn't begin with NRP1") (is_part (take at bytes)) bytes at (ended_line at)
+part_damage bytes at =
+    place_line (codes "the file doesn't begin with NRP1") (is_part (take at bytes)) bytes at (ended_line at)
 
 abbrev pub is_gathered : List ℕ → Bool
 is_gathered bytes = is_ok (gathered_in bytes)
 
 abbrev pub gathered_damage : List ℕ → ℕ → List ℕ
-gathered_damage bytes at = place_line (codes "the file doesn't begin with NRS1") (is_gathered (take at bytes)) bytes at (at_line at)
+gathered_damage bytes at =
+    place_line (codes "the file doesn't begin with NRS1") (is_gathered (take at bytes)) bytes at (at_line at)

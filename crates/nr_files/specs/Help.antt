@@ -49,7 +49,8 @@ shown_lines = flat_map (form_line (codes "near_files show")) shown_forms
 -- a line for each command, and then what two of the words may be; the last line feed is left out
 abbrev pub help_text : List ℕ
 help_text =
-    flat_map made_line made_forms ++ flat_map made_line jsonrun_forms ++ shown_lines ++ codes "near_files show --compact .." ++ 10
+    flat_map made_line made_forms ++ flat_map made_line jsonrun_forms ++ shown_lines
+    ++ codes "near_files show --compact .." ++ 10
     ∷ codes "near_files explain WORDS.." ++ 10 ∷ codes "near_files help" ++ 10 ∷ codes "near_files help COMMAND" ++ 10
     ∷ codes "near_files version" ++ 10
     ∷ codes "CONFIG is free or the name of a file. COMMAND is genesis, blocks, hex, replay, check, show, explain, help or version, or the program near_serial, near_replay, near_audit or near_module."
@@ -68,7 +69,8 @@ blocks_help = made_line blocks_form ++ codes "Writes the blocks file that the JS
 
 abbrev pub hex_help : List ℕ
 hex_help =
-    made_line hex_form ++ codes "Writes the bytes of FILE as a JSON text of hexadecimal digits, as code and args have them."
+    made_line hex_form
+    ++ codes "Writes the bytes of FILE as a JSON text of hexadecimal digits, as code and args have them."
 
 abbrev pub run_help : List ℕ
 run_help =

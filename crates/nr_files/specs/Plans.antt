@@ -1,5 +1,5 @@
--- What each command does, as a plan: it asks for the configuration
--- and then for its file, or for none. This project's own.
+-- What each command does, as a plan: it asks for the configuration and then for its file, or for none. This project's
+-- own.
 use Rattle.std.specs.Prelude.{ℕ, List, [], ◌∷◌, ◌++◌}
 use Rattle.nr_config.specs.Config.{Config as Configuration}
 use Rattle.nr_configfile.specs.Plans.{config_files, config_plan}

@@ -32,8 +32,8 @@ no_registers c = record { held = []; limits = limits_of c }
 abbrev pub register : RegisterView → ℕ → Option (List ℕ)
 register r id = lookup (is_at (nat_cmp id)) r.held
 
--- 2 ^ 64 - 1: the length of a register that isn't there, and
--- as the length of an argument the sign that it is a register
+-- 2 ^ 64 - 1: the length of a register that isn't there, and as the length of an argument the sign that it is a
+-- register
 abbrev pub no_length : ℕ
 no_length = 18446744073709551615
 

@@ -1,6 +1,6 @@
--- The rules that hold of every binding. A binding is a chain of acts, each of which works on the state of the call and
--- gives a value, or stops the call. After the NEAR Nomicon,
--- "Bindings Specification"; gas and faults are this project's.
+-- The rules that hold of every binding. A binding is a chain of acts, each of which works on the state of the call
+-- and gives a value, or stops the call. After the NEAR Nomicon, "Bindings Specification"; gas and faults are this
+-- project's.
 use Rattle.std.specs.Prelude.{◌≡◌, ◌≢◌, ℕ, ◌+◌, ◌-◌, ◌*◌, Bool, if◌then◌else◌, List, length, Option, Some, None, Result}
 use Rattle.std.specs.Prelude.{Ok, Err, nat_le}
 use Rattle.nr_config.specs.Config.{Config, host_base, host_byte}

@@ -1,5 +1,5 @@
--- The bindings of hashes, each as its row. After the NEAR Nomicon,
--- "Bindings Specification", Math API; SHA-256 is FIPS 180-4.
+-- The bindings of hashes, each as its row. After the NEAR Nomicon, "Bindings Specification", Math API; SHA-256 is
+-- FIPS 180-4.
 use Rattle.std.specs.Prelude.{ℕ, ◌+◌, ◌*◌, length}
 use Rattle.nr_config.specs.Config.{sha_base, sha_byte}
 use Rattle.nr_triedef.specs.Node.{digest}

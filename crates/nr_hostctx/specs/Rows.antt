@@ -1,5 +1,5 @@
--- The bindings by their names: what a call of each comes to, for
--- its arguments. After the NEAR Nomicon, "Bindings Specification".
+-- The bindings by their names: what a call of each comes to, for its arguments. After the NEAR Nomicon, "Bindings
+-- Specification".
 use Rattle.std.specs.Prelude.{ℕ, List, Option, Some, None, slice_index, Result, Ok, Err, ◌≡◌}
 use Rattle.nr_wasmmem.specs.declared.fault.HostStop.{HostStop}
 use Rattle.nr_wasmtypes.specs.declared.host.HostFn.{HostFn}

@@ -1,5 +1,5 @@
--- What the bindings of a call work on, as data. After the NEAR Nomicon,
--- "Runtime Specification", VMContext and Bindings Specification.
+-- What the bindings of a call work on, as data. After the NEAR Nomicon, "Runtime Specification", VMContext and
+-- Bindings Specification.
 use Rattle.std.specs.Prelude.{◌≡◌, ℕ, Bool, [], length}
 use Rattle.nr_config.specs.Config.{Config}
 use Rattle.nr_guest.specs.Guest.{no_registers}

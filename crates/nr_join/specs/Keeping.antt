@@ -24,8 +24,8 @@ pub record CanRun (c : Config) (r : Receipt) (found : List (Option (List ℕ))) 
   pub bounded : IsBounded c r
   pub inputs : length found ≡ length (inputs_of r.body)
 
--- a receipt of actions runs, waits or clashes, a datum sets one
--- free, is stored or clashes; what clashes is what was offered
+-- a receipt of actions runs, waits or clashes, a datum sets one free, is stored or clashes; what clashes is what was
+-- offered
 abbrev pub Fares : Config → Receipt → Offered → Type 0
 Fares c r (Run q inputs) = CanRun c q inputs
 Fares c r (Postponed id) = is_act r.body ≡ true

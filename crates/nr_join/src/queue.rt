@@ -10,8 +10,7 @@ use nr_state::queues::{add_delayed, take_delayed};
 use nr_triedef::Store;
 use std::alloc::{AllocError, Global};
 
-/// Puts a receipt at the end of the delayed queue. With it at most 2^63 receipts were ever delayed, counted
-/// from the genesis or the last change of boundaries.
+/// Puts a receipt at the end of the delayed queue.
 ///
 /// # Errors
 ///

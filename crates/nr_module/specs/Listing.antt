@@ -1,7 +1,7 @@
--- The lines that tell of a module: what it imports and whether
--- the host has it, what it exports, the sizes of its tables
--- and memories, and its own. Imports and exports by WebAssembly Core 1.0, "Modules"; the host's functions after the
--- Nomicon, "Bindings Spec"; names with escapes as in WebAssembly's text format; the lines are this project's own.
+-- The lines that tell of a module: what it imports and whether the host has it, what it exports, the sizes of its
+-- tables and memories, and its own. Imports and exports by WebAssembly Core 1.0, "Modules"; the host's functions
+-- after the Nomicon, "Bindings Spec"; names with escapes as in WebAssembly's text format; the lines are this
+-- project's own.
 use Rattle.std.specs.Prelude.{ℕ, ◌-◌, ◌==◌, ◌&&◌, Bool, false, cond, not, nat_le, nat_eq, List, [], ◌∷◌, ◌++◌}
 use Rattle.std.specs.Prelude.{length, count_by}
 use Rattle.std.specs.Prelude.{Option, Some, None, is_some, option_and_then, slice_get, codes, decimal}

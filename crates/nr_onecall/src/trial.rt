@@ -69,8 +69,9 @@ fn told_call<C: Caller<PlainStore>>(
 /// account can pay for its storage isn't looked at.
 ///
 /// The account `contract` has the code, 10^26 tokens and those that come with the call, at most 2^128 - 1 together, and
-/// no data. `caller` calls it and signed. The height is 1, the time 0, the price of gas that of the configuration, the signer's key `ed25519:`
-/// with zeros, and the receipt's id zeros. It waited for no data, and nobody waits for its result.
+/// no data. `caller` calls it and signed. The height is 1, the time 0, the price of gas that of the configuration, the
+/// signer's key `ed25519:` with zeros, and the receipt's id zeros. It waited for no data, and nobody waits for its
+/// result.
 ///
 /// The text has the line `value BYTES GAS`, `promise ID GAS` or `failure KIND PART GAS`, with the gas that was burnt,
 /// the loading of the code included. Of a call that came to its end lines follow for what it logged, `log BYTES`, for

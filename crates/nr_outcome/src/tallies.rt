@@ -63,12 +63,12 @@ pub fn added(a: Tally, b: Tally) -> Result<Tally, AllocError>
     add_tallies(a, b).ok_or(AllocError)
 }
 
-#[tactic(auto, using(crate::proofs::Steps::no_room))]
 /// A tally with what a chunk burnt, routed and executed, if the chunk is there.
 ///
 /// # Errors
 ///
 /// Exactly where one of the numbers doesn't fit. It counts as want of memory.
+#[tactic(auto, using(crate::proofs::Steps::no_room))]
 pub fn add_report(sum: Tally, report: Option<&ChunkResult>) -> Result<Tally, AllocError>
     ensures { let all = plus sum (report_tally (option_copied report.entry)) in OkIff result (Fits all) all }
 {

@@ -66,6 +66,10 @@ impl Reports {
 }
 
 /// A text with another one behind it.
+///
+/// # Errors
+///
+/// Where memory ran out.
 pub fn joined(first: Blob, end: &Blob) -> Result<Blob, AllocError>
     ensures { IfOk result (λ text. text ≡ first ++ end.now) }
 {

@@ -8,7 +8,8 @@ use Rattle.nr_outproof.specs.declared.levels.Side.{Side}
 use Rattle.nr_outproof.specs.Tree.{climb, IsOnWay}
 
 -- different texts of one hash, one on each way
-pub record MeetsAt (way : List Side) (a : Hash32) (path : List Hash32) (b : Hash32) (others : List Hash32) (first second : List ℕ) : Type 0 where
+pub record MeetsAt (way : List Side) (a : Hash32) (path : List Hash32) (b : Hash32) (others : List Hash32)
+    (first second : List ℕ) : Type 0 where
   pub different : first ≢ second
   pub one_hash : sha256 first ≡ sha256 second
   pub first_way : IsOnWay way a path first
@@ -19,7 +20,8 @@ Meets way a path b others Same = ⊥
 Meets way a path b others (Collision first second) = MeetsAt way a path b others first second
 
 -- on the way up from two tops, of whose paths these parts are left
-pub record Apart (way : List Side) (a : Hash32) (path : List Hash32) (b : Hash32) (others : List Hash32) (sides : List Side) (top : Hash32) (rest : List Hash32) (other : Hash32) (other_rest : List Hash32) : Type 0 where
+pub record Apart (way : List Side) (a : Hash32) (path : List Hash32) (b : Hash32) (others : List Hash32)
+    (sides : List Side) (top : Hash32) (rest : List Hash32) (other : Hash32) (other_rest : List Hash32) : Type 0 where
   pub differ : top ≢ other
   pub alike : length top.0 ≡ length other.0
   pub first_long : length rest ≡ length sides

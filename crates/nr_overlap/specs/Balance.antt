@@ -8,10 +8,8 @@ use Rattle.nr_overlap.specs.Moment.{world_at, working_at, report_at, flight_at}
 use Rattle.nr_overlap.specs.declared.position.Position.{Position}
 
 -- How much of it worlds, working states, lists and reports hold, and how much of it was made in a chunk so far and in
--- the whole.
--- A working state is that of a shard after a height with so many lists taken, a report that of a shard at a height:
--- so an
--- amount may count what no value keeps, as the receipts that a chunk executed.
+-- the whole. A working state is that of a shard after a height with so many lists taken, a report that of a shard at
+-- a height: so an amount may count what no value keeps, as the receipts that a chunk executed.
 pub record Amount (W K L R : Type 0) : Type 0 where
   pub world : W → ℕ
   pub working : ℕ → ℕ → ℕ → K → ℕ
@@ -52,7 +50,9 @@ if_some f (Some x) = f x
 module _ {W K L R : Type 0} (r : Rules W K L R) (m : Amount W K L R) where
   -- in the world or the working state of a shard
   abbrev pub held_by : List Position → ℕ → ℕ
-  held_by ps s = if_some m.world (world_at r s (at ps s)) + if_some (m.working s (at ps s).number (at ps s).taken) (working_at r s (at ps s))
+  held_by ps s =
+      if_some m.world (world_at r s (at ps s))
+      + if_some (m.working s (at ps s).number (at ps s).taken) (working_at r s (at ps s))
 
   -- in the chunk that a shard sealed at a height, and in its lists that were not taken
   abbrev pub sealed_by : List Position → ℕ → ℕ → ℕ

@@ -68,7 +68,8 @@ module _ {W K L R : Type 0} (r : Rules W K L R) where
     pub in_chunk : (s : ℕ) → s < r.shards → IsInChunk s (at ps s).stage (at ps s).number
     pub has_taken : (s : ℕ) → s < r.shards → HasTaken s (at ps s).stage (at ps s).number (at ps s).taken
     -- each list that was taken was published
-    pub published : (d s h : ℕ) → d < r.shards → s < r.shards → 0 < h → r.present s h ≡ true → took r d (at ps d) h s ≡ true → h ≤ (at ps s).number
+    pub published : (d s h : ℕ) → d < r.shards → s < r.shards → 0 < h → r.present s h ≡ true
+        → took r d (at ps d) h s ≡ true → h ≤ (at ps s).number
 
   -- ---- values
   abbrev pub IsHeld : ℕ → Position → Held W K → Type 0
@@ -90,7 +91,8 @@ module _ {W K L R : Type 0} (r : Rules W K L R) where
   pub record IsSerial (x : Shards W K L R) : Type 0 where
     pub kept : IsKept x
     pub values : (s : ℕ) (v : Held W K) → slice_get x.held.items s ≡ Some v → IsHeld s (at x.positions.items s) v
-    pub due : (s : ℕ) → s < r.shards → (at x.positions.items s).stage ≡ Opened → dues_at x.dues.items s ≡ due_after r s (at x.positions.items s).number
+    pub due : (s : ℕ) → s < r.shards → (at x.positions.items s).stage ≡ Opened
+        → dues_at x.dues.items s ≡ due_after r s (at x.positions.items s).number
     pub lists : (s h d : ℕ) → s < r.shards → d < r.shards → row_slot (entry x.rows.items s h) d
         ≡ flight_at r x.positions.items s h d
 

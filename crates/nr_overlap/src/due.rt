@@ -7,8 +7,8 @@ use crate::phases::Phases;
 use nr_ids::{Height, ShardId};
 use std::alloc::{AllocError, Global};
 
-#[tactic(auto, using(crate::proofs::DueLemmas::last_here, crate::proofs::DueLemmas::last_below))]
 /// The first height, 1 at least, of which the chunk after this height takes lists.
+#[tactic(auto, using(crate::proofs::DueLemmas::last_here, crate::proofs::DueLemmas::last_below))]
 fn first_due<P: Phases>(phases: &P, shard: ShardId, height: u64) -> u64
     ensures { result ≡ first_due (P.rules phases.now) shard.0 height }
 {
@@ -22,8 +22,8 @@ fn first_due<P: Phases>(phases: &P, shard: ShardId, height: u64) -> u64
     1
 }
 
-#[tactic(auto, using(crate::proofs::DueLemmas::row_with, crate::proofs::DueLemmas::row_without))]
 /// Adds the pairs of a height.
+#[tactic(auto, using(crate::proofs::DueLemmas::row_with, crate::proofs::DueLemmas::row_without))]
 fn push_pairs<P: Phases>(
     phases: &P,
     height: u64,
@@ -39,13 +39,13 @@ fn push_pairs<P: Phases>(
     Ok(())
 }
 
-#[tactic(auto, using(crate::proofs::DueLemmas::span_step, crate::proofs::DueLemmas::first_small), unfolding(crate::specs::Serial::due_after))]
 /// Which lists are due to a shard's chunk at the height after this one: those of all chunks from the shard's last
 /// present height on, or from height 1, by height and then source. Each is a pair of height and source.
 ///
 /// # Errors
 ///
 /// Where there is no memory for them.
+#[tactic(auto, using(crate::proofs::DueLemmas::span_step, crate::proofs::DueLemmas::first_small), unfolding(crate::specs::Serial::due_after))]
 pub fn due_list<P: Phases>(
     alloc: Global,
     phases: &P,

@@ -10,8 +10,8 @@ use crate::interleaved::Core;
 use crate::phases::Phases;
 use std::alloc::AllocError;
 
-#[tactic(auto, using(crate::proofs::Running::tries_made, crate::proofs::Running::tries_not))]
 /// Tries an event, whether it is enabled or not.
+#[tactic(auto, using(crate::proofs::Running::tries_made, crate::proofs::Running::tries_not))]
 fn try_one<P: Phases>(core: &mut Core<P>, event: Event) -> Result<(), AllocError>
     requires inside { IsInside (P.rules core.old.phases).shards event }
     requires whole { core.old.lost ≡ false }

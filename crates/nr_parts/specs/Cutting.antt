@@ -13,7 +13,11 @@ use Rattle.nr_parts.specs.declared.share.Share.{Share}
 -- ---- the nodes whose texts a part has: of those side by side all, and below one all where its offsets meet the part's
 abbrev pub looked : Share → ℕ → Forest → List Stood
 looked share at bare = []
-looked share at (tree top below beside) = top ∷ (cond (meets share at (usage_of top.node)) (looked share (at + (usage_of top.node - tops_usage below)) below) [] ++ looked share (at + usage_of top.node) beside)
+looked share at (tree top below beside) =
+    top
+    ∷ (cond (meets share at (usage_of top.node))
+    (looked share (at + (usage_of top.node - tops_usage below)) below) []
+    ++ looked share (at + usage_of top.node) beside)
 
 -- the root, and below it
 abbrev pub looked_from_root : Share → Forest → List Stood

@@ -39,7 +39,8 @@ is_accepted (Err fault) = false
 -- the first position, from this one on, whose part isn't accepted
 unfoldable pub first_refused : Hash32 → ℕ → List Part → Option ℕ
 first_refused root at [] = None
-first_refused root at (part ∷ parts) = cond (is_accepted (checked root part)) (first_refused root (suc at) parts) (Some at)
+first_refused root at (part ∷ parts) =
+    cond (is_accepted (checked root part)) (first_refused root (suc at) parts) (Some at)
 
 abbrev pub joined : List Part → List Entry
 joined parts = flat_map (λ (p : Part). p.entries) parts

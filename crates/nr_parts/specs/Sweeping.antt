@@ -11,7 +11,9 @@ use Rattle.nr_parts.specs.declared.share.Share.{Share}
 abbrev pub swept_entries : Share → ℕ → List Node → List Entry → List Entry
 swept_entries share at [] es = []
 swept_entries share at (node ∷ nodes) es =
-    cond (has_value node) (cond (has share at) (take 1 es) [] ++ swept_entries share (at + own_usage node) nodes (drop 1 es)) (swept_entries share (at + own_usage node) nodes es)
+    cond (has_value node)
+    (cond (has share at) (take 1 es) [] ++ swept_entries share (at + own_usage node) nodes (drop 1 es))
+    (swept_entries share (at + own_usage node) nodes es)
 
 -- up to which offset nodes are passed by, behind a node that is looked at
 abbrev pub passed_by : Share → ℕ → ℕ → Node → ℕ
@@ -21,7 +23,9 @@ passed_by share at end node = cond (nat_lt 0 at && not (meets share at (usage_of
 abbrev pub swept_nodes : Share → ℕ → ℕ → List Node → List Node
 swept_nodes share at end [] = []
 swept_nodes share at end (node ∷ nodes) =
-    cond (nat_le end at) (node ∷ swept_nodes share (at + own_usage node) (passed_by share at end node) nodes) (swept_nodes share (at + own_usage node) end nodes)
+    cond (nat_le end at)
+    (node ∷ swept_nodes share (at + own_usage node) (passed_by share at end node) nodes)
+    (swept_nodes share (at + own_usage node) end nodes)
 
 -- the own usages of nodes together
 abbrev pub owns : List Node → ℕ

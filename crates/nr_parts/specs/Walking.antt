@@ -1,5 +1,5 @@
--- The walk over the texts of a part: which nodes are looked
--- at, in which order, and what each claims. This project's own.
+-- The walk over the texts of a part: which nodes are looked at, in which order, and what each claims. This project's
+-- own.
 use Rattle.std.specs.Prelude.{ℕ, zero, suc, ◌+◌, ◌-◌, ◌^◌, cond, List, [], ◌∷◌, ◌++◌, length, Option, Some, None}
 use Rattle.std.specs.Prelude.{Result, Ok, Err}
 use Rattle.nr_bytes.specs.Reading.{◌>>=◌}
@@ -36,7 +36,10 @@ visit claim below next = record { claim = claim; below = below; next = next }
 
 -- a node whose offsets meet the part's has its children looked at; of another one only its usage counts
 abbrev pub seen : Share → ℕ → List ℕ → Node → Visit
-seen share at place node = cond (meets share at (usage_of node)) (visit (claim_at share at place node) (spots_of place node) (at + own_usage node)) (visit None [] (at + usage_of node))
+seen share at place node =
+    cond (meets share at (usage_of node))
+    (visit (claim_at share at place node) (spots_of place node) (at + own_usage node))
+    (visit None [] (at + usage_of node))
 
 unfoldable pub visited : Contents → Share → ℕ → Spot → Result Visit WalkFault
 visited texts share at spot = do

@@ -66,7 +66,10 @@ module _ (x : Chain) (ps : List Position) where
 
   -- those that are carried, and those of the lists that were sealed and not taken
   abbrev pub flying_by : ℕ → List Receipt
-  flying_by s = carried_in (world_at (rules_of x) s (at ps s)) ++ each_below (rules_of x).heights (λ h. each_below (rules_of x).shards (λ d. unwrap_or (flight_at (rules_of x) ps s (h + 1) d) []))
+  flying_by s =
+      carried_in (world_at (rules_of x) s (at ps s))
+      ++ each_below (rules_of x).heights (λ h. each_below (rules_of x).shards
+      (λ d. unwrap_or (flight_at (rules_of x) ps s (h + 1) d) []))
 
   abbrev pub flying : List Receipt
   flying = each_below (rules_of x).shards flying_by

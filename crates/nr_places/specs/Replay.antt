@@ -27,9 +27,8 @@ pub record Holds (x : Chain) (ps : List Position) : Type 0 where
   -- what accounts have, what receipts hold that aren't executed and what was burnt is together what the start had
   pub tokens : (tally_at x ps).accounts + (tally_at x ps).receipts + (tally_at x ps).burnt
       ≡ start_tokens x.config x.start
-  -- each receipt that waited or was carried at the start, or
-  -- was routed, is in one place: whatever receipts have, as the
-  -- count of one of them, the four places have of it what the start had and what was routed
+  -- each receipt that waited or was carried at the start, or was routed, is in one place: whatever receipts have, as
+  -- the count of one of them, the four places have of it what the start had and what was routed
   pub places : (f : Receipt → ℕ) → start_receipts f x.start + sum_by f (routed x ps)
       ≡ sum_by f (executed x ps) + sum_by f (postponed x ps) + sum_by f (delayed x ps) + sum_by f (flying x ps)
   -- the counts of a tally are the lengths of these lists

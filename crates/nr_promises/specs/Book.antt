@@ -1,6 +1,6 @@
 -- Promises that a contract makes, and the receipts that they stand for. After the Nomicon, Runtime Specification,
--- Bindings Specification (Promises API) and Receipts; the ids,
--- the limits and the order of the faults are this project's.
+-- Bindings Specification (Promises API) and Receipts; the ids, the limits and the order of the faults are this
+-- project's.
 use Rattle.std.specs.Prelude.{ℕ, zero, suc, ◌+◌, ◌<◌, ◌≤◌, ◌≡◌, cond, nat_lt, List, [], ◌∷◌, ◌++◌, length, Result, Ok}
 use Rattle.std.specs.Prelude.{Err}
 use Rattle.std.specs.List.{slice_get, flat_map, list_all, AllByRecursion}

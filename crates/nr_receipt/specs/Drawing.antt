@@ -1,6 +1,6 @@
 -- The receipts that an execution makes behind its actions, each under the next id: the result for those who wait for
--- it, and refunds. After the Nomicon, Runtime Specification
--- (Receipts, Refunds); the ids and their order are this project's.
+-- it, and refunds. After the Nomicon, Runtime Specification (Receipts, Refunds); the ids and their order are this
+-- project's.
 use Rattle.std.specs.Prelude.{ℕ, ◌==◌, cond, List, [], ◌∷◌, ◌++◌, Option, Some, None, fold}
 use Rattle.std.specs.Str.{bytes_eq}
 use Rattle.nr_actions.specs.Actions.{with_refund}

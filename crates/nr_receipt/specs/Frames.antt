@@ -1,6 +1,6 @@
 -- The frame that a receipt begins with, its gas, and what that costs. After the Nomicon, Runtime Specification
--- (Receipts) and Economics (Gas); that a receipt of the system
--- counts no gas and the price of burnt gas are this project's.
+-- (Receipts) and Economics (Gas); that a receipt of the system counts no gas and the price of burnt gas are this
+-- project's.
 use Rattle.std.specs.Prelude.{ℕ, ◌+◌, ◌-◌, ◌*◌, min, cond, List, [], Option, take}
 use Rattle.nr_actions.specs.Calling.{price_of}
 use Rattle.nr_actions.specs.declared.frame.Frame.{Frame}
@@ -42,8 +42,8 @@ abbrev pub burnt_gas : Config → Frame → ℕ → ℕ
 burnt_gas c f begun = cond (is_system f.predecessor) 0 (exec_gas c (take begun f.act.actions) + f.call_burnt)
 
 -- ---- tokens
--- gas is bought at the receipt's price, and burnt at the lesser
--- of that and the price of the block that runs the receipt
+-- gas is bought at the receipt's price, and burnt at the lesser of that and the price of the block that runs the
+-- receipt
 abbrev pub burning_price : Frame → ℕ
 burning_price f = min (price_of f) f.place.price
 

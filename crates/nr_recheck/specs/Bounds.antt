@@ -10,9 +10,8 @@ use Rattle.nr_worlds.specs.Valid.{is_bounded}
 abbrev pub are_bounded : Config → List Receipt → Bool
 are_bounded c list = list_all (is_bounded c) list
 
--- the gas prices and the prepaid gas of what is taken fit in
--- 64 bits, there are at most 2^127 tokens in all, and at most
--- 2^63 receipts were ever delayed
+-- the gas prices and the prepaid gas of what is taken fit in 64 bits, there are at most 2^127 tokens in all, and at
+-- most 2^63 receipts were ever delayed
 abbrev pub are_within : Config → List Receipt → World → Bool
 are_within c taken w =
     are_bounded c taken && (nat_le (world_tokens c w + list_tokens c taken) (2 ^ 127)

@@ -58,7 +58,8 @@ action_body at (suc (suc (suc zero))) = mapped (λ deposit. Transfer deposit) (n
 action_body at (suc (suc (suc (suc zero)))) = λ s. Err (Stake at)
 action_body at (suc (suc (suc (suc (suc zero))))) = mapped add_key_of (pair key_at access_key_at)
 action_body at (suc (suc (suc (suc (suc (suc zero)))))) = mapped (λ public_key. DeleteKey public_key) key_at
-action_body at (suc (suc (suc (suc (suc (suc (suc zero))))))) = mapped (λ beneficiary. DeleteAccount beneficiary) account_id_at
+action_body at (suc (suc (suc (suc (suc (suc (suc zero))))))) =
+    mapped (λ beneficiary. DeleteAccount beneficiary) account_id_at
 action_body at (suc (suc (suc (suc (suc (suc (suc (suc b)))))))) = λ s. Err (BadOrdinal at)
 
 unfoldable pub action_at : Input → Read Action

@@ -11,7 +11,11 @@ use std::alloc::{AllocError, Global};
 
 /// Adds the text of a chunk to `out`. It has a line for the chunk and then a line for each of its
 /// lines, with the logs of a run behind the run; a run that failed or clashed has no lines for its
-/// logs. After want of memory `out` is as before.
+/// logs.
+///
+/// # Errors
+///
+/// Where memory ran out; `out` is then as before.
 pub fn write_chunk(alloc: Global, chunk: &ChunkResult, out: &mut Blob) -> Result<(), AllocError>
     ensures ok { OnOk result (out.new ≡ out.old ++ chunk_text chunk.now) }
     ensures err { OnErr result (out.new ≡ out.old) }
@@ -20,7 +24,11 @@ pub fn write_chunk(alloc: Global, chunk: &ChunkResult, out: &mut Blob) -> Result
     out.vec_mut().extend_from_slice(text.as_bytes())
 }
 
-/// Adds the five lines of the totals to `out`. After want of memory `out` is as before.
+/// Adds the five lines of the totals to `out`.
+///
+/// # Errors
+///
+/// Where memory ran out; `out` is then as before.
 pub fn write_totals(alloc: Global, totals: &Totals, out: &mut Blob) -> Result<(), AllocError>
     ensures ok { OnOk result (out.new ≡ out.old ++ totals_text totals.now) }
     ensures err { OnErr result (out.new ≡ out.old) }

@@ -1,5 +1,5 @@
--- What a file of a chain's blocks spells. Fields by Borsh 1.0
--- (structs, dynamic arrays); the files are this project's own.
+-- What a file of a chain's blocks spells. Fields by Borsh 1.0 (structs, dynamic arrays); the files are this project's
+-- own.
 use Rattle.std.specs.Prelude.{◌≡◌, ℕ, ◌+◌, ◌-◌, ◌≤◌, true, List, length, None, Some, Ok, ◌⊎◌, is_some, slice_get}
 use Rattle.std.specs.List.{AllByRecursion}
 use Rattle.nr_blocks.specs.Spellings.{AreBlocks, blocks_spelling}

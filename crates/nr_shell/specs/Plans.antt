@@ -38,7 +38,8 @@ with_bytes bytes (Ask name limit long by_bytes) = by_length limit long by_bytes 
 unfoldable pub map_refusal : {A E F : Type 0} → (E → F) → Plan A E → Plan A F
 map_refusal other (Answer a) = Answer a
 map_refusal other (Refuse e) = Refuse (other e)
-map_refusal other (Ask name limit long by_bytes) = Ask name limit (other long) (λ bytes. map_refusal other (by_bytes bytes))
+map_refusal other (Ask name limit long by_bytes) =
+    Ask name limit (other long) (λ bytes. map_refusal other (by_bytes bytes))
 
 -- ---- a plan over a shelf, which holds bytes under a name, where it tells them
 -- what is told of a file, if anything, are these bytes

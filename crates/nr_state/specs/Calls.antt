@@ -33,8 +33,8 @@ pub record CanCall (w : World) (x : CallContext) : Type 0 where
   pub code : IsSome (get w.code x.current)
 
 -- ---- what it answers
--- the checkpoints stand with their worlds as before, at least
--- as many more can be made, and the configuration is the same
+-- the checkpoints stand with their worlds as before, at least as many more can be made, and the configuration is the
+-- same
 pub record Stands (old new : StateView) : Type 0 where
   pub marks : new.marks ≡ old.marks
   pub spare : old.spare ≤ new.spare

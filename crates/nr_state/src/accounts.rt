@@ -179,6 +179,10 @@ fn take_account<S: Store>(columns: &mut Columns<S>, id: &AccountId) -> Result<()
 
 impl<S: Store> ShardState<S> {
     /// An account; `None` where there is none.
+    ///
+    /// # Errors
+    ///
+    /// Where memory ran out.
     pub fn account(&self, id: &AccountId) -> Result<Option<Account>, AllocError>
         ensures { IfOk result (λ found. found ≡ map.get self.now.world.accounts id.now) }
     {
@@ -186,6 +190,10 @@ impl<S: Store> ShardState<S> {
     }
 
     /// Writes an account.
+    ///
+    /// # Errors
+    ///
+    /// Where memory ran out or a size of the store would be passed. All is then as it was.
     pub fn set_account(&mut self, id: &AccountId, account: &Account) -> Result<(), AllocError>
         requires { self.old.whole ≡ true }
         ensures ok { OnOk result (self.new ≡ with_world self.old (with_account self.old.world id.now account.now)) }
@@ -197,6 +205,10 @@ impl<S: Store> ShardState<S> {
 
     /// Takes an account out, with all its keys, code and data. Nothing changes where there is none
     /// of these.
+    ///
+    /// # Errors
+    ///
+    /// Where memory ran out. The state can then only be read or dropped.
     pub fn remove_account(&mut self, id: &AccountId) -> Result<(), AllocError>
         requires { self.old.whole ≡ true }
         ensures ok { OnOk result (self.new ≡ with_world self.old (without_account self.old.world id.now)) }
@@ -208,6 +220,10 @@ impl<S: Store> ShardState<S> {
     }
 
     /// An access key of an account; `None` where there is none.
+    ///
+    /// # Errors
+    ///
+    /// Where memory ran out.
     pub fn key(&self, id: &AccountId, key: &PublicKey) -> Result<Option<AccessKey>, AllocError>
         ensures { IfOk result (λ found. found ≡ map.get self.now.world.keys (id.now, key.now)) }
     {
@@ -215,6 +231,10 @@ impl<S: Store> ShardState<S> {
     }
 
     /// An access key of an account, lent as it is spelled; `None` where there is none.
+    ///
+    /// # Errors
+    ///
+    /// Where memory ran out.
     pub fn spelled_key(
         &self,
         id: &AccountId,
@@ -227,6 +247,11 @@ impl<S: Store> ShardState<S> {
 
     /// Writes an access key of an account that stands, and moves the account's `storage_usage` by
     /// what the key costs more or less.
+    ///
+    /// # Errors
+    ///
+    /// Where memory ran out, a size of the store would be passed, or the account would be counted
+    /// as 2^64 bytes or more. The state can then only be read or dropped.
     pub fn set_key(
         &mut self,
         id: &AccountId,
@@ -243,6 +268,10 @@ impl<S: Store> ShardState<S> {
     }
 
     /// As [`ShardState::set_key`], of an access key that is spelled already.
+    ///
+    /// # Errors
+    ///
+    /// As of [`ShardState::set_key`].
     pub fn set_spelled_key(
         &mut self,
         id: &AccountId,
@@ -316,6 +345,10 @@ impl<S: Store> ShardState<S> {
     }
 
     /// Writes an access key and nothing else: its owner stays as it is, and need not stand.
+    ///
+    /// # Errors
+    ///
+    /// Where memory ran out or a size of the store would be passed. All is then as it was.
     pub fn put_key(
         &mut self,
         id: &AccountId,
@@ -347,6 +380,10 @@ impl<S: Store> ShardState<S> {
 
     /// Takes out an access key of an account that stands, and takes what it cost off the account's
     /// `storage_usage`; `false` where it wasn't there.
+    ///
+    /// # Errors
+    ///
+    /// Where memory ran out. The state can then only be read or dropped.
     pub fn remove_key(&mut self, id: &AccountId, key: &PublicKey) -> Result<bool, AllocError>
         requires whole { self.old.whole ≡ true }
         requires owner { IsSome (map.get self.old.world.accounts id.now) }

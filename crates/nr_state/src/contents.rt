@@ -151,6 +151,10 @@ fn take_datum<S: Store>(
 
 impl<S: Store> ShardState<S> {
     /// An account's code; `None` where there is none.
+    ///
+    /// # Errors
+    ///
+    /// Where memory ran out.
     pub fn code(&self, id: &AccountId) -> Result<Option<&[u8]>, AllocError>
         ensures { IfOk result (λ found. option_copied found ≡ map.get self.now.world.code id.now) }
     {
@@ -159,6 +163,11 @@ impl<S: Store> ShardState<S> {
 
     /// Writes the code of an account that stands, sets the account's `code_hash` to the code's SHA-256
     /// and moves its `storage_usage` by the difference in length.
+    ///
+    /// # Errors
+    ///
+    /// Where memory ran out, a size of the store would be passed, or the account would be counted
+    /// as 2^64 bytes or more. The state can then only be read or dropped.
     #[tactic(auto, using(crate::proofs::CodeWrites::code_set))]
     pub fn set_code(&mut self, id: &AccountId, code: &[u8]) -> Result<(), AllocError>
         requires whole { self.old.whole ≡ true }
@@ -173,6 +182,10 @@ impl<S: Store> ShardState<S> {
     }
 
     /// Writes code and nothing else: its owner stays as it is, and need not stand.
+    ///
+    /// # Errors
+    ///
+    /// Where memory ran out or a size of the store would be passed. All is then as it was.
     pub fn put_code(&mut self, id: &AccountId, code: &[u8]) -> Result<(), AllocError>
         requires { self.old.whole ≡ true }
         ensures ok { OnOk result (self.new ≡ with_world self.old (with_code_bytes self.old.world id.now code.now)) }
@@ -183,6 +196,10 @@ impl<S: Store> ShardState<S> {
     }
 
     /// A datum of an account; `None` where there is none.
+    ///
+    /// # Errors
+    ///
+    /// Where memory ran out.
     pub fn datum(&self, id: &AccountId, key: &[u8]) -> Result<Option<&[u8]>, AllocError>
         ensures { IfOk result (λ found. option_copied found ≡ map.get self.now.world.data_of (id.now, key.now)) }
     {
@@ -191,6 +208,11 @@ impl<S: Store> ShardState<S> {
 
     /// Writes a datum of an account that stands, and moves the account's `storage_usage` by what the
     /// datum costs more or less.
+    ///
+    /// # Errors
+    ///
+    /// Where memory ran out, a size of the store would be passed, or the account would be counted
+    /// as 2^64 bytes or more. The state can then only be read or dropped.
     pub fn set_datum(&mut self, id: &AccountId, key: &[u8], value: &[u8]) -> Result<(), AllocError>
         requires whole { self.old.whole ≡ true }
         requires owner { IsSome (map.get self.old.world.accounts id.now) }
@@ -205,6 +227,10 @@ impl<S: Store> ShardState<S> {
     }
 
     /// Writes a datum and nothing else: its owner stays as it is, and need not stand.
+    ///
+    /// # Errors
+    ///
+    /// Where memory ran out or a size of the store would be passed. All is then as it was.
     pub fn put_datum(&mut self, id: &AccountId, key: &[u8], value: &[u8]) -> Result<(), AllocError>
         requires { self.old.whole ≡ true }
         ensures ok { OnOk result (self.new ≡ with_world self.old
@@ -217,6 +243,10 @@ impl<S: Store> ShardState<S> {
 
     /// Takes out a datum of an account that stands, and takes what it cost off the account's
     /// `storage_usage`; `false` where it wasn't there.
+    ///
+    /// # Errors
+    ///
+    /// Where memory ran out. The state can then only be read or dropped.
     pub fn remove_datum(&mut self, id: &AccountId, key: &[u8]) -> Result<bool, AllocError>
         requires whole { self.old.whole ≡ true }
         requires owner { IsSome (map.get self.old.world.accounts id.now) }

@@ -14,6 +14,10 @@ use nr_triedef::Store;
 use std::alloc::{AllocError, Global};
 
 /// All accounts, in the order of their ids.
+///
+/// # Errors
+///
+/// Where memory ran out.
 pub fn accounts<S: Store>(
     _alloc: Global,
     state: &ShardState<S>,
@@ -24,6 +28,10 @@ pub fn accounts<S: Store>(
 }
 
 /// All postponed receipts, in the order of their receivers and ids.
+///
+/// # Errors
+///
+/// Where memory ran out.
 pub fn postponed<S: Store>(
     _alloc: Global,
     state: &ShardState<S>,
@@ -35,6 +43,10 @@ pub fn postponed<S: Store>(
 }
 
 /// All delayed receipts, the front first.
+///
+/// # Errors
+///
+/// Where memory ran out.
 pub fn delayed<S: Store>(alloc: Global, state: &ShardState<S>) -> Result<List<Receipt>, AllocError>
     ensures { IfOk result (λ found. found ≡ state.now.world.delayed) }
 {

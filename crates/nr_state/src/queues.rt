@@ -35,6 +35,10 @@ const MOST_DELAYED: u64 = 1 << 63;
 
 /// A datum that a receiver has received, `Some(None)` for one that has no bytes, as its sender
 /// failed; `None` where none came.
+///
+/// # Errors
+///
+/// Where memory ran out.
 pub fn received<S: Store>(
     _alloc: Global,
     state: &ShardState<S>,
@@ -48,6 +52,10 @@ pub fn received<S: Store>(
 
 /// Adds a datum that came, where the receiver has none under this id. A postponed receipt that
 /// waits for it then lacks one input fewer.
+///
+/// # Errors
+///
+/// Where memory ran out or a size of the store would be passed. Nothing is said of the state then.
 pub fn add_received<S: Store>(
     _alloc: Global,
     state: &mut ShardState<S>,
@@ -68,6 +76,11 @@ pub fn add_received<S: Store>(
 
 /// Takes a datum out; `false` where it wasn't there. A postponed receipt that waits for it then
 /// lacks it again.
+///
+/// # Errors
+///
+/// Where memory ran out, or a receipt would lack 2^32 inputs or more. Nothing is said of the state
+/// then.
 pub fn remove_received<S: Store>(
     _alloc: Global,
     state: &mut ShardState<S>,
@@ -87,6 +100,10 @@ pub fn remove_received<S: Store>(
 }
 
 /// The id of the postponed receipt that has this input; `None` where none has it.
+///
+/// # Errors
+///
+/// Where memory ran out.
 pub fn awaited<S: Store>(
     _alloc: Global,
     state: &ShardState<S>,
@@ -102,6 +119,10 @@ pub fn awaited<S: Store>(
 
 /// How many of its inputs the postponed receipt with this id hasn't received; `None` where there is
 /// none with this id.
+///
+/// # Errors
+///
+/// Where memory ran out.
 pub fn missing<S: Store>(
     _alloc: Global,
     state: &ShardState<S>,
@@ -120,6 +141,11 @@ pub fn missing<S: Store>(
 
 /// Adds a receipt of actions that waits for data. Its inputs are distinct, and no postponed receipt
 /// at its receiver has its id or one of its inputs.
+///
+/// # Errors
+///
+/// Where memory ran out, a size of the store would be passed, or the receipt lacks 2^32 inputs or
+/// more. Nothing is said of the state then.
 pub fn add_postponed<S: Store>(
     _alloc: Global,
     state: &mut ShardState<S>,
@@ -139,6 +165,10 @@ pub fn add_postponed<S: Store>(
 }
 
 /// Takes a postponed receipt out; `None` where it wasn't there.
+///
+/// # Errors
+///
+/// Where memory ran out. Nothing is said of the state then.
 pub fn take_postponed<S: Store>(
     _alloc: Global,
     state: &mut ShardState<S>,
@@ -156,8 +186,13 @@ pub fn take_postponed<S: Store>(
     Ok(receipt)
 }
 
-/// Puts a receipt at the end of the delayed queue. With it at most 2^63 receipts were ever delayed, counted
-/// from the genesis or the last change of boundaries.
+/// Puts a receipt at the end of the delayed queue.
+///
+/// # Errors
+///
+/// Where memory ran out, a size of the store would be passed, or more than 2^63 receipts would have
+/// been delayed since the genesis or the last change of boundaries. Nothing is said of the state
+/// then.
 pub fn add_delayed<S: Store>(
     _alloc: Global,
     state: &mut ShardState<S>,
@@ -174,6 +209,10 @@ pub fn add_delayed<S: Store>(
 }
 
 /// Takes the receipt at the front of the delayed queue; `None` where the queue is empty.
+///
+/// # Errors
+///
+/// Where memory ran out. Nothing is said of the state then.
 pub fn take_delayed<S: Store>(
     _alloc: Global,
     state: &mut ShardState<S>,

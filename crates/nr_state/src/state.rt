@@ -108,6 +108,10 @@ impl<S: Store> ShardState<S> {
     }
 
     /// All trie entries of the world, in the order of their keys' bytes.
+    ///
+    /// # Errors
+    ///
+    /// Where memory ran out.
     pub fn entries(&self) -> Result<List<Entry>, AllocError>
         requires { self.now.whole ≡ true }
         ensures entries { IfOk result (λ found. pairs_of found ≡ map.entries (flat self.now.world)) }
@@ -120,6 +124,10 @@ impl<S: Store> ShardState<S> {
     }
 
     /// The root of the trie: 32 zero bytes where the world is empty.
+    ///
+    /// # Errors
+    ///
+    /// Where memory ran out.
     pub fn root<L: Ledger>(&mut self, steps: &mut Steps<L>) -> Result<NodeHash, AllocError>
         requires { self.old.whole ≡ true }
         ensures root { IfOk result (λ root. root ≡ (root_of (flat self.old.world)).hash) }
@@ -130,6 +138,10 @@ impl<S: Store> ShardState<S> {
 
     /// Makes room for `n` more checkpoints where there is room for fewer. There are at most eight,
     /// standing and spare together.
+    ///
+    /// # Errors
+    ///
+    /// Where memory ran out. The spare is then as it was.
     pub fn reserve_marks(&mut self, n: usize) -> Result<(), AllocError>
         requires whole { self.old.whole ≡ true }
         requires room { length self.old.marks + n ≤ 8 }

@@ -184,6 +184,10 @@ impl<'a> Span<'a> {
     }
 
     /// The longest front that all keys share.
+    ///
+    /// # Errors
+    ///
+    /// Where memory ran out.
     pub fn front(&self, alloc: Global) -> Result<Blob, AllocError>
         requires { 2 ≤ length self.now }
         ensures value { IfOk result (λ shared. shared ≡ front self.now) }
@@ -211,6 +215,10 @@ impl<'a> Span<'a> {
     }
 
     /// What is left of the first key.
+    ///
+    /// # Errors
+    ///
+    /// Where memory ran out.
     pub fn first_key(&self, alloc: Global) -> Result<Blob, AllocError>
         requires { 0 < length self.now }
         ensures value { IfOk result (λ key. key ≡ (first_path self.now).0) }

@@ -1,5 +1,5 @@
--- Which chunks a chain has, what each comes to in the run to the end,
--- and the state behind it. After the Nomicon, Chain Specification.
+-- Which chunks a chain has, what each comes to in the run to the end, and the state behind it. After the Nomicon,
+-- Chain Specification.
 use Rattle.std.specs.Prelude.{ℕ, ◌&&◌, Bool, nat_lt, List, Option}
 use Rattle.std.specs.FinMap.{entries}
 use Rattle.nr_chunk.specs.Chain.{Chain, rules_of, shards_of}

@@ -1,6 +1,5 @@
 -- The roots of a chain's chunks, the proof of an item of one of them, and what is said of a proof: what is written,
--- or why
--- nothing is. This project's own.
+-- or why nothing is. This project's own.
 use Rattle.std.specs.Prelude.{ℕ, ◌+◌, Bool, true, false, List, [], ◌∷◌, ◌++◌, length, Option, Some, None, Result, Ok}
 use Rattle.std.specs.Prelude.{Err, codes, decimal}
 use Rattle.nr_chunk.specs.Chain.{Chain, rules_of}

@@ -1,5 +1,5 @@
--- The commands on parts of a state: what is cut out of a run,
--- and what is written of parts in files. This project's own.
+-- The commands on parts of a state: what is cut out of a run, and what is written of parts in files. This project's
+-- own.
 use Rattle.std.specs.Prelude.{ℕ, ◌+◌, cond, List, [], ◌∷◌, ◌++◌, length, map, codes, decimal, unwrap_or}
 use Rattle.std.specs.List.{range_with_len}
 use Rattle.nr_chunk.specs.Chain.{Chain}

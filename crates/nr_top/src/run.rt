@@ -1,5 +1,5 @@
-//! The run of a chain to its end, and its report. Functions that move a chain are not inlined: each has room for several
-//! chains in its frame, and most of them have returned before a chunk is run.
+//! The run of a chain to its end, and its report. Functions that move a chain are not inlined: each has room for
+//! several chains in its frame, and most of them have returned before a chunk is run.
 
 ghost use Rattle.std.specs.Prelude.{◌≡◌, ◌++◌, Some, IfOk};
 ghost use Rattle.nr_blocks.specs.Genesis.{IsSoundGenesis};

@@ -8,7 +8,8 @@ use Rattle.nr_trace.specs.declared.trail.TraceStop.{TraceStop}
 use Rattle.nr_trace.specs.declared.trail.TraceStop.TheVariants as trace
 use Rattle.nr_wasmexec.specs.Machine.{runtime}
 use Rattle.nr_wasmexec.specs.Place.{Place, whole_of}
-use Rattle.nr_wasmexec.specs.Reduction.{Trap, GasExceeded, HostFault, To, Runtime, Rules, Outcome, Done, Halted, NeverFits}
+use Rattle.nr_wasmexec.specs.Reduction.{Trap, GasExceeded, HostFault, To, Runtime, Rules, Outcome, Done, Halted}
+use Rattle.nr_wasmexec.specs.Reduction.{NeverFits}
 use Rattle.nr_trace.specs.Trail.{Trail, left_by, place_in, trails}
 
 -- the trail of the run from a place, to which a step led that left this one
@@ -44,7 +45,8 @@ IsPlaced (trace.HostFault k) kind at = ⊥
 IsPlaced trace.Memory kind at = Unit {0}
 
 -- A run comes to its end after some number of steps; a trap is told with its place.
-abbrev pub EndsAt : {S : Type 0} → Result (Unit {0}) TraceStop → Program → S → Guest → (ℕ → Outcome S) → (ℕ → Trail) → Type 0
+abbrev pub EndsAt : {S : Type 0} → Result (Unit {0}) TraceStop → Program → S → Guest → (ℕ → Outcome S) → (ℕ → Trail)
+    → Type 0
 EndsAt (Ok u) p host guest outcome trail = (n : ℕ) × (outcome n ≡ Done (runtime host guest))
 EndsAt (Err (trace.Trap kind func place)) p host guest outcome trail =
     (n : ℕ) × (outcome n ≡ Halted (runtime host guest) (Trap kind)) × ((func, place) ≡ place_in p (trail n))
@@ -55,6 +57,7 @@ EndsAt (Err (trace.HostFault kind)) p host guest outcome trail =
 EndsAt (Err trace.Memory) p host guest outcome trail = Unit {0}
 
 -- The same where no one sees the guest any more.
-pub record Traces {S : Type 0} (result : Result (Unit {0}) TraceStop) (p : Program) (host : S) (outcome : ℕ → Outcome S) (trail : ℕ → Trail) : Type 0 where
+pub record Traces {S : Type 0} (result : Result (Unit {0}) TraceStop) (p : Program) (host : S)
+    (outcome : ℕ → Outcome S) (trail : ℕ → Trail) : Type 0 where
   pub guest : Guest
   pub ends : EndsAt result p host guest outcome trail

@@ -9,8 +9,8 @@ use Rattle.nr_wasmtypes.specs.declared.instr.Plain.{Plain as Op}
 use Rattle.nr_wasmtypes.specs.declared.instr.Plain.TheVariants as op
 use Rattle.nr_wasmmem.specs.declared.guest.Guest.{Guest}
 use Rattle.nr_wasmexec.specs.Functions.{Func, Hosted, Coded, func_at}
-use Rattle.nr_wasmexec.specs.Reduction.{Seq, Plain, Label, Frame, Step, To, Over, Branching, Returning, Stopping, NoRule}
-use Rattle.nr_wasmexec.specs.Reduction.{Runtime, Rules, Config, chosen, stepped, is_too_large}
+use Rattle.nr_wasmexec.specs.Reduction.{Seq, Plain, Label, Frame, Step, To, Over, Branching, Returning, Stopping}
+use Rattle.nr_wasmexec.specs.Reduction.{NoRule, Runtime, Rules, Config, chosen, stepped, is_too_large}
 use Rattle.nr_wasmexec.specs.declared.program.Program.{Program}
 use Rattle.nr_trace.specs.declared.trail.Level.{Level}
 use Rattle.nr_trace.specs.declared.trail.Level.TheVariants as level

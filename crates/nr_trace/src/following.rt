@@ -122,6 +122,10 @@ fn follow(trail: &mut Trail) -> Result<(), AllocError>
 }
 
 /// Goes where the instruction leads that was noted, and notes the one that is next.
+///
+/// # Errors
+///
+/// Where memory ran out. Nothing is said of the trail then.
 pub fn look<'a>(
     trail: &mut Trail<'a>,
     thread: &Thread<'a>,

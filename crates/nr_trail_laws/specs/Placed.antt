@@ -1,5 +1,5 @@
--- WebAssembly Core 1.0, "Instructions": the instruction of a sequence with a number, in the order of opcodes; and that a
--- trail stands at the one whose number it tells. The numbers are this project's own.
+-- WebAssembly Core 1.0, "Instructions": the instruction of a sequence with a number, in the order of opcodes; and that
+-- a trail stands at the one whose number it tells. The numbers are this project's own.
 use Rattle.std.specs.Prelude.{◌≡◌, ℕ, ◌+◌, ◌⊎◌, Some}
 use Rattle.nr_wasmtypes.specs.declared.module.FuncType.{FuncType}
 use Rattle.nr_wasmtypes.specs.Body.{Body}

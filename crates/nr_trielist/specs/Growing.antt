@@ -1,5 +1,5 @@
--- The nodes of the trie of keys as a list, depth first, each
--- with all below it before those beside it. This project's own.
+-- The nodes of the trie of keys as a list, depth first, each with all below it before those beside it. This project's
+-- own.
 use Rattle.std.specs.Prelude.{ℕ, zero, suc, false, List, [], ◌∷◌, ◌++◌, length, map}
 use Rattle.std.specs.List.{flat_map}
 use Rattle.nr_triedef.specs.Node.{key_part, summary}

@@ -87,8 +87,8 @@ fn grow(
 }
 
 /// All nodes of the trie of these keys depth first, children in the order of their nibbles, and what
-/// the first of them tells: the root's hash and the memory usage of all; none where there are no keys. Long values whose
-/// hashes are kept aren't hashed again.
+/// the first of them tells: the root's hash and the memory usage of all; none where there are no
+/// keys. Long values whose hashes are kept aren't hashed again.
 ///
 /// # Errors
 ///

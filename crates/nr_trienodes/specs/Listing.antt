@@ -29,7 +29,8 @@ FitsSo part prefix at (Goes place) = stripped part (left prefix at) ≡ Some (le
 pub record BendsDown (nodes : List Shape) (id : ℕ) (prefix : List ℕ) (at nibble next below : ℕ) : Type 0 where
   pub there : below < id
   pub small : nibble < 16
-  pub paths : kept (left prefix at) (paths_at nodes id) ≡ in_front (shape_at nodes id).part (in_front (nibble ∷ []) (kept (left prefix next) (paths_at nodes below)))
+  pub paths : kept (left prefix at) (paths_at nodes id)
+      ≡ in_front (shape_at nodes id).part (in_front (nibble ∷ []) (kept (left prefix next) (paths_at nodes below)))
 
 -- which paths of a node begin with what is left of a prefix
 abbrev pub BendsSo : List Shape → ℕ → List ℕ → ℕ → Bend → Type 0
@@ -85,7 +86,8 @@ PushesSo old new None key nibble = new ≡ old
 PushesSo old new (Some child) key nibble = Pushed old new child key nibble
 
 -- the places of the children from a nibble on, behind the others
-pub record RowPushed (nodes : List Shape) (row : List (Option ℕ)) (key : List ℕ) (from : ℕ) (old new : List Place) : Type 0 where
+pub record RowPushed (nodes : List Shape) (row : List (Option ℕ)) (key : List ℕ) (from : ℕ)
+    (old new : List Place) : Type 0 where
   pub paths : paths_of nodes new ≡ in_front key (paths_from from (drop from (map (option_map (paths_at nodes)) row)))
       ++ paths_of nodes old
   pub count : count_of nodes new ≡ sum_by or_zero (drop from (map (option_map (count_at nodes)) row))
@@ -93,7 +95,8 @@ pub record RowPushed (nodes : List Shape) (row : List (Option ℕ)) (key : List 
   pub places : ArePlaces nodes old → ArePlaces nodes new
 
 -- a place's own key is listed, and its children wait before the others
-pub record PlaceListed (nodes : List Shape) (place : Place) (before listed : List (List ℕ)) (old new : List Place) : Type 0 where
+pub record PlaceListed (nodes : List Shape) (place : Place) (before listed : List (List ℕ))
+    (old new : List Place) : Type 0 where
   pub keys : listed ++ keys_in (paths_of nodes new) ≡ before ++ keys_in (place_paths nodes place ++ paths_of nodes old)
   pub count : count_of nodes new + 1 ≡ count_of nodes old + count_at nodes place.node
   pub places : ArePlaces nodes old → ArePlaces nodes new

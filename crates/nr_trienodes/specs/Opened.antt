@@ -149,7 +149,8 @@ Reads f m = (q : List ℕ) → f (nibbles q) ≡ get m q
 -- the count of a map's entries becomes theirs with another value at a key, or with none, where the key was there or not
 abbrev pub CountsOn : Bool → List ℕ → Option (List ℕ) → ℕ → ℕ → Type 0
 CountsOn found k o before after =
-    (m : Contents) → found ≡ is_some (get m k) → before ≡ length (entries m) → after ≡ length (entries (with_value m k o))
+    (m : Contents) → found ≡ is_some (get m k) → before ≡ length (entries m)
+    → after ≡ length (entries (with_value m k o))
 
 -- it becomes theirs after all changes
 abbrev pub CountsAll : Answer → List Changing → ℕ → ℕ → Type 0

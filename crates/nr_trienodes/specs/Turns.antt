@@ -48,7 +48,8 @@ StopsSo s key at (Sprout nibble next) = GoesBy s key at nibble next × (child s.
 StopsSo s key at (Apart shared) = Parts s key at shared
 
 abbrev pub TurnsSo : ℕ → Shape → List ℕ → ℕ → Turn → Type 0
-TurnsSo id s key at (Down nibble next below) = GoesBy s key at nibble next × (child s.below nibble ≡ Some below) × (below < id)
+TurnsSo id s key at (Down nibble next below) =
+    GoesBy s key at nibble next × (child s.below nibble ≡ Some below) × (below < id)
 TurnsSo id s key at (Stops stop) = StopsSo s key at stop
 
 -- from a node with a key to its child with what is left of the key
@@ -86,7 +87,8 @@ abbrev pub costs_below : List Shape → List (Option ℕ) → ℕ
 costs_below nodes below = sum_by or_zero (map (option_map (cost_at nodes)) below)
 
 -- a node that stands for what one of these would, or none where that is nothing
-pub record Settles (old new : List Shape) (part : List ℕ) (value : Option (List ℕ)) (below : List (Option ℕ)) (id : Option ℕ) : Type 0 where
+pub record Settles (old new : List Shape) (part : List ℕ) (value : Option (List ℕ)) (below : List (Option ℕ))
+    (id : Option ℕ) : Type 0 where
   pub there : IsIn (length new) id
   pub same : (q : List ℕ) → found_in new id q ≡ stands_for old part value below q
   pub cost : cost_in new id ≤ 2 + costs_below old below
@@ -99,7 +101,8 @@ pub record Sprouts (old new : List Shape) (id : ℕ) (key value : List ℕ) : Ty
   pub cost : cost_at new id ≤ 1
 
 -- a node, or none, that stands for what an older one does but for one key
-pub record Changes (old new : List Shape) (at id : Option ℕ) (key : List ℕ) (o : Option (List ℕ)) (extra : ℕ) : Type 0 where
+pub record Changes (old new : List Shape) (at id : Option ℕ) (key : List ℕ) (o : Option (List ℕ))
+    (extra : ℕ) : Type 0 where
   pub there : IsIn (length new) id
   pub sets : Sets (found_in old at) (found_in new id) key o
   pub cost : cost_in new id ≤ cost_in old at + extra
@@ -108,7 +111,8 @@ pub record Changes (old new : List Shape) (at id : Option ℕ) (key : List ℕ) 
 abbrev pub Climbs : List Shape → List Shape → List Step → Option ℕ → Option ℕ → Type 0
 Climbs mid new way below id =
     (old : List Shape) (root : ℕ) (key : List ℕ) (at : ℕ) (rest : List ℕ) (o : Option (List ℕ)) (extra : ℕ)
-    → Sound old → Extends old mid → Leads old root key way at rest → Changes old mid (Some at) below rest o extra → Changes old new (Some root) id key o (extra + 2 * length way)
+    → Sound old → Extends old mid → Leads old root key way at rest → Changes old mid (Some at) below rest o extra
+    → Changes old new (Some root) id key o (extra + 2 * length way)
 
 -- how many children a row has, and the only one
 abbrev pub LinksSo : List (Option ℕ) → Links → Type 0

@@ -40,7 +40,8 @@ IsIn n None = Unit {0}
 IsIn n (Some id) = id < n
 
 -- one node more
-pub record Adds (old new : List Shape) (id : ℕ) (part : List ℕ) (value : Option (List ℕ)) (below : List (Option ℕ)) : Type 0 where
+pub record Adds (old new : List Shape) (id : ℕ) (part : List ℕ) (value : Option (List ℕ))
+    (below : List (Option ℕ)) : Type 0 where
   pub name : id ≡ length old
   pub usage : ℕ
   pub is : new ≡ record { part = part; value = value; below = below; usage = usage; hash = None } ∷ old

@@ -9,8 +9,8 @@ use Rattle.nr_walk.specs.declared.searched.Searched.{Searched}
 use Rattle.nr_walk.specs.Searched.{looks, finds}
 use Rattle.nr_walk.specs.Tries.{top_of}
 
--- the node over these paths, at this place, is looked at: the
--- top one, and each child of one that is looked at for itself
+-- the node over these paths, at this place, is looked at: the top one, and each child of one that is looked at for
+-- itself
 pub data IsLooked (searched : List Searched) (top : Paths) : List ℕ → Paths → Type 0 where
   First : IsLooked searched top [] top
   Next : (place : List ℕ) (ps : Paths) → IsLooked searched top place ps → looks searched place ≡ true → 2 ≤ length ps

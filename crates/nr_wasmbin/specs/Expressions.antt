@@ -1,5 +1,5 @@
--- WebAssembly Core 1.0, "Binary Format", "Instructions" and
--- "Expressions": a sequence of instructions, read up to its end.
+-- WebAssembly Core 1.0, "Binary Format", "Instructions" and "Expressions": a sequence of instructions, read up to its
+-- end.
 use Rattle.std.specs.Prelude.{◌≡◌, ◌≢◌, ℕ, zero, suc, ◌+◌, ◌≤◌, List, [], ◌∷◌, ◌++◌, Option, Some, None, Bool, true, false}
 use Rattle.std.specs.Prelude.{Result, Ok, Err, nat_lt, ◌==◌, if◌then◌else◌, length, min}
 use Rattle.std.specs.Global.{Vec}

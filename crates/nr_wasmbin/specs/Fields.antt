@@ -84,7 +84,9 @@ name_at s = bytes_at s >>= name_of s.at
 
 -- so many bytes as an input of their own, and what is left behind them
 abbrev pub contents_at : ℕ → Input → Read Input
-contents_at size s = if nat_lt (length s.left) size then Err (fault.Short s.at) else Ok (record { left = take size s.left; at = s.at }, past size s)
+contents_at size s =
+    if nat_lt (length s.left) size then Err (fault.Short s.at)
+    else Ok (record { left = take size s.left; at = s.at }, past size s)
 
 -- nothing is left, or the first byte that is left is at fault
 abbrev pub filled_of : List ℕ → ℕ → Result (Unit {0}) DecodeFault

@@ -190,8 +190,8 @@ abbrev pub IsOther : Bool → Language → Code → Language
 IsOther true Side other text = Side text
 IsOther false Side other text = (text ≡ []) × (other ≡ End)
 
--- The bytes are the sequence and its end, which is an `else` or
--- not, inside so many blocks. At most 256 stand in one another.
+-- The bytes are the sequence and its end, which is an `else` or not, inside so many blocks. At most 256 stand in one
+-- another.
 abbrev pub IsSequence : ℕ → List ℕ → Code → Bool → Type 0
 IsSequence depth text End stands = (b : ℕ) × (text ≡ b ∷ []) × (op_of b ≡ end_op stands)
 IsSequence depth text (Then p rest) stands =

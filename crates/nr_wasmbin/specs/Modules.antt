@@ -153,4 +153,5 @@ module_at s = do
 
 -- the module that the bytes are, which are at most so many, or the first fault
 unfoldable pub decoded : ℕ → List ℕ → Result Module DecodeFault
-decoded most bytes = if nat_lt most (length bytes) then Err (fault.TooMany 0) else module_at (record { left = bytes; at = 0 })
+decoded most bytes =
+    if nat_lt most (length bytes) then Err (fault.TooMany 0) else module_at (record { left = bytes; at = 0 })

@@ -56,6 +56,11 @@ fn read_groups(alloc: Global, cursor: &mut Cursor<'_>, count: u32) -> Result<Loc
 }
 
 /// The locals of a body.
+///
+/// # Errors
+///
+/// The fault of the first field that can't be read, where the count that passes 50,000 locals is
+/// such a field; `Memory`.
 #[tactic(auto, unfolding(crate::specs::Parts::locals_at))]
 pub fn read_locals(alloc: Global, cursor: &mut Cursor<'_>) -> Result<Locals, DecodeFault>
     ensures gives { Gives result cursor.new (locals_at cursor.old) }

@@ -62,6 +62,10 @@ impl<'a> Cursor<'a> {
     }
 
     /// The next byte.
+    ///
+    /// # Errors
+    ///
+    /// `Short` where no byte is left.
     #[inline(always)]
     pub fn byte(&mut self) -> Result<u8, DecodeFault>
         ensures gives { Gives result self.new (byte_at self.old) }
@@ -141,6 +145,11 @@ impl<'a> Cursor<'a> {
     }
 
     /// How many items a list has.
+    ///
+    /// # Errors
+    ///
+    /// `Short` or `Leb` where it can't be read, `TooMany` where it is above 50,000, each at its
+    /// first byte.
     #[inline]
     pub fn count(&mut self) -> Result<u32, DecodeFault>
         ensures gives { Gives result self.new (count_at self.old) }
@@ -249,6 +258,11 @@ impl<'a> Cursor<'a> {
     }
 
     /// A size, and that many bytes, to be read on their own.
+    ///
+    /// # Errors
+    ///
+    /// `Short` or `Leb` at the size, where it can't be read; `Short` behind it, where fewer bytes
+    /// are left.
     pub fn sized(&mut self) -> Result<Cursor<'a>, DecodeFault>
         ensures gives { Gives result self.new (sized_at self.old) }
         ensures shorter { OnOk result (length self.new.left ≤ length self.old.left) }

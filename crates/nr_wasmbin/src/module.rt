@@ -44,6 +44,10 @@ struct Back {
 }
 
 /// The magic and the version.
+///
+/// # Errors
+///
+/// `Short` where fewer than four bytes are left, `Section` where they are others.
 pub fn read_word(cursor: &mut Cursor<'_>, word: [u8; 4]) -> Result<(), DecodeFault>
     ensures { Gives result cursor.new (word_at word cursor.old) }
 {
@@ -56,6 +60,11 @@ pub fn read_word(cursor: &mut Cursor<'_>, word: [u8; 4]) -> Result<(), DecodeFau
 }
 
 /// The sections up to that of functions.
+///
+/// # Errors
+///
+/// The fault of the first field that can't be read, where a byte behind a section's items is such a
+/// field; `Memory`.
 #[tactic(auto, unfolding(crate::specs::Modules::front_at))]
 pub fn read_front(alloc: Global, cursor: &mut Cursor<'_>) -> Result<Front, DecodeFault>
     ensures { Gives result cursor.new (front_at cursor.old) }
@@ -71,6 +80,11 @@ pub fn read_front(alloc: Global, cursor: &mut Cursor<'_>) -> Result<Front, Decod
 }
 
 /// The sections from there to the code.
+///
+/// # Errors
+///
+/// The fault of the first field that can't be read, where a byte behind a section's items is such a
+/// field; `Memory`.
 #[tactic(auto, unfolding(crate::specs::Modules::middle_at))]
 pub fn read_middle(alloc: Global, cursor: &mut Cursor<'_>) -> Result<Middle, DecodeFault>
     ensures { Gives result cursor.new (middle_at cursor.old) }

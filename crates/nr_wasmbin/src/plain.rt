@@ -60,6 +60,11 @@ fn read_store(cursor: &mut Cursor<'_>, at: usize, what: Store) -> Result<Plain, 
 }
 
 /// An instruction that holds no others, behind its opcode.
+///
+/// # Errors
+///
+/// `Float` or `Opcode` at the opcode, where it is of floats or of no such instruction; else the
+/// fault of the first operand that can't be read. `Memory`.
 #[inline(never)]
 pub fn read_plain(
     alloc: Global,
@@ -126,6 +131,11 @@ pub(crate) fn plain_of(
 }
 
 /// The type of a block.
+///
+/// # Errors
+///
+/// `Short` where no byte is left; `Float` where it is the type of a float, `Opcode` where it is
+/// none.
 pub fn read_block_type(cursor: &mut Cursor<'_>) -> Result<Option<ValType>, DecodeFault>
     ensures gives { Gives result cursor.new (block_type_at cursor.old) }
     ensures shorter { OnOk result (length cursor.new.left < length cursor.old.left) }

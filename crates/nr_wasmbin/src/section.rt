@@ -41,6 +41,11 @@ pub(crate) fn skip_customs(cursor: &mut Cursor<'_>) -> Result<(), DecodeFault>
 }
 
 /// The contents of a section, where it stands next.
+///
+/// # Errors
+///
+/// The fault of the first field that can't be read, of the custom sections before it, its size and
+/// its contents.
 #[tactic(auto, unfolding(crate::specs::Modules::entered))]
 pub fn enter<'a>(cursor: &mut Cursor<'a>, id: u8) -> Result<Option<Cursor<'a>>, DecodeFault>
     ensures { Gives result cursor.new (entered id cursor.old) }

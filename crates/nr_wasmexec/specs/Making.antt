@@ -1,6 +1,5 @@
 -- WebAssembly Core 1.0, "Instantiation" and "Invocation": the guest of a module before its first run, with its
--- elements and
--- segments, and the functions that may be run by name.
+-- elements and segments, and the functions that may be run by name.
 use Rattle.std.specs.Prelude.{◌≡◌, ℕ, ◌+◌, ◌≤◌, nat_le, nat_eq, if◌then◌else◌, Bool, false, not, ◌&&◌, List, [], ◌∷◌}
 use Rattle.std.specs.Prelude.{length, map, min, replicate, find, Option, Some, None, is_some, option_and_then, Result}
 use Rattle.std.specs.Prelude.{Ok, Err, slice_get, slice_set}

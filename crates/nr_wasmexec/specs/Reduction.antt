@@ -1,7 +1,6 @@
--- WebAssembly Core 1.0, "Execution", "Instructions": running
--- code by rewriting sequences of instructions, one row for each
--- instruction. The numbers of traps, gas and limits are this
--- project's own: an instruction is paid for before its effect.
+-- WebAssembly Core 1.0, "Execution", "Instructions": running code by rewriting sequences of instructions, one row for
+-- each instruction. The numbers of traps, gas and limits are this project's own: an instruction is paid for before
+-- its effect.
 use Rattle.std.specs.Prelude.{ℕ, zero, suc, ◌+◌, ◌-◌, ◌%◌, ◌^◌, ◌==◌, nat_lt, Bool, ◌||◌, if◌then◌else◌, List, [], ◌∷◌}
 use Rattle.std.specs.Prelude.{◌++◌, length, take, drop, reverse, replicate, Option, Some, None, Result, Ok, Err}
 use Rattle.std.specs.Prelude.{slice_get, slice_set}
@@ -167,8 +166,12 @@ plain_effect p guest locals values (op.GlobalGet n) =
 plain_effect p guest locals values (op.GlobalSet n) =
     on_top values (λ v rest. if nat_lt n (length guest.globals) then Writes
     (record guest { globals = slice_set guest.globals n v }) rest else Stuck)
-plain_effect p guest locals values (op.Load what align offset) = on_top values (λ at rest. read (number_in guest.memory.bytes (place_at at offset) (width_of_load what)) (λ v. Goes locals (load_of what v ∷ rest)))
-plain_effect p guest locals values (op.Store what align offset) = on_two values (λ at v rest. written guest (number_over guest.memory.bytes (place_at at offset) (width_of_store what) v) rest)
+plain_effect p guest locals values (op.Load what align offset) =
+    on_top values (λ at rest. read (number_in guest.memory.bytes (place_at at offset) (width_of_load what))
+    (λ v. Goes locals (load_of what v ∷ rest)))
+plain_effect p guest locals values (op.Store what align offset) =
+    on_two values (λ at v rest. written guest
+    (number_over guest.memory.bytes (place_at at offset) (width_of_store what) v) rest)
 plain_effect p guest locals values op.MemorySize = Goes locals (pages_of guest.memory.bytes ∷ values)
 plain_effect p guest locals values op.MemoryGrow =
     on_top values (λ v rest. grows guest (grown guest.memory (v % 2 ^ 32)) rest)

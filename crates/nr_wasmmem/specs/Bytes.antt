@@ -40,7 +40,8 @@ range_in bytes at count = if nat_le (at + count) (length bytes) then Some (take 
 -- the bytes with a part put over them, where that is inside
 unfoldable pub put_over : List ℕ → ℕ → List ℕ → Option (List ℕ)
 put_over bytes at part =
-    if nat_le (at + length part) (length bytes) then Some (take at bytes ++ part ++ drop (at + length part) bytes) else None
+    if nat_le (at + length part) (length bytes) then Some (take at bytes ++ part ++ drop (at + length part) bytes)
+    else None
 
 -- the number that stands in so many bytes, the lowest byte first
 abbrev pub number_in : List ℕ → ℕ → ℕ → Option ℕ

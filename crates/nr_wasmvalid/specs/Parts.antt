@@ -1,6 +1,5 @@
--- WebAssembly Core 1.0, "Validation", "Modules": what the parts
--- of a module ask, apart from its functions' bodies, in the
--- order in which a breach is looked for. The host's functions after the Nomicon, "Bindings Spec".
+-- WebAssembly Core 1.0, "Validation", "Modules": what the parts of a module ask, apart from its functions' bodies, in
+-- the order in which a breach is looked for. The host's functions after the Nomicon, "Bindings Spec".
 use Rattle.std.specs.Prelude.{ℕ, ◌+◌, ◌-◌, ◌^◌, min, List, [], ◌∷◌, ◌++◌, length, take, Option, Some, None, is_some}
 use Rattle.std.specs.Prelude.{slice_get, nat_le, nat_eq, Bool, true, false, not, ◌&&◌, Result, Ok, Err, if◌then◌else◌}
 use Rattle.std.specs.Prelude.{codes}

@@ -20,12 +20,9 @@ pub record Names : Type 0 where
   pub schedule : Option (List ℕ)
 
 -- What the words ask for. A replay of blocks over a genesis under a configuration, or the run of a chain that three
--- numbers
--- generate. The roots of a chain's chunks, the proof of an item, and whether a proof leads to a root. A part of a
--- state,
--- whether a part is one of a root's, and whether all parts of a root make it up, in files of one prefix. What another
--- run
--- of one chunk needs, and that run from a configuration and a file.
+-- numbers generate. The roots of a chain's chunks, the proof of an item, and whether a proof leads to a root. A part
+-- of a state, whether a part is one of a root's, and whether all parts of a root make it up, in files of one prefix.
+-- What another run of one chunk needs, and that run from a configuration and a file.
 pub data Command : Type 0 where
   Replay : Names → Command
   Generate : ℕ → ℕ → ℕ → Command
@@ -185,13 +182,10 @@ replay_of found =
     (cond (bytes_eq found.0 (codes "gen")) (generate_of found.1) None)
 
 -- ---- commands
--- `run CONFIG GENESIS BLOCKS`, `check CONFIG GENESIS BLOCKS SCHEDULE`, `gen NUMBER SHARDS BLOCKS`, `roots CONFIG
--- GENESIS
--- BLOCKS`, `prove CONFIG GENESIS BLOCKS HEIGHT SHARD KIND PLACE`, `verify ROOT PROOF`, `part CONFIG GENESIS BLOCKS
--- HEIGHT
--- SHARD COUNT NUMBER`, `checkpart ROOT FILE`, `joinparts ROOT COUNT PREFIX`, `gather CONFIG GENESIS BLOCKS HEIGHT
--- SHARD`
--- or `recheck CONFIG FILE`
+-- `run CONFIG GENESIS BLOCKS`, `check CONFIG GENESIS BLOCKS SCHEDULE`, `gen NUMBER SHARDS BLOCKS`,
+-- `roots CONFIG GENESIS BLOCKS`, `prove CONFIG GENESIS BLOCKS HEIGHT SHARD KIND PLACE`, `verify ROOT PROOF`,
+-- `part CONFIG GENESIS BLOCKS HEIGHT SHARD COUNT NUMBER`, `checkpart ROOT FILE`, `joinparts ROOT COUNT PREFIX`,
+-- `gather CONFIG GENESIS BLOCKS HEIGHT SHARD` or `recheck CONFIG FILE`
 unfoldable pub command : List (List ℕ) → Option Command
 command words = option_and_then command_of (read serial_forms words)
 

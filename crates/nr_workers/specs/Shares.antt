@@ -11,7 +11,8 @@ use Rattle.nr_workers.specs.Each.{Each}
 use Rattle.nr_workers.specs.declared.left.Left.{Left}
 use Rattle.nr_workers.specs.declared.done.Share.{Share}
 
-pub record IsShareOf {P W K L R : Type 0} (rules : P → Rules W K L R) (e : ExchangeView (Serial P W K L R)) (s : ℕ) (share : Share P W K L R) : Type 0 where
+pub record IsShareOf {P W K L R : Type 0} (rules : P → Rules W K L R) (e : ExchangeView (Serial P W K L R)) (s : ℕ)
+    (share : Share P W K L R) : Type 0 where
   pub port_is : HasDoneAll rules e s share.port
   pub world_is : share.world ≡ world_after (rules e.run.0) s (rules e.run.0).heights
   pub reports_are : share.reports ≡ reports_to (rules e.run.0) s (rules e.run.0).heights

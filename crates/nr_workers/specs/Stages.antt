@@ -52,7 +52,8 @@ number_after None n = n + 1
 number_after (Some lists) n = n
 
 -- a port that has published and claimed nothing
-pub record IsFresh {P W K L R : Type 0} (rules : P → Rules W K L R) (e : ExchangeView (Serial P W K L R)) (port : PortView (Serial P W K L R)) : Type 0 where
+pub record IsFresh {P W K L R : Type 0} (rules : P → Rules W K L R) (e : ExchangeView (Serial P W K L R))
+    (port : PortView (Serial P W K L R)) : Type 0 where
   pub port_of : IsPortOf (serial_plan rules) e port
   pub number_is : port.note.number ≡ 0
   pub claimed : (t : ℕ) → t < (rules e.run.0).shards → (link port.note t).claimed ≡ 0

@@ -1,3 +1,4 @@
+-- The goals of `laws::answer_laws` that no tactic closes.
 use Rattle.nr_contract_laws.proofs.Answering.{answers, begins, goes_on}
 use Rattle.nr_contract_laws.proofs.laws.answer_laws.Goals as goal
 

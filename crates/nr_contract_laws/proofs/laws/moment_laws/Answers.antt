@@ -1,3 +1,4 @@
+-- The goals of `laws::moment_laws` that no tactic closes.
 use Rattle.std.proofs.Common.{◌+◌, ◌≡◌, ap, ◌∙◌, arith}
 use Rattle.nr_contract_laws.proofs.Along.{each, reached}
 use Rattle.nr_contract_laws.proofs.Calls.{counted, same, typed}

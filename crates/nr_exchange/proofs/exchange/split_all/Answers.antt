@@ -1,3 +1,4 @@
+-- The goals of `exchange::split_all` that no tactic closes.
 use Rattle.std.proofs.Common.{◌≡◌, ◌+◌, ◌<◌, ℕ, length, sym, ap, ◌∙◌, subst, refl, arith}
 use Rattle.std.proofs.lemmas.Option.{slice_get_read}
 use Rattle.nr_exchange.specs.Notes.{fresh, one_made}

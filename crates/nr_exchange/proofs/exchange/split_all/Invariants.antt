@@ -1,3 +1,4 @@
+-- What holds at the loops of `exchange::split_all`.
 use Rattle.nr_exchange.specs.Seats.{AreSplit}
 use Rattle.nr_exchange.proofs.exchange.split_all.Given as goal
 

@@ -1,3 +1,4 @@
+-- The goals of `crew::start` that no tactic closes.
 use denote.Exit.{yes}
 use mir.Syntax.{named}
 use denote.Struct.Field.{shr_ref_field, u64-field}

@@ -1,3 +1,4 @@
+-- The goals of `shards::run_shards` that no tactic closes.
 use Rattle.nr_workers.proofs.Fresh.{all_fresh}
 use Rattle.nr_workers.proofs.Returned.{on_ok, returned}
 use Rattle.nr_workers.proofs.shards.run_shards.Goals as goal

@@ -1,3 +1,4 @@
+-- The goals of `hashes::Hashed::is` that no tactic closes.
 use Rattle.std.proofs.Common.{sym, ◌∙◌}
 use Rattle.std.specs.Cmp.Lexicographic.{bytes_decides}
 use Rattle.nr_trielist.proofs.hashes.Hashed.is.Goals as goal
