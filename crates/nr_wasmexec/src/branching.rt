@@ -13,6 +13,7 @@ use crate::thread::Thread;
 use nr_wasmtypes::{Instr, Labels, ValType};
 
 /// Lost where a place wasn't reached.
+#[inline(always)]
 pub fn reached(there: bool) -> Result<(), Stop>
     ensures { Arrives result there }
 {
@@ -20,6 +21,7 @@ pub fn reached(there: bool) -> Result<(), Stop>
 }
 
 /// How many values a block leaves.
+#[inline(always)]
 pub fn arity(kind: Option<ValType>) -> usize
     ensures { result ≡ arity_of kind }
 {
@@ -31,6 +33,7 @@ pub fn arity(kind: Option<ValType>) -> usize
 
 /// Opens a block that leaves so many values. A branch to it goes on behind the block, or at the block again
 /// (a loop). `Memory` is its one stop.
+#[inline]
 pub fn enter<'a>(
     thread: &mut Thread<'a>,
     arity: usize,
@@ -45,6 +48,7 @@ pub fn enter<'a>(
 }
 
 /// Takes an i32 and opens the first body, or the other where it is zero. `Lost` where no operand is there.
+#[inline]
 pub fn choose<'a>(
     thread: &mut Thread<'a>,
     arity: usize,
@@ -64,6 +68,7 @@ pub fn choose<'a>(
 }
 
 /// Branches out of so many blocks and one more. `Lost` where there are not so many, or too few operands.
+#[inline]
 pub fn branch(thread: &mut Thread, depth: u32) -> Result<(), Stop>
     ensures { Moves result thread.new (by thread.old (Branches depth thread.old.values)) }
 {
@@ -71,6 +76,7 @@ pub fn branch(thread: &mut Thread, depth: u32) -> Result<(), Stop>
 }
 
 /// Takes an i32, and branches unless it is zero. `Lost` where it is not there, or as for `branch`.
+#[inline]
 pub fn branch_if(thread: &mut Thread, depth: u32) -> Result<(), Stop>
     ensures { Moves result thread.new (by thread.old
         (on_top thread.old.values (λ v rest. if v == 0 then Goes thread.old.locals rest else Branches depth rest))) }
@@ -95,6 +101,7 @@ pub fn branch_by(thread: &mut Thread, labels: &Labels) -> Result<(), Stop>
 }
 
 /// The label with this number, or the one for every other.
+#[inline]
 pub fn label_of(labels: &Labels, value: u64) -> u32
     ensures { result ≡ chosen (slice_get labels.now.0 value) labels.now.1 }
 {

@@ -28,6 +28,7 @@ pub enum Control<'a> {
 }
 
 /// Takes the innermost one.
+#[inline(always)]
 pub fn pop_control<'a>(controls: &mut Vec<Control<'a>>) -> Option<Control<'a>>
     ensures { PopsControl result (reverse controls.old.items) (reverse controls.new.items) }
 {
@@ -35,6 +36,7 @@ pub fn pop_control<'a>(controls: &mut Vec<Control<'a>>) -> Option<Control<'a>>
 }
 
 /// Takes the innermost one where it is a label, and answers its height.
+#[inline(always)]
 pub fn pop_label(controls: &mut Vec<Control>) -> Option<usize>
     ensures { PopsLabel result (reverse controls.old.items) (reverse controls.new.items) }
 {
@@ -49,6 +51,7 @@ pub fn pop_label(controls: &mut Vec<Control>) -> Option<usize>
 }
 
 /// Moves the topmost values down to a place.
+#[inline]
 pub fn keep_top(values: &mut Vec<u64>, to: usize, count: usize)
     requires { to + count ≤ length values.old.items }
     ensures { values.new.items ≡ take to values.old.items ++ drop (length values.old.items - count) values.old.items }

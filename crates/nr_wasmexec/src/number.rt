@@ -12,6 +12,7 @@ use nr_wasmnum::NumFault;
 use nr_wasmtypes::{Arith, Compare, Convert, Count, ValType};
 
 /// Puts 1 in place of the topmost operand where it is zero, else 0. `Lost` where there is none.
+#[inline(always)]
 pub fn is_zero(thread: &mut Thread, kind: ValType) -> Result<(), Stop>
     ensures { Moves result thread.new (by thread.old
         (on_top thread.old.values (λ v rest. Goes thread.old.locals (zero_test_of kind v ∷ rest)))) }
@@ -21,6 +22,7 @@ pub fn is_zero(thread: &mut Thread, kind: ValType) -> Result<(), Stop>
 }
 
 /// Puts a count of bits in place of the topmost operand. `Lost` where there is none.
+#[inline]
 pub fn count(thread: &mut Thread, kind: ValType, how: Count) -> Result<(), Stop>
     ensures { Moves result thread.new (by thread.old
         (on_top thread.old.values (λ v rest. Goes thread.old.locals (bit_count_of kind how v ∷ rest)))) }
@@ -30,6 +32,7 @@ pub fn count(thread: &mut Thread, kind: ValType, how: Count) -> Result<(), Stop>
 }
 
 /// Puts the same number as another type in place of the topmost operand. `Lost` where there is none.
+#[inline(always)]
 pub fn convert(thread: &mut Thread, how: Convert) -> Result<(), Stop>
     ensures { Moves result thread.new (by thread.old
         (on_top thread.old.values (λ v rest. Goes thread.old.locals (convert_of how v ∷ rest)))) }
@@ -40,6 +43,7 @@ pub fn convert(thread: &mut Thread, how: Convert) -> Result<(), Stop>
 
 /// Puts 1 in place of two operands, of which the second is on top, where the comparison holds, else 0. `Lost`
 /// where there are fewer.
+#[inline(always)]
 pub fn compare(thread: &mut Thread, kind: ValType, how: Compare) -> Result<(), Stop>
     ensures { Moves result thread.new (by thread.old
         (on_two thread.old.values (λ x y rest. Goes thread.old.locals (compare_of kind how x y ∷ rest)))) }
@@ -51,6 +55,7 @@ pub fn compare(thread: &mut Thread, kind: ValType, how: Compare) -> Result<(), S
 
 /// Puts what an operation gives in place of two operands, of which the second is on top. Trap 3 is a division by
 /// zero, trap 4 a quotient that the type does not have; `Lost` where there are fewer operands.
+#[inline(always)]
 pub fn arith(thread: &mut Thread, kind: ValType, how: Arith) -> Result<(), Stop>
     ensures { Moves result thread.new (by thread.old
         (on_two thread.old.values (λ x y rest. computed (arith_of kind how x y)

@@ -8,6 +8,7 @@ use crate::stop::Stop;
 use crate::thread::Thread;
 
 /// Goes on.
+#[inline(always)]
 pub fn skip(thread: &mut Thread) -> Result<(), Stop>
     ensures { Moves result thread.new (by thread.old (Goes thread.old.locals thread.old.values)) }
 {
@@ -16,6 +17,7 @@ pub fn skip(thread: &mut Thread) -> Result<(), Stop>
 }
 
 /// Goes on with one operand more.
+#[inline(always)]
 pub fn push(thread: &mut Thread, value: u64) -> Result<(), Stop>
     ensures { Moves result thread.new (by thread.old (Goes thread.old.locals (value ∷ thread.old.values))) }
 {
@@ -25,6 +27,7 @@ pub fn push(thread: &mut Thread, value: u64) -> Result<(), Stop>
 }
 
 /// Takes the topmost operand, and stays.
+#[inline(always)]
 pub fn popped(thread: &mut Thread) -> Result<u64, Stop>
     ensures { Takes result thread.old thread.new }
 {
@@ -35,6 +38,7 @@ pub fn popped(thread: &mut Thread) -> Result<u64, Stop>
 }
 
 /// Drops the topmost operand. `Lost` where there is none.
+#[inline(always)]
 pub fn discard(thread: &mut Thread) -> Result<(), Stop>
     ensures { Moves result thread.new (by thread.old
         (on_top thread.old.values (λ v rest. Goes thread.old.locals rest))) }
@@ -45,6 +49,7 @@ pub fn discard(thread: &mut Thread) -> Result<(), Stop>
 }
 
 /// Keeps the first of two operands, or the second where the third is zero.
+#[inline(always)]
 pub fn select(thread: &mut Thread) -> Result<(), Stop>
     ensures { Moves result thread.new (by thread.old
         (on_three thread.old.values (λ x y v rest. Goes thread.old.locals ((if v == 0 then y else x) ∷ rest)))) }
@@ -55,6 +60,7 @@ pub fn select(thread: &mut Thread) -> Result<(), Stop>
     push(thread, chosen(choice, first, second))
 }
 
+#[inline(always)]
 fn chosen(choice: u64, first: u64, second: u64) -> u64
     ensures { result ≡ (if choice == 0 then second else first) }
 {

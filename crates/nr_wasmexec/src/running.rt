@@ -21,6 +21,7 @@ use nr_wasmvalid::running_laws;
 use std::alloc::Global;
 
 /// Pays for the next instruction, and runs it.
+#[inline]
 fn obey<'a, H: Host>(
     thread: &mut Thread<'a>,
     program: &'a Program,
@@ -45,6 +46,7 @@ fn obey<'a, H: Host>(
 }
 
 /// One step: an instruction, or the end of a block or a frame. False at the end of the run.
+#[inline]
 pub fn turn<'a, H: Host>(
     thread: &mut Thread<'a>,
     program: &'a Program,
@@ -70,6 +72,7 @@ pub fn turn<'a, H: Host>(
 }
 
 /// Whether a thread holds more than it may.
+#[inline(always)]
 pub fn is_too_large(thread: &Thread, limits: Limits) -> bool
     ensures { result ≡ is_too_large_at limits.max_frames limits.max_values thread.now }
 {
@@ -79,6 +82,7 @@ pub fn is_too_large(thread: &Thread, limits: Limits) -> bool
     )
 }
 
+#[inline(always)]
 fn either(first: bool, second: bool) -> bool
     ensures { result ≡ first || second }
 {

@@ -85,6 +85,7 @@ impl<'a> Thread<'a> {
     }
 
     /// The instruction that runs next.
+    #[inline(always)]
     pub fn instr(&self) -> Option<&'a Instr>
         ensures { MatchOption result (self.now.code ≡ End) (λ i. self.now.code ≡ put i.now (after self.now.code)) }
     {
@@ -99,6 +100,7 @@ impl<'a> Thread<'a> {
     }
 
     /// Goes past the next instruction.
+    #[inline(always)]
     pub fn advance(&mut self)
         ensures { self.new ≡ record self.old { code = after self.old.code } }
     {
@@ -106,6 +108,7 @@ impl<'a> Thread<'a> {
     }
 
     /// Puts a number on top of the operands of the innermost sequence.
+    #[inline(always)]
     pub fn push(&mut self, value: u64) -> Result<(), AllocError>
         ensures { OnOk result (self.new ≡ record self.old { values = value ∷ self.old.values }) }
     {
@@ -114,6 +117,7 @@ impl<'a> Thread<'a> {
     }
 
     /// Takes the topmost operand of the innermost sequence.
+    #[inline(always)]
     pub fn pop(&mut self) -> Option<u64>
         ensures { Pops result self.old self.new }
     {
@@ -125,6 +129,7 @@ impl<'a> Thread<'a> {
     }
 
     /// A local of the innermost frame.
+    #[inline(always)]
     pub fn local(&self, at: u32) -> Option<u64>
         ensures { result ≡ slice_get self.now.locals at }
     {
@@ -133,6 +138,7 @@ impl<'a> Thread<'a> {
     }
 
     /// Sets a local, where it is there.
+    #[inline(always)]
     pub fn set_local(&mut self, at: u32, value: u64) -> bool
         ensures { Sets result at value self.old self.new }
     {
@@ -146,6 +152,7 @@ impl<'a> Thread<'a> {
     }
 
     /// Enters a block whose instruction is the next one.
+    #[inline]
     pub fn enter(&mut self, arity: usize, again: bool, body: &'a [Instr]) -> Result<(), AllocError>
         ensures { OnOk result (self.new ≡ record {
           values = [];
@@ -169,6 +176,7 @@ impl<'a> Thread<'a> {
     }
 
     /// How many operands the innermost sequence has.
+    #[inline(always)]
     pub fn count(&self) -> usize
         ensures { result ≡ length self.now.values }
     {
@@ -229,6 +237,7 @@ impl<'a> Thread<'a> {
     }
 
     /// Leaves the innermost sequence, with all its operands. False where none is round it.
+    #[inline]
     pub fn leave(&mut self) -> bool
         ensures { Reaches result self.new (left self.old self.old.contexts) }
     {
@@ -259,6 +268,7 @@ impl<'a> Thread<'a> {
 
     /// Leaves the innermost label, with all its operands, and stays in its code. False where a frame
     /// or nothing is round it.
+    #[inline]
     fn leave_label(&mut self) -> bool
         ensures { ReachesOrStays result self.old self.new (out_of_label self.old self.old.contexts) }
     {
@@ -272,6 +282,7 @@ impl<'a> Thread<'a> {
     }
 
     /// Leaves the innermost sequence with as many operands as a branch keeps. False where fewer are there.
+    #[inline]
     fn land(&mut self, have: usize) -> bool
         requires { have ≤ length self.old.values }
         ensures { Reaches result self.new (landed have self.old.values self.old.locals self.old.contexts) }
@@ -318,6 +329,7 @@ impl<'a> Thread<'a> {
     }
 
     /// Branches out of so many labels and one more.
+    #[inline]
     pub fn branch(&mut self, depth: u32) -> bool
         ensures { Reaches result self.new (branched depth self.old.values self.old.locals self.old.contexts) }
     {
@@ -340,6 +352,7 @@ impl<'a> Thread<'a> {
     }
 
     /// How many frames there are.
+    #[inline(always)]
     pub fn frames(&self) -> usize
         ensures { result ≡ frames_in self.now.contexts }
     {
@@ -347,6 +360,7 @@ impl<'a> Thread<'a> {
     }
 
     /// How many operands and locals there are.
+    #[inline(always)]
     pub fn held(&self) -> u128
         ensures { result ≡ held_in self.now.contexts + length self.now.locals + length self.now.values }
     {
@@ -355,6 +369,7 @@ impl<'a> Thread<'a> {
 }
 
 /// What follows the first instruction.
+#[inline(always)]
 pub fn after_first(code: &[Instr]) -> &[Instr]
     ensures { code_of result.now ≡ after (code_of code.now) }
 {
@@ -365,6 +380,7 @@ pub fn after_first(code: &[Instr]) -> &[Instr]
 }
 
 // Where a branch to a block goes on.
+#[inline(always)]
 fn target(again: bool, at: &[Instr]) -> &[Instr]
     ensures { code_of result.now ≡ target_at again (code_of at.now) }
 {
