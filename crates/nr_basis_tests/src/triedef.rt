@@ -201,12 +201,19 @@ fn a_text_of_no_node_is_refused_at_its_first_wrong_field(rt: HostRuntime) -> Res
         assert_eq!(rt; fault, Some(NodeFault::BadNode { at }), "{text:?} to {end}");
     }
     for (text, at) in NO_NODES {
-        assert_eq!(rt; fault_of(alloc, text), Some(NodeFault::BadNode { at }), "{text:?}");
+        assert_eq!(rt;
+            fault_of(alloc, text),
+            Some(NodeFault::BadNode { at }),
+            "{text:?}"
+        );
     }
     // a byte behind the node
     let mut longer = Vec::from_slice(alloc, LEAF)?;
     longer.push(0)?;
-    assert_eq!(rt; fault_of(alloc, &longer), Some(NodeFault::BadNode { at: 50 }));
+    assert_eq!(rt;
+        fault_of(alloc, &longer),
+        Some(NodeFault::BadNode { at: 50 })
+    );
     Ok(())
 }
 

@@ -393,7 +393,10 @@ fn a_method_is_looked_up_before_anything_is_put_in(rt: HostRuntime) -> Result<()
 fn a_trap_says_where(rt: HostRuntime) -> Result<(), Fail> {
     for (method, lines) in TRAPPING {
         let words = ["trap", "free", "M", method, "10000"];
-        assert!(rt; answers(rt.alloc(), &words, &[("M", &TRAPS)], Status::Faulty, lines)?, "{method}");
+        assert!(rt;
+            answers(rt.alloc(), &words, &[("M", &TRAPS)], Status::Faulty, lines)?,
+            "{method}"
+        );
     }
     Ok(())
 }

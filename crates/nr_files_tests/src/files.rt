@@ -199,11 +199,7 @@ fn comes_back(
     let (made, bytes) = ended(alloc, make, text.as_bytes())?;
     let (shown, told) = ended(alloc, show, want)?;
     let (again, same) = ended(alloc, make, &told)?;
-    let exits = [
-        made.exit_status(),
-        shown.exit_status(),
-        again.exit_status(),
-    ];
+    let exits = [made.exit_status(), shown.exit_status(), again.exit_status()];
     Ok(exits == [0; 3] && bytes.as_slice() == want && same.as_slice() == want)
 }
 

@@ -63,11 +63,15 @@ fn cut_blocks_tell_the_place(rt: HostRuntime) {
     let alloc = rt.alloc();
     for length in 0..37 {
         let at = place_of(length);
-        assert!(rt; blocks_fault(alloc, &PRICED[..length], 1) == Some(BlocksFault::Spelling { at }));
+        assert!(rt;
+            blocks_fault(alloc, &PRICED[..length], 1) == Some(BlocksFault::Spelling { at })
+        );
     }
     for length in 134..184 {
         let at = place_of(length);
-        assert!(rt; blocks_fault(alloc, &PRICED[..length], 1) == Some(BlocksFault::Spelling { at }));
+        assert!(rt;
+            blocks_fault(alloc, &PRICED[..length], 1) == Some(BlocksFault::Spelling { at })
+        );
     }
 }
 

@@ -20,16 +20,16 @@ abbrev pub Pair : Type 0
 Pair = Bor (List ℕ) × Tree Global
 
 -- ---- one level
-null_level : value_view {Global} shape.Null ≡ json.null
+null_level : value_view {A = Global} shape.Null ≡ json.null
 null_level = search (rules, the_lemmas)
 
-boolean_level : (b : Bool) → value_view {Global} (shape.Bool b) ≡ json.boolean b
+boolean_level : (b : Bool) → value_view {A = Global} (shape.Bool b) ≡ json.boolean b
 boolean_level b = search (rules, the_lemmas)
 
-number_level : (s : Bor (List ℕ)) → value_view {Global} (shape.Number s) ≡ json.number s.now
+number_level : (s : Bor (List ℕ)) → value_view {A = Global} (shape.Number s) ≡ json.number s.now
 number_level s = search (rules, the_lemmas)
 
-string_level : (s : Bor (List ℕ)) → value_view {Global} (shape.String s) ≡ json.string s.now
+string_level : (s : Bor (List ℕ)) → value_view {A = Global} (shape.String s) ≡ json.string s.now
 string_level s = search (rules, the_lemmas)
 
 abbrev taken : Tree Global → Option Data

@@ -65,7 +65,6 @@ fn told_at(
 }
 
 /// Runs a function, and tells where a trap came.
-#[tactic(auto, using(crate::proofs::Runs::came_at))]
 fn trace_func(
     alloc: Global,
     machine: Machine,

@@ -142,7 +142,10 @@ fn runs_by_threads_are_written(rt: HostRuntime) -> Result<(), Fail> {
         (&GENERATED, (GENESIS, NONE), SUMMARY),
     ];
     for (words, files, text) in rows {
-        assert!(rt; writes(&rt, rt.alloc(), words, files, &OpenGate, text)?, "{text}");
+        assert!(rt;
+            writes(&rt, rt.alloc(), words, files, &OpenGate, text)?,
+            "{text}"
+        );
     }
     Ok(())
 }

@@ -42,10 +42,7 @@ fn a_queue_that_was_served_is_empty(rt: HostRuntime) -> Result<(), Fail> {
 fn other_entries_are_no_queue(rt: HostRuntime) -> Result<(), Fail> {
     let swapped = [ROWS[10], ROWS[9]];
     let none: [Row; 1] = [(b"\x07", b"\0\0\0\0\0\0\0\0\0\0\0\0\0\0\0\0")];
-    let long: [Row; 1] = [(
-        b"\x07",
-        b"\0\0\0\0\0\0\0\0\xff\xff\xff\xff\xff\xff\xff\xff",
-    )];
+    let long: [Row; 1] = [(b"\x07", b"\0\0\0\0\0\0\0\0\xff\xff\xff\xff\xff\xff\xff\xff")];
     let others: [&[Row]; 7] = [
         &ROWS,
         &ROWS[9..13],

@@ -114,9 +114,10 @@ stands_inside p q t w i =
 stands_gone : (p : Program) (q : Place) (t : Trail) (w : Way) → Gone p q t → StandsAt p (noted q.code w t)
 stands_gone p q t w g =
     let body = g.has.1 in
-    let none : drop t.base t.levels ≡ [] = ap (drop t.base) g.levels ∙ drop_none t.base in
-    let zero_left : count_of q.code + sum_by behind (drop t.base t.levels) ≡ 0 = ap (λ (c : Code). count_of c + sum_by behind (drop t.base t.levels)) g.code ∙ ap (sum_by behind) none in
-    let number : count_of body.code ≡ count_of body.code - (count_of q.code + sum_by behind (drop t.base t.levels)) = omega (arith, zero_left) in
+    let none : drop t.base t.levels ≡ [] = drop_none t.base t.levels g.levels in
+    let no_code : count_of q.code ≡ 0 = ap count_of g.code in
+    let none_left : sum_by behind (drop t.base t.levels) ≡ 0 = ap (sum_by behind) none in
+    let number : count_of body.code ≡ count_of body.code - (count_of q.code + sum_by behind (drop t.base t.levels)) = omega (arith, no_code, none_left) in
     record {
       sig = g.has.0;
       body = body;
@@ -124,9 +125,9 @@ stands_gone p q t w g =
       stands = subst (λ (k : ℕ). IsAt body.code k q.code) number (subst (IsAt body.code (count_of body.code)) (sym g.code) (end_at body.code));
     }
   where
-    drop_none : (n : ℕ) → drop n ([] : List Level) ≡ []
-    drop_none zero = refl
-    drop_none (suc n) = refl
+    drop_none : (n : ℕ) (ls : List Level) → ls ≡ [] → drop n ls ≡ []
+    drop_none zero ls e = e
+    drop_none (suc n) ls e = ap (drop (suc n)) e
 
 pub stands_along : (p : Program) (q : Place) (t : Trail) (w : Way) → Along p q t → StandsAt p (noted q.code w t)
 stands_along p q t w (inl i) = stands_inside p q t w i
@@ -142,6 +143,9 @@ AreBlocks (level.Call g b ∷ ls) = ⊥
 abbrev Next : Context → Code → Type 0
 Next (InLabel values n target code) q = (q ≡ target) ⊎ (q ≡ code)
 Next (InFrame values n locals code) q = q ≡ code
+
+abbrev no_levels : List Level
+no_levels = []
 
 cut_there : (t : Trail) (xs ys : List Level) (l : Level) (n : ℕ) → t.levels ≡ xs ++ l ∷ ys → n ≡ length xs → cut n t ≡ back_to (option_and_then caller_of (Some l)) (cut_off n t)
 cut_there t xs ys l n e f =
@@ -184,7 +188,7 @@ lands p whole (InFrame values m locals code) around [] ys t q n (has, none, out,
     gone : (ys : List Level) → t.levels ≡ ys → AreBlocks ys → n ≡ 0 → Gone p q (cut n t)
     gone [] e blocks z =
         let stays : cut n t ≡ cut_off n t =
-        ap (λ (o : Option Level). back_to (option_and_then caller_of o) (cut_off n t)) (ap (λ (ls : List Level). slice_get ls n) e ∙ ap (slice_get ([] : List Level)) z) in
+        ap (λ (o : Option Level). back_to (option_and_then caller_of o) (cut_off n t)) (ap (λ (ls : List Level). slice_get ls n) e ∙ ap (slice_get no_levels) z) in
         let none : take n t.levels ≡ [] = ap (λ (k : ℕ). take k t.levels) z in
         subst (Gone p q) (sym stays) (record { contexts = same ∙ out; code = next ∙ end; levels = none; whole = whole; has = has })
     gone (level.Block c second ∷ ls) e blocks z =

@@ -12,10 +12,11 @@ use Rattle.nr_wasmvalid.specs.Parts.{same_sig}
 use Rattle.nr_wasmnum.specs.declared.fault.NumFault.{NumFault}
 use Rattle.nr_wasmnum.specs.declared.fault.NumFault.TheVariants.{ByZero, Overflow}
 use Rattle.nr_wasmmem.specs.declared.guest.Guest.{Guest}
-use Rattle.nr_wasmmem.specs.Bytes.{MemoryView}
+use Rattle.nr_wasmmem.specs.Bytes.{MemoryView, number_in, width_of_load}
+use Rattle.nr_wasmnum.specs.Integers.{arith_of, load_of}
 use Rattle.nr_wasmexec.specs.Functions.{Func, Hosted, Coded, sig_of, func_at}
 use Rattle.nr_wasmexec.specs.Reduction.{Effect, Goes, Writes, Opens, Invokes, Asks, Branches, Returns, Traps, Stuck}
-use Rattle.nr_wasmexec.specs.Reduction.{on_top, on_two, on_three, with_value, computed, read, written, grows, called, called_as, called_at, plain_effect}
+use Rattle.nr_wasmexec.specs.Reduction.{on_top, on_two, on_three, with_value, computed, read, written, grows, place_at, called, called_as, called_at, plain_effect}
 use Rattle.nr_trace.specs.Trail.{call_way, plain_way, table_way, top}
 use Rattle.nr_wasmexec.specs.declared.program.Program.{Program}
 use Rattle.nr_trace.specs.declared.trail.Way.{Way}
@@ -130,7 +131,8 @@ module _ (p : Program) where
   plain_fits guest locals values (op.LocalTee n) = top_on values _ (λ v rest. tested_on (nat_lt n (length locals)) (Goes _ values) refl)
   plain_fits guest locals values (op.GlobalGet n) = value_on (slice_get guest.globals n) _ (λ v. refl)
   plain_fits guest locals values (op.GlobalSet n) = top_on values _ (λ v rest. tested_on (nat_lt n (length guest.globals)) (Writes _ rest) refl)
-  plain_fits guest locals values (op.Load what align offset) = top_on values _ (λ at rest. read_on _ _ (λ v. refl))
+  plain_fits guest locals values (op.Load what align offset) =
+      top_on values _ (λ at rest. read_on (number_in guest.memory.bytes (place_at at offset) (width_of_load what)) (λ v. Goes locals (load_of what v ∷ rest)) (λ v. refl))
   plain_fits guest locals values (op.Store what align offset) = two_on values _ (λ at v rest. written_on guest _ rest)
   plain_fits guest locals values op.MemorySize = refl
   plain_fits guest locals values op.MemoryGrow = top_on values _ (λ v rest. grows_on guest _ rest)
@@ -139,5 +141,6 @@ module _ (p : Program) where
   plain_fits guest locals values (op.IsZero t) = top_on values _ (λ v rest. refl)
   plain_fits guest locals values (op.Count t how) = top_on values _ (λ v rest. refl)
   plain_fits guest locals values (op.Compare t how) = two_on values _ (λ x y rest. refl)
-  plain_fits guest locals values (op.Arith t how) = two_on values _ (λ x y rest. computed_on _ _ (λ v. refl))
+  plain_fits guest locals values (op.Arith t how) =
+      two_on values _ (λ x y rest. computed_on (arith_of t how x y) (λ v. Goes locals (v ∷ rest)) (λ v. refl))
   plain_fits guest locals values (op.Convert how) = top_on values _ (λ v rest. refl)

@@ -1,5 +1,5 @@
 -- Parts of a sequence, and instructions inside instructions.
-use Rattle.std.proofs.Common.{◌≡◌, ℕ, ◌+◌, ◌-◌, Bool, true, false, cond, List, [], ◌∷◌, refl, subst, arith}
+use Rattle.std.proofs.Common.{◌≡◌, ℕ, ◌+◌, Bool, true, false, cond, List, [], ◌∷◌, refl, subst, arith}
 use Rattle.std.specs.Prelude.{sum_by}
 use Rattle.std.proofs.lemmas.List.Sums.{sum_by-cons}
 use mathlib.Core.Logic.{inl, inr}
@@ -99,6 +99,8 @@ own_at whole [] at p = (p.before, omega (arith, p.counted), p.stands)
 own_at whole (level.Call f b ∷ ls) at p = absurd p
 own_at whole (level.Block c second ∷ ls) at (p, b, inner) =
     let i = own_at (side second c) ls at inner in
-    let s = side_at second c b in
-    (p.before + (s.0 + i.0), omega (arith, p.counted, i.1, s.1, sum_by-cons behind (level.Block c second) ls),
-     at_trans whole c at p.before (s.0 + i.0) p.stands (s.2 i.0 at i.2))
+    let s = side_at second c b in (
+      p.before + (s.0 + i.0),
+      omega (arith, p.counted, i.1, s.1, sum_by-cons behind (level.Block c second) ls),
+      at_trans whole c at p.before (s.0 + i.0) p.stands (s.2 i.0 at i.2),
+    )

@@ -76,7 +76,7 @@ pub list_in-returns : goal.list_in-returns
 list_in-returns t c =
     let l = c.loop-item in
     sym (ap (λ (xs : List (Tree Global)). of_items (parsed.items_view xs)) c.deref-item-items.ensures.value)
-        ∙ list_done c.deref-item-items.result.now l.item-index l.found.items (omega arith) l.invariant
+    ∙ list_done c.deref-item-items.result.now l.item-index l.found.items (omega arith) l.invariant
 
 pub object_in-value_of-requires : goal.object_in-value_of-requires
 object_in-value_of-requires t c =
@@ -94,10 +94,10 @@ object_in-loop-member-preserved t c =
     let l = c.loop-member in
     let xs = c.deref-member-items.result.now in
     ap (λ (old : Members). of_members (parsed.members_view (drop (l.member-index + 1) xs)) old) c.in_ok-put.ensures.ok
-        ∙ object_goes_on xs l.member-index c.member-item.result (members_view l.found.entries) c.in_ok-owned.owned (omega arith) c.member-item.is c.in_ok-owned.ensures l.invariant
+    ∙ object_goes_on xs l.member-index c.member-item.result (members_view l.found.entries) c.in_ok-owned.owned (omega arith) c.member-item.is c.in_ok-owned.ensures l.invariant
 
 pub object_in-returns : goal.object_in-returns
 object_in-returns t c =
     let l = c.loop-member in
     sym (ap (λ (xs : List Pair). of_members (parsed.members_view xs) no_members) c.deref-member-items.ensures.value)
-        ∙ object_done c.deref-member-items.result.now l.member-index (members_view l.found.entries) (omega arith) l.invariant
+    ∙ object_done c.deref-member-items.result.now l.member-index (members_view l.found.entries) (omega arith) l.invariant

@@ -1,11 +1,9 @@
 -- The goals of `tracing::follow_func` that no tactic closes.
-use Rattle.std.proofs.Common.{Some, ap, subst, sym}
+use Rattle.std.proofs.Common.{Some, ap, subst}
 use Rattle.nr_wasmexec.specs.Executing.{func_of}
 use Rattle.nr_wasmexec.specs.Machine.{NeverStuck, rules_of, runtime}
 use Rattle.nr_wasmexec.specs.Reduction.{run_in}
 use Rattle.nr_wasmexec.specs.declared.program.Func.{Func}
-use Rattle.nr_trace.specs.Tracing.{EndsAt}
-use Rattle.nr_trace.specs.Trail.{trail_in}
 use Rattle.nr_trace.proofs.tracing.follow_func.Goals as goal
 
 pub follow_body-requires-clause-never : goal.follow_body-requires-clause-never
@@ -13,12 +11,6 @@ follow_body-requires-clause-never g c =
     let w = rules_of g.H.Host.meaning c.args.program.now c.args.limits in
     let s = runtime (g.H.Host.state c.args.host.now) c.args.guest.now in
     subst (λ (f : Func). NeverStuck (run_in w s (Some (func_of f)))) c.in-Coded.is c.requires.never
-
-pub returns-in-Coded-clause-ends : goal.returns-in-Coded-clause-ends
-returns-in-Coded-clause-ends g c =
-    let w = rules_of g.H.Host.meaning c.args.program.now c.args.limits in
-    let s = runtime (g.H.Host.state c.args.host.now) c.args.guest.now in
-    subst (λ (f : Func). EndsAt c.follow_body.result c.args.program.now (g.H.Host.state c.follow_body.new.host) c.follow_body.new.guest (run_in w s (Some (func_of f))) (trail_in w s c.args.number (Some (func_of f)))) (sym c.in-Coded.is) c.follow_body.ensures.ends
 
 pub unreachable-requires : goal.unreachable-requires
 unreachable-requires g c =

@@ -1,12 +1,10 @@
 -- The goals of `tracing::trace_func` that no tactic closes.
-use Rattle.std.proofs.Common.{Option, subst, sym}
+use Rattle.std.proofs.Common.{◌≡◌, Option, false, subst, true}
 use Rattle.std.specs.Prelude.{IsTrue}
 use Rattle.nr_wasmexec.specs.Functions.{Func}
 use Rattle.nr_wasmexec.specs.Machine.{NeverStuck, rules_of, runtime}
 use Rattle.nr_wasmexec.specs.Making.{is_method}
 use Rattle.nr_wasmexec.specs.Reduction.{run_in}
-use Rattle.nr_trace.specs.Tracing.{EndsAt}
-use Rattle.nr_trace.specs.Trail.{trail_in}
 use Rattle.nr_trace.proofs.tracing.trace_func.Goals as goal
 
 pub follow_func-requires-clause-never : goal.follow_func-requires-clause-never
@@ -15,11 +13,6 @@ follow_func-requires-clause-never g c =
     let s = runtime (g.H.Host.state c.args.host.now) c.args.guest.now in
     subst (λ (x : Option Func). NeverStuck (run_in w s x)) c.in-Some.ensures c.is_never_stuck.ensures
 
-pub returns-in-Some-clause-ends : goal.returns-in-Some-clause-ends
-returns-in-Some-clause-ends g c =
-    let w = rules_of g.H.Host.meaning c.args.program.now c.args.limits in
-    let s = runtime (g.H.Host.state c.args.host.now) c.args.guest.now in
-    subst (λ (x : Option Func). EndsAt c.follow_func.result c.args.program.now (g.H.Host.state c.follow_func.new.host) c.follow_func.new.guest (run_in w s x) (trail_in w s c.args.func x)) (sym c.in-Some.ensures) c.follow_func.ensures.ends
-
 pub unreachable-requires : goal.unreachable-requires
-unreachable-requires g c = subst (λ (x : Option Func). IsTrue (is_method x)) c.in-None.ensures c.requires.method
+unreachable-requires g c =
+    let wrong : false ≡ true = subst (λ (x : Option Func). IsTrue (is_method x)) c.in-None.ensures c.requires.method in cc
