@@ -2,14 +2,16 @@
 -- the guest, and pay for the row at its end.
 use Rattle.std.specs.Prelude.{◌≡◌, ℕ, zero, suc, ◌+◌, ◌<◌, ◌≤◌, Bool, true, false, length, Option, Some, None, Result}
 use Rattle.std.specs.Prelude.{Ok, Err, ◌⊎◌}
-use Rattle.nr_wasmtypes.specs.Code.{Code, begins}
+use Rattle.nr_wasmtypes.specs.Code.{Code, Then, begins}
+use Rattle.nr_wasmtypes.specs.declared.instr.Plain.{Plain as Op}
+use Rattle.nr_wasmtypes.specs.declared.instr.Plain.TheVariants as op
 use Rattle.nr_wasmmem.specs.Meaning.{HostMeaning, burnt}
 use Rattle.nr_wasmmem.specs.declared.guest.Guest.{Guest}
 use Rattle.nr_wasmexec.specs.declared.stop.Stop.{Stop}
 use Rattle.nr_wasmexec.specs.declared.stop.Stop.TheVariants as stop
 use Rattle.nr_wasmexec.specs.declared.program.Program.{Program}
 use Rattle.nr_wasmexec.specs.Reduction.{GasExceeded, Rules, Outcome, Done, Halted, effect}
-use Rattle.nr_wasmexec.specs.Place.{Place, Move}
+use Rattle.nr_wasmexec.specs.Place.{Place, Move, held_in}
 use Rattle.nr_wasmexec.specs.Executing.{by, Moves}
 use Rattle.nr_wasmexec.specs.Machine.{runtime, run_at, Drives}
 
@@ -26,6 +28,29 @@ Quiets (Some done) old new move = Moves done new move
 abbrev pub Begun : Option (Result (Unit {0}) Stop) → Code → Type 0
 Begun None code = Unit {0}
 Begun (Some done) code = begins code ≡ true
+
+-- no call of a function
+abbrev pub IsNoCall : Op → Type 0
+IsNoCall (op.Call f) = ⊥
+IsNoCall (op.CallIndirect t) = ⊥
+IsNoCall o = Unit {0}
+
+abbrev pub BeginsNoCall : Code → Type 0
+BeginsNoCall (Then o rest) = IsNoCall o
+BeginsNoCall code = Unit {0}
+
+-- What was run is no call: a plain instruction, or the first of code.
+abbrev pub RanNoCall : Option (Result (Unit {0}) Stop) → Op → Type 0
+RanNoCall None o = Unit {0}
+RanNoCall (Some done) o = IsNoCall o
+
+abbrev pub PassedNoCall : Option (Result (Unit {0}) Stop) → Code → Type 0
+PassedNoCall None code = Unit {0}
+PassedNoCall (Some done) code = BeginsNoCall code
+
+-- the operands and locals of all sequences and frames
+abbrev pub holds : Place → ℕ
+holds p = held_in p.contexts + length p.locals + length p.values
 
 -- the state that has paid so much: nothing, or by burning it
 abbrev pub paid_for : {S : Type 0} → HostMeaning S → S → ℕ → S

@@ -4,7 +4,7 @@ ghost use Rattle.std.specs.Prelude.{◌≡◌};
 ghost use Rattle.nr_wasmtypes.specs.Code.{put, after};
 ghost use Rattle.nr_wasmexec.specs.Reduction.{plain_effect};
 ghost use Rattle.nr_wasmexec.specs.Executing.{by};
-ghost use Rattle.nr_wasmexec.specs.Rows.{next_move, Quiets, Begun};
+ghost use Rattle.nr_wasmexec.specs.Rows.{next_move, Quiets, Begun, RanNoCall, PassedNoCall};
 
 use crate::branching::{arity, branch, branch_by, branch_if, choose, enter, leave};
 use crate::number::{arith, compare, convert, count, is_zero};
@@ -25,8 +25,9 @@ fn quiet_plain(
     guest: &Guest,
     plain: &Plain,
 ) -> Option<Result<(), Stop>>
-    ensures { Quiets result thread.old thread.new (by thread.old
+    ensures quiet { Quiets result thread.old thread.new (by thread.old
         (plain_effect program.now guest.now thread.old.locals thread.old.values plain.now)) }
+    ensures calm { RanNoCall result plain.now }
 {
     match plain {
         Plain::Unreachable => None,
@@ -67,7 +68,8 @@ fn quiet<'a>(
     instr: &'a Instr,
 ) -> Option<Result<(), Stop>>
     requires { thread.old.code ≡ put instr.now (after thread.old.code) }
-    ensures { Quiets result thread.old thread.new (next_move program.now guest.now thread.old) }
+    ensures quiet { Quiets result thread.old thread.new (next_move program.now guest.now thread.old) }
+    ensures calm { PassedNoCall result thread.old.code }
 {
     match instr {
         Instr::Plain(plain) => quiet_plain(thread, program, guest, plain),
@@ -86,6 +88,7 @@ pub fn next_quiet<'a>(
 ) -> Option<Result<(), Stop>>
     ensures quiet { Quiets result thread.old thread.new (next_move program.now guest.now thread.old) }
     ensures begun { Begun result thread.old.code }
+    ensures calm { PassedNoCall result thread.old.code }
 {
     match thread.instr() {
         None => None,

@@ -7,7 +7,8 @@ ghost use Rattle.nr_wasmtypes.specs.Code.{after, put, code_of};
 ghost use Rattle.nr_wasmexec.specs.Executing.{SameShape, func_of};
 ghost use Rattle.nr_wasmexec.specs.Machine.{rules_of, runtime, config_of, Steps, Turns, work_left, is_too_large_at};
 ghost use Rattle.nr_wasmexec.specs.Machine.{run_at, Drives, Ends, NeverStuck};
-ghost use Rattle.nr_wasmexec.specs.Rows.{Rows, Pays, Rides, Leaps};
+ghost use Rattle.nr_wasmexec.specs.Place.{frames_in};
+ghost use Rattle.nr_wasmexec.specs.Rows.{holds, Rows, Pays, Rides, Leaps};
 ghost use Rattle.nr_wasmexec.specs.Making.{is_method};
 ghost use Rattle.nr_wasmexec.specs.Standing.{IsGuest};
 ghost use Rattle.nr_wasmexec.specs.Functions.{func_at, links};
@@ -97,6 +98,25 @@ fn either(first: bool, second: bool) -> bool
     first || second
 }
 
+/// So many quiet instructions, or none where they might pass the limits: each adds at most one operand and no frame.
+#[inline(always)]
+fn room(thread: &Thread, limits: Limits, most: u32) -> u32
+    ensures few { result ≤ most }
+    ensures frames { 0 < result → frames_in thread.now.contexts ≤ limits.max_frames }
+    ensures held { 0 < result → holds thread.now + result ≤ limits.max_values }
+{
+    if limits.max_values < most as u128 {
+        return 0;
+    }
+    if thread.held() > limits.max_values - most as u128 {
+        return 0;
+    }
+    if thread.frames() as u64 > limits.max_frames {
+        return 0;
+    }
+    most
+}
+
 /// Runs quiet instructions, so many at most: how many there were, the one that stopped the run among them, and how
 /// they ended. The host is asked nothing, and its gas isn't looked at, so there may be more than it pays for.
 #[inline]
@@ -113,11 +133,9 @@ fn row<'a, H: Host>(
         thread.new }
     ensures few { result.0 ≤ most }
 {
+    let fit = room(thread, limits, most);
     let mut ran = 0;
-    'steps: while ran < most {
-        if is_too_large(thread, limits) {
-            return (ran, Ok(()));
-        }
+    'steps: while ran < fit {
         match next_quiet(thread, program, guest) {
             None => return (ran, Ok(())),
             Some(Ok(())) => ran += 1,
