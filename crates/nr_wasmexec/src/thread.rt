@@ -11,6 +11,12 @@ use nr_wasmtypes::Instr;
 use std::alloc::{AllocError, Global};
 use std::marker::Model;
 
+/// The first room for operands.
+const OPERANDS: usize = 64;
+
+/// The first room for blocks and frames.
+const CONTROLS: usize = 16;
+
 /// A run between two instructions.
 #[derive(Drop)]
 pub struct Thread<'a> {
@@ -66,15 +72,16 @@ impl<'a> Thread<'a> {
           contexts = InFrame [] arity [] End ∷ [];
         }) }
     {
-        let mut controls = Vec::new(alloc);
+        let mut controls = Vec::with_capacity(alloc, CONTROLS)?;
         controls.push(Control::Frame {
             height: 0,
             base: 0,
             arity,
             at: &[],
         })?;
+        let operands = Vec::with_capacity(alloc, OPERANDS)?;
         Ok(Thread {
-            operands: Vec::new(alloc),
+            operands,
             locals,
             controls,
             code: body,
