@@ -1,4 +1,4 @@
--- Of this project's own: what the calls answer that run quiet instructions in a row, which touch neither the host nor
+-- Of this project's own: what the calls answer that run quiet instructions in a row, which change neither the host nor
 -- the guest, and pay for the row at its end.
 use Rattle.std.specs.Prelude.{◌≡◌, ℕ, zero, suc, ◌+◌, ◌<◌, ◌≤◌, Bool, true, false, length, Option, Some, None, Result}
 use Rattle.std.specs.Prelude.{Ok, Err, ◌⊎◌}

@@ -1,4 +1,4 @@
-//! Quiet instructions: those that touch neither the host nor the guest.
+//! Quiet instructions: those that change neither the host nor the guest.
 
 ghost use Rattle.std.specs.Prelude.{◌≡◌};
 ghost use Rattle.nr_wasmtypes.specs.Code.{put, after};
@@ -17,7 +17,7 @@ use crate::variable::{global_get, local_get, local_set, local_tee};
 use nr_wasmmem::Guest;
 use nr_wasmtypes::{Instr, Plain};
 
-/// Runs a plain instruction that touches neither the host nor the guest. `None`, with nothing done, for any other.
+/// Runs a plain instruction that changes neither the host nor the guest. `None`, with nothing done, for any other.
 #[inline(always)]
 fn quiet_plain(
     thread: &mut Thread,
