@@ -89,6 +89,7 @@ impl Host for Meter {
 
     ghost law = { record {
       gas_is = λ s n h. refl;
+      gas_over = λ s n k. refl;
       no_more_gas = λ s f args. omega arith;
       result = λ s f args. tt;
       size = λ s f args. refl;

@@ -1,5 +1,5 @@
 -- The bindings are a host: what every host promises. Laws of this project's own.
-use Rattle.std.specs.Prelude.{◌≡◌, ℕ, ◌≤◌, List, length, Option, Some, None}
+use Rattle.std.specs.Prelude.{◌≡◌, ℕ, ◌≤◌, List, length, Option, Some, None, refl}
 use Rattle.std.proofs.Common.{arith}
 use Rattle.nr_wasmmem.specs.Meaning.{Store, IsHost, IsResult}
 use Rattle.nr_wasmmem.specs.declared.fault.HostStop.TheVariants as stop
@@ -85,6 +85,7 @@ pub meaning_is_host : IsHost meaning
 meaning_is_host =
     record {
       gas_is = λ s n h. omega (arith, h);
+      gas_over = λ s n k. refl;
       no_more_gas = λ s f args.
           no_more s (row f args (with_guest s.host s.memory))
           (row_bounded f args (with_guest s.host s.memory)).gas;

@@ -5,6 +5,8 @@ pub mod Plugged
 pub mod Turning
 pub mod Signatures
 pub mod Effects
+pub mod Paying
+pub mod Room
 pub mod Linked
 pub mod Sound
 pub mod Putting

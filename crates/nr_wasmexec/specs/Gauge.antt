@@ -20,6 +20,7 @@ failed (Some t) = tt
 pub gauge_is_host : IsHost gauge
 gauge_is_host = record {
   gas_is = λ s n le. refl;
+  gas_over = λ s n k. refl;
   no_more_gas = λ s f args. omega arith;
   result = λ s f args. failed (host_type f).result;
   size = λ s f args. refl;

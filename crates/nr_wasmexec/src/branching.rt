@@ -12,7 +12,12 @@ use crate::stop::Stop;
 use crate::thread::Thread;
 use nr_wasmtypes::{Instr, Labels, ValType};
 
-/// Lost where a place wasn't reached.
+/// Asks that a place was reached.
+///
+/// # Errors
+///
+/// `Lost` exactly where it was not.
+#[inline(always)]
 pub fn reached(there: bool) -> Result<(), Stop>
     ensures { Arrives result there }
 {
@@ -20,6 +25,7 @@ pub fn reached(there: bool) -> Result<(), Stop>
 }
 
 /// How many values a block leaves.
+#[inline(always)]
 pub fn arity(kind: Option<ValType>) -> usize
     ensures { result ≡ arity_of kind }
 {
@@ -29,8 +35,12 @@ pub fn arity(kind: Option<ValType>) -> usize
     }
 }
 
-/// Opens a block that leaves so many values. A branch to it goes on behind the block, or at the block again
-/// (a loop). `Memory` is its one stop.
+/// Opens a block that leaves so many values. A branch to it goes on behind the block, or at the block again (a loop).
+///
+/// # Errors
+///
+/// `Memory` alone.
+#[inline]
 pub fn enter<'a>(
     thread: &mut Thread<'a>,
     arity: usize,
@@ -44,7 +54,12 @@ pub fn enter<'a>(
     Ok(())
 }
 
-/// Takes an i32 and opens the first body, or the other where it is zero. `Lost` where no operand is there.
+/// Takes an i32 and opens the first body, or the other where it is zero.
+///
+/// # Errors
+///
+/// `Lost` where no operand is there. `Memory`.
+#[inline]
 pub fn choose<'a>(
     thread: &mut Thread<'a>,
     arity: usize,
@@ -63,14 +78,24 @@ pub fn choose<'a>(
     }
 }
 
-/// Branches out of so many blocks and one more. `Lost` where there are not so many, or too few operands.
+/// Branches out of so many blocks and one more.
+///
+/// # Errors
+///
+/// `Lost` where there are not so many, or too few operands.
+#[inline]
 pub fn branch(thread: &mut Thread, depth: u32) -> Result<(), Stop>
     ensures { Moves result thread.new (by thread.old (Branches depth thread.old.values)) }
 {
     reached(thread.branch(depth))
 }
 
-/// Takes an i32, and branches unless it is zero. `Lost` where it is not there, or as for `branch`.
+/// Takes an i32, and branches unless it is zero.
+///
+/// # Errors
+///
+/// `Lost` where it is not there, or as of [`branch`].
+#[inline]
 pub fn branch_if(thread: &mut Thread, depth: u32) -> Result<(), Stop>
     ensures { Moves result thread.new (by thread.old
         (on_top thread.old.values (λ v rest. if v == 0 then Goes thread.old.locals rest else Branches depth rest))) }
@@ -85,7 +110,10 @@ pub fn branch_if(thread: &mut Thread, depth: u32) -> Result<(), Stop>
 }
 
 /// Takes an i32, and branches to the label with this number, counted from 0, or to the one for every other.
-/// `Lost` where it is not there, or as for `branch`.
+///
+/// # Errors
+///
+/// `Lost` where it is not there, or as of [`branch`].
 pub fn branch_by(thread: &mut Thread, labels: &Labels) -> Result<(), Stop>
     ensures { Moves result thread.new (by thread.old
         (on_top thread.old.values (λ v rest. Branches (chosen (slice_get labels.now.0 v) labels.now.1) rest))) }
@@ -95,6 +123,7 @@ pub fn branch_by(thread: &mut Thread, labels: &Labels) -> Result<(), Stop>
 }
 
 /// The label with this number, or the one for every other.
+#[inline]
 pub fn label_of(labels: &Labels, value: u64) -> u32
     ensures { result ≡ chosen (slice_get labels.now.0 value) labels.now.1 }
 {
@@ -104,7 +133,11 @@ pub fn label_of(labels: &Labels, value: u64) -> u32
     }
 }
 
-/// Returns from the innermost frame with its function's result. `Lost` where there is no frame or no such operand.
+/// Returns from the innermost frame with its function's result.
+///
+/// # Errors
+///
+/// `Lost` where there is no frame or no such operand.
 pub fn leave(thread: &mut Thread) -> Result<(), Stop>
     ensures { Moves result thread.new (by thread.old (Returns thread.old.values)) }
 {

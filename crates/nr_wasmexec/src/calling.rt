@@ -20,6 +20,11 @@ use nr_wasmmem::{Guest, Host, HostStop};
 use nr_wasmtypes::{FuncBody, FuncType, HostFn, Instr};
 
 /// Calls the function with this number.
+///
+/// # Errors
+///
+/// `Lost` where there is no such function, or too few operands. `GasExceeded` and `HostFault` as the host means the
+/// call. `Memory`.
 pub fn call<'a, H: Host>(
     thread: &mut Thread<'a>,
     program: &'a Program,
@@ -57,6 +62,11 @@ fn call_func<'a, H: Host>(
 }
 
 /// Calls a function of the table, which is to have the type with this number.
+///
+/// # Errors
+///
+/// Trap 5 where the operand passes the table, trap 6 where no function is there, trap 7 where it has another type.
+/// `Lost` where there is no operand or no such type, and else as of [`call`].
 pub fn call_indirect<'a, H: Host>(
     thread: &mut Thread<'a>,
     program: &'a Program,

@@ -28,6 +28,7 @@ pub enum Control<'a> {
 }
 
 /// Takes the innermost one.
+#[inline(always)]
 pub fn pop_control<'a>(controls: &mut Vec<Control<'a>>) -> Option<Control<'a>>
     ensures { PopsControl result (reverse controls.old.items) (reverse controls.new.items) }
 {
@@ -35,6 +36,7 @@ pub fn pop_control<'a>(controls: &mut Vec<Control<'a>>) -> Option<Control<'a>>
 }
 
 /// Takes the innermost one where it is a label, and answers its height.
+#[inline(always)]
 pub fn pop_label(controls: &mut Vec<Control>) -> Option<usize>
     ensures { PopsLabel result (reverse controls.old.items) (reverse controls.new.items) }
 {
@@ -49,6 +51,7 @@ pub fn pop_label(controls: &mut Vec<Control>) -> Option<usize>
 }
 
 /// Moves the topmost values down to a place.
+#[inline]
 pub fn keep_top(values: &mut Vec<u64>, to: usize, count: usize)
     requires { to + count ≤ length values.old.items }
     ensures { values.new.items ≡ take to values.old.items ++ drop (length values.old.items - count) values.old.items }
@@ -59,6 +62,10 @@ pub fn keep_top(values: &mut Vec<u64>, to: usize, count: usize)
 }
 
 /// Adds a frame's locals: the arguments, and so many zeros.
+///
+/// # Errors
+///
+/// Where memory ran out. The locals are then no fewer than before.
 pub fn add_locals(locals: &mut Vec<u64>, args: &[u64], more: usize) -> Result<(), AllocError>
     ensures ok { OnOk result (locals.new.items ≡ locals.old.items ++ (args.now ++ replicate more 0)) }
     ensures err { OnErr result (length locals.old.items ≤ length locals.new.items) }
@@ -71,6 +78,10 @@ pub fn add_locals(locals: &mut Vec<u64>, args: &[u64], more: usize) -> Result<()
 }
 
 /// Adds a frame: its locals, and what stands round it.
+///
+/// # Errors
+///
+/// Where memory ran out. The locals are then no fewer than before, and what stands round them is as it was.
 pub fn add_frame<'a>(
     locals: &mut Vec<u64>,
     controls: &mut Vec<Control<'a>>,

@@ -18,6 +18,12 @@ use nr_wasmmem::{Guest, Host};
 use nr_wasmtypes::{Instr, Plain};
 
 /// Runs the next instruction of a thread.
+///
+/// # Errors
+///
+/// `Trap`, `GasExceeded` and `HostFault` as the instruction and the host mean it. `Lost` where no rule fits.
+/// `Memory`.
+#[inline]
 pub fn execute<'a, H: Host>(
     thread: &mut Thread<'a>,
     program: &'a Program,
@@ -39,6 +45,7 @@ pub fn execute<'a, H: Host>(
     }
 }
 
+#[inline]
 #[tactic(auto, using(crate::proofs::Effects::moves_end, crate::proofs::Effects::changes_end))]
 fn obey_plain<'a, H: Host>(
     thread: &mut Thread<'a>,

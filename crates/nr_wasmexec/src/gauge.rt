@@ -21,6 +21,7 @@ impl Host for Gauge {
 
     ghost keeps = { λ _ _. Unit {0} };
 
+    #[inline]
     fn burn(&mut self, n: u128) -> Result<(), Exceeded> {
         if self.gas < n {
             self.gas = 0;

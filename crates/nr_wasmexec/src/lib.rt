@@ -12,6 +12,7 @@ mod making;
 mod number;
 mod operand;
 mod program;
+mod quiet;
 mod running;
 mod stop;
 mod storing;

@@ -51,6 +51,10 @@ fn constant_of(globals: &[u64], expr: ConstExpr) -> u64
 }
 
 /// The first values of globals.
+///
+/// # Errors
+///
+/// Where memory ran out.
 pub fn globals_of(alloc: Global, globals: &[nr_wasmtypes::Global]) -> Result<Vec<u64>, AllocError>
     ensures { IfOk result (λ v. v.items ≡ globals_of globals.now) }
 {
@@ -71,6 +75,10 @@ fn link_as(name: Option<HostFn>, kind: ImportKind) -> Option<HostLink>
 }
 
 /// The functions of the host that a module imports.
+///
+/// # Errors
+///
+/// Where memory ran out.
 pub fn links(alloc: Global, imports: &[Import]) -> Result<Vec<HostLink>, AllocError>
     ensures { IfOk result (λ v. v.items ≡ links imports.now) }
 {
@@ -83,6 +91,10 @@ pub fn links(alloc: Global, imports: &[Import]) -> Result<Vec<HostLink>, AllocEr
 }
 
 /// An empty table of a module.
+///
+/// # Errors
+///
+/// Where memory ran out.
 pub fn table_of(alloc: Global, tables: &[Limits]) -> Result<Vec<Option<u32>>, AllocError>
     ensures { IfOk result (λ v. v.items ≡ replicate (entries_of tables.now) None) }
 {

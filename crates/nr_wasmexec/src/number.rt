@@ -11,7 +11,12 @@ use crate::thread::Thread;
 use nr_wasmnum::NumFault;
 use nr_wasmtypes::{Arith, Compare, Convert, Count, ValType};
 
-/// Puts 1 in place of the topmost operand where it is zero, else 0. `Lost` where there is none.
+/// Puts 1 in place of the topmost operand where it is zero, else 0.
+///
+/// # Errors
+///
+/// `Lost` where there is none. `Memory`.
+#[inline(always)]
 pub fn is_zero(thread: &mut Thread, kind: ValType) -> Result<(), Stop>
     ensures { Moves result thread.new (by thread.old
         (on_top thread.old.values (λ v rest. Goes thread.old.locals (zero_test_of kind v ∷ rest)))) }
@@ -20,7 +25,12 @@ pub fn is_zero(thread: &mut Thread, kind: ValType) -> Result<(), Stop>
     push(thread, nr_wasmnum::is_zero(kind, value))
 }
 
-/// Puts a count of bits in place of the topmost operand. `Lost` where there is none.
+/// Puts a count of bits in place of the topmost operand.
+///
+/// # Errors
+///
+/// `Lost` where there is none. `Memory`.
+#[inline]
 pub fn count(thread: &mut Thread, kind: ValType, how: Count) -> Result<(), Stop>
     ensures { Moves result thread.new (by thread.old
         (on_top thread.old.values (λ v rest. Goes thread.old.locals (bit_count_of kind how v ∷ rest)))) }
@@ -29,7 +39,12 @@ pub fn count(thread: &mut Thread, kind: ValType, how: Count) -> Result<(), Stop>
     push(thread, nr_wasmnum::count_bits(kind, how, value))
 }
 
-/// Puts the same number as another type in place of the topmost operand. `Lost` where there is none.
+/// Puts the same number as another type in place of the topmost operand.
+///
+/// # Errors
+///
+/// `Lost` where there is none. `Memory`.
+#[inline(always)]
 pub fn convert(thread: &mut Thread, how: Convert) -> Result<(), Stop>
     ensures { Moves result thread.new (by thread.old
         (on_top thread.old.values (λ v rest. Goes thread.old.locals (convert_of how v ∷ rest)))) }
@@ -38,8 +53,12 @@ pub fn convert(thread: &mut Thread, how: Convert) -> Result<(), Stop>
     push(thread, nr_wasmnum::convert(how, value))
 }
 
-/// Puts 1 in place of two operands, of which the second is on top, where the comparison holds, else 0. `Lost`
-/// where there are fewer.
+/// Puts 1 in place of two operands, of which the second is on top, where the comparison holds, else 0.
+///
+/// # Errors
+///
+/// `Lost` where there are fewer. `Memory`.
+#[inline(always)]
 pub fn compare(thread: &mut Thread, kind: ValType, how: Compare) -> Result<(), Stop>
     ensures { Moves result thread.new (by thread.old
         (on_two thread.old.values (λ x y rest. Goes thread.old.locals (compare_of kind how x y ∷ rest)))) }
@@ -49,8 +68,13 @@ pub fn compare(thread: &mut Thread, kind: ValType, how: Compare) -> Result<(), S
     push(thread, nr_wasmnum::compare(kind, how, first, second))
 }
 
-/// Puts what an operation gives in place of two operands, of which the second is on top. Trap 3 is a division by
-/// zero, trap 4 a quotient that the type does not have; `Lost` where there are fewer operands.
+/// Puts what an operation gives in place of two operands, of which the second is on top.
+///
+/// # Errors
+///
+/// Trap 3 at a division by zero, trap 4 where the type does not have the quotient. `Lost` where there are fewer
+/// operands. `Memory`.
+#[inline(always)]
 pub fn arith(thread: &mut Thread, kind: ValType, how: Arith) -> Result<(), Stop>
     ensures { Moves result thread.new (by thread.old
         (on_two thread.old.values (λ x y rest. computed (arith_of kind how x y)

@@ -8,6 +8,11 @@ use crate::stop::Stop;
 use crate::thread::Thread;
 
 /// Goes on.
+///
+/// # Errors
+///
+/// `Memory` at most.
+#[inline(always)]
 pub fn skip(thread: &mut Thread) -> Result<(), Stop>
     ensures { Moves result thread.new (by thread.old (Goes thread.old.locals thread.old.values)) }
 {
@@ -16,6 +21,11 @@ pub fn skip(thread: &mut Thread) -> Result<(), Stop>
 }
 
 /// Goes on with one operand more.
+///
+/// # Errors
+///
+/// `Memory` alone.
+#[inline(always)]
 pub fn push(thread: &mut Thread, value: u64) -> Result<(), Stop>
     ensures { Moves result thread.new (by thread.old (Goes thread.old.locals (value ∷ thread.old.values))) }
 {
@@ -25,6 +35,11 @@ pub fn push(thread: &mut Thread, value: u64) -> Result<(), Stop>
 }
 
 /// Takes the topmost operand, and stays.
+///
+/// # Errors
+///
+/// `Lost` exactly where there is none.
+#[inline(always)]
 pub fn popped(thread: &mut Thread) -> Result<u64, Stop>
     ensures { Takes result thread.old thread.new }
 {
@@ -34,7 +49,12 @@ pub fn popped(thread: &mut Thread) -> Result<u64, Stop>
     }
 }
 
-/// Drops the topmost operand. `Lost` where there is none.
+/// Drops the topmost operand.
+///
+/// # Errors
+///
+/// `Lost` where there is none.
+#[inline(always)]
 pub fn discard(thread: &mut Thread) -> Result<(), Stop>
     ensures { Moves result thread.new (by thread.old
         (on_top thread.old.values (λ v rest. Goes thread.old.locals rest))) }
@@ -45,6 +65,11 @@ pub fn discard(thread: &mut Thread) -> Result<(), Stop>
 }
 
 /// Keeps the first of two operands, or the second where the third is zero.
+///
+/// # Errors
+///
+/// `Lost` where there are fewer than three. `Memory`.
+#[inline(always)]
 pub fn select(thread: &mut Thread) -> Result<(), Stop>
     ensures { Moves result thread.new (by thread.old
         (on_three thread.old.values (λ x y v rest. Goes thread.old.locals ((if v == 0 then y else x) ∷ rest)))) }
@@ -55,6 +80,7 @@ pub fn select(thread: &mut Thread) -> Result<(), Stop>
     push(thread, chosen(choice, first, second))
 }
 
+#[inline(always)]
 fn chosen(choice: u64, first: u64, second: u64) -> u64
     ensures { result ≡ (if choice == 0 then second else first) }
 {

@@ -14,20 +14,26 @@ use nr_wasmnum::extend_load;
 use nr_wasmtypes::{Load, Store};
 
 /// Where an access stands: an address, which counts modulo 2^32, and the offset of the instruction.
+#[inline(always)]
 fn place_at(base: u64, offset: u32) -> u64
     ensures { result ≡ place_at base offset }
 {
     u64::from(low32(base)) + u64::from(offset)
 }
 
+#[inline(always)]
 fn low32(value: u64) -> u32
     ensures { result ≡ value % 2 ^ 32 }
 {
     (value % 0x1_0000_0000) as u32
 }
 
-/// Puts the number at an address, which is the topmost operand, in its place. Trap 2 where the access is not inside
-/// the memory; `Lost` where there is no operand.
+/// Puts the number at an address, which is the topmost operand, in its place.
+///
+/// # Errors
+///
+/// Trap 2 where the access is not inside the memory. `Lost` where there is no operand. `Memory`.
+#[inline]
 pub fn load(thread: &mut Thread, memory: &Memory, what: Load, offset: u32) -> Result<(), Stop>
     ensures { Moves result thread.new (by thread.old
         (on_top thread.old.values (λ at rest. read
@@ -41,8 +47,12 @@ pub fn load(thread: &mut Thread, memory: &Memory, what: Load, offset: u32) -> Re
     }
 }
 
-/// Takes a number and then its address, and writes its lowest bytes. Trap 2 where the access is not inside the
-/// memory; `Lost` where there are fewer operands.
+/// Takes a number and then its address, and writes its lowest bytes.
+///
+/// # Errors
+///
+/// Trap 2 where the access is not inside the memory, which is then as it was. `Lost` where there are fewer operands.
+#[inline]
 pub fn store(thread: &mut Thread, guest: &mut Guest, what: Store, offset: u32) -> Result<(), Stop>
     ensures goes { Changes result guest.old guest.new thread.new
         (changed guest.old thread.old (on_two thread.old.values
@@ -65,6 +75,11 @@ pub fn store(thread: &mut Thread, guest: &mut Guest, what: Store, offset: u32) -
 }
 
 /// Puts how many pages of 64 KiB the memory has on top.
+///
+/// # Errors
+///
+/// `Memory` alone.
+#[inline]
 pub fn memory_size(thread: &mut Thread, memory: &Memory) -> Result<(), Stop>
     ensures { Moves result thread.new (by thread.old
         (Goes thread.old.locals (pages_of memory.now.bytes ∷ thread.old.values))) }
@@ -73,8 +88,11 @@ pub fn memory_size(thread: &mut Thread, memory: &Memory) -> Result<(), Stop>
 }
 
 /// Grows the memory by as many pages of 64 KiB as the topmost operand says, and puts how many there were in its
-/// place, or 2^32 - 1 where it may not grow so far. `Lost` where there is no operand; after want of memory the
-/// memory is as before.
+/// place, or 2^32 - 1 where it may not grow so far.
+///
+/// # Errors
+///
+/// `Lost` where there is no operand. `Memory`.
 pub fn memory_grow(thread: &mut Thread, guest: &mut Guest) -> Result<(), Stop>
     ensures goes { Changes result guest.old guest.new thread.new
         (changed guest.old thread.old (on_top thread.old.values

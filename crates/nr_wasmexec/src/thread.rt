@@ -11,6 +11,12 @@ use nr_wasmtypes::Instr;
 use std::alloc::{AllocError, Global};
 use std::marker::Model;
 
+/// The first room for operands.
+const OPERANDS: usize = 64;
+
+/// The first room for blocks and frames.
+const CONTROLS: usize = 16;
+
 /// A run between two instructions.
 #[derive(Drop)]
 pub struct Thread<'a> {
@@ -43,7 +49,8 @@ impl<'a> Model for Thread<'a> {
     ghost use Rattle.nr_wasmtypes.specs.Code.{code_of};
     ghost use Rattle.nr_wasmexec.specs.Thread.{place_of, IsThread};
 
-    ghost view = { λ t. place_of t.operands.items t.locals.items t.height t.base (code_of t.code.now) t.controls.items };
+    ghost view = { λ t. place_of t.operands.items t.locals.items t.height t.base (code_of t.code.now)
+        t.controls.items };
 
     ghost invariant = { λ t. IsThread t.operands.items t.locals.items t.height t.base t.controls.items t.frames };
 }
@@ -53,6 +60,10 @@ impl<'a> Thread<'a> {
     ghost use Rattle.nr_wasmexec.specs.Thread.{Pops, Sets, Reaches, ReachesOrStays};
 
     /// A thread before the first instruction of a function.
+    ///
+    /// # Errors
+    ///
+    /// Where memory ran out.
     pub fn start(
         alloc: Global,
         locals: Vec<u64>,
@@ -66,15 +77,16 @@ impl<'a> Thread<'a> {
           contexts = InFrame [] arity [] End ∷ [];
         }) }
     {
-        let mut controls = Vec::new(alloc);
+        let mut controls = Vec::with_capacity(alloc, CONTROLS)?;
         controls.push(Control::Frame {
             height: 0,
             base: 0,
             arity,
             at: &[],
         })?;
+        let operands = Vec::with_capacity(alloc, OPERANDS)?;
         Ok(Thread {
-            operands: Vec::new(alloc),
+            operands,
             locals,
             controls,
             code: body,
@@ -85,6 +97,7 @@ impl<'a> Thread<'a> {
     }
 
     /// The instruction that runs next.
+    #[inline(always)]
     pub fn instr(&self) -> Option<&'a Instr>
         ensures { MatchOption result (self.now.code ≡ End) (λ i. self.now.code ≡ put i.now (after self.now.code)) }
     {
@@ -99,6 +112,7 @@ impl<'a> Thread<'a> {
     }
 
     /// Goes past the next instruction.
+    #[inline(always)]
     pub fn advance(&mut self)
         ensures { self.new ≡ record self.old { code = after self.old.code } }
     {
@@ -106,6 +120,11 @@ impl<'a> Thread<'a> {
     }
 
     /// Puts a number on top of the operands of the innermost sequence.
+    ///
+    /// # Errors
+    ///
+    /// Where memory ran out. Nothing is said of the thread then.
+    #[inline(always)]
     pub fn push(&mut self, value: u64) -> Result<(), AllocError>
         ensures { OnOk result (self.new ≡ record self.old { values = value ∷ self.old.values }) }
     {
@@ -114,6 +133,7 @@ impl<'a> Thread<'a> {
     }
 
     /// Takes the topmost operand of the innermost sequence.
+    #[inline(always)]
     pub fn pop(&mut self) -> Option<u64>
         ensures { Pops result self.old self.new }
     {
@@ -125,6 +145,7 @@ impl<'a> Thread<'a> {
     }
 
     /// A local of the innermost frame.
+    #[inline(always)]
     pub fn local(&self, at: u32) -> Option<u64>
         ensures { result ≡ slice_get self.now.locals at }
     {
@@ -133,6 +154,7 @@ impl<'a> Thread<'a> {
     }
 
     /// Sets a local, where it is there.
+    #[inline(always)]
     pub fn set_local(&mut self, at: u32, value: u64) -> bool
         ensures { Sets result at value self.old self.new }
     {
@@ -146,6 +168,11 @@ impl<'a> Thread<'a> {
     }
 
     /// Enters a block whose instruction is the next one.
+    ///
+    /// # Errors
+    ///
+    /// Where memory ran out. Nothing is said of the thread then.
+    #[inline]
     pub fn enter(&mut self, arity: usize, again: bool, body: &'a [Instr]) -> Result<(), AllocError>
         ensures { OnOk result (self.new ≡ record {
           values = [];
@@ -169,6 +196,7 @@ impl<'a> Thread<'a> {
     }
 
     /// How many operands the innermost sequence has.
+    #[inline(always)]
     pub fn count(&self) -> usize
         ensures { result ≡ length self.now.values }
     {
@@ -193,6 +221,10 @@ impl<'a> Thread<'a> {
     }
 
     /// Makes a frame of a function that takes the topmost operands.
+    ///
+    /// # Errors
+    ///
+    /// Where memory ran out. Nothing is said of the thread then.
     pub fn invoke(
         &mut self,
         params: usize,
@@ -229,6 +261,7 @@ impl<'a> Thread<'a> {
     }
 
     /// Leaves the innermost sequence, with all its operands. False where none is round it.
+    #[inline]
     pub fn leave(&mut self) -> bool
         ensures { Reaches result self.new (left self.old self.old.contexts) }
     {
@@ -259,6 +292,7 @@ impl<'a> Thread<'a> {
 
     /// Leaves the innermost label, with all its operands, and stays in its code. False where a frame
     /// or nothing is round it.
+    #[inline]
     fn leave_label(&mut self) -> bool
         ensures { ReachesOrStays result self.old self.new (out_of_label self.old self.old.contexts) }
     {
@@ -272,6 +306,7 @@ impl<'a> Thread<'a> {
     }
 
     /// Leaves the innermost sequence with as many operands as a branch keeps. False where fewer are there.
+    #[inline]
     fn land(&mut self, have: usize) -> bool
         requires { have ≤ length self.old.values }
         ensures { Reaches result self.new (landed have self.old.values self.old.locals self.old.contexts) }
@@ -317,7 +352,9 @@ impl<'a> Thread<'a> {
         }
     }
 
-    /// Branches out of so many labels and one more.
+    /// Branches out of so many labels and one more. False where not so many are round it in its frame,
+    /// or fewer operands are there than the branch keeps.
+    #[inline]
     pub fn branch(&mut self, depth: u32) -> bool
         ensures { Reaches result self.new (branched depth self.old.values self.old.locals self.old.contexts) }
     {
@@ -330,7 +367,8 @@ impl<'a> Thread<'a> {
         self.land(have)
     }
 
-    /// Returns from the innermost frame.
+    /// Returns from the innermost frame. False where there is none, or fewer operands are there than its
+    /// function gives.
     pub fn return_from(&mut self) -> bool
         ensures { Reaches result self.new (returned self.old.values self.old.locals self.old.contexts) }
     {
@@ -340,6 +378,7 @@ impl<'a> Thread<'a> {
     }
 
     /// How many frames there are.
+    #[inline(always)]
     pub fn frames(&self) -> usize
         ensures { result ≡ frames_in self.now.contexts }
     {
@@ -347,6 +386,7 @@ impl<'a> Thread<'a> {
     }
 
     /// How many operands and locals there are.
+    #[inline(always)]
     pub fn held(&self) -> u128
         ensures { result ≡ held_in self.now.contexts + length self.now.locals + length self.now.values }
     {
@@ -355,6 +395,7 @@ impl<'a> Thread<'a> {
 }
 
 /// What follows the first instruction.
+#[inline(always)]
 pub fn after_first(code: &[Instr]) -> &[Instr]
     ensures { code_of result.now ≡ after (code_of code.now) }
 {
@@ -365,6 +406,7 @@ pub fn after_first(code: &[Instr]) -> &[Instr]
 }
 
 // Where a branch to a block goes on.
+#[inline(always)]
 fn target(again: bool, at: &[Instr]) -> &[Instr]
     ensures { code_of result.now ≡ target_at again (code_of at.now) }
 {

@@ -11,7 +11,12 @@ use crate::thread::Thread;
 use nr_bytes::List;
 use nr_wasmmem::Guest;
 
-/// Puts a local on top, by its number from 0. `Lost` where there is none.
+/// Puts a local on top, by its number from 0.
+///
+/// # Errors
+///
+/// `Lost` where there is none. `Memory`.
+#[inline(always)]
 pub fn local_get(thread: &mut Thread, at: u32) -> Result<(), Stop>
     ensures { Moves result thread.new (by thread.old
         (with_value (slice_get thread.old.locals at) (λ v. Goes thread.old.locals (v ∷ thread.old.values)))) }
@@ -22,7 +27,12 @@ pub fn local_get(thread: &mut Thread, at: u32) -> Result<(), Stop>
     }
 }
 
-/// Takes the topmost operand as a local, by its number from 0. `Lost` where either is not there.
+/// Takes the topmost operand as a local, by its number from 0.
+///
+/// # Errors
+///
+/// `Lost` where either is not there.
+#[inline(always)]
 pub fn local_set(thread: &mut Thread, at: u32) -> Result<(), Stop>
     ensures { Moves result thread.new (by thread.old
         (on_top thread.old.values (λ v rest. if nat_lt at (length thread.old.locals) then Goes
@@ -33,7 +43,12 @@ pub fn local_set(thread: &mut Thread, at: u32) -> Result<(), Stop>
     reached(thread.set_local(at, value))
 }
 
-/// Copies the topmost operand to a local, by its number from 0. `Lost` where either is not there.
+/// Copies the topmost operand to a local, by its number from 0.
+///
+/// # Errors
+///
+/// `Lost` where either is not there. `Memory`.
+#[inline(always)]
 pub fn local_tee(thread: &mut Thread, at: u32) -> Result<(), Stop>
     ensures { Moves result thread.new (by thread.old
         (on_top thread.old.values (λ v rest. if nat_lt at (length thread.old.locals) then Goes
@@ -44,7 +59,12 @@ pub fn local_tee(thread: &mut Thread, at: u32) -> Result<(), Stop>
     push(thread, value)
 }
 
-/// Puts a global on top, by its number from 0. `Lost` where there is none.
+/// Puts a global on top, by its number from 0.
+///
+/// # Errors
+///
+/// `Lost` where there is none. `Memory`.
+#[inline]
 pub fn global_get(thread: &mut Thread, guest: &Guest, at: u32) -> Result<(), Stop>
     ensures { Moves result thread.new (by thread.old
         (with_value (slice_get guest.now.globals at) (λ v. Goes thread.old.locals (v ∷ thread.old.values)))) }
@@ -55,13 +75,19 @@ pub fn global_get(thread: &mut Thread, guest: &Guest, at: u32) -> Result<(), Sto
     }
 }
 
+#[inline]
 fn global(globals: &List<u64>, at: u32) -> Option<u64>
     ensures { result ≡ slice_get globals.now at }
 {
     globals.inner().get(at as usize).copied()
 }
 
-/// Takes the topmost operand as a global, by its number from 0. `Lost` where either is not there.
+/// Takes the topmost operand as a global, by its number from 0.
+///
+/// # Errors
+///
+/// `Lost` where either is not there.
+#[inline]
 pub fn global_set(thread: &mut Thread, guest: &mut Guest, at: u32) -> Result<(), Stop>
     ensures goes { Changes result guest.old guest.new thread.new
         (changed guest.old thread.old (on_top thread.old.values
@@ -74,6 +100,7 @@ pub fn global_set(thread: &mut Thread, guest: &mut Guest, at: u32) -> Result<(),
     reached(assign(&mut guest.globals, at, value))
 }
 
+#[inline]
 fn assign(globals: &mut List<u64>, at: u32, value: u64) -> bool
     ensures { SetsAt result at value globals.old globals.new }
 {

@@ -64,6 +64,8 @@ IsResult t (Fails kind) = Unit {0}
 pub record IsHost {S : Type 0} (m : HostMeaning S) : Type 0 where
   -- a state may have less gas left
   pub gas_is : (s : S) (n : ℕ) → n ≤ m.gas s → m.gas (m.with_gas s n) ≡ n
+  -- of the gas that is set nothing else is kept
+  pub gas_over : (s : S) (n k : ℕ) → m.with_gas (m.with_gas s n) k ≡ m.with_gas s k
   -- a call never raises the gas that is left
   pub no_more_gas : (s : Store S) (f : HostFn) (args : List ℕ) → m.gas (m.call s f args).store.host ≤ m.gas s.host
   pub result : (s : Store S) (f : HostFn) (args : List ℕ) → IsResult (host_type f).result (m.call s f args).answer
