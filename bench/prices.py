@@ -36,7 +36,7 @@ HOST = {
     "sha256": (3, 0), "value_return": (2, 0), "storage_write": (5, 1), "storage_read": (3, 1),
     "storage_remove": (3, 1), "storage_has_key": (2, 1), "promise_batch_create": (2, 1), "promise_and": (2, 1),
     "promise_batch_then": (3, 1), "promise_batch_action_transfer": (2, 0), "used_gas": (0, 1), "block_index": (0, 1),
-    "read_register": (2, 0), "log_utf8": (2, 0),
+    "read_register": (2, 0), "log_utf8": (2, 0), "promise_batch_action_add_key_with_function_call": (9, 0),
 }
 
 
@@ -171,6 +171,19 @@ def refused(count):
     """Transactions of 100,000 bytes whose nonce was used: they burn nothing."""
     calls = [transaction(0, b"con", [chains.call(b"run", bytes(100_000), 1)]) for _ in range(count)]
     return people(module(b"")), blocks_of(calls, 200)
+
+
+def refused_by_methods(count):
+    """Transactions that a key of 50,001 methods forbids: they burn nothing."""
+    keys = [(KEY, for_calls(None, b"con", [b"m%07d" % number for number in range(MANY + 1)]))]
+    calls = [transaction(nonce + 1, b"con", [chains.call(b"run", b"", 1_000)]) for nonce in range(count)]
+    return people(module(b""), keys=keys), blocks_of(calls, 200)
+
+
+def refused_by_receiver(count):
+    """The same by a key for a receiver of 1,000,000 bytes, which no account is."""
+    calls = [transaction(nonce + 1, b"con", [chains.call(b"run", b"", 1_000)]) for nonce in range(count)]
+    return people(module(b""), keys=[(KEY, for_calls(None, b"c" * 1_000_000, [b"run"]))]), blocks_of(calls, 200)
 
 
 # What a contract's code is made of
@@ -311,6 +324,14 @@ def undone(count):
 CON = [(11, vector([b"\x00" + const32(0) + END + name("con")]))]
 
 
+def key_of_names(count):
+    """Calls that each add a key with 10,001 empty names to a receipt, and then trap."""
+    parts = [b"\x00" + const32(0) + END + name("con"), b"\x00" + const32(1_000) + END + name("," * 10_000)]
+    key = const64(3) + const64(0) + call(0) + consts(33, 100, 0, 200, 3, 0, 10_000, 1_000) + call(1)
+    host = ("promise_batch_create", "promise_batch_action_add_key_with_function_call")
+    return called(module(key + UNREACHABLE, host, pages=1, others=[(11, vector(parts))]), count, least=20)
+
+
 def promises(count, more=b"", imports=()):
     """Calls that make 500 receipts for themselves, each without an action."""
     create = const64(3) + const64(0) + call(0)
@@ -359,6 +380,8 @@ ROWS = [
     Row("transaction", "a method's name, its bytes", long_method, 1_000, 1_000_000, "failure 0 14 0"),
     Row("transaction", "a key's methods, empty ones", empty_methods, 1_000, 200_000),
     Row("transaction", "signed by a key of 50,001 methods", signed_by_methods, 2, 100),
+    Row("transaction", "refused by a key of 50,001 methods", refused_by_methods, 2, 200, ""),
+    Row("transaction", "refused by a key for a text of 1,000,000 bytes", refused_by_receiver, 2, 200, ""),
     Row("transaction", "an account of 233 data deleted", deleted, 1, 20),
     Row("transaction", "refused, 100,000 bytes", refused, 2, 200, ""),
     Row("contract", "additions", looped(GET + b"\x01" + GET + b"\x01\x7c" + SET + b"\x01"), 100, 100_000),
@@ -411,6 +434,7 @@ ROWS = [
     Row("contract", "a thousand writes that are undone", undone, 1, 20, "failure 0 15 1"),
     Row("contract", "`read_register`, 65,536 bytes", read_back, 5, 500),
     Row("contract", "`log_utf8`, a hundred texts of 160 bytes a call", logged, 1, 100),
+    Row("contract", "a key of 10,001 empty names", key_of_names, 1, 20, "failure 0 15 1"),
     Row("contract", "500 receipts without an action", promises, 1, 20),
     Row("contract", "250 receipts that wait for 250 others", waiting, 1, 20),
     Row("contract", "500 receipts with a transfer", with_transfer, 1, 20),

@@ -93,6 +93,29 @@ def busy_blocks(heights=12):
     return blocks(rows)
 
 
+def base58(data):
+    """Bytes in base 58, with Bitcoin's alphabet."""
+    letters = "123456789ABCDEFGHJKLMNPQRSTUVWXYZabcdefghijkmnopqrstuvwxyz"
+    number, text = int.from_bytes(data, "big"), ""
+    while number:
+        number, place = divmod(number, 58)
+        text = letters[place] + text
+    return "1" * (len(data) - len(data.lstrip(b"\0"))) + text
+
+
+def spoken_blocks():
+    """A JSON text of blocks in words that `show` doesn't write: arguments as a text and as a value, a key in base 58,
+    and no block hash."""
+    values = {"to": ["vault", None, True, -7, {"b": 2, "a": "\u00e9"}]}
+    calls = [{"FunctionCall": {"method_name": "ask", "args": args, "gas": 10_000, "deposit": "0"}}
+             for args in ({"text": "\u00fcber"}, {"json": values})]
+    moved = {"signer_id": "alice", "public_key": f"ed25519:{base58(KEY[1:])}", "receiver_id": "desk"}
+    rows = [[{**moved, "nonce": turn + 1, "actions": [action]} for turn, action in enumerate(calls)], []]
+    blocks = [{"height": height, "timestamp": height, "chunks": rows if height == 1 else [[], []]}
+              for height in range(1, 6)]
+    return json.dumps({"blocks": blocks}).encode()
+
+
 def example_code():
     """The code of examples/contract."""
     entries = json.loads(bytes_of("contract", "genesis.json"))["entries"]

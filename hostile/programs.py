@@ -27,6 +27,8 @@ def arguments_of(about, *more):
     parser.add_argument("--only", help="the cases whose name contains this word")
     parser.add_argument("--jobs", type=int, default=len(os.sched_getaffinity(0)), help="how many runs at once")
     parser.add_argument("--limit", type=float, default=60, help="seconds after which a run counts as hung (60)")
+    parser.add_argument("--minutes", type=float, help="begin nothing more after so many minutes")
+    parser.add_argument("--state", help="a file of what is done: what stands there isn't run again")
     for name, how in more:
         parser.add_argument(name, **how)
     return parser.parse_args()
@@ -68,11 +70,17 @@ class Runner:
         if self.child:
             os.kill(self.child, signal.SIGKILL)
 
-    def run(self, words, environment=None):
-        """A run with the words, and with these changes of the environment."""
+    def clear(self):
         for text in self.texts:
             os.ftruncate(text, 0)
             os.lseek(text, 0, os.SEEK_SET)
+
+    def written(self):
+        return [os.pread(text, os.fstat(text).st_size, 0) for text in self.texts]
+
+    def run(self, words, environment=None):
+        """A run with the words, and with these changes of the environment."""
+        self.clear()
         actions = [(os.POSIX_SPAWN_DUP2, text, number) for text, number in zip(self.texts, (1, 2))]
         self.hung = False
         self.child = os.posix_spawn(words[0], words, {**os.environ, **(environment or {})}, file_actions=actions,
@@ -81,8 +89,7 @@ class Runner:
         _, status, used = os.wait4(self.child, 0)
         self.child = 0
         signal.setitimer(signal.ITIMER_REAL, 0)
-        texts = [os.pread(text, os.fstat(text).st_size, 0) for text in self.texts]
-        return Ran(HUNG if self.hung else os.waitstatus_to_exitcode(status), *texts,
+        return Ran(HUNG if self.hung else os.waitstatus_to_exitcode(status), *self.written(),
                    used.ru_utime + used.ru_stime, used.ru_maxrss)
 
 
@@ -205,24 +212,23 @@ def made_cases(folder, program):
         ("recheck behind the change", "near_serial", ["recheck", "free", carried]),
         ("recheck refused", "near_serial", ["recheck", config, parts[1]]),
         ("show proof", "near_files", ["show", "proof", proof]),
+        ("show proof compact", "near_files", ["show", "--compact", "proof", proof]),
         ("show part", "near_files", ["show", "part", parts[1]]),
+        ("show part compact", "near_files", ["show", "--compact", "part", parts[1]]),
         ("show gathered", "near_files", ["show", "gathered", chunk]),
+        ("show gathered compact", "near_files", ["show", "--compact", "gathered", carried]),
     ]
-
-
-def spread(count, most):
-    """The numbers from 1 to the count; of more than `most` the first half of `most`, and the others evenly."""
-    if count <= most:
-        return range(1, count + 1)
-    front = most // 2
-    rest = most - front
-    return [*range(1, front + 1), *(front + (count - front) * (step + 1) // rest for step in range(rest))]
 
 
 def write(path, data):
     with open(path, "wb") as out:
         out.write(data)
     return path
+
+
+def read(path):
+    with open(path, "rb") as file:
+        return file.read()
 
 
 def chain_cases(at, config, people):
@@ -241,40 +247,77 @@ def chain_cases(at, config, people):
     yield "check changing boundaries", "near_serial", ["check", *changing, steps]
     yield "roots changing boundaries", "near_serial", ["roots", *changing]
     yield "gen", "near_serial", ["gen", "7", "3", "8"]
-    yield "replay gen", "near_replay", ["gen", "7", "3", "8"]
+    yield "replay gen", "near_replay", ["gen", "7", "3", "2"]
     yield "run refused", "near_serial", ["run", priced, blocks, blocks]
     yield "archive refused", "near_audit", ["gather", priced, genesis, genesis]
-    yield "no command", "near_serial", ["walk", "free"]
+    yield "replay refused", "near_replay", ["replay", priced, genesis, genesis]
+    for name, program in (("", "near_serial"), ("replay ", "near_replay"), ("archive ", "near_audit")):
+        yield f"{name}no command", program, ["walk", "free"]
     yield "archive help", "near_audit", ["help"]
+    yield "archive version", "near_audit", ["version"]
 
 
-def file_cases(at):
-    """Commands on files of other kinds, as (name, program, words)."""
+def file_cases(at, config, people):
+    """Commands of near_files, as (name, program, words)."""
     priced, genesis = CHAIN[:2]
     texts = lambda name: [example(name, f"{file}.json") for file in ("genesis", "blocks")]
-    blocks, module = at("blocks"), write(at("module"), wasm.lively())
-    return [
-        ("genesis", "near_files", ["genesis", priced, example("contract", "genesis.json")]),
-        ("blocks", "near_files", ["blocks", example("four_shards", "blocks.json")]),
-        ("blocks changing boundaries", "near_files", ["blocks", example("reshard", "blocks.json")]),
-        ("genesis refused", "near_files", ["genesis", priced, example("contract", "blocks.json")]),
-        ("replay texts", "near_files", ["replay", priced, *texts("contract")]),
-        ("check texts", "near_files", ["check", "free", *texts("reshard"), example("reshard", "steps")]),
-        ("replay texts refused", "near_files", ["replay", priced, texts("contract")[0], texts("reshard")[1]]),
-        ("hex", "near_files", ["hex", module]),
-        ("show genesis", "near_files", ["show", "genesis", priced, genesis]),
-        ("show blocks", "near_files", ["show", "blocks", blocks]),
-        ("show blocks changing boundaries", "near_files", ["show", "blocks", at("changing")]),
-        ("show report", "near_files", ["show", "report", example("contract", "report")]),
-        ("explain", "near_files", ["explain", "3", "4", "0", "182", "100"]),
-        ("explain nothing", "near_files", ["explain", "3", "4", "0", "182"]),
-        ("files help", "near_files", ["help"]),
-        ("module check", "near_module", ["check", priced, module]),
-        ("module run", "near_module", ["run", priced, module, "run", "100000"]),
-        ("module call", "near_module", ["call", priced, module, "run", "hex:", "100000", "5"]),
-        ("module list", "near_module", ["list", module]),
-        ("module help", "near_module", ["help"]),
+    blocks, spoken = at("blocks"), write(at("spoken.json"), chains.spoken_blocks())
+    steps, none = example("reshard", "steps"), write(at("no-steps"), b"open 0\nclose 0\n")
+    failed = ["run", "01" * 32, "failure", "0", "16", "14", "83", "8300"]
+    rows = [
+        ("genesis", ["genesis", priced, example("contract", "genesis.json")]),
+        ("genesis refused", ["genesis", priced, example("contract", "blocks.json")]),
+        ("blocks", ["blocks", example("four_shards", "blocks.json")]),
+        ("blocks changing boundaries", ["blocks", example("reshard", "blocks.json")]),
+        ("blocks in other words", ["blocks", spoken]),
+        ("replay texts", ["replay", priced, *texts("contract")]),
+        ("replay texts in other words", ["replay", priced, texts("contract")[0], spoken]),
+        ("replay texts refused", ["replay", priced, texts("contract")[0], texts("reshard")[1]]),
+        ("check texts", ["check", "free", *texts("reshard"), steps]),
+        ("check texts refused", ["check", "free", *texts("reshard"), none]),
+        ("hex", ["hex", at("module")]),
+        ("show report", ["show", "report", example("contract", "report")]),
+        ("show report refused", ["show", "report", genesis]),
+        ("explain", ["explain", "3", "4", "0", "182", "100"]),
+        ("explain a line", ["explain", " ".join(failed)]),
+        ("explain a line of a program", ["explain", "near_module", "at", "3", "120"]),
+        ("explain nothing", ["explain", "3", "4", "0", "182"]),
+        ("files help", ["help"]), ("files help of a command", ["help", "check"]),
+        ("files help of a program", ["help", "near_serial"]), ("files version", ["version"]),
+        ("files no command", ["show", "--compact"]),
     ]
+    shown = [("genesis", [config, people]), ("blocks", [blocks]), ("blocks", [at("changing")])]
+    for number, (kind, words) in enumerate(shown):
+        name = f"{kind}{' changing boundaries' * (number == 2)}"
+        rows += [(f"show {name}", ["show", kind, *words]),
+                 (f"show {name} compact", ["show", "--compact", kind, *words])]
+    return [(name, "near_files", words) for name, words in rows]
+
+
+def module_cases(at):
+    """Commands of near_module, as (name, program, words)."""
+    priced = CHAIN[0]
+    module, contract = write(at("module"), wasm.lively()), write(at("contract"), chains.example_code())
+    deep, stopping = write(at("recursing"), wasm.recursing()), write(at("stopping"), wasm.stopping())
+    unfit, broken = write(at("unfit"), wasm.unfit()), write(at("broken"), wasm.lively()[:-3])
+    called = ["call", priced, contract]
+    rows = [
+        ("check", ["check", priced, module]), ("check no module", ["check", priced, broken]),
+        ("check what doesn't fit", ["check", priced, unfit]),
+        ("run", ["run", priced, module, "run", "100000"]), ("run no method", ["run", priced, module, "walk", "9"]),
+        ("trap", ["trap", priced, module, "run", "100000"]), ("trap at once", ["trap", priced, stopping, "run", "9"]),
+        ("trap in calls without end", ["trap", priced, deep, "run", "100000"]),
+        ("call", ["call", priced, module, "run", "hex:", "100000", "5"]),
+        ("call with promises", [*called, "ask", "hello", "100000"]),
+        ("call that stores", [*called, "put", "hex:00ff", "100000", "7"]),
+        ("call that fails", [*called, "done", "hello", "100000"]),
+        ("call without gas", [*called, "ask", "hello", "700"]),
+        ("list", ["list", contract]), ("list no module", ["list", broken]),
+        ("text", ["text", contract]), ("text with all sections", ["text", module]),
+        ("text no module", ["text", broken]),
+        ("help", ["help"]), ("version", ["version"]), ("no command", ["call", priced, contract]),
+    ]
+    return [(f"module {name}", "near_module", words) for name, words in rows]
 
 
 def cases(folder, programs):
@@ -282,7 +325,7 @@ def cases(folder, programs):
     at = lambda name: os.path.join(folder, name)
     people = write(at("people"), chains.people(chains.example_code()))
     config = write(at("config"), chains.busy_config())
-    rows = [*chain_cases(at, config, people), *file_cases(at)]
+    rows = [*module_cases(at), *chain_cases(at, config, people), *file_cases(at, config, people)]
     if "near_serial" in programs:
         rows += made_cases(folder, programs["near_serial"])
     return [Case(name, program, [programs[program], *words]) for name, program, words in rows if program in programs]
@@ -320,18 +363,24 @@ def long_cases(folder, programs):
     rows = [{"height": height, "timestamp": height * 10**9, "chunks": [[], []]} for height in heights]
     text = write(at("long.json"), json.dumps({"blocks": rows}).encode())
     module = write(at("many"), wasm.whole([wasm.NOTHING], [0] * 20_000, [wasm.body(b"")] * 20_000, [("run", 0)]))
-    report = write(at("long-report"), b"log " + b"00" * 500_000 + b"\n")
+    report = write(at("long-report"), b"log " + b"00" * 100_000 + b"\n")
     chain = ["free", example("contract", "genesis"), blocks]
+    told, rest = ["free", example("contract", "genesis.json"), text], write(at("rest"), b"rest\n")
     rows = [
         ("run long", "near_serial", ["run", *chain]),
-        ("check long", "near_serial", ["check", *chain, write(at("rest"), b"rest\n")]),
+        ("check long", "near_serial", ["check", *chain, rest]),
         ("roots long", "near_serial", ["roots", *chain]),
         ("replay long", "near_replay", ["replay", *chain]),
         ("archive long", "near_audit", ["gather", *chain]),
         ("blocks long", "near_files", ["blocks", text]),
         ("show blocks long", "near_files", ["show", "blocks", blocks]),
         ("show report long", "near_files", ["show", "report", report]),
+        ("replay texts long", "near_files", ["replay", *told]),
+        ("check texts long", "near_files", ["check", *told, rest]),
+        ("hex long", "near_files", ["hex", module]),
         ("module long", "near_module", ["check", "free", module]),
+        ("module list long", "near_module", ["list", module]),
+        ("module text long", "near_module", ["text", module]),
     ]
     if "near_serial" in programs:
         rows += wide_cases(at, programs["near_serial"])

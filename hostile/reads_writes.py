@@ -3,43 +3,43 @@
 files, pipes and devices that really are so.
 
 usage: hostile/reads_writes.py [--programs FOLDER] [--only WORD] [--most N] [--jobs N] [--limit SECONDS]
+                               [--minutes M] [--state FILE]
 
-Build the programs first. faults.c is compiled and loaded before them; each read and write moves at most 100 bytes, so
-that there are many. Where a command makes more than --most calls of a kind (1,000), the first half of that many are
-tried each, and the others evenly; with --most 0 none, but only what really is so. What is right:
+Build the programs first. faults.c is compiled and loaded before them; it makes each opening, read and write fail in
+turn, each way alone and with all behind it. Each such run is a copy of a run that goes on undisturbed, made where the
+call stands (fork). Then the same with reads and writes that move at most 100 bytes, so that there are many; there at
+most --most calls of a kind are tried of a command (400), evenly. With --most 0 none are tried, but only what really is
+so. What is right:
 
   a read or an opening fails        status 5, the line `5` (of near_files one in words), nothing on standard output
   a write fails                     status 6, the line `6`, and on standard output a front of the text, not all of it
-  a call is interrupted (EINTR)     one of these, or the text whole with status 0
+  a call is interrupted (EINTR)     one of these, or the text whole with its status
   a read or a write moves one byte  the text whole
 
 The exit status is 0 where every run was right.
 """
 import collections
-import errno
 import multiprocessing
 import os
 import resource
 import signal
 import subprocess
-import sys
 import tempfile
 import threading
 import time
 
 import programs as shared
+import tries
 
-FAULTS = [("open", errno.EACCES), ("open", errno.EMFILE), ("open", errno.EINTR),
-          ("read", errno.EIO), ("read", errno.EISDIR), ("read", errno.EINTR), ("read", "short"),
-          ("write", errno.EIO), ("write", errno.ENOSPC), ("write", errno.EPIPE), ("write", errno.EAGAIN),
-          ("write", errno.EINTR), ("write", "short")]
-
+FAULTS = {"open": ("EACCES", "EMFILE", "EINTR"), "read": ("EIO", "EISDIR", "EINTR", "short"),
+          "write": ("EIO", "ENOSPC", "EPIPE", "EAGAIN", "EINTR", "short")}
 PIECE = 100
 
 
-def ready(limit, library, folder):
-    global runner, faults
+def ready(limit, library, folder, until):
+    global runner, faults, sweeper, late, own
     runner, faults = shared.Runner(limit), shared.Faults(library, folder)
+    sweeper, late, own = tries.Sweeper(limit, library, folder, until), until, tempfile.mkdtemp(dir=folder)
 
 
 def is_unread(program, ran):
@@ -53,47 +53,76 @@ def is_unwritten(ran, right):
     return ran.status == shared.UNWRITTEN and ran.err == b"6\n" and front
 
 
-def judged(program, ran, right, kind, how):
-    if (kind != "write" and is_unread(program, ran)) or (kind == "write" and is_unwritten(ran, right)):
-        return "wrong" if how == "short" else f"status {ran.status}"
-    return "whole" if ran[:3] == right[:3] and how in ("short", errno.EINTR) else "wrong"
-
-
-def counted(case, kind):
+def counted(task):
+    """The status of the undisturbed run, and how many calls of each kind it makes, of any size and of short ones."""
+    case, name = task
     right = runner.run(case.words)
-    runner.run(case.words, faults.of(kind, piece=PIECE))
-    return right, faults.count()
+    shared.write(f"{name}.out", right.out)
+    shared.write(f"{name}.err", right.err)
+    calls = {}
+    for piece in (0, PIECE):
+        for kind in FAULTS:
+            runner.run(case.words, faults.of(kind, piece=piece))
+            calls[piece, kind] = faults.count()
+    return right.status, calls
 
 
-def tried(task):
-    case, right, kind, how, number, many = task
-    ran = runner.run(case.words, faults.of(kind, number, many, how, piece=PIECE))
-    return judged(case.program, ran, right, kind, how), how, number, many, ran
+def swept(task):
+    key, sweep = task
+    if tries.is_late(late):
+        return key, None
+    return key, sweeper.swept(sweep)._asdict()
 
 
-def word_of(how):
-    return how if how == "short" else errno.errorcode[how]
+def sweeps(case, name, status, calls, most):
+    """The sweeps over a command's calls, as pairs of a key and a sweep: those of any size first."""
+    for (piece, kind), count in calls.items():
+        if not count or (piece and kind == "open"):
+            continue
+        step = -(-count // most) if piece else 1
+        key = f"{case.program} {case.name}: {kind}, {f'pieces of {piece}, ' if piece else ''}step {step}"
+        yield key, tries.Sweep(case, name, status, kind, FAULTS[kind], "here", 1, 0, step, piece)
 
 
-def sweep(pool, case, most):
-    """Each call of each kind in turn; the count of wrong runs."""
-    begin, calls, ends, shown = time.monotonic(), {}, collections.Counter(), 0
-    tasks = []
-    for kind in ("open", "read", "write"):
-        right, calls[kind] = pool.apply(counted, (case, kind))
-        hows = [how for one, how in FAULTS if one == kind]
-        tasks += [(case, right, kind, how, number, many) for number in shared.spread(calls[kind], most)
-                  for how in hows for many in (1, 0) if many or how != errno.EINTR]
-    for task, (end, how, number, many, ran) in zip(tasks, pool.imap(tried, tasks, 8)):
-        ends[f"{task[2]} {word_of(how)}: {end}"] += 1
-        if end == "wrong" and shown < 10:
-            shown += 1
-            where = "alone" if many else "and all behind it"
-            shared.tell(case.name, ran, f"{task[2]} {number} {word_of(how)} {where}")
-    counts = ", ".join(f"{count} {kind}" for kind, count in calls.items())
-    print(f"{case.program} {case.name}: {counts}; {len(tasks)} runs, {time.monotonic() - begin:.0f} s", flush=True)
-    print("    " + "; ".join(f"{end} {count}" for end, count in sorted(ends.items())), flush=True)
-    return sum(count for end, count in ends.items() if end.endswith("wrong"))
+class Sums:
+    """What was found of a command."""
+
+    def __init__(self, case):
+        self.case, self.ends, self.tried, self.calls = case, collections.Counter(), 0, collections.Counter()
+
+    def add(self, key, found):
+        for text in found["shown"]:
+            print(f"  WRONG {key}, {text}", flush=True)
+        kind = key.split(": ", 1)[1].split(",")[0]
+        self.calls[f"{kind}{' in pieces' * ('pieces' in key)}"] += found["tried"]
+        self.tried += found["tried"]
+        for name, count in found["ends"].items():
+            self.ends[f"{kind} {name}"] += count
+        if found["threaded"][0]:
+            self.ends["beside threads: not tried"] += 1
+
+    def wrong(self):
+        return sum(count for name, count in self.ends.items() if name.endswith(": wrong"))
+
+    def tell(self):
+        calls = ", ".join(f"{count} {kind}" for kind, count in self.calls.items())
+        print(f"{self.case.program} {self.case.name}: tried {calls or 'nothing'}; {sum(self.ends.values())} runs",
+              flush=True)
+
+
+def sweep_all(pool, cases, arguments, state, folder):
+    """Each call of each kind of each command in turn; the sums."""
+    rights = [os.path.join(folder, f"right-{place}") for place in range(len(cases))]
+    counts = pool.map(counted, zip(cases, rights), 1)
+    sums, rows = [Sums(case) for case in cases], []
+    for place, (case, (status, calls)) in enumerate(zip(cases, counts)):
+        rows += [(bool(sweep.piece), key, sweep, place)
+                 for key, sweep in sweeps(case, rights[place], status, calls, arguments.most)]
+    rows.sort(key=lambda row: row[0])
+    places = {key: place for _, key, _, place in rows}
+    for key, found in tries.carried_out(pool, swept, [(key, sweep) for _, key, sweep, _ in rows], state):
+        sums[places[key]].add(key, found)
+    return sums
 
 
 def ended(words, limit, **how):
@@ -151,7 +180,7 @@ def outputs(case, right, limit, folder):
         return is_unwritten(ran, right)
 
     def closed(ran):
-        return right.out.startswith(ran.out) and (ran.status, ran.err) in ((0, b""), (shared.UNWRITTEN, b"6\n"))
+        return right.out.startswith(ran.out) and (ran.status, ran.err) in ((0, right.err), (shared.UNWRITTEN, b"6\n"))
 
     for path, mode in (("/dev/full", "wb"), (case.words[0], "rb")):
         with open(path, mode) as out:
@@ -172,9 +201,8 @@ def outputs(case, right, limit, folder):
         yield f"with standard error {what}", ran, ran[:2] == right[:2]
 
 
-def through_pipe(words, place, data, limit, folder):
+def through_pipe(words, place, data, limit, pipe):
     """A run that reads one of its files, of this text, from a named pipe."""
-    pipe = os.path.join(folder, "pipe")
     os.mkfifo(pipe)
 
     def feed():
@@ -203,24 +231,29 @@ def inputs(case, right, limit, folder):
         if place == 0 or not os.path.isfile(word):
             continue
         run = lambda name: ended([*case.words[:place], name, *case.words[place + 1 :]], limit)
-        loop = os.path.join(folder, "loop")
+        loop, pipe = os.path.join(folder, "loop"), os.path.join(folder, "pipe")
         if not os.path.islink(loop):
             os.symlink(loop, loop)
         for name in (folder, os.path.join(folder, "none"), os.path.join(word, "below"), loop, "x" * 300, "x/" * 3000):
             ran = run(name)
             yield f"word {place} is {name[:40]}", ran, is_unread(case.program, ran)
-        with open(word, "rb") as file:
-            data = file.read()
-        ran = through_pipe(case.words, place, data, limit, folder)
-        yield f"word {place} is a pipe", ran, ran[:3] == right[:3]
+        data = shared.read(word)
+        ran = through_pipe(case.words, place, data, limit, pipe)
+        yield f"word {place} is a pipe", ran, is_like(ran, pipe, right, word)
         for size in (0, 1, len(data) // 2, len(data) - 1):
             cut = shared.write(os.path.join(folder, "cut"), data[:size])
-            ran = through_pipe(case.words, place, data[:size], limit, folder)
-            yield f"word {place} is a pipe that ends after {size} bytes", ran, ran[:3] == run(cut)[:3]
+            ran = through_pipe(case.words, place, data[:size], limit, pipe)
+            yield f"word {place} is a pipe that ends after {size} bytes", ran, is_like(ran, pipe, run(cut), cut)
         ran = run("/dev/null")
-        yield f"word {place} is /dev/null", ran, ran[:3] == run(shared.write(cut, b""))[:3]
+        yield f"word {place} is /dev/null", ran, is_like(ran, "/dev/null", run(shared.write(cut, b"")), cut)
         ran = run("/dev/zero")
         yield f"word {place} is /dev/zero", ran, is_too_long(ran)
+
+
+def is_like(ran, name, other, other_name):
+    """Whether a run over a file ended as the other one, but for the file's name."""
+    unnamed = lambda one, file: one.err.replace(file.encode(), b"the file")
+    return ran[:2] == other[:2] and unnamed(ran, name) == unnamed(other, other_name)
 
 
 def is_too_long(ran):
@@ -231,34 +264,56 @@ def is_too_long(ran):
     return refused or ran.status == shared.FAULTY and (b"is longer than" in ran.err or ran.out.startswith(b"long"))
 
 
-def really(case, limit, folder):
-    """The command on files, pipes and devices that fail by themselves; the count of wrong runs."""
-    right, count, wrong = ended(case.words, limit), 0, 0
-    if right.status != shared.DONE:
-        return 0
-    runs = [inputs(case, right, limit, folder)] + [outputs(case, right, limit, folder)]
-    for what, ran, is_right in (run for some in runs for run in some):
-        count += 1
-        if not is_right:
-            wrong += 1
-            shared.tell(case.name, ran, what)
-    print(f"{case.program} {case.name}: {count} runs on files, pipes and devices, {wrong} wrong", flush=True)
-    return wrong
+def really(task):
+    """The command on files, pipes and devices that fail by themselves: how many runs, and what was wrong."""
+    key, (case, limit) = task
+    if tries.is_late(late):
+        return key, None
+    right, count, wrong = ended(case.words, limit), 0, []
+    if right.status == shared.DONE:
+        for runs in (inputs(case, right, limit, own), outputs(case, right, limit, own)):
+            for what, ran, is_right in runs:
+                count += 1
+                if not is_right:
+                    wrong.append(f"{what}: status {ran.status}, {len(ran.out)} bytes written, {ran.err[-200:]!r}")
+    return key, {"runs": count, "wrong": wrong}
+
+
+def really_all(pool, cases, arguments, state):
+    """All commands on such files; the counts of commands, of runs and of wrong ones."""
+    commands = runs = wrong = 0
+    tasks = [(f"really {case.program} {case.name}", (case, arguments.limit)) for case in cases]
+    for key, value in tries.carried_out(pool, really, tasks, state):
+        for text in value["wrong"][:10]:
+            print(f"  WRONG {key}, {text}", flush=True)
+        print(f"{key[7:]}: {value['runs']} runs on files, pipes and devices, {len(value['wrong'])} wrong", flush=True)
+        commands += bool(value["runs"])
+        runs += value["runs"]
+        wrong += len(value["wrong"])
+    return commands, runs, wrong
 
 
 def main():
-    arguments = shared.arguments_of(__doc__, ("--most", {"type": int, "default": 1000}))
-    found, wrong = shared.programs_in(arguments.programs), 0
+    arguments = shared.arguments_of(__doc__, ("--most", {"type": int, "default": 150}))
+    found, begin, sums = shared.programs_in(arguments.programs), time.monotonic(), []
+    state, until = tries.State(arguments.state, found), tries.until_of(arguments)
     with tempfile.TemporaryDirectory() as folder:
         library = shared.faults_in(folder)
         cases = shared.cases(folder, found) + shared.long_cases(folder, found)
         cases = [case for case in cases if shared.fits(case, arguments.only)]
-        if arguments.most:
-            with multiprocessing.Pool(arguments.jobs, ready, (arguments.limit, library, folder)) as pool:
-                wrong += sum(sweep(pool, case, arguments.most) for case in cases)
-        wrong += sum(really(case, arguments.limit, folder) for case in cases)
-    print(f"{wrong} runs were wrong")
-    sys.exit(1 if wrong else 0)
+        with multiprocessing.Pool(arguments.jobs, ready, (arguments.limit, library, folder, until)) as pool:
+            commands, runs, wrong = really_all(pool, cases, arguments, state)
+            if arguments.most:
+                sums = sweep_all(pool, cases, arguments, state, folder)
+    for one in sums:
+        one.tell()
+    ends = sum((one.ends for one in sums), collections.Counter())
+    for end, count in sorted(ends.items()):
+        print(f"    {end} {count}")
+    wrong += sum(one.wrong() for one in sums)
+    tried, copies = sum(one.tried for one in sums), sum(ends.values())
+    tries.close(f"reads_writes: {len(sums)} commands, {tried} calls tried in {copies} runs; {commands} commands in "
+                f"{runs} runs on files, pipes and devices", wrong, begin)
 
 
 if __name__ == "__main__":

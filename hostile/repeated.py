@@ -1,7 +1,8 @@
 #!/usr/bin/env python3
 """Runs the commands that walk a trie on files of few texts that stand at many places.
 
-usage: hostile/repeated.py [--programs FOLDER] [--only WORD] [--levels N] [--room GIB] [--limit SECONDS]
+usage: hostile/repeated.py [--programs FOLDER] [--only WORD] [--levels N] [--room GIB] [--jobs N] [--limit SECONDS]
+                           [--minutes M] [--state FILE]
 
 Build the programs first. Sixteen children of a branch may have one text, so a file with a text for each level tells of
 16 times as many nodes with each level more. Such a gathered chunk states its own root; a part is checked against a root
@@ -11,12 +12,14 @@ right is a refusal, and from 6 levels on, where a walk has no room for the nodes
 each within --limit seconds (60). The exit status is 0 where every run was right.
 """
 import hashlib
+import multiprocessing
+import os
 import resource
-import sys
 import tempfile
+import time
 
-import chains
 import programs as shared
+import tries
 from chains import counted, listed, u32, u64
 
 GIB = 1 << 30
@@ -76,35 +79,57 @@ def is_right(ran, levels):
     return ran.status in (12, 13) and not ran.out and ran.err.startswith(b"%d " % ran.status)
 
 
-def row(verb, levels, size, ran, low):
-    """The row of a run, by what it took above the one of the least levels."""
+def ready(limit, folder, until):
+    global runner, late, file
+    runner, late, file = shared.Runner(limit), until, os.path.join(folder, f"file-{os.getpid()}")
+
+
+def measured(task):
+    """A command on a file of so many levels, and on one of a single level: what it took more, and what was wrong."""
+    key, (serial, verb, levels, room) = task
+    if tries.is_late(late):
+        return key, None
+    rans = []
+    for count in (1, levels):
+        words, data = next((words, data) for one, words, data in commands(file, count) if one == verb)
+        shared.write(file, data)
+        rans.append(in_room(runner, [serial, verb, *words], room * GIB))
+    low, ran = rans
+    wrong = [] if is_right(ran, levels) else [f"status {ran.status}, {len(ran.out)} bytes written, {ran.err[-200:]!r}"]
+    return key, {"size": len(data), "said": ran.err.decode(errors="replace").strip(), "wrong": wrong,
+                 "seconds": ran.processor - low.processor, "held": (ran.memory - low.memory) * 1024}
+
+
+def row(verb, levels, found):
+    """The row of a run, by what it took above the one of a single level."""
     nodes = 1 + sum(16**level for level in range(levels + 1))
-    seconds, held = ran.processor - low.processor, (ran.memory - low.memory) * 1024
-    print(f"| {verb} | {levels} | {nodes:,} | {size:,} | {ran.err.decode().strip()} | {seconds:.2f} | "
-          f"{seconds / nodes * 1e9:,.0f} | {held / 2**20:,.0f} | {held / nodes:,.0f} |", flush=True)
+    seconds, held = found["seconds"], found["held"]
+    return (f"| {verb} | {levels} | {nodes:,} | {found['size']:,} | {found['said']} | {seconds:.2f} | "
+            f"{seconds / nodes * 1e9:,.0f} | {held / 2**20:,.0f} | {held / nodes:,.0f} |")
 
 
 def main():
     more = [("--levels", {"type": int, "default": 8}), ("--room", {"type": int, "default": 4})]
-    arguments = shared.arguments_of(__doc__, *more)
-    serial, wrong, least = shared.programs_in(arguments.programs)["near_serial"], 0, {}
-    runner = shared.Runner(arguments.limit)
+    arguments, begin = shared.arguments_of(__doc__, *more), time.monotonic()
+    found = shared.programs_in(arguments.programs)
+    state, rows, wrong = tries.State(arguments.state, found), {}, 0
+    tasks = {f"{verb}, {levels} levels, {arguments.room} GiB": (found["near_serial"], verb, levels, arguments.room)
+             for levels in range(arguments.levels, 0, -1) for verb in ("recheck", "checkpart")
+             if not arguments.only or arguments.only in verb}
+    with tempfile.TemporaryDirectory() as folder:
+        given = (arguments.limit, folder, tries.until_of(arguments))
+        with multiprocessing.Pool(arguments.jobs, ready, given) as pool:
+            for key, value in tries.carried_out(pool, measured, tasks.items(), state):
+                _, verb, levels, _ = tasks[key]
+                rows[levels, verb] = row(verb, levels, value)
+                for text in value["wrong"]:
+                    wrong += 1
+                    print(f"  WRONG {key}: {text}", flush=True)
     print("| Command | Levels | Nodes | File, bytes | Ends with | Seconds | ns a node | MiB | Bytes a node |")
     print("|---|---|---|---|---|---|---|---|---|")
-    with tempfile.TemporaryDirectory() as folder:
-        path = f"{folder}/file"
-        for levels in range(1, arguments.levels + 1):
-            for verb, words, data in commands(path, levels):
-                if arguments.only and arguments.only not in verb:
-                    continue
-                shared.write(path, data)
-                ran = in_room(runner, [serial, verb, *words], arguments.room * GIB)
-                row(verb, levels, len(data), ran, least.setdefault(verb, ran))
-                if not is_right(ran, levels):
-                    wrong += 1
-                    shared.tell(verb, ran, f"{levels} levels")
-    print(f"{wrong} runs were wrong")
-    sys.exit(1 if wrong else 0)
+    for place in sorted(rows):
+        print(rows[place])
+    tries.close(f"repeated: {len(rows)} runs on files of few texts at many places", wrong, begin)
 
 
 if __name__ == "__main__":

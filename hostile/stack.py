@@ -1,23 +1,25 @@
 #!/usr/bin/env python3
 """Runs the programs on the deepest inputs under a small stack.
 
-usage: hostile/stack.py [--programs FOLDER] [--only WORD] [--stack KIB] [--keys N] [--limit SECONDS]
+usage: hostile/stack.py [--programs FOLDER] [--only WORD] [--stack KIB] [--keys N] [--least] [--jobs N]
+                        [--limit SECONDS] [--minutes M] [--state FILE]
 
 Build the programs first. Each command runs as the shell's limits are, and then with a stack of 256 KiB (--stack), on
 texts that nest 127 deep (and 128, which is refused), modules with 256 blocks in one another (and 257), calls and
 values to the greatest bounds that a configuration can have, lists of 50,000, and a genesis whose keys nest in one
 another (--keys, 11,200: some 63 of the 64 MB that a file may have). What is right is the same end with the same
-texts, and the status that is known. The last column is the least of some stacks, in KiB, from which on all serve. The
-exit status is 0 where every run was right.
+texts, and the status that is known. With --least the last column is the least of some stacks, in KiB, from which on all
+serve. The exit status is 0 where every run was right.
 """
 import json
+import multiprocessing
 import resource
-import sys
 import tempfile
 import time
 
 import chains
 import programs as shared
+import tries
 import wasm
 from wasm import const32, const64, unsigned, vector
 
@@ -53,11 +55,32 @@ def texts(at):
             chain = [config, *(chains.example("one_transfer", part) for part in ("genesis", "blocks"))]
             for program, verb in (("near_serial", "run"), ("near_replay", "replay"), ("near_audit", "gather")):
                 yield f"configuration, {what}", program, [verb, *chain], min(status, 2)
+            yield from runs_of_texts(at, depth, opening, closing, status)
     member = b'"wide":[' + b"[]," * 300_000 + b"1]"
     wide = at("wide", with_member(chains.bytes_of("one_transfer", "genesis.json"), member))
     yield "genesis text, 300,000 lists", "near_files", ["genesis", "free", wide], 0
     long = at("long", b"log " + b"00" * 5_000_000 + b"\n")
     yield "report, a line of 10,000,004 bytes", "near_files", ["show", "report", long], 0
+
+
+def runs_of_texts(at, depth, opening, closing, status):
+    """Commands that run what such a text describes; of arguments that are given as a value, which stands in ten."""
+    what, step = f"{depth} levels of {opening[:1].decode()}", len(opening)
+    genesis = chains.example("one_transfer", "genesis.json")
+    blocks = with_member(chains.bytes_of("one_transfer", "blocks.json"), nested_text(depth, opening, closing))
+    words = ["free", genesis, at(f"run-{depth}-{step}", blocks)]
+    yield f"blocks text, {what}", "near_files", ["replay", *words], status
+    schedule = at(f"rest-{depth}-{step}", b"rest\n")
+    yield f"blocks text, {what}", "near_files", ["check", *words, schedule], status
+    value = opening * (depth - 10) + b"1" + closing * (depth - 10)
+    call = b'{"FunctionCall":{"method_name":"go","args":{"json":' + value + b'},"gas":1,"deposit":"0"}}'
+    key = chains.KEY[1:].hex().encode()
+    sent = (b'{"signer_id":"alice","public_key":"ed25519:' + key + b'","nonce":1,"receiver_id":"bob","actions":[' + call
+            + b"]}")
+    text = b'{"blocks":[{"height":1,"timestamp":0,"chunks":[[' + sent + b"]]}]}"
+    given = at(f"given-{depth}-{step}", text)
+    yield f"arguments, {what}", "near_files", ["blocks", given], status
+    yield f"arguments, {what}", "near_files", ["replay", "free", genesis, given], status
 
 
 def modules():
@@ -84,7 +107,10 @@ def module_runs(at):
         file = at(f"module-{place}", data)
         yield f"module, {name}", "near_module", ["check", config, file], checked
         yield f"module, {name}, run", "near_module", ["run", config, file, "run", "10000000"], ran
-        yield f"module, {name}, list", "near_module", ["list", file], checked
+        yield f"module, {name}, trap", "near_module", ["trap", config, file, "run", "10000000"], ran
+        yield f"module, {name}, call", "near_module", ["call", config, file, "run", "hex:", "10000000"], ran
+        for verb in ("list", "text"):
+            yield f"module, {name}, {verb}", "near_module", [verb, file], checked
 
 
 def chain_runs(at):
@@ -111,6 +137,7 @@ def key_runs(at, count, serial):
     chain = ["free", genesis, at("nested-blocks", chains.blocks(rows))]
     changing = ["free", genesis, at("nested-changing", chains.blocks(rows, prices=[1] * 3, change=(3, [b"aa"])))]
     schedule = at("nested-schedule", b"open 0\nseal 0\nrest\n")
+    at("nested-blocks-rest", b"rest\n")
     one, half = ["1", "0"], ["1", "0", "2", "1"]
     name = f"{count} keys in one another"
     yield name, "near_serial", ["check", *chain, schedule], 0
@@ -119,6 +146,7 @@ def key_runs(at, count, serial):
         yield what, "near_replay", ["replay", *words], 0
         yield what, "near_audit", ["gather", *words], 0
     yield name, "near_files", ["show", "genesis", "free", genesis], 0
+    yield f"{name}, compact", "near_files", ["show", "--compact", "genesis", "free", genesis], 0
     yield name, "near_serial", ["part", *chain, *half], 0
     yield name, "near_serial", ["gather", *chain, *one], 0
     if serial:
@@ -129,6 +157,23 @@ def key_runs(at, count, serial):
         yield name, "near_serial", ["recheck", "free", gathered], 0
         yield name, "near_files", ["show", "part", part], 0
         yield name, "near_files", ["show", "gathered", gathered], 0
+    yield from text_runs(at, count, chain)
+
+
+def text_runs(at, count, chain):
+    """The same keys from JSON texts."""
+    row = lambda length: {"kind": "datum", "account_id": "alice", "key": "6b" * length, "value": "76"}
+    key = {"kind": "key", "account_id": "alice", "public_key": f"ed25519:{'01' * 32}",
+           "access_key": {"nonce": 0, "permission": "FullAccess"}}
+    account = {"kind": "account", "account_id": "alice", "amount": str(10**20), "locked": "0"}
+    rows = [account, key, *(row(length) for length in range(1, count + 1))]
+    genesis = at("nested.json", json.dumps({"boundaries": ["mm"], "entries": rows}).encode())
+    blocks = [{"height": height, "timestamp": height, "chunks": [[], []]} for height in (1, 2, 3)]
+    blocks = at("nested-blocks.json", json.dumps({"blocks": blocks}).encode())
+    name = f"{count} keys in one another, from texts"
+    yield name, "near_files", ["genesis", "free", genesis], 0
+    yield name, "near_files", ["replay", "free", genesis, blocks], 0
+    yield name, "near_files", ["check", "free", genesis, blocks, chain[-1] + "-rest"], 0
 
 
 def other_runs(at):
@@ -158,39 +203,59 @@ def least(words, right, limit):
     return serves
 
 
-def tell(case, status, arguments):
-    """Runs a command both ways, and prints its row; whether it was right."""
-    right = shared.limited(case.words, {}, seconds=arguments.limit)
+def ready(until):
+    global late
+    late = until
+
+
+def tried(task):
+    """A command as the shell's limits are and under the small stack: how it ended, and what was wrong."""
+    key, (case, status, stack, limit, with_least) = task
+    if tries.is_late(late):
+        return key, None
+    right = shared.limited(case.words, {}, seconds=limit)
     begin = time.monotonic()
-    ran = under(case.words, arguments.stack, arguments.limit)
-    seconds = time.monotonic() - begin
-    is_right = right.status == status and ran[:3] == right[:3]
-    serves = least(case.words, right, arguments.limit) if seconds < 2 else "-"
-    command = f"{case.program} {case.words[1]}"
-    print(f"| {command} | {case.name} | {right.status} | {ran.status} | {seconds:.2f} | {serves} |", flush=True)
-    if not is_right:
-        ends = f"status {right.status} for {status}, {len(right.out)} bytes written; under the small stack"
-        shared.tell(f"{command}, {case.name}", ran, ends)
-    return is_right
+    ran = under(case.words, stack, limit)
+    seconds, wrong = time.monotonic() - begin, []
+    if right.status != status or ran[:3] != right[:3]:
+        wrong.append(f"status {right.status} for {status}, {len(right.out)} bytes written, {right.err[-200:]!r}; under "
+                     f"the small stack {ran.status}, {len(ran.out)} bytes written, {ran.err[-200:]!r}")
+    serves = least(case.words, right, limit) if with_least else None
+    return key, {"right": right.status, "ran": ran.status, "seconds": seconds, "least": serves, "wrong": wrong}
+
+
+def tasks_of(folder, found, arguments):
+    """The commands, as pairs of a key and a task: those that take long first."""
+    at = lambda name, data: shared.write(f"{folder}/{name}", data)
+    keys = key_runs(at, arguments.keys, found.get("near_serial"))
+    for rows in (keys, other_runs(at), texts(at), module_runs(at), chain_runs(at)):
+        for name, program, words, status in rows:
+            case = shared.Case(name, program, [found.get(program), *words])
+            if program in found and shared.fits(case, arguments.only):
+                verb = " ".join(words[: 2 if words[0] == "show" else 1])
+                key = f"{program} {verb} | {name} | {arguments.stack}"
+                yield key, (case, status, arguments.stack, arguments.limit, arguments.least)
 
 
 def main():
-    more = [("--stack", {"type": int, "default": 256}), ("--keys", {"type": int, "default": 11_200})]
-    arguments = shared.arguments_of(__doc__, *more)
+    more = [("--stack", {"type": int, "default": 256}), ("--keys", {"type": int, "default": 11_200}),
+            ("--least", {"action": "store_true"})]
+    arguments, begin = shared.arguments_of(__doc__, *more), time.monotonic()
     found, count, wrong = shared.programs_in(arguments.programs), 0, 0
-    print("| Command | Input | Status | Under the small stack | Seconds | Least stack, KiB |")
-    print("|---|---|---|---|---|---|")
+    state, until = tries.State(arguments.state, found), tries.until_of(arguments)
+    print("| Command | Input | Stack, KiB | Status | Under the small stack | Seconds | Least stack, KiB |")
+    print("|---|---|---|---|---|---|---|")
     with tempfile.TemporaryDirectory() as folder:
-        at = lambda name, data: shared.write(f"{folder}/{name}", data)
-        keys = key_runs(at, arguments.keys, found.get("near_serial"))
-        for rows in (texts(at), module_runs(at), chain_runs(at), other_runs(at), keys):
-            for name, program, words, status in rows:
-                case = shared.Case(name, program, [found.get(program), *words])
-                if program in found and shared.fits(case, arguments.only):
-                    count += 1
-                    wrong += not tell(case, status, arguments)
-    print(f"{count} commands, {wrong} were wrong")
-    sys.exit(1 if wrong else 0)
+        with multiprocessing.Pool(arguments.jobs, ready, (until,)) as pool:
+            for key, value in tries.carried_out(pool, tried, tasks_of(folder, found, arguments), state):
+                count += 1
+                least_of = value["least"] if arguments.least else "-"
+                ends = f"{value['right']} | {value['ran']} | {value['seconds']:.2f} | {least_of}"
+                print(f"| {key} | {ends} |", flush=True)
+                for text in value["wrong"]:
+                    wrong += 1
+                    print(f"  WRONG {key}: {text}", flush=True)
+    tries.close(f"stack: {count} commands under {arguments.stack} KiB", wrong, begin)
 
 
 if __name__ == "__main__":

@@ -2,11 +2,11 @@
 """Runs chains by threads while threads are held up, or can't be had, and compares what is written with the serial run.
 
 usage: hostile/threads.py [--programs FOLDER] [--only WAY] [--runs N] [--busy N] [--seed N] [--jobs N]
-                          [--limit SECONDS]
+                          [--limit SECONDS] [--minutes M] [--state FILE]
 
 Build the programs first. Chains that numbers generate, with 2 to 16 shards, and chains of contracts with promises,
 delayed receipts, chunks that are missing and boundaries that change, are run in each of these ways, N times in all a
-way (1,000), while some processes (4) keep the processors busy:
+way (1,000), some of each way in turn, while some processes (4) keep the processors busy:
 
   one processor, two processors, all processors
   allocations pause     by faults.c each so many-th allocation sleeps, so that a thread stands still at any place
@@ -36,8 +36,11 @@ import time
 
 import chains
 import programs as shared
+import tries
 
-MIB = 1 << 20
+MIB, STEP = 1 << 20, 10
+# After how many allocations one pauses, and for how many microseconds.
+PAUSES = [(7, 1), (31, 1), (31, 50), (101, 50), (101, 1000), (503, 1000)]
 GENERATED = [(7, 2, 40), (7, 3, 25), (7, 4, 30), (9, 4, 12), (7, 8, 12), (7, 16, 8), (4, 16, 5)]
 WAYS = ("one processor", "two processors", "all processors", "allocations pause", "threads stop", "all stop",
         "no thread", "few threads", "a user without", "little room")
@@ -63,10 +66,10 @@ def words_of(folder):
     return rows + [[["run", *some], ["replay", *some]] for some in files]
 
 
-def ready(limit, library, folder, replay, wanted):
-    global runner, faults, program, right, seconds, there
+def ready(limit, library, folder, replay, wanted, until):
+    global runner, faults, program, right, seconds, there, late
     runner, faults = shared.Runner(limit), shared.Faults(library, folder)
-    program, right, seconds = replay, wanted, limit
+    program, right, seconds, late = replay, wanted, limit, until
     there = sorted(os.sched_getaffinity(0))
 
 
@@ -156,7 +159,7 @@ def run(way, words):
     if way.endswith("processors") or way == "one processor":
         return on({"one": 1, "two": 2}.get(way.split()[0], len(there)), words)
     if way == "allocations pause":
-        every, pause = chance.choice((7, 31, 101, 503)), chance.choice((1, 50, 1000))
+        every, pause = chance.choice(PAUSES)
         return runner.run(words, faults.of("memory", 1 + chance.randrange(every), 0, "pause", every, pause))
     if way == "threads stop":
         return disturbed(words, stop_some)
@@ -171,58 +174,76 @@ def run(way, words):
     return shared.limited(words, {resource.RLIMIT_AS: chance.randint(8, 400) * MIB}, None, seconds)
 
 
-def tried(task):
+def end_of(way, number, seed):
+    """How a run of a way ended, and what was wrong with it."""
     global chance
-    way, place, number, seed = task
     chance = random.Random(f"{seed} {way} {number}")
-    serial, words = right[place]
+    serial, words = right[number % len(right)]
     ran = run(way, [program, *words])
     if ran[:3] == serial[:3]:
-        return "as the serial run", task, ran
+        return "as the serial run", None
     if way == "little room" and ran.status == shared.NO_MEMORY and (ran.out, ran.err) == (b"", b"7\n"):
-        return "status 7", task, ran
-    return "wrong", task, ran
+        return "status 7", None
+    command = " ".join(map(os.path.basename, words))
+    return "wrong", f"run {number}, {command}: status {ran.status}, {len(ran.out)} bytes written, {ran.err[-200:]!r}"
 
 
-def sweep(pool, way, rows, arguments):
-    """All runs of a way; the count of those that were wrong."""
-    begin, ends = time.monotonic(), collections.Counter()
-    tasks = [(way, number % len(rows), number, arguments.seed) for number in range(arguments.runs)]
-    for end, task, ran in pool.imap_unordered(tried, tasks):
+def tried(task):
+    """The runs of some numbers."""
+    key, (way, first, last, seed) = task
+    if tries.is_late(late):
+        return key, None
+    ends, wrong = collections.Counter(), []
+    for number in range(first, last):
+        end, what = end_of(way, number, seed)
         ends[end] += 1
-        if end == "wrong" and ends[end] <= 10:
-            shared.tell(" ".join(map(os.path.basename, rows[task[1]][1])), ran, f"{way}, run {task[2]}")
-    counts = ", ".join(f"{end} {count}" for end, count in sorted(ends.items()))
-    print(f"{way}: {len(tasks)} runs, {counts}; {time.monotonic() - begin:.0f} s", flush=True)
-    return ends["wrong"]
+        wrong += [what] if what else []
+    return key, {"ends": ends, "wrong": wrong}
+
+
+def sweep_all(pool, ways, arguments, state):
+    """All runs of all ways, some of each in turn: how they ended."""
+    sums = {way: collections.Counter() for way in ways}
+    tasks = {f"{way}, seed {arguments.seed}: {first}": (way, first, min(first + STEP, arguments.runs), arguments.seed)
+             for first in range(0, arguments.runs, STEP) for way in ways}
+    for key, value in tries.carried_out(pool, tried, tasks.items(), state):
+        way = tasks[key][0]
+        for what in value["wrong"][: max(0, 10 - sums[way]["wrong"])]:
+            print(f"  WRONG {way}, {what}", flush=True)
+        sums[way].update(value["ends"])
+    return sums
 
 
 def main():
-    numbers = {"--runs": 1000, "--busy": 4, "--seed": 1}
+    numbers, begin = {"--runs": 1000, "--busy": 4, "--seed": 1}, time.monotonic()
     arguments = shared.arguments_of(__doc__, *((name, {"type": int, "default": n}) for name, n in numbers.items()))
     ways = [way for way in WAYS if not arguments.only or arguments.only in way]
-    found, wrong = shared.programs_in(arguments.programs), 0
+    found = shared.programs_in(arguments.programs)
     if not {"near_serial", "near_replay"} <= found.keys():
         sys.exit("near_serial and near_replay are needed: build them first")
+    state, until = tries.State(arguments.state, found), tries.until_of(arguments)
     with tempfile.TemporaryDirectory() as folder:
         os.chmod(folder, 0o755)
         library, replay = shared.faults_in(folder), shutil.copy(found["near_replay"], folder)
         os.chmod(replay, 0o755)
         rows = words_of(folder)
-        ready(arguments.limit, library, folder, replay, None)
+        ready(arguments.limit, library, folder, replay, None, until)
         wanted = [(runner.run([found["near_serial"], *row[0]]), row[1]) for row in rows]
         if any(serial.status != shared.DONE for serial, _ in wanted):
             sys.exit("a serial run failed")
         busy = [subprocess.Popen([sys.executable, "-c", "while True: pass"]) for _ in range(arguments.busy)]
         try:
-            given = (arguments.limit, library, folder, replay, wanted)
+            given = (arguments.limit, library, folder, replay, wanted, until)
             with multiprocessing.Pool(arguments.jobs, ready, given) as pool:
-                wrong = sum(sweep(pool, way, rows, arguments) for way in ways)
+                sums = sweep_all(pool, ways, arguments, state)
         finally:
             for process in busy:
                 process.kill()
-    print(f"{wrong} runs were wrong")
-    sys.exit(1 if wrong else 0)
+    for way, ends in sums.items():
+        counts = ", ".join(f"{end} {count}" for end, count in sorted(ends.items()))
+        print(f"{way}: {sum(ends.values())} runs, {counts}", flush=True)
+    runs, wrong = (sum(counts) for counts in zip(*((sum(ends.values()), ends["wrong"]) for ends in sums.values())))
+    tries.close(f"threads: {runs} runs in {len(ways)} ways", wrong, begin)
 
 
 if __name__ == "__main__":

@@ -47,6 +47,17 @@ def recursing(values=0):
     return whole([NOTHING, STEP], [1, 0], [body(step), body(const64(0) + call(0) + DROP)], [("run", 1)])
 
 
+def stopping():
+    """`run` comes to no end."""
+    return whole([NOTHING], [0], [body(b"\x00")], [("run", 0)])
+
+
+def unfit():
+    """A module that is valid and never runs: its segment doesn't fit into its memory."""
+    segment = b"\x00" + const32(65536) + END + name("x")
+    return whole([NOTHING], [0], [body(b"")], [("run", 0)], [(5, b"\x01\x00\x01"), (11, vector([segment]))])
+
+
 def long_body(count):
     """`run` pushes so many values and drops them: operands, and no blocks."""
     return whole([NOTHING], [0], [body(const64(1) * count + DROP * count)], [("run", 0)])

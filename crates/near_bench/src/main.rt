@@ -21,19 +21,10 @@ mod module;
 mod stores;
 mod tree;
 
+use nr_bytes::words_of;
 use std::alloc::Global;
-use std::io;
 use std::process::ExitCode;
-use std::rt::{Env, Files};
-
-/// The words behind the program's own name.
-fn words_of<R: Env + AllocGlobal>(rt: &R, alloc: Global) -> io::Result<Vec<String>> {
-    let mut words = Vec::new(alloc);
-    for word in std::env::args(rt)?.skip(1) {
-        words.push(word)?;
-    }
-    Ok(words)
-}
+use std::rt::Files;
 
 /// The file and the turns that the words ask for.
 fn module_of(words: &[String]) -> Option<(&str, u32)> {

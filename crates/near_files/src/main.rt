@@ -12,22 +12,13 @@
 //! with its numbers, for 1 the words of all commands, or for 5, 20 and 21 the words that say what is wrong.
 #![tactic(auto)]
 
-use nr_bytes::{FileShelf, StdoutSink};
+use nr_bytes::{FileShelf, StdoutSink, words_of};
 use nr_files::Status;
 use nr_jsonrun::serve_words;
 use std::alloc::Global;
 use std::io;
 use std::process::ExitCode;
 use std::rt::{Env, Files};
-
-/// The words behind the program's own name.
-fn words_of<R: Env + AllocGlobal>(rt: &R, alloc: Global) -> io::Result<Vec<String>> {
-    let mut words = Vec::new(alloc);
-    for word in std::env::args(rt)?.skip(1) {
-        words.push(word)?;
-    }
-    Ok(words)
-}
 
 /// The answer where the words could not be had: one that isn't UTF-8 makes no command.
 fn refused(error: &io::Error) -> Status {

@@ -1,30 +1,21 @@
 //! Checks a module, runs a method of it or calls it as a contract, and writes what it is or how that ended.
 //!
-//! The words are `check CONFIG FILE`, `run CONFIG FILE METHOD GAS`, `call CONFIG FILE METHOD ARGS GAS` or the same with
-//! DEPOSIT behind it, `list FILE`, `text FILE`, `help` or `version`, where CONFIG is `free` or the name of a file. The
-//! exit status is 0 after `ok`, `end BURNT`, the lines of a call that came to its end, the lines or the text of a
-//! module and what `help` and `version` write, and 20 after each other line; 1 where the words are no command, 2
-//! where CONFIG is no configuration, 5 where a file could not be read, 6 where the line could not be written, and 7
-//! where memory ran out. For those a line on standard error has the status, with its numbers. Beside `ok` the line
-//! `make 21` stands there where the module is valid, but an element or a segment doesn't fit, so that no method can
-//! run.
+//! The words are `check CONFIG FILE`, `run CONFIG FILE METHOD GAS`, `trap CONFIG FILE METHOD GAS`, `call CONFIG FILE
+//! METHOD ARGS GAS` or the same with DEPOSIT behind it, `list FILE`, `text FILE`, `help` or `version`, where CONFIG is
+//! `free` or the name of a file. The exit status is 0 after `ok`, `end BURNT`, the lines of a call that came to its
+//! end, the lines or the text of a module and what `help` and `version` write, and 20 after each other line; 1 where
+//! the words are no command, 2 where CONFIG is no configuration, 5 where a file could not be read, 6 where the line
+//! could not be written, and 7 where memory ran out. For those a line on standard error has the status, with its
+//! numbers. Beside `ok` the line `make 21` stands there where the module is valid, but an element or a segment doesn't
+//! fit, so that no method can run.
 #![tactic(auto)]
 
-use nr_bytes::{FileShelf, StdoutSink};
+use nr_bytes::{FileShelf, StdoutSink, words_of};
 use nr_module::{Status, check_module};
 use std::alloc::Global;
 use std::io;
 use std::process::ExitCode;
 use std::rt::{Env, Files};
-
-/// The words behind the program's own name.
-fn words_of<R: Env + AllocGlobal>(rt: &R, alloc: Global) -> io::Result<Vec<String>> {
-    let mut words = Vec::new(alloc);
-    for word in std::env::args(rt)?.skip(1) {
-        words.push(word)?;
-    }
-    Ok(words)
-}
 
 /// The answer where the words could not be had: one that isn't UTF-8 makes no command.
 fn refused(error: &io::Error) -> Status {

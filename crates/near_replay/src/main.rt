@@ -5,7 +5,7 @@
 //! with its numbers.
 #![tactic(auto)]
 
-use nr_bytes::{FileShelf, StdoutSink};
+use nr_bytes::{FileShelf, StdoutSink, words_of};
 use nr_replay::replay;
 use nr_top::Status;
 use nr_workers::OpenGate;
@@ -15,15 +15,6 @@ use std::process::ExitCode;
 use std::rt::{Env, Files};
 use std::sync::Wait;
 use std::thread::Threads;
-
-/// The words behind the program's own name.
-fn words_of<R: Env + AllocGlobal>(rt: &R, alloc: Global) -> io::Result<Vec<String>> {
-    let mut words = Vec::new(alloc);
-    for word in std::env::args(rt)?.skip(1) {
-        words.push(word)?;
-    }
-    Ok(words)
-}
 
 /// The answer where the words could not be had: one that isn't UTF-8 makes no command.
 fn refused(error: &io::Error) -> Status {

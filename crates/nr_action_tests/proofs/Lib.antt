@@ -1,1 +1,3 @@
--- No lemmas of its own.
+-- Lemmas behind the answers.
+pub mod Sounding
+pub mod Starting

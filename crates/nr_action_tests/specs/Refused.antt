@@ -1,10 +1,11 @@
 -- Calls that always fail, and burn so much gas, or all of theirs. This project's own.
-use Rattle.std.specs.Prelude.{ℕ, ◌≤◌, min, refl}
+use Rattle.std.specs.Prelude.{ℕ, min, refl}
 use Rattle.std.proofs.Common.{ap, arith}
 use Rattle.nr_config.specs.Config.{Config}
 use Rattle.nr_state.specs.Calls.{Called, Ended, Stopped, IsCaller}
 use Rattle.nr_state.specs.Local.{IsLocal}
 use Rattle.nr_state.specs.World.{World}
+use Rattle.nr_action_tests.specs.Burning.{at_most}
 use Rattle.nr_state.specs.declared.calls.CallContext.{CallContext}
 
 abbrev pub refused : ℕ → ℕ → ℕ → World → CallContext → Called
@@ -14,9 +15,6 @@ refused kind part burnt w x = Stopped kind part (min burnt x.gas)
 abbrev burnt_of : Called → ℕ
 burnt_of (Ended end after) = 0
 burnt_of (Stopped kind part burnt) = burnt
-
-at_most : (m n : ℕ) → min m n ≤ n
-at_most m n = omega arith
 
 pub refused_law : (c : Config) (kind part burnt : ℕ) → IsCaller c (refused kind part burnt)
 refused_law c kind part burnt = record {

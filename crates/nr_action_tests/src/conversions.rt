@@ -72,7 +72,8 @@ fn look(state: &State, id: &AccountId, answer: [u128; 3]) -> Result<Answer, Allo
     })
 }
 
-fn convert_in(
+/// The refusal of a transaction with its two numbers, or 0, the gas that was burnt and its tokens.
+pub(crate) fn convert_in(
     alloc: Global,
     config: &Config,
     state: &mut State,

@@ -28,94 +28,66 @@ pub(crate) fn seen_with(
     applied(alloc, &caller, &account, has, sent)
 }
 
-/// The failure of an action under `free`, where alice has 1000: by its sender, its receiver, and the
-/// receipt's actions.
-fn failure(
-    alloc: Global,
-    predecessor: &'static [u8],
-    receiver: &'static [u8],
-    asks: &'static [Ask],
-) -> [u32; 2] {
-    let sent = Sent {
-        predecessor,
-        receiver,
-        asks,
-    };
-    seen_with(alloc, Config::free(), account_of(1000), Has::Nothing, sent).failure
-}
+/// A receipt whose first action fails, or not: what alice, who has 1000, has beside, its sender, its receiver, its
+/// actions, and the failure.
+type Row = (Has, &'static [u8], &'static [u8], &'static [Ask], [u32; 2]);
+
+const CALL: &[Ask] = &[Ask::Call("go", 90, 5)];
+
+const TWO: &[Ask] = &[Ask::Transfer(1), Ask::Transfer(1)];
+
+const FAILURES: [Row; 20] = [
+    // Accounts that may not be made.
+    (Has::Nothing, b"bob", b"alice", &[Ask::Create], [1, 0]),
+    (Has::Nothing, b"alice", b"system", &[Ask::Create], [3, 0]),
+    (Has::Nothing, b"alice", b"y.bob", &[Ask::Create], [4, 0]),
+    (Has::Nothing, b"alice", b"y.x.alice", &[Ask::Create], [4, 0]),
+    (Has::Nothing, b"alice", IMPLICIT, &[Ask::Create], [11, 0]),
+    // Nothing is done on an absent account.
+    (Has::Nothing, b"alice", b"bob", &[Ask::Transfer(5)], [2, 0]),
+    (Has::Nothing, b"alice", b"bob", CALL, [2, 0]),
+    (Has::Nothing, b"alice", b"bob", &[Ask::Deploy], [2, 0]),
+    (Has::Nothing, b"bob", b"bob", &[Ask::DeleteKey], [2, 0]),
+    (Has::Nothing, b"bob", b"bob", &[Ask::Delete], [2, 0]),
+    // No other account does what its owner may.
+    (Has::Nothing, b"bob", b"alice", &[Ask::Deploy], [5, 0]),
+    (Has::Nothing, b"bob", b"alice", &[Ask::AddKey], [5, 0]),
+    (Has::Nothing, b"bob", b"alice", &[Ask::DeleteKey], [5, 0]),
+    (Has::Nothing, b"bob", b"alice", &[Ask::Delete], [5, 0]),
+    // Only a single transfer makes an implicit account.
+    (Has::Nothing, b"alice", IMPLICIT, TWO, [2, 0]),
+    (
+        Has::Nothing,
+        b"system",
+        IMPLICIT,
+        &[Ask::Transfer(1)],
+        [2, 0],
+    ),
+    (
+        Has::Nothing,
+        b"alice",
+        IMPLICIT,
+        &[Ask::Transfer(1)],
+        [0, 0],
+    ),
+    // Keys and code stand or do not.
+    (Has::Nothing, b"alice", b"alice", &[Ask::DeleteKey], [6, 0]),
+    (Has::FullKey, b"alice", b"alice", &[Ask::AddKey], [7, 0]),
+    (Has::Nothing, b"alice", b"alice", CALL, [12, 0]),
+];
 
 #[test]
-fn creation_fails(rt: HostRuntime) {
+fn actions_fail(rt: HostRuntime) {
     let alloc = rt.alloc();
-    assert_eq!(rt; failure(alloc, b"bob", b"alice", &[Ask::Create]), [1, 0]);
-    assert_eq!(rt; failure(alloc, b"alice", b"system", &[Ask::Create]), [3, 0]);
-    assert_eq!(rt; failure(alloc, b"alice", b"y.bob", &[Ask::Create]), [4, 0]);
-    assert_eq!(rt;
-        failure(alloc, b"alice", b"y.x.alice", &[Ask::Create]),
-        [4, 0]
-    );
-    assert_eq!(rt; failure(alloc, b"alice", IMPLICIT, &[Ask::Create]), [11, 0]);
-}
-
-#[test]
-fn nothing_is_done_on_an_absent_account(rt: HostRuntime) {
-    let alloc = rt.alloc();
-    assert_eq!(rt;
-        failure(alloc, b"alice", b"bob", &[Ask::Transfer(5)]),
-        [2, 0]
-    );
-    assert_eq!(rt;
-        failure(alloc, b"alice", b"bob", &[Ask::Call("go", 90, 5)]),
-        [2, 0]
-    );
-    assert_eq!(rt; failure(alloc, b"alice", b"bob", &[Ask::Deploy]), [2, 0]);
-    assert_eq!(rt; failure(alloc, b"bob", b"bob", &[Ask::DeleteKey]), [2, 0]);
-    assert_eq!(rt; failure(alloc, b"bob", b"bob", &[Ask::Delete]), [2, 0]);
-}
-
-#[test]
-fn no_other_account_does_what_its_owner_may(rt: HostRuntime) {
-    let alloc = rt.alloc();
-    assert_eq!(rt; failure(alloc, b"bob", b"alice", &[Ask::Deploy]), [5, 0]);
-    assert_eq!(rt; failure(alloc, b"bob", b"alice", &[Ask::AddKey]), [5, 0]);
-    assert_eq!(rt; failure(alloc, b"bob", b"alice", &[Ask::DeleteKey]), [5, 0]);
-    assert_eq!(rt; failure(alloc, b"bob", b"alice", &[Ask::Delete]), [5, 0]);
-}
-
-#[test]
-fn only_a_single_transfer_makes_an_implicit_account(rt: HostRuntime) {
-    let alloc = rt.alloc();
-    let two = &[Ask::Transfer(1), Ask::Transfer(1)];
-    assert_eq!(rt; failure(alloc, b"alice", IMPLICIT, two), [2, 0]);
-    assert_eq!(rt;
-        failure(alloc, b"system", IMPLICIT, &[Ask::Transfer(1)]),
-        [2, 0]
-    );
-    assert_eq!(rt;
-        failure(alloc, b"alice", IMPLICIT, &[Ask::Transfer(1)]),
-        [0, 0]
-    );
-}
-
-/// The failure of an action that alice sends to herself.
-fn own_failure(alloc: Global, has: Has, ask: &'static [Ask]) -> [u32; 2] {
-    let sent = Sent {
-        predecessor: b"alice",
-        receiver: b"alice",
-        asks: ask,
-    };
-    seen_with(alloc, Config::free(), account_of(1000), has, sent).failure
-}
-
-#[test]
-fn keys_and_code_stand_or_do_not(rt: HostRuntime) {
-    let alloc = rt.alloc();
-    assert_eq!(rt; own_failure(alloc, Has::Nothing, &[Ask::DeleteKey]), [6, 0]);
-    assert_eq!(rt; own_failure(alloc, Has::FullKey, &[Ask::AddKey]), [7, 0]);
-    assert_eq!(rt;
-        own_failure(alloc, Has::Nothing, &[Ask::Call("go", 90, 5)]),
-        [12, 0]
-    );
+    for (place, (has, predecessor, receiver, asks, want)) in FAILURES.iter().enumerate() {
+        let sent = Sent {
+            predecessor: *predecessor,
+            receiver: *receiver,
+            asks: *asks,
+        };
+        let seen = seen_with(alloc, Config::free(), account_of(1000), *has, sent);
+        assert_eq!(rt; seen.failure, *want, "row {place}");
+    }
 }
 
 /// The failure of making an account whose id has no dot, where an id has 4 bytes at least.

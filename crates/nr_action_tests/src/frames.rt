@@ -25,6 +25,8 @@ pub(crate) enum Has {
     FullKey,
     /// A key for calls of `go` with this allowance.
     CallKey(u128),
+    /// A key for calls of `go` without an allowance.
+    OpenKey,
     /// A key for calls of these methods, with the allowance 100.
     MethodsKey(&'static [&'static str]),
 }
@@ -42,13 +44,13 @@ fn put_call_key(
     config: &Config,
     state: &mut State,
     id: &AccountId,
-    allowance: u128,
+    allowance: Option<u128>,
     methods: &[&str],
 ) -> Result<(), AllocError>
     requires { IsReady config.now state.old }
     ensures { OnOk result (IsReady config.now state.new) }
 {
-    let access = call_key(alloc, 0, Some(allowance), methods)?;
+    let access = call_key(alloc, 0, allowance, methods)?;
     put_key(config, state, id, &access)?;
     Ok(())
 }
@@ -67,8 +69,9 @@ fn put(
         Has::Nothing => Ok(()),
         Has::Code => put_code(config, state, id),
         Has::FullKey => put_key(config, state, id, &full_key(7)),
-        Has::CallKey(allowance) => put_call_key(alloc, config, state, id, allowance, &["go"]),
-        Has::MethodsKey(methods) => put_call_key(alloc, config, state, id, 100, methods),
+        Has::CallKey(allowance) => put_call_key(alloc, config, state, id, Some(allowance), &["go"]),
+        Has::OpenKey => put_call_key(alloc, config, state, id, None, &["go"]),
+        Has::MethodsKey(methods) => put_call_key(alloc, config, state, id, Some(100), methods),
     }
 }
 
@@ -251,7 +254,8 @@ fn look(state: &State, frame: &Frame, failure: [u32; 2]) -> Result<Seen, AllocEr
     })
 }
 
-fn apply_in(
+/// Applies the first action of a receipt.
+pub(crate) fn apply_in(
     alloc: Global,
     state: &mut State,
     caller: &Refuser,

@@ -8,111 +8,21 @@ use nr_ids::Hash32;
 use nr_records::Account;
 use std::alloc::Global;
 
-/// The refusal of a transaction of alice, who has 1000, under prices: by her key, the receiver, the
-/// nonce and the actions.
-fn refusal(
-    alloc: Global,
-    has: Has,
-    receiver: &'static [u8],
-    nonce: u64,
-    asks: &'static [Ask],
-) -> [u128; 3] {
-    let asked = Asked {
-        signer: b"alice",
-        receiver,
-        nonce,
-        asks,
-    };
-    answered(alloc, &priced(alloc), &account_of(1000), has, asked).answer
-}
+/// A transaction of alice, who has 1000, under prices: what she has beside, its receiver, its nonce, its actions, and
+/// the refusal with its fields, or 0 and what was burnt.
+type Row = (Has, &'static [u8], u64, &'static [Ask], [u128; 3]);
 
 const KEY_100: Has = Has::CallKey(100);
 
-#[test]
-fn a_key_for_calls_forbids_all_else(rt: HostRuntime) {
-    let alloc = rt.alloc();
-    assert_eq!(rt;
-        refusal(alloc, KEY_100, b"con", 1, &[Ask::Transfer(5)]),
-        [6, 1, 0]
-    );
-    let calls = &[Ask::Call("go", 1, 0), Ask::Call("go", 1, 0)];
-    assert_eq!(rt; refusal(alloc, KEY_100, b"con", 1, calls), [6, 1, 0]);
-    assert_eq!(rt;
-        refusal(alloc, KEY_100, b"con", 1, &[Ask::Call("go", 90, 1)]),
-        [6, 2, 0]
-    );
-    assert_eq!(rt;
-        refusal(alloc, KEY_100, b"bob", 1, &[Ask::Call("go", 90, 1)]),
-        [6, 2, 0]
-    );
-    assert_eq!(rt;
-        refusal(alloc, KEY_100, b"bob", 1, &[Ask::Call("stop", 90, 0)]),
-        [6, 3, 0]
-    );
-    assert_eq!(rt;
-        refusal(alloc, KEY_100, b"con", 1, &[Ask::Call("stop", 90, 0)]),
-        [6, 4, 0]
-    );
-}
+const GO: &[Ask] = &[Ask::Call("go", 90, 0)];
 
-/// The refusal of a call of a method by a key for calls of these methods.
-fn refusal_of(alloc: Global, methods: &'static [&'static str], asks: &'static [Ask]) -> [u128; 3] {
-    refusal(alloc, Has::MethodsKey(methods), b"con", 1, asks)
-}
+const GO_WITH_1: &[Ask] = &[Ask::Call("go", 90, 1)];
 
-#[test]
-fn a_key_allows_the_methods_that_it_names(rt: HostRuntime) {
-    let alloc = rt.alloc();
-    let go = &[Ask::Call("go", 90, 0)];
-    assert_eq!(rt; refusal_of(alloc, &["go"], go), [0, 4, 4]);
-    assert_eq!(rt; refusal_of(alloc, &["g", "go"], go), [0, 4, 4]);
-    assert_eq!(rt; refusal_of(alloc, &["go", "stop"], go), [0, 4, 4]);
-    assert_eq!(rt; refusal_of(alloc, &["gone"], go), [6, 4, 0]);
-    assert_eq!(rt; refusal_of(alloc, &["g", "o"], go), [6, 4, 0]);
-    assert_eq!(rt; refusal_of(alloc, &[""], go), [6, 4, 0]);
-    // One that names none allows all.
-    assert_eq!(rt; refusal_of(alloc, &[], go), [0, 4, 4]);
-    assert_eq!(rt;
-        refusal_of(alloc, &[], &[Ask::Call("stop", 90, 0)]),
-        [0, 4, 4]
-    );
-}
+const STOP: &[Ask] = &[Ask::Call("stop", 90, 0)];
 
-#[test]
-fn an_allowance_bounds_the_cost_of_gas(rt: HostRuntime) {
-    let alloc = rt.alloc();
-    let call = &[Ask::Call("go", 90, 0)];
-    assert_eq!(rt; refusal(alloc, KEY_100, b"con", 1, call), [0, 4, 4]);
-    assert_eq!(rt;
-        refusal(alloc, Has::CallKey(99), b"con", 1, call),
-        [8, 99, 100]
-    );
-    assert_eq!(rt;
-        refusal(alloc, Has::CallKey(0), b"con", 2, call),
-        [8, 0, 100]
-    );
-}
+const TWICE: &[Ask] = &[Ask::Call("go", 1, 0), Ask::Call("go", 1, 0)];
 
-#[test]
-fn a_nonce_is_above_the_keys(rt: HostRuntime) {
-    let alloc = rt.alloc();
-    assert_eq!(rt;
-        refusal(alloc, Has::Nothing, b"bob", 8, &[Ask::Transfer(5)]),
-        [2, 0, 0]
-    );
-    assert_eq!(rt;
-        refusal(alloc, Has::FullKey, b"bob", 7, &[Ask::Transfer(5)]),
-        [3, 7, 7]
-    );
-    assert_eq!(rt;
-        refusal(alloc, Has::FullKey, b"bob", 6, &[Ask::Transfer(5)]),
-        [3, 7, 6]
-    );
-    assert_eq!(rt;
-        refusal(alloc, Has::FullKey, b"bob", 8, &[Ask::Transfer(5)]),
-        [0, 8, 8]
-    );
-}
+const FIVE: &[Ask] = &[Ask::Transfer(5)];
 
 const FOUR: &[Ask] = &[Ask::Create, Ask::Create, Ask::Create, Ask::Create];
 
@@ -124,34 +34,64 @@ const HALVES: &[Ask] = &[Ask::Call("go", 1 << 63, 0), Ask::Call("go", 1 << 63, 0
 /// Two transfers that don't fit in 128 bits together.
 const TOO_DEAR: &[Ask] = &[Ask::Transfer(1 << 127), Ask::Transfer(1 << 127)];
 
-#[test]
-fn actions_and_their_gas_are_bounded(rt: HostRuntime) {
-    let alloc = rt.alloc();
-    assert_eq!(rt; refusal(alloc, Has::FullKey, b"bob", 8, FOUR), [4, 0, 0]);
-    assert_eq!(rt; refusal(alloc, Has::FullKey, b"bob", 7, FOUR), [3, 7, 7]);
-    assert_eq!(rt;
-        refusal(alloc, Has::FullKey, b"bob", 8, TOO_MUCH_GAS),
-        [5, 0, 0]
-    );
-    assert_eq!(rt; refusal(alloc, KEY_100, b"bob", 8, HALVES), [5, 0, 0]);
-}
+const REFUSALS: [Row; 29] = [
+    // A key for calls forbids all else.
+    (KEY_100, b"con", 1, FIVE, [6, 1, 0]),
+    (KEY_100, b"con", 1, TWICE, [6, 1, 0]),
+    (KEY_100, b"con", 1, GO_WITH_1, [6, 2, 0]),
+    (KEY_100, b"bob", 1, GO_WITH_1, [6, 2, 0]),
+    (KEY_100, b"bob", 1, STOP, [6, 3, 0]),
+    (KEY_100, b"con", 1, STOP, [6, 4, 0]),
+    // It allows the methods that it names; one that names none allows all.
+    (Has::MethodsKey(&["go"]), b"con", 1, GO, [0, 4, 4]),
+    (Has::MethodsKey(&["g", "go"]), b"con", 1, GO, [0, 4, 4]),
+    (Has::MethodsKey(&["go", "stop"]), b"con", 1, GO, [0, 4, 4]),
+    (Has::MethodsKey(&["gone"]), b"con", 1, GO, [6, 4, 0]),
+    (Has::MethodsKey(&["g", "o"]), b"con", 1, GO, [6, 4, 0]),
+    (Has::MethodsKey(&[""]), b"con", 1, GO, [6, 4, 0]),
+    (Has::MethodsKey(&[]), b"con", 1, GO, [0, 4, 4]),
+    (Has::MethodsKey(&[]), b"con", 1, STOP, [0, 4, 4]),
+    // An allowance bounds the cost of gas.
+    (KEY_100, b"con", 1, GO, [0, 4, 4]),
+    (Has::CallKey(99), b"con", 1, GO, [8, 99, 100]),
+    (Has::CallKey(0), b"con", 2, GO, [8, 0, 100]),
+    // A nonce is above the key's.
+    (Has::Nothing, b"bob", 8, FIVE, [2, 0, 0]),
+    (Has::FullKey, b"bob", 7, FIVE, [3, 7, 7]),
+    (Has::FullKey, b"bob", 6, FIVE, [3, 7, 6]),
+    (Has::FullKey, b"bob", 8, FIVE, [0, 8, 8]),
+    // Actions and their gas are bounded.
+    (Has::FullKey, b"bob", 8, FOUR, [4, 0, 0]),
+    (Has::FullKey, b"bob", 7, FOUR, [3, 7, 7]),
+    (Has::FullKey, b"bob", 8, TOO_MUCH_GAS, [5, 0, 0]),
+    (KEY_100, b"bob", 8, HALVES, [5, 0, 0]),
+    // A cost is bounded and paid for.
+    (Has::FullKey, b"bob", 8, TOO_DEAR, [7, 0, 0]),
+    (KEY_100, b"con", 8, TOO_DEAR, [6, 1, 0]),
+    (Has::FullKey, b"bob", 8, &[Ask::Transfer(979)], [0, 8, 8]),
+    (
+        Has::FullKey,
+        b"bob",
+        8,
+        &[Ask::Transfer(980)],
+        [9, 1000, 1001],
+    ),
+];
 
 #[test]
-fn a_cost_is_bounded_and_paid_for(rt: HostRuntime) {
+fn transactions_are_refused(rt: HostRuntime) {
     let alloc = rt.alloc();
-    assert_eq!(rt;
-        refusal(alloc, Has::FullKey, b"bob", 8, TOO_DEAR),
-        [7, 0, 0]
-    );
-    assert_eq!(rt; refusal(alloc, KEY_100, b"con", 8, TOO_DEAR), [6, 1, 0]);
-    assert_eq!(rt;
-        refusal(alloc, Has::FullKey, b"bob", 8, &[Ask::Transfer(979)]),
-        [0, 8, 8]
-    );
-    assert_eq!(rt;
-        refusal(alloc, Has::FullKey, b"bob", 8, &[Ask::Transfer(980)]),
-        [9, 1000, 1001]
-    );
+    let config = priced(alloc);
+    for (place, (has, receiver, nonce, asks, want)) in REFUSALS.iter().enumerate() {
+        let asked = Asked {
+            signer: b"alice",
+            receiver: *receiver,
+            nonce: *nonce,
+            asks: *asks,
+        };
+        let seen = answered(alloc, &config, &account_of(1000), *has, asked);
+        assert_eq!(rt; seen.answer, *want, "row {place}");
+    }
 }
 
 /// The refusal of a transfer of 5 to bob under the built-in configuration with prices, which costs

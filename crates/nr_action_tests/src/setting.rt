@@ -24,7 +24,8 @@ pub(crate) const PLACE: Place = Place {
 };
 
 /// As `free`, but at most 3 actions, names of 4 bytes at least, and these fees (to send to oneself,
-/// to send, to execute): of a receipt 1, 1, 2; of a call 3, 3, 4; of a transfer 5, 7, 11.
+/// to send, to execute): of a receipt 1, 1, 2; of a call 3, 3, 4; of a transfer 5, 7, 11. The brace at
+/// its end is left out, so that members may follow: of equal names the last counts.
 const PRICED: &str = r#"{
     "gas_price": 1, "storage_price": 0, "chunk_gas_limit": 1000000000000000,
     "regular_op_cost": 1, "max_actions": 3, "max_prepaid_gas": 1000000000000000,
@@ -50,12 +51,29 @@ const PRICED: &str = r#"{
     "add_call_key_base_exec": 0, "add_call_key_byte_send_local": 0,
     "add_call_key_byte_send_remote": 0, "add_call_key_byte_exec": 0,
     "delete_key_send_local": 0, "delete_key_send_remote": 0, "delete_key_exec": 0,
-    "delete_account_send_local": 0, "delete_account_send_remote": 0, "delete_account_exec": 0
-}"#;
+    "delete_account_send_local": 0, "delete_account_send_remote": 0, "delete_account_exec": 0"#;
+
+fn text_with(alloc: Global, members: &[&str]) -> Result<String, AllocError> {
+    let mut text = String::from_str(alloc, PRICED)?;
+    for piece in members {
+        text.push_str(piece)?;
+    }
+    text.push_str("}")?;
+    Ok(text)
+}
+
+/// The configuration with prices, and with members that count more, put together of pieces.
+pub(crate) fn config_with(alloc: Global, members: &[&str]) -> Result<Config, AllocError> {
+    let text = text_with(alloc, members)?;
+    let Ok(config) = Config::read(alloc, text.as_bytes()) else {
+        return Err(AllocError);
+    };
+    Ok(config)
+}
 
 /// The configuration with prices; `free` where memory runs out.
 pub(crate) fn priced(alloc: Global) -> Config {
-    Config::read(alloc, PRICED.as_bytes()).unwrap_or(Config::free())
+    config_with(alloc, &[]).unwrap_or(Config::free())
 }
 
 /// The account id of these bytes.

@@ -4,3 +4,4 @@ pub mod Failing
 pub mod Made
 pub mod Doing
 pub mod OverActions
+pub mod Raising

@@ -17,12 +17,14 @@ use Rattle.nr_actions.specs.declared.frame.Frame.{Frame}
 use Rattle.nr_config.specs.Config.{Config, top_level_min_len, delete_state_limit}
 use Rattle.nr_ids.specs.Derive.{derived}
 use Rattle.nr_ids.specs.Grammar.{is_implicit, is_sub_of, is_system, is_top}
+use Rattle.nr_ids.specs.declared.key.Hash32.{Hash32}
 use Rattle.nr_ids.specs.declared.key.PublicKey.{PublicKey}
 use Rattle.nr_records.specs.declared.access_key.AccessKey.{AccessKey}
 use Rattle.nr_records.specs.declared.account.Account.{Account}
 use Rattle.nr_records.specs.declared.action.Action.{Action}
 use Rattle.nr_records.specs.declared.action.Action.TheVariants.{CreateAccount, DeployContract, FunctionCall, Transfer}
 use Rattle.nr_records.specs.declared.action.Action.TheVariants.{AddKey, DeleteKey, DeleteAccount}
+use Rattle.nr_records.specs.declared.receipt.Receipt.{Receipt}
 use Rattle.nr_state.specs.Calls.{Called, Ended, Stopped, Stands}
 use Rattle.nr_state.specs.Changes.{set_key, removed_key, set_code, usage_of_code, without_account}
 use Rattle.nr_state.specs.View.{StateView}
@@ -128,14 +130,17 @@ key_deleted c w f key = on_account (get w.accounts f.receiver) (λ account.
     unless ((is_other f, NoPermission) ∷ (not (is_some (get w.keys (f.receiver, key))), NoSuchKey) ∷ [])
     (Acts (removed_key c w f.receiver key) f))
 
+-- ---- a receipt that is made takes the next id that is drawn from the receipt's
+abbrev pub next_id : Frame → Hash32
+next_id f = derived f.receipt_id f.place.height.0 f.next_ordinal
+
+abbrev pub with_drawn : Frame → Receipt → Frame
+with_drawn f r = record f { made = f.made ++ r ∷ []; next_ordinal = f.next_ordinal + 1 }
+
 -- ---- the end of an account with all that it owns: what it had goes to the beneficiary, and the predecessor acts again
 abbrev pub with_refund : Frame → List ℕ → ℕ → Frame
 with_refund f receiver amount =
-    cond (amount == 0) f
-    (record f {
-      made = f.made ++ deposit_refund receiver (derived f.receipt_id f.place.height.0 f.next_ordinal) amount ∷ [];
-      next_ordinal = f.next_ordinal + 1;
-    })
+    cond (amount == 0) f (with_drawn f (deposit_refund receiver (next_id f) amount))
 
 abbrev pub deletion_failures : Config → World → Frame → Account → List (Bool × Failure)
 deletion_failures c w f account =

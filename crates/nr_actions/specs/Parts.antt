@@ -1,6 +1,6 @@
 -- What the parts of the code answer: what an action does to its frame, and how it ends. This project's own.
-use Rattle.std.specs.Prelude.{◌≡◌, ℕ, ◌+◌, ◌==◌, cond, List, [], ◌∷◌, ◌++◌, Option, Some, None, Result, Ok, Err}
-use Rattle.nr_actions.specs.Actions.{Acted, Acts, Fails}
+use Rattle.std.specs.Prelude.{◌≡◌, ℕ, ◌==◌, cond, List, Option, Some, None, Result, Ok, Err}
+use Rattle.nr_actions.specs.Actions.{Acted, Acts, Fails, next_id, with_drawn}
 use Rattle.nr_actions.specs.Calling.{after_call}
 use Rattle.nr_actions.specs.Refunds.{deposit_refund}
 use Rattle.nr_actions.specs.declared.effect.Effect.{Effect}
@@ -8,7 +8,6 @@ use Rattle.nr_actions.specs.declared.effect.Effect.TheVariants.{Same, Actor, Del
 use Rattle.nr_actions.specs.declared.effect.Stop.{Stop}
 use Rattle.nr_actions.specs.declared.effect.Stop.TheVariants.{Failed, Memory}
 use Rattle.nr_actions.specs.declared.frame.Frame.{Frame}
-use Rattle.nr_ids.specs.Derive.{derived}
 use Rattle.nr_records.specs.declared.receipt.Receipt.{Receipt}
 use Rattle.nr_state.specs.Calls.{Stands}
 use Rattle.nr_state.specs.View.{StateView}
@@ -16,7 +15,7 @@ use Rattle.nr_state.specs.View.{StateView}
 -- ---- the frame once an action was done
 abbrev pub with_made : Frame → Option Receipt → Frame
 with_made f None = f
-with_made f (Some refund) = record f { made = f.made ++ refund ∷ []; next_ordinal = f.next_ordinal + 1 }
+with_made f (Some refund) = with_drawn f refund
 
 abbrev pub frame_after : Frame → Effect → Frame
 frame_after f Same = f
@@ -27,8 +26,7 @@ frame_after f (Called end last) = after_call f last end
 -- the receipt of what an account had that goes, unless it had nothing
 abbrev pub refund_to : Frame → List ℕ → ℕ → Option Receipt
 refund_to f receiver amount =
-    cond (amount == 0) None (Some (deposit_refund receiver (derived f.receipt_id f.place.height.0 f.next_ordinal)
-    amount))
+    cond (amount == 0) None (Some (deposit_refund receiver (next_id f) amount))
 
 -- ---- an action is done as its definition says, or it failed so and the world is as it was; where memory runs out
 -- nothing is said

@@ -2,11 +2,14 @@
 
 ghost use Rattle.std.specs.Prelude.{◌≡◌, ◌+◌, ◌<◌, ◌^◌, OnOk};
 ghost use Rattle.nr_actions.specs.Accounts.{new_account, with_deposit, implicit_key, full_key, with_implicit, raised};
+ghost use Rattle.nr_keys.specs.Changed.{with_allowance};
+ghost use Rattle.nr_keys.specs.Lent.{shown_permission};
 ghost use Rattle.nr_state.specs.View.{with_world};
 
 use nr_config::Config;
 use nr_config::entries::ACCOUNT_BYTES;
 use nr_ids::{AccountId, Hash32, PublicKey};
+use nr_keys::LentPermission;
 use nr_records::{AccessKey, Account, Permission};
 
 /// An account that owns nothing.
@@ -53,18 +56,15 @@ pub(crate) fn full_key() -> AccessKey
     }
 }
 
-/// What a permission is once tokens came back: an allowance is more by the amount, to at most
-/// 2^128 - 1.
-pub(crate) fn raised(permission: Permission, amount: u128) -> Permission
-    ensures { result ≡ raised amount permission }
+/// What a key's allowance is once tokens came back: more by the amount, to at most 2^128 - 1.
+pub(crate) fn raised(permission: &LentPermission<'_>, amount: u128) -> Option<u128>
+    ensures { with_allowance result (shown_permission permission.now)
+        ≡ raised amount (shown_permission permission.now) }
 {
     match permission {
-        Permission::Call(mut call) => {
-            call.allowance = call
-                .allowance
-                .map(|allowance| allowance.saturating_add(amount));
-            Permission::Call(call)
-        }
-        Permission::Full => Permission::Full,
+        LentPermission::Call(calls) => calls
+            .allowance
+            .map(|allowance| allowance.saturating_add(amount)),
+        LentPermission::Full => None,
     }
 }

@@ -49,7 +49,7 @@ fn perform<S: Store, C: Caller<S>>(
             let context = context_of(alloc, frame, last, method, args, *gas, *deposit)?;
             call(alloc, state, frame, &context, last, caller)
         }
-        Action::Transfer { deposit } => transfer(state, frame, *deposit),
+        Action::Transfer { deposit } => transfer(alloc, state, frame, *deposit),
         Action::AddKey {
             public_key,
             access_key,

@@ -5,13 +5,14 @@ ghost use Rattle.nr_actions.specs.Actions.{deleted};
 ghost use Rattle.nr_actions.specs.Parts.{Performs, refund_to};
 ghost use Rattle.nr_state.specs.Changes.{usage_of_code};
 
+use crate::drawing::next_id;
 use crate::effect::{Effect, Stop, failed};
 use crate::failure::Failure;
 use crate::frame::Frame;
 use crate::ownership::is_other;
 use crate::refunds::deposit_refund;
 use nr_config::entries::DELETE_STATE_LIMIT;
-use nr_ids::{AccountId, derive};
+use nr_ids::AccountId;
 use nr_records::Receipt;
 use nr_state::ShardState;
 use nr_triedef::Store;
@@ -39,7 +40,7 @@ fn refund_to(
     if amount == 0 {
         return Ok(None);
     }
-    let id = derive(&frame.receipt_id, frame.place.height, frame.next_ordinal);
+    let id = next_id(frame);
     let receiver = beneficiary.duplicate(alloc)?;
     Ok(Some(deposit_refund(alloc, receiver, id, amount)?))
 }

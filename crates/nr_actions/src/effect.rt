@@ -6,6 +6,7 @@ ghost use Rattle.nr_actions.specs.Failures.{number};
 ghost use Rattle.nr_actions.specs.Parts.{with_made, frame_after};
 ghost use Rattle.nr_actions.specs.declared.effect.Stop.TheVariants.{Memory, Failed};
 
+use crate::drawing::draw;
 use crate::failure::Failure;
 use crate::frame::Frame;
 use nr_bytes::List;
@@ -65,8 +66,7 @@ fn note_refund(frame: &mut Frame, refund: Option<Receipt>) -> Result<(), AllocEr
     ensures { OnOk result (frame.new ≡ with_made frame.old refund) }
 {
     if let Some(refund) = refund {
-        frame.next_ordinal = frame.next_ordinal.checked_add(1).ok_or(AllocError)?;
-        frame.made.vec_mut().push(refund)?;
+        draw(frame, refund)?;
     }
     Ok(())
 }

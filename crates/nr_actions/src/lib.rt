@@ -6,6 +6,7 @@ mod action;
 mod calling;
 mod creation;
 mod deletion;
+mod drawing;
 mod effect;
 mod failure;
 mod fault;
@@ -17,6 +18,7 @@ mod threads;
 mod transfer;
 
 pub use action::apply;
+pub use drawing::{draw, next_id};
 pub use failure::Failure;
 pub use fault::ActionFault;
 pub use frame::Frame;

@@ -1,6 +1,7 @@
 //! What an account does to its own code and keys.
 
-ghost use Rattle.std.specs.Prelude.{◌≡◌, true, not};
+ghost use Rattle.std.specs.Prelude.{◌≡◌, true, not, is_some, IfOk};
+ghost use Rattle.std.specs.FinMap.{get};
 ghost use Rattle.nr_actions.specs.Actions.{is_other, deployed, key_added, key_deleted};
 ghost use Rattle.nr_actions.specs.Parts.{Performs};
 
@@ -11,6 +12,7 @@ use nr_ids::PublicKey;
 use nr_records::AccessKey;
 use nr_state::ShardState;
 use nr_triedef::Store;
+use std::alloc::AllocError;
 
 /// Whether another account than the receiver acts.
 pub(crate) fn is_other(frame: &Frame) -> bool
@@ -38,6 +40,18 @@ pub(crate) fn deploy<S: Store>(
     Ok(Effect::Same)
 }
 
+/// Whether the receiver has a key.
+fn has_key<S: Store>(
+    state: &ShardState<S>,
+    frame: &Frame,
+    key: &PublicKey,
+) -> Result<bool, AllocError>
+    ensures { IfOk result (λ has. has ≡ is_some (get state.now.world.keys (frame.now.receiver, key.now))) }
+{
+    let found = state.spelled_key(&frame.receiver, key)?;
+    Ok(found.is_some())
+}
+
 /// Gives the receiver a key.
 pub(crate) fn add_key<S: Store>(
     state: &mut ShardState<S>,
@@ -55,8 +69,7 @@ pub(crate) fn add_key<S: Store>(
     if is_other(frame) {
         return Err(failed(Failure::NoPermission));
     }
-    let found = state.key(&frame.receiver, key)?;
-    if found.is_some() {
+    if has_key(state, frame, key)? {
         return Err(failed(Failure::KeyExists));
     }
     state.set_key(&frame.receiver, key, access)?;
@@ -79,8 +92,7 @@ pub(crate) fn delete_key<S: Store>(
     if is_other(frame) {
         return Err(failed(Failure::NoPermission));
     }
-    let found = state.key(&frame.receiver, key)?;
-    if found.is_none() {
+    if !has_key(state, frame, key)? {
         return Err(failed(Failure::NoSuchKey));
     }
     state.remove_key(&frame.receiver, key)?;

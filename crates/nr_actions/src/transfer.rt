@@ -1,10 +1,11 @@
 //! Giving an account tokens.
 
-ghost use Rattle.std.specs.Prelude.{◌≡◌, true, OnOk, IsSome};
+ghost use Rattle.std.specs.Prelude.{◌≡◌, true, Some, IfOk, OnOk, IsSome};
 ghost use Rattle.std.specs.FinMap.{get};
-ghost use Rattle.nr_actions.specs.Accounts.{with_implicit, with_raised, with_deposit};
+ghost use Rattle.nr_actions.specs.Accounts.{with_implicit, raised, with_raised, with_deposit};
 ghost use Rattle.nr_actions.specs.Actions.{makes_account, is_refund, refunded, HasRoom, transferred};
 ghost use Rattle.nr_actions.specs.Parts.{Performs};
+ghost use Rattle.nr_columns.specs.SpelledKeys.{key_read};
 ghost use Rattle.nr_state.specs.View.{with_world};
 ghost use Rattle.nr_state.specs.World.{with_account};
 
@@ -12,11 +13,12 @@ use crate::accounts::{full_key, implicit_key, new_account, raised, with_deposit}
 use crate::effect::{Effect, Stop, failed};
 use crate::failure::Failure;
 use crate::frame::Frame;
+use nr_bytes::Blob;
 use nr_ids::AccountId;
-use nr_records::AccessKey;
-use nr_state::ShardState;
+use nr_keys::{changed, lent_key};
+use nr_state::{ShardState, SpelledKey};
 use nr_triedef::Store;
-use std::alloc::AllocError;
+use std::alloc::{AllocError, Global};
 
 /// Whether a transfer makes the receiver's account.
 fn makes_account(frame: &Frame) -> bool
@@ -51,27 +53,41 @@ fn is_refund(frame: &Frame) -> bool
     frame.predecessor.is_system() && frame.act.signer == frame.receiver
 }
 
+/// The bytes that spell a key once tokens came back.
+fn raised_key(alloc: Global, key: &SpelledKey<'_>, amount: u128) -> Result<Blob, AllocError>
+    ensures { IfOk result (λ bytes. key_read bytes
+        ≡ Some (record key.now { permission = raised amount key.now.permission })) }
+{
+    let access = lent_key(alloc, key)?;
+    let more = raised(&access.permission, amount);
+    changed(alloc, key, &access, access.nonce, more)
+}
+
 /// Raises the allowance of the signer's key.
-fn raise<S: Store>(state: &mut ShardState<S>, frame: &Frame, amount: u128) -> Result<(), AllocError>
+fn raise<S: Store>(
+    alloc: Global,
+    state: &mut ShardState<S>,
+    frame: &Frame,
+    amount: u128,
+) -> Result<(), AllocError>
     requires whole { state.old.whole ≡ true }
     requires stands { IsSome (get state.old.world.accounts frame.now.receiver) }
     ensures { OnOk result (state.new ≡ with_world state.old
         (with_raised state.old.config state.old.world frame.now.receiver frame.now.act.signer_key amount
         (get state.old.world.keys (frame.now.receiver, frame.now.act.signer_key)))) }
 {
-    let key = &frame.act.signer_key;
-    if let Some(access) = state.key(&frame.receiver, key)? {
-        let more = AccessKey {
-            nonce: access.nonce,
-            permission: raised(access.permission, amount),
-        };
-        state.set_key(&frame.receiver, key, &more)?;
-    }
+    let signer_key = &frame.act.signer_key;
+    let Some(key) = state.spelled_key(&frame.receiver, signer_key)? else {
+        return Ok(());
+    };
+    let bytes = raised_key(alloc, &key, amount)?;
+    state.set_spelled_key(&frame.receiver, signer_key, &SpelledKey::of(bytes.inner()))?;
     Ok(())
 }
 
 /// What a refund to the signer does beside the transfer.
 fn refund<S: Store>(
+    alloc: Global,
     state: &mut ShardState<S>,
     frame: &Frame,
     amount: u128,
@@ -82,7 +98,7 @@ fn refund<S: Store>(
         (refunded state.old.config state.old.world frame.now amount)) }
 {
     if is_refund(frame) {
-        raise(state, frame, amount)?;
+        raise(alloc, state, frame, amount)?;
     }
     Ok(())
 }
@@ -90,6 +106,7 @@ fn refund<S: Store>(
 /// Gives the receiver so much.
 #[tactic(auto, using(crate::proofs::Standing::stands_with_account))]
 pub(crate) fn transfer<S: Store>(
+    alloc: Global,
     state: &mut ShardState<S>,
     frame: &Frame,
     deposit: u128,
@@ -108,6 +125,6 @@ pub(crate) fn transfer<S: Store>(
     };
     let account = with_deposit(&account, deposit);
     state.set_account(&frame.receiver, &account)?;
-    refund(state, frame, deposit)?;
+    refund(alloc, state, frame, deposit)?;
     Ok(Effect::Same)
 }

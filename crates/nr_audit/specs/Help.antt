@@ -2,14 +2,10 @@
 use Rattle.std.specs.Prelude.{ℕ, List, [], ◌∷◌, ◌++◌, codes}
 use Rattle.std.specs.List.{flat_map}
 use Rattle.nr_words.specs.Command.{files, form}
-use Rattle.nr_words.specs.Forms.{Form, name_of}
+use Rattle.nr_words.specs.Forms.{Form, form_line}
 
 abbrev pub forms : List Form
 forms = form (codes "gather") files ∷ form (codes "help") [] ∷ form (codes "version") [] ∷ []
-
--- the words of a form behind the program's name, parted by single spaces
-abbrev pub form_line : List ℕ → Form → List ℕ
-form_line program form = program ++ 32 ∷ form.verb ++ flat_map (λ p. 32 ∷ name_of p) form.places ++ 10 ∷ []
 
 -- a line for each form, and one that says what one of its words may be
 abbrev pub help_text : List ℕ

@@ -10,8 +10,6 @@ mod help;
 pub mod laws;
 mod legs;
 mod status;
-#[cfg(test)]
-mod tests;
 mod top;
 
 pub use legs::archive_of;

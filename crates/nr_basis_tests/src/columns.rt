@@ -1,3 +1,5 @@
+//! The keys of the trie's entries.
+
 use nr_columns::keys;
 use nr_ids::{AccountId, PublicKey};
 use std::test::Fail;

@@ -1,3 +1,5 @@
+//! The gas counter, and sums of what actions attach.
+
 use nr_bytes::{Blob, List, Text};
 use nr_fees::{GasCounter, attached_gas, deposits};
 use nr_records::Action;

@@ -1,3 +1,5 @@
+//! Account ids, keys, hashes and derived ids.
+
 use nr_ids::{AccountId, Hash32, Height, IdFault, PublicKey, ShardId, derive};
 use std::cmp::Ordering;
 use std::test::Fail;

@@ -1,7 +1,10 @@
-use nr_bytes::{List, Reader};
-use nr_ids::{AccountId, Hash32, ShardId};
+//! Boundaries between shards, and how layouts are read.
+
+use crate::spelling::id;
+use nr_bytes::Reader;
+use nr_ids::ShardId;
 use nr_layout::Layout;
-use nr_records::{Body, DataReceipt, Receipt, RecordFault, Spelled, decode, encode};
+use nr_records::{RecordFault, Spelled, decode, encode};
 use std::alloc::Global;
 use std::process::Abort;
 use std::test::Fail;
@@ -16,33 +19,6 @@ const FIFTEEN: &[u8] = b"\
     \x02\0\0\0b5\x02\0\0\0b6\x02\0\0\0b7\x02\0\0\0b8\x02\0\0\0b9\
     \x02\0\0\0ba\x02\0\0\0bb\x02\0\0\0bc\x02\0\0\0bd\x02\0\0\0be\
 ";
-
-fn id(alloc: Global, name: &str) -> Result<AccountId, Fail> {
-    Ok(AccountId::parse(alloc, name.as_bytes())?)
-}
-
-/// A receipt of no result, with the number as its id.
-fn receipt(alloc: Global, receiver: &str, number: u8) -> Result<Receipt, Fail> {
-    let datum = DataReceipt {
-        data_id: Hash32([0; 32]),
-        bytes: None,
-    };
-    Ok(Receipt {
-        predecessor: id(alloc, "zz")?,
-        receiver: id(alloc, receiver)?,
-        receipt_id: Hash32([number; 32]),
-        body: Body::Datum(datum),
-    })
-}
-
-/// The numbers of the receipts in a list.
-fn numbers(alloc: Global, list: &List<Receipt>) -> Result<Vec<u8>, Fail> {
-    let mut numbers = Vec::new(alloc);
-    for receipt in list.inner() {
-        numbers.push(receipt.receipt_id.0[0])?;
-    }
-    Ok(numbers)
-}
 
 #[test]
 fn a_boundary_is_the_first_id_of_its_shard(rt: HostRuntime) -> Result<(), Fail> {
@@ -127,29 +103,5 @@ fn the_first_fault_is_named(rt: HostRuntime) -> Result<(), Fail> {
         assert_eq!(rt; refusal(&rt, rt.alloc(), bytes)?, Some(want), "{bytes:?}");
     }
     assert_eq!(rt; refusal(&rt, rt.alloc(), b"NRG1\0\0\0\0")?, None);
-    Ok(())
-}
-
-fn some_receipts(alloc: Global) -> Result<List<Receipt>, Fail> {
-    let mut list = Vec::new(alloc);
-    list.push(receipt(alloc, "pp", 1)?)?;
-    list.push(receipt(alloc, "aa", 2)?)?;
-    list.push(receipt(alloc, "po", 3)?)?;
-    list.push(receipt(alloc, "zz", 4)?)?;
-    list.push(receipt(alloc, "hh", 5)?)?;
-    Ok(List::of(list))
-}
-
-#[test]
-fn receipts_go_to_the_shard_of_their_receiver(rt: HostRuntime) -> Result<(), Fail> {
-    let alloc = rt.alloc();
-    let layout = decode::<Layout>(alloc, THREE)?;
-    let lists = layout.route(alloc, some_receipts(alloc)?)?;
-    let [first, second, third] = lists.inner() else {
-        return Err(Fail::new("not three lists"));
-    };
-    assert_eq!(rt; numbers(alloc, first)?.as_slice(), [2].as_slice());
-    assert_eq!(rt; numbers(alloc, second)?.as_slice(), [3, 5].as_slice());
-    assert_eq!(rt; numbers(alloc, third)?.as_slice(), [1, 4].as_slice());
     Ok(())
 }

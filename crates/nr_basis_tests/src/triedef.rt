@@ -146,66 +146,74 @@ fn each_kind_is_read_and_written(rt: HostRuntime) -> Result<(), Fail> {
     Ok(())
 }
 
+/// Texts that are cut to a length, and where the first field begins that is cut.
+const CUT: [(&[u8], usize, usize); 18] = [
+    (LEAF, 0, 0),
+    (LEAF, 1, 1),
+    (LEAF, 5, 1),
+    (LEAF, 6, 6),
+    (LEAF, 9, 6),
+    (LEAF, 10, 10),
+    (LEAF, 41, 10),
+    (LEAF, 42, 42),
+    (LEAF, 49, 42),
+    (EXTENSION, 37, 6),
+    (EXTENSION, 38, 38),
+    (BRANCH, 2, 1),
+    (BRANCH, 34, 3),
+    (BRANCH, 35, 35),
+    (BRANCH, 67, 67),
+    (VALUED, 36, 5),
+    (VALUED, 38, 37),
+    (VALUED, 39, 39),
+];
+
+/// Texts of no node, and where the first wrong field begins.
+const NO_NODES: [(&[u8], usize); 9] = [
+    // a kind above 3
+    (b"\x04\x06\0aaaaaaaa", 0),
+    // the part of an extension, an empty one, and one whose first byte has no form
+    (b"\0\x01\0\0\0\x12\x03\0\0\0", 1),
+    (b"\0\0\0\0\0\x03\0\0\0", 1),
+    (b"\0\x01\0\0\0\x21\x03\0\0\0", 1),
+    // the part of a leaf, and one with no nibble
+    (b"\x01\x01\0\0\0\x36cccccccc", 1),
+    (b"\x01\x01\0\0\0\0cccccccc", 1),
+    // one child, no child beside a value, and no child
+    (b"\x02\x04\0aaaaaaaa", 1),
+    (
+        b"\x03\x03\0\0\0vvvvvvvvvvvvvvvvvvvvvvvvvvvvvvvv\0\0\xd0\0\0\0\0\0\0\0",
+        37,
+    ),
+    (b"\x02\0\0\0\0\0\0\0\0\0\0", 1),
+];
+
+/// The fault of a text, none where it is that of a node.
+fn fault_of(alloc: Global, text: &[u8]) -> Option<NodeFault> {
+    read_node(alloc, text).err()
+}
+
 #[test]
-fn a_cut_text_is_refused_at_its_last_field(rt: HostRuntime) {
-    let rows: [(&[u8], usize, usize); 18] = [
-        (LEAF, 0, 0),
-        (LEAF, 1, 1),
-        (LEAF, 5, 1),
-        (LEAF, 6, 6),
-        (LEAF, 9, 6),
-        (LEAF, 10, 10),
-        (LEAF, 41, 10),
-        (LEAF, 42, 42),
-        (LEAF, 49, 42),
-        (EXTENSION, 37, 6),
-        (EXTENSION, 38, 38),
-        (BRANCH, 2, 1),
-        (BRANCH, 34, 3),
-        (BRANCH, 35, 35),
-        (BRANCH, 67, 67),
-        (VALUED, 36, 5),
-        (VALUED, 38, 37),
-        (VALUED, 39, 39),
-    ];
-    for (text, end, at) in rows {
-        let fault = read_node(rt.alloc(), &text[..end.min(text.len())]).err();
+fn a_text_of_no_node_is_refused_at_its_first_wrong_field(rt: HostRuntime) -> Result<(), Fail> {
+    let alloc = rt.alloc();
+    for (text, end, at) in CUT {
+        let fault = fault_of(alloc, &text[..end.min(text.len())]);
         assert_eq!(rt; fault, Some(NodeFault::BadNode { at }), "{text:?} to {end}");
     }
-}
-
-#[test]
-fn a_text_of_no_node_is_refused_at_its_first_wrong_field(rt: HostRuntime) {
-    let rows: [(&[u8], usize); 9] = [
-        // a kind above 3
-        (b"\x04\x06\0aaaaaaaa", 0),
-        // the part of an extension, an empty one, and one whose first byte has no form
-        (b"\0\x01\0\0\0\x12\x03\0\0\0", 1),
-        (b"\0\0\0\0\0\x03\0\0\0", 1),
-        (b"\0\x01\0\0\0\x21\x03\0\0\0", 1),
-        // the part of a leaf, and one with no nibble
-        (b"\x01\x01\0\0\0\x36cccccccc", 1),
-        (b"\x01\x01\0\0\0\0cccccccc", 1),
-        // one child, no child beside a value, and no child
-        (b"\x02\x04\0aaaaaaaa", 1),
-        (
-            b"\x03\x03\0\0\0vvvvvvvvvvvvvvvvvvvvvvvvvvvvvvvv\0\0\xd0\0\0\0\0\0\0\0",
-            37,
-        ),
-        (b"\x02\0\0\0\0\0\0\0\0\0\0", 1),
-    ];
-    for (text, at) in rows {
-        let fault = read_node(rt.alloc(), text).err();
-        assert_eq!(rt; fault, Some(NodeFault::BadNode { at }), "{text:?}");
+    for (text, at) in NO_NODES {
+        assert_eq!(rt;
+            fault_of(alloc, text),
+            Some(NodeFault::BadNode { at }),
+            "{text:?}"
+        );
     }
-}
-
-#[test]
-fn a_byte_behind_the_node_is_refused(rt: HostRuntime) -> Result<(), Fail> {
-    let mut text = Vec::from_slice(rt.alloc(), LEAF)?;
-    text.push(0)?;
-    let fault = read_node(rt.alloc(), &text).err();
-    assert_eq!(rt; fault, Some(NodeFault::BadNode { at: 50 }));
+    // a byte behind the node
+    let mut longer = Vec::from_slice(alloc, LEAF)?;
+    longer.push(0)?;
+    assert_eq!(rt;
+        fault_of(alloc, &longer),
+        Some(NodeFault::BadNode { at: 50 })
+    );
     Ok(())
 }
 

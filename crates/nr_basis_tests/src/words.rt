@@ -141,54 +141,56 @@ fn is_replay(alloc: Global, texts: &[&str]) -> Result<bool, AllocError> {
 
 #[test]
 fn numbers_have_bounds(rt: HostRuntime) -> Result<(), Fail> {
-    let alloc = rt.alloc();
-    let most = "18446744073709551615";
-    assert_eq!(rt; serial(alloc, &["gen", "0", "1", "1"])?, Some((0, 1, 1)));
-    assert_eq!(rt;
-        serial(alloc, &["gen", most, "16", "256"])?,
-        Some((u64::MAX, 16, 256))
-    );
-    assert_eq!(rt;
-        serial(alloc, &["gen", "18446744073709551616", "1", "1"])?,
-        None
-    );
-    assert_eq!(rt; serial(alloc, &["gen", "0", "17", "1"])?, None);
-    assert_eq!(rt; serial(alloc, &["gen", "0", "1", "257"])?, None);
-    assert_eq!(rt; serial(alloc, &["gen", "07", "1", "1"])?, None);
-    assert_eq!(rt; serial(alloc, &["gen", "0", "0", "1"])?, None);
+    let rows: [(&[&str], Option<(u64, u32, u64)>); 7] = [
+        (&["gen", "0", "1", "1"], Some((0, 1, 1))),
+        (
+            &["gen", "18446744073709551615", "16", "256"],
+            Some((u64::MAX, 16, 256)),
+        ),
+        (&["gen", "18446744073709551616", "1", "1"], None),
+        (&["gen", "0", "17", "1"], None),
+        (&["gen", "0", "1", "257"], None),
+        (&["gen", "07", "1", "1"], None),
+        (&["gen", "0", "0", "1"], None),
+    ];
+    for (place, (words, want)) in rows.iter().enumerate() {
+        assert_eq!(rt; serial(rt.alloc(), *words)?, *want, "row {place}");
+    }
     Ok(())
 }
 
 #[test]
 fn words_have_one_form(rt: HostRuntime) -> Result<(), Fail> {
-    let alloc = rt.alloc();
-    assert!(rt; is_replay(alloc, &["replay", "free", "G", "B"])?);
-    assert!(rt; is_replay(alloc, &["gen", "7", "4", "50"])?);
-    assert!(rt; !is_replay(alloc, &["run", "free", "G", "B"])?);
-    assert!(rt; !is_replay(alloc, &["replay", "free", "G"])?);
-    assert!(rt; !is_replay(alloc, &["replay", "free", "G", "B", "B"])?);
-    assert!(rt; !is_replay(alloc, &["replay", "free", "G", ""])?);
-    assert!(rt; !is_replay(alloc, &["replay", "free", "-h", "B"])?);
-    assert!(rt; !is_replay(alloc, &["roots", "free", "G", "B"])?);
-    assert!(rt; !is_replay(alloc, &["help"])?);
-    assert!(rt; !is_replay(alloc, &[])?);
+    let rows: [(&[&str], bool); 10] = [
+        (&["replay", "free", "G", "B"], true),
+        (&["gen", "7", "4", "50"], true),
+        (&["run", "free", "G", "B"], false),
+        (&["replay", "free", "G"], false),
+        (&["replay", "free", "G", "B", "B"], false),
+        (&["replay", "free", "G", ""], false),
+        (&["replay", "free", "-h", "B"], false),
+        (&["roots", "free", "G", "B"], false),
+        (&["help"], false),
+        (&[], false),
+    ];
+    for (place, (words, want)) in rows.iter().enumerate() {
+        assert_eq!(rt; is_replay(rt.alloc(), *words)?, *want, "row {place}");
+    }
     Ok(())
 }
 
 #[test]
 fn digits_and_choices(rt: HostRuntime) -> Result<(), Fail> {
-    let alloc = rt.alloc();
-    assert_eq!(rt;
-        proof(alloc, &["proof", ROOT, "outcome", "1"])?,
-        Some((0, 1))
-    );
-    assert_eq!(rt;
-        proof(alloc, &["proof", ROOT, "receipt", "9"])?,
-        Some((1, 9))
-    );
-    assert_eq!(rt; proof(alloc, &["proof", ROOT, "Receipt", "9"])?, None);
-    assert_eq!(rt; proof(alloc, &["proof", "0f", "receipt", "9"])?, None);
-    assert_eq!(rt; proof(alloc, &["roots", ROOT, "receipt", "9"])?, None);
+    let rows: [(&[&str], Option<(usize, u64)>); 5] = [
+        (&["proof", ROOT, "outcome", "1"], Some((0, 1))),
+        (&["proof", ROOT, "receipt", "9"], Some((1, 9))),
+        (&["proof", ROOT, "Receipt", "9"], None),
+        (&["proof", "0f", "receipt", "9"], None),
+        (&["roots", ROOT, "receipt", "9"], None),
+    ];
+    for (place, (words, want)) in rows.iter().enumerate() {
+        assert_eq!(rt; proof(rt.alloc(), *words)?, *want, "row {place}");
+    }
     Ok(())
 }
 

@@ -20,12 +20,12 @@ use Rattle.nr_blocks.specs.declared.genesis.Genesis.{Genesis}
 use Rattle.nr_blocks.specs.declared.genesis_entry.GenesisEntry.{GenesisEntry}
 use Rattle.nr_blocks.specs.declared.genesis_entry.GenesisEntry.TheVariants as kind
 
-bound : {A B F : Type 0} (r : Result A F) (f : A → Result B F) (y : B) → (r >>= f) ≡ Ok y → (x : A) × (r ≡ Ok x) × (f x ≡ Ok y)
+pub bound : {A B F : Type 0} (r : Result A F) (f : A → Result B F) (y : B) → (r >>= f) ≡ Ok y → (x : A) × (r ≡ Ok x) × (f x ≡ Ok y)
 bound (Ok x) f y e = (x, refl, e)
 bound (Err d) f y e = absurd cc
 
 -- a test that passed, and what comes behind it
-abbrev through : {F : Type 0} → Bool → F → Result (Unit {0}) F
+abbrev pub through : {F : Type 0} → Bool → F → Result (Unit {0}) F
 through b fault = if b then Ok tt else Err fault
 
 abbrev repeated : {F : Type 0} → Bool → F → Result (Unit {0}) F

@@ -30,10 +30,10 @@ use Rattle.nr_blocks.specs.declared.version.Version.{Version}
 use Rattle.nr_blocks.specs.declared.version.Version.TheVariants.{One, Two}
 
 -- ---- the word
-abbrev IsMagic : List ℕ → List ℕ → Type 0
+abbrev pub IsMagic : List ℕ → List ℕ → Type 0
 IsMagic magic = Passes (HasLength 4) (bytes_eq magic)
 
-magic_law : (magic : List ℕ) → IsRead (magic_at magic) (λ word. word) (IsMagic magic)
+pub magic_law : (magic : List ℕ) → IsRead (magic_at magic) (λ word. word) (IsMagic magic)
 magic_law magic =
     tested_law (bytes_eq magic) BadOrdinal (raw_at 4) (λ word. word) (HasLength 4) (raw_law record_fault 4)
 
@@ -44,14 +44,14 @@ is_magic : (magic : List ℕ) → length magic ≡ 4 → IsMagic magic magic
 is_magic magic four = (four, (bytes_eq-Decides magic magic).1 refl)
 
 -- ---- a word and what stands behind it
-abbrev headed_bytes : {X : Type 0} → List ℕ → (X → List ℕ) → X → List ℕ
+abbrev pub headed_bytes : {X : Type 0} → List ℕ → (X → List ℕ) → X → List ℕ
 headed_bytes magic spelling v = magic ++ spelling v
 
 both_law : {X : Type 0} (magic : List ℕ) (r : Input → Read X) (a : X → List ℕ) (P : X → Type 0) → IsRead r a P
     → IsRead (pair (magic_at magic) r) (in_turn (λ word. word) a) (Both (IsMagic magic) P)
 both_law magic r a P law = pair_law (magic_at magic) (λ word. word) (IsMagic magic) r a P (magic_law magic) law
 
-headed_law : {X : Type 0} (magic : List ℕ) → length magic ≡ 4 → (r : Input → Read X) (a : X → List ℕ) (P : X → Type 0)
+pub headed_law : {X : Type 0} (magic : List ℕ) → length magic ≡ 4 → (r : Input → Read X) (a : X → List ℕ) (P : X → Type 0)
     → IsRead r a P → IsRead (headed magic r) (headed_bytes magic a) P
 headed_law {X} magic four r a P law = record {
   taken = λ s p fits e.

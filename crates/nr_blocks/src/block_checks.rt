@@ -42,9 +42,13 @@ fn check_height(index: usize, block: &Block) -> Result<(), BlocksFault>
     }
 }
 
-/// The heights count from 1.
+/// Checks that the heights count from 1.
+///
+/// # Errors
+///
+/// `HeightOrder` with the height of the first block that states another one than its place.
 #[tactic(auto, using(crate::proofs::Turns::each_begins, crate::proofs::Turns::each_goes_on, crate::proofs::Turns::each_stops, crate::proofs::Turns::each_ends))]
-fn check_all_heights(blocks: &[Block]) -> Result<(), BlocksFault>
+pub fn check_all_heights(blocks: &[Block]) -> Result<(), BlocksFault>
     ensures { result ≡ each has_height blocks.now }
 {
     for index in 0..blocks.len() {

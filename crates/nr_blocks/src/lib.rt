@@ -25,7 +25,7 @@ mod threads;
 mod version;
 
 pub use block::Block;
-pub use block_checks::MOST_BLOCKS;
+pub use block_checks::{MOST_BLOCKS, check_all_heights};
 pub use blocks_file::{BlocksFile, bytes_law};
 pub use fault::{BlocksFault, GenesisFault};
 pub use first_state::fill;
@@ -35,5 +35,6 @@ pub use genesis_file::GenesisFile;
 pub use laws::first_world_laws;
 pub use making::make_blocks;
 pub use outline::{Outline, read_outlines};
+pub use owners::{add_code, add_usage};
 pub use reading::{read_blocks, read_genesis};
 pub use version::Version;

@@ -116,8 +116,12 @@ fn sum_of(before: u128, bytes: u128) -> Result<u128, AllocError>
     before.checked_add(bytes).ok_or(AllocError)
 }
 
-/// Adds to the usage of an account.
-fn add_usage(
+/// Adds so many bytes of storage to those that an account uses; one that isn't there yet uses none.
+///
+/// # Errors
+///
+/// Where memory ran out; a sum of 2^128 or more counts as that.
+pub fn add_usage(
     alloc: Global,
     usages: &mut BTreeMap<AccountId, u128>,
     id: &AccountId,
@@ -154,7 +158,12 @@ pub(crate) fn usages_of(
     Ok(usages)
 }
 
-fn add_code(
+/// Puts the hash of an account's code in place of the one that is there.
+///
+/// # Errors
+///
+/// Where memory ran out.
+pub fn add_code(
     alloc: Global,
     hashes: &mut BTreeMap<AccountId, Hash32>,
     id: &AccountId,

@@ -97,7 +97,7 @@ counted_is left bytes fits e =
     subst (λ k. left ≡ (little 4 k ++ take n (drop 4 left)) ++ drop (4 + k) left) (sym len) whole in
     subst (λ (t : List ℕ). (length t < 256 ^ 4) × (left ≡ counted_bytes t ++ drop (4 + length t) left)) is (subst (λ k. k < 256 ^ 4) (sym len) low, whole-len)
 
-length-counted : (bytes : List ℕ) → length (counted_bytes bytes) ≡ 4 + length bytes
+pub length-counted : (bytes : List ℕ) → length (counted_bytes bytes) ≡ 4 + length bytes
 length-counted bytes = omega (arith, length-append (little 4 (length bytes)) bytes, length-little 4 (length bytes))
 
 counted_again : (bytes rest : List ℕ) → length bytes < 256 ^ 4 → counted (counted_bytes bytes ++ rest) ≡ Some bytes

@@ -52,12 +52,13 @@ fn append_piece<F: Read>(file: &mut F, limit: usize, out: &mut Vec<u8>) -> Resul
     Ok(n)
 }
 
-/// Appends what a reader has left, at most `limit` bytes. After a refusal `out` is as before.
-pub(crate) fn append_rest<F: Read>(
-    file: &mut F,
-    limit: usize,
-    out: &mut Vec<u8>,
-) -> Result<(), LoadFault>
+/// Appends what a reader has left, at most `limit` bytes.
+///
+/// # Errors
+///
+/// `Failed` where a read failed, `TooLong` where the reader has more bytes than `limit`, and `Memory`. After each of
+/// them `out` is as before.
+pub fn append_rest<F: Read>(file: &mut F, limit: usize, out: &mut Vec<u8>) -> Result<(), LoadFault>
     ensures loads { Loads result (F.remaining file.old) limit out.old.items out.new.items }
     ensures front { StartsWith out.new.items out.old.items }
     ensures within { OnOk result (length out.new.items ≤ length out.old.items + limit) }

@@ -3,6 +3,7 @@
 #![tactic(auto)]
 
 mod blob;
+mod called;
 mod compare;
 mod fault;
 mod file_shelf;
@@ -13,19 +14,18 @@ mod reader;
 mod shelf;
 mod sink;
 mod stdout_sink;
-#[cfg(test)]
-mod tests;
 mod text;
 mod threads;
 mod writer;
 
 pub use blob::Blob;
+pub use called::words_of;
 pub use fault::BytesFault;
-pub use file_shelf::FileShelf;
+pub use file_shelf::{FileShelf, append_rest};
 pub use list::List;
 pub use memory_shelf::MemoryShelf;
 pub use memory_sink::MemorySink;
-pub use reader::Reader;
+pub use reader::{Reader, counted_slice, utf8};
 pub use shelf::{LoadFault, Shelf};
 pub use sink::{Sink, WriteFailed};
 pub use stdout_sink::StdoutSink;

@@ -34,9 +34,9 @@ impl<'a> Model for Reader<'a> {
     ghost invariant = { λ a. (a.at ≤ length a.bytes.now) × IsBytes a.bytes.now };
 }
 
-/// The bytes behind the count at the front, as many as it says.
+/// The bytes behind the count of four bytes at the front, as many as it says; `None` where there are fewer.
 #[tactic(auto, using(crate::proofs::Numbers::number_4), unfolding(crate::specs::Reading::counted))]
-fn counted_slice(bytes: &[u8]) -> Option<&[u8]>
+pub fn counted_slice(bytes: &[u8]) -> Option<&[u8]>
     ensures value { option_copied result ≡ counted bytes.now }
     ensures within { IfSome result (λ field. 4 + length field.now ≤ length bytes.now) }
 {
@@ -51,7 +51,8 @@ fn counted_slice(bytes: &[u8]) -> Option<&[u8]>
     Some(&rest[..count])
 }
 
-fn utf8(bytes: &[u8]) -> Option<&str>
+/// Bytes as text; `None` where they are no UTF-8.
+pub fn utf8(bytes: &[u8]) -> Option<&str>
     ensures { option_copied result ≡ (if is_utf8 bytes.now then Some bytes.now else None) }
 {
     match str::from_utf8(bytes) {

@@ -7,4 +7,4 @@ mod with_bytes;
 
 pub use loading::{ChainFiles, load_chain};
 pub use refusal::ChainRefusal;
-pub use with_bytes::chain_of;
+pub use with_bytes::chain_in_bytes;

@@ -84,7 +84,7 @@ fn over_genesis<E: ChainRefusal>(
 /// # Errors
 ///
 /// `Refused` with the first refusal of the two in this order, and `Memory` where memory ran out.
-pub fn chain_of<E: ChainRefusal>(
+pub fn chain_in_bytes<E: ChainRefusal>(
     alloc: Global,
     config: Config,
     genesis: Vec<u8>,

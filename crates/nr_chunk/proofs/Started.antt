@@ -1,5 +1,5 @@
 -- What a start gives to each shard, and that a chunk that is there has a block.
-use Rattle.std.proofs.Common.{◌≡◌, ℕ, zero, suc, ◌+◌, ◌<◌, ◌≤◌, true, false, List, [], ◌∷◌, length, get_or, Option, Some, None, refl, sym, ap, ◌∙◌, arith}
+use Rattle.std.proofs.Common.{◌≡◌, ℕ, zero, suc, ◌+◌, ◌<◌, ◌≤◌, true, false, List, length, get_or, Option, Some, None, refl, sym, ap, ◌∙◌, arith}
 use Rattle.std.specs.Prelude.{is_some, slice_get}
 use Rattle.std.specs.Option.{option_and_then}
 use Rattle.std.proofs.lemmas.List.{get_or-map}
@@ -15,6 +15,7 @@ use Rattle.nr_chunk.specs.declared.start.Resumed.{Resumed}
 use Rattle.nr_columns.specs.declared.entry.Entry.{Entry}
 use Rattle.nr_state.specs.FromEntries.{world_from}
 use Rattle.nr_state.specs.World.{no_world}
+use Rattle.nr_overlap.proofs.Last.{within}
 
 pub founded_world : (g : Genesis) (s : ℕ) → s < length g.layout + 1 → start_world (genesis_start g) s ≡ genesis_world (entries_of g.layout s g.entries)
 founded_world g s l =
@@ -26,11 +27,6 @@ resumed_world r s es l at = get_or-map world_from r.worlds s es no_world l ∙ a
 
 nothing : {A : Type 0} (a : A) → ◌≡◌ {A = Option A} None (Some a) → ⊥
 nothing a e = cc
-
-within : {A : Type 0} (xs : List A) (n : ℕ) (x : A) → slice_get xs n ≡ Some x → n < length xs
-within [] n x e = absurd (nothing x e)
-within (y ∷ ys) zero x e = omega arith
-within (y ∷ ys) (suc n) x e = omega (arith, within ys n x e)
 
 pub chunk_below : (x : Chain) (s h : ℕ) → is_some (chunk_at x s h) ≡ true → h ≤ length x.blocks
 chunk_below x s zero e = omega arith

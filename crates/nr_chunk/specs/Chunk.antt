@@ -2,7 +2,6 @@
 -- Specification (Applying a chunk) and Chain Specification (Chunks).
 use Rattle.std.specs.Prelude.{ℕ, ◌+◌, ◌-◌, ◌^◌, min, Bool, true, false, cond, List, [], ◌∷◌, ◌++◌, map, fold, Option}
 use Rattle.std.specs.Prelude.{Ok, Err, nat_lt}
-use Rattle.std.specs.Str.{bytes_eq}
 use Rattle.nr_config.specs.Config.{Config, chunk_gas_limit}
 use Rattle.nr_ids.specs.declared.number.ShardId.{ShardId}
 use Rattle.nr_join.specs.Offering.{offer}
@@ -31,6 +30,7 @@ use Rattle.nr_state.specs.declared.place.Place.{Place}
 use Rattle.nr_triedef.specs.Node.{digest}
 use Rattle.nr_triedef.specs.Root.{root_of}
 use Rattle.nr_txconvert.specs.Conversion.{Conversion, convert, transaction_hash}
+pub use Rattle.nr_txconvert.specs.Costs.{is_local}
 use Rattle.nr_txconvert.specs.declared.converted.Converted.{Converted}
 
 -- ---- a chunk begins with nothing burnt and nothing made
@@ -92,9 +92,6 @@ has_gas c k = nat_lt k.gas (chunk_gas_limit c)
 pub record Opening : Type 0 where
   pub working : Working
   pub local : List Receipt
-
-abbrev pub is_local : Transaction → Bool
-is_local tx = bytes_eq tx.signer tx.receiver
 
 abbrev pub with_converted : Working → Transaction → World → Converted → Working
 with_converted k tx w made =

@@ -7,6 +7,7 @@ use Rattle.std.proofs.lemmas.List.{nil_from_length}
 use Rattle.std.proofs.lemmas.List.Sums.{sum_by-cons}
 use Rattle.nr_blocks.proofs.Founded.{shard_tokens}
 use Rattle.nr_blocks.specs.Genesis.{AreSoundEntries, accounts_in, entries_of, genesis_world, lives_in, owner, supply}
+use Rattle.nr_blocks.specs.Parts.{entry_tokens}
 use Rattle.nr_blocks.specs.declared.genesis_entry.GenesisEntry.{GenesisEntry}
 use Rattle.nr_blocks.specs.declared.genesis_entry.GenesisEntry.TheVariants as kind
 use Rattle.nr_chunk.specs.Goodness.{IsSmall, large}
@@ -42,14 +43,7 @@ unfolding genesis_world
 genesis_tokens c es = omega (arith, no_sum (receipt_tokens c))
 
 -- ---- the entries of all shards
-entry_tokens : GenesisEntry → ℕ
-entry_tokens (kind.Account id account) = account_tokens account
-entry_tokens (kind.Code id code) = 0
-entry_tokens (kind.Key id key access) = 0
-entry_tokens (kind.Datum id key value) = 0
-
 supply_cons : (e : GenesisEntry) (es : List GenesisEntry) → supply (e ∷ es) ≡ entry_tokens e + supply es
-unfolding entry_tokens
 supply_cons (kind.Account id account) es = sum_by-cons (λ a. account_tokens a.1) (id, account) (accounts_in es)
 supply_cons (kind.Code id code) es = omega arith
 supply_cons (kind.Key id key access) es = omega arith

@@ -1,3 +1,5 @@
+//! Registers, and the arguments of bindings.
+
 use nr_config::Config;
 use nr_guest::{GuestFault, Registers, argument, argument_size};
 use nr_wasmmem::Memory;

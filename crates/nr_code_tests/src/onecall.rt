@@ -1,8 +1,8 @@
 //! Calls over the real bindings, of a module in memory. Its bytes are written by the standard, by hand; what is
 //! written of a call is worked out of the tables of costs, and ids by a SHA-256 that isn't this program's.
 
-use nr_bytes::{MemoryShelf, MemorySink};
-use nr_module::{Status, check_module};
+use crate::answering::answers;
+use nr_module::Status;
 use std::alloc::Global;
 use std::test::Fail;
 
@@ -293,40 +293,16 @@ const REFUSED_FILES: [Row; 3] = [
     },
 ];
 
-/// Adds a file to those of a shelf.
-fn put(
-    alloc: Global,
-    files: &mut Vec<(String, Vec<u8>)>,
-    name: &str,
-    bytes: &[u8],
-) -> Result<(), Fail> {
-    files.push((
-        String::from_str(alloc, name)?,
-        Vec::from_slice(alloc, bytes)?,
-    ))?;
-    Ok(())
-}
-
 /// Whether a call, over the files `M`, `C` and `E`, is answered so.
-fn answers(alloc: Global, row: &Row) -> Result<bool, Fail> {
-    let mut texts = Vec::new(alloc);
-    for word in row.words {
-        texts.push(String::from_str(alloc, word)?)?;
-    }
-    let mut files = Vec::new(alloc);
-    put(alloc, &mut files, "M", &CONTRACT)?;
-    put(alloc, &mut files, "C", PRICED.as_bytes())?;
-    put(alloc, &mut files, "E", b"{}")?;
-    let mut shelf = MemoryShelf::new(files, Vec::new(alloc));
-    let mut sink = MemorySink::new(alloc, 8, Vec::new(alloc), 1024)?;
-    let ended = check_module(alloc, &texts, &mut shelf, &mut sink);
-    Ok(ended == row.status && sink.bytes() == row.lines.as_bytes())
+fn is_answered(alloc: Global, row: &Row) -> Result<bool, Fail> {
+    let files: [(&str, &[u8]); 3] = [("M", &CONTRACT), ("C", PRICED.as_bytes()), ("E", b"{}")];
+    answers(alloc, row.words, &files, row.status, row.lines)
 }
 
 /// The place of the first row that is answered otherwise.
 fn wrong_row(alloc: Global, rows: &[Row]) -> Result<Option<usize>, Fail> {
     for place in 0..rows.len() {
-        if !answers(alloc, &rows[place])? {
+        if !is_answered(alloc, &rows[place])? {
             return Ok(Some(place));
         }
     }

@@ -1,3 +1,5 @@
+//! Promises of a call, and the receipts behind them.
+
 use nr_bytes::{Blob, List, Text};
 use nr_config::Config;
 use nr_ids::{AccountId, Hash32, Height, PublicKey};

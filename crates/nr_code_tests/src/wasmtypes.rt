@@ -1,3 +1,5 @@
+//! The sizes of instructions.
+
 use nr_wasmtypes::{Instr, Plain};
 use std::mem::size_of;
 use std::test::Fail;

@@ -12,7 +12,7 @@ use Rattle.nr_records.specs.declared.fault.RecordFault.{RecordFault}
 use Rattle.nr_columns.specs.SpelledKeys.{key_read, key_in, SpellsKey}
 use Rattle.nr_columns.specs.Tables.{read_of}
 
-read_ok : {X : Type 0} (r : Result X RecordFault) (x : X) → read_of r ≡ Some x → r ≡ Ok x
+pub read_ok : {X : Type 0} (r : Result X RecordFault) (x : X) → read_of r ≡ Some x → r ≡ Ok x
 read_ok (Ok y) x e = cc
 read_ok (Err f) x e = absurd cc
 

@@ -1,6 +1,9 @@
 -- Entries of a trie as pairs of bytes. This project's own.
-use Rattle.std.specs.Prelude.{◌≡◌, ℕ, List, [], ◌∷◌, map, Option, Some, None}
+use Rattle.std.specs.Prelude.{◌≡◌, ℕ, List, [], ◌∷◌, map, Option, Some, None, T}
+use Rattle.std.specs.Cmp.Lexicographic.{slice_cmp}
 use Rattle.std.specs.FinMap.{get, entries, from_entries}
+use Rattle.std.specs.FinMap.Entries.{is_sorted}
+use Rattle.std.specs.Ordering.{nat_cmp}
 use Rattle.nr_triedef.specs.Root.{Contents}
 use Rattle.nr_columns.specs.View.{IsLaid}
 use Rattle.nr_columns.specs.declared.entry.Entry.{Entry}
@@ -8,6 +11,10 @@ use Rattle.nr_columns.specs.declared.entry.Entry.{Entry}
 -- the keys with their values
 abbrev pub pairs_of : List Entry → List (List ℕ × List ℕ)
 pairs_of es = map (λ e. (e.key, e.value)) es
+
+-- the keys are in the order of their bytes, and no two are the same
+abbrev pub InOrder : List Entry → Type 0
+InOrder es = T (is_sorted (slice_cmp nat_cmp) (pairs_of es))
 
 -- a key with the value that it has
 abbrev pub paired : List ℕ → Option (List ℕ) → List (List ℕ × List ℕ)

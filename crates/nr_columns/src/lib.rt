@@ -19,3 +19,4 @@ mod threads;
 pub use columns::Columns;
 pub use entry::Entry;
 pub use spelled_key::SpelledKey;
+pub use stored::read_record;

@@ -1,6 +1,6 @@
 //! Records at the keys of a store.
 
-ghost use Rattle.std.specs.Prelude.{◌≡◌, IfOk, OnOk, OnErr, option_and_then};
+ghost use Rattle.std.specs.Prelude.{◌≡◌, IfOk, IfSome, OnOk, OnErr, option_and_then};
 ghost use Rattle.std.specs.FinMap as map;
 ghost use Rattle.nr_records.specs.Reading.{all_of};
 ghost use Rattle.nr_columns.specs.Tables.{read_of};
@@ -10,8 +10,13 @@ use nr_triedef::Store;
 use std::alloc::{AllocError, Global};
 
 /// The record that the bytes spell, if they spell one.
-fn read<T: Spelled>(alloc: Global, bytes: &[u8]) -> Result<Option<T>, AllocError>
-    ensures { IfOk result (λ found. found ≡ read_of (all_of T.reading bytes.now)) }
+///
+/// # Errors
+///
+/// Where memory ran out.
+pub fn read_record<T: Spelled>(alloc: Global, bytes: &[u8]) -> Result<Option<T>, AllocError>
+    ensures found { IfOk result (λ found. found ≡ read_of (all_of T.reading bytes.now)) }
+    ensures fits { IfOk result (λ found. IfSome found T.fits) }
 {
     match decode::<T>(alloc, bytes) {
         Ok(value) => Ok(Some(value)),
@@ -30,7 +35,7 @@ pub(crate) fn stored<S: Store, T: Spelled>(
         (map.get (S.contents store.now) key.now)) }
 {
     match store.get(key) {
-        Some(bytes) => read(alloc, bytes),
+        Some(bytes) => read_record(alloc, bytes),
         None => Ok(None),
     }
 }

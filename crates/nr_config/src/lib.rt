@@ -6,8 +6,6 @@ pub mod entries;
 mod fault;
 mod reading;
 mod table;
-#[cfg(test)]
-mod tests;
 
 pub use config::Config;
 pub use fault::ConfigFault;

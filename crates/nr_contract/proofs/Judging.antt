@@ -6,7 +6,7 @@ use Rattle.nr_bytes.specs.Reading.{◌>>=◌}
 use Rattle.nr_wasmtypes.specs.Body.{Body}
 use Rattle.nr_wasmtypes.specs.declared.module.FuncType.{FuncType}
 use Rattle.nr_wasmtypes.specs.declared.module.Module.{Module}
-use Rattle.nr_wasmvalid.proofs.Once.{Tells, judged_tells}
+use Rattle.nr_wasmvalid.proofs.Once.{TellsTyping, judged_tells}
 use Rattle.nr_wasmvalid.proofs.Whole.{has_type, judges}
 use Rattle.nr_wasmvalid.specs.Modules.{in_func, func_context, IsTypedFunc, IsBreachIn, FirstIn, IsValid, IsFirstBreach}
 use Rattle.nr_wasmvalid.specs.Parts.{parts_outcome, imported_types}
@@ -24,7 +24,7 @@ FuncTells m n sig b (Ok x) = IsTyped (func_context m sig b) b.code
 FuncTells m n sig b (Err e) = IsBreachIn m n sig b e
 
 of_tells : (m : Module) (n : ℕ) (sig : FuncType) (b : Body) (r : Result Shape BodyFault)
-    → Tells (func_context m sig b) b.code r → FuncTells m n sig b (of_func n r)
+    → TellsTyping (func_context m sig b) b.code r → FuncTells m n sig b (of_func n r)
 of_tells m n sig b (Ok s) t = t
 of_tells m n sig b (Err e) t = (t.0, t.1, t.3, ap (in_func n) t.2)
 
@@ -43,13 +43,13 @@ on_one : (m : Module) (n t : ℕ) (b : Body) (ts : List ℕ) (bs : List Body) (s
 on_one m n t b ts bs sig is (Ok x) rest f r = on_typed m n t b ts bs (sig, is, f) rest r
 on_one m n t b ts bs sig is (Err e) rest f r = inl (sig, is, f)
 
-is_there : (types : List FuncType) (t : ℕ) → t < length types → slice_get types t ≢ None
+pub is_there : (types : List FuncType) (t : ℕ) → t < length types → slice_get types t ≢ None
 is_there [] t lt = absurd (omega (arith, lt))
 is_there (x ∷ xs) zero lt = λ e. cc
 is_there (x ∷ xs) (suc t) lt = is_there xs t (omega (arith, lt))
 
 -- each function has a type that is there
-abbrev HaveTypes : Module → List ℕ → Type 0
+abbrev pub HaveTypes : Module → List ℕ → Type 0
 HaveTypes m ts = (k d : ℕ) → k < length ts → get_or ts k d < length m.types
 
 funcs_tell : (m : Module) (n : ℕ) (ts : List ℕ) (bs : List Body) → HaveTypes m ts

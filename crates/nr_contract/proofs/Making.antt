@@ -14,7 +14,8 @@ use Rattle.nr_wasmvalid.specs.Modules.{IsValid, IsFirstBreach}
 use Rattle.nr_wasmvalid.specs.declared.fault.ValidFault.{ValidFault}
 use Rattle.nr_wasmvalid.specs.declared.fault.ValidFault.TheVariants as fault
 use Rattle.nr_contract.proofs.Judging.{passed, refused}
-use Rattle.nr_contract.specs.Loading.{bad_code, valid_part, judged, named, read, prepared}
+use Rattle.nr_wasmvalid.specs.Kinds.{valid_kind}
+use Rattle.nr_contract.specs.Loading.{bad_code, judged, named, read, prepared}
 use Rattle.nr_contract.specs.Preparing.{IsLoaded, Prepares, RunsOver, with_machine, with_method, invalid}
 use Rattle.nr_contract.specs.declared.refused.Refused.{Refused}
 
@@ -61,7 +62,7 @@ passes_on c m v method r same breach h =
 stops : (c : Config) (m : Module) (method : List ℕ) (e : ValidFault) → e ≢ fault.Memory
     → (IsValid (max_pages c) m → Gives fault.Memory (Err e) (Ok m))
     → ((f : ValidFault) → IsFirstBreach (max_pages c) m f → Gives {X = Module} fault.Memory (Err e) (Err f))
-    → with_machine c (read c method (Ok m)) ≡ Err (bad_code, valid_part e)
+    → with_machine c (read c method (Ok m)) ≡ Err (bad_code, valid_kind e)
 stops c m method e other valid breach = rw (refused (max_pages c) m e other valid breach) refl
 
 pub stops_at : (c : Config) (m : Module) (method : List ℕ) (e : ValidFault)

@@ -4,11 +4,11 @@ use Rattle.std.specs.Prelude.{ℕ, List, Option, Some, None, Result, Ok, Err}
 use Rattle.nr_bytes.specs.Reading.{◌>>=◌}
 use Rattle.nr_config.specs.Config.{Config, max_code, max_pages}
 use Rattle.nr_wasmbin.specs.Modules.{decoded}
+use Rattle.nr_wasmbin.specs.Kinds.{decode_kind}
 use Rattle.nr_wasmbin.specs.declared.fault.DecodeFault.{DecodeFault}
-use Rattle.nr_wasmbin.specs.declared.fault.DecodeFault.TheVariants as decode
 use Rattle.nr_wasmtypes.specs.declared.module.Module.{Module}
+use Rattle.nr_wasmvalid.specs.Kinds.{valid_kind}
 use Rattle.nr_wasmvalid.specs.declared.fault.ValidFault.{ValidFault}
-use Rattle.nr_wasmvalid.specs.declared.fault.ValidFault.TheVariants as valid
 use Rattle.nr_wasmexec.specs.Making.{MachineView, machine_of, program_of, method_of}
 use Rattle.nr_wasmexec.specs.declared.making.MakeFault.{MakeFault}
 use Rattle.nr_wasmexec.specs.declared.making.MakeFault.TheVariants as make
@@ -30,25 +30,7 @@ failed_binding = 16
 abbrev pub out_of_gas : ℕ
 out_of_gas = 17
 
--- why the code can't run, by number
-abbrev pub decode_part : DecodeFault → ℕ
-decode_part (decode.Short at) = 1
-decode_part (decode.Leb at) = 2
-decode_part (decode.Section at) = 3
-decode_part (decode.Opcode at) = 4
-decode_part (decode.Float at) = 5
-decode_part (decode.Utf8 at) = 6
-decode_part (decode.TooMany at) = 7
-decode_part decode.Memory = 0
-
-abbrev pub valid_part : ValidFault → ℕ
-valid_part (valid.Types func place) = 11
-valid_part (valid.Index func place) = 12
-valid_part (valid.Label func place) = 13
-valid_part (valid.Limit func place) = 14
-valid_part (valid.Import func place) = 15
-valid_part valid.Memory = 0
-
+-- why the code can't run, by the number of the fault's kind, or by this one where a segment doesn't fit
 abbrev pub segment_part : ℕ
 segment_part = 21
 
@@ -58,11 +40,11 @@ named m None = Err (no_method, 0)
 named m (Some f) = Ok (m, f)
 
 abbrev pub judged : Module → List ℕ → Result (Unit {0}) ValidFault → Result (Module × ℕ) (ℕ × ℕ)
-judged m method (Err e) = Err (bad_code, valid_part e)
+judged m method (Err e) = Err (bad_code, valid_kind e)
 judged m method (Ok typed) = named m (method_of (program_of m) method)
 
 abbrev pub read : Config → List ℕ → Result Module DecodeFault → Result (Module × ℕ) (ℕ × ℕ)
-read c method (Err e) = Err (bad_code, decode_part e)
+read c method (Err e) = Err (bad_code, decode_kind e)
 read c method (Ok m) = judged m method (module_verdict (max_pages c) m)
 
 abbrev pub made : ℕ → Result MachineView MakeFault → Result (MachineView × ℕ) (ℕ × ℕ)

@@ -6,9 +6,10 @@ use Rattle.nr_wasmbin.specs.Modules.{decoded}
 use Rattle.nr_wasmexec.specs.Functions.{func_at}
 use Rattle.nr_wasmexec.specs.Making.{MachineView, machine_of, is_method}
 use Rattle.nr_wasmtypes.specs.declared.module.Module.{Module}
+use Rattle.nr_wasmvalid.specs.Kinds.{valid_kind}
 use Rattle.nr_wasmvalid.specs.declared.fault.ValidFault.{ValidFault}
 use Rattle.nr_wasmvalid.specs.declared.fault.ValidFault.TheVariants as valid
-use Rattle.nr_contract.specs.Loading.{made, no_method, bad_code, valid_part}
+use Rattle.nr_contract.specs.Loading.{made, no_method, bad_code}
 use Rattle.nr_contract.specs.Verdicts.{module_verdict}
 use Rattle.nr_contract.specs.declared.refused.Refused.{Refused}
 use Rattle.nr_contract.specs.declared.refused.Refused.TheVariants.{Failed, Memory}
@@ -39,9 +40,9 @@ with_method m (Some f) = Ok (m, f)
 
 -- a module that isn't valid
 abbrev pub invalid : ValidFault → Refused
-invalid (valid.Types func place) = Failed bad_code (valid_part (valid.Types func place))
-invalid (valid.Index func place) = Failed bad_code (valid_part (valid.Index func place))
-invalid (valid.Label func place) = Failed bad_code (valid_part (valid.Label func place))
-invalid (valid.Limit func place) = Failed bad_code (valid_part (valid.Limit func place))
-invalid (valid.Import func place) = Failed bad_code (valid_part (valid.Import func place))
+invalid (valid.Types func place) = Failed bad_code (valid_kind (valid.Types func place))
+invalid (valid.Index func place) = Failed bad_code (valid_kind (valid.Index func place))
+invalid (valid.Label func place) = Failed bad_code (valid_kind (valid.Label func place))
+invalid (valid.Limit func place) = Failed bad_code (valid_kind (valid.Limit func place))
+invalid (valid.Import func place) = Failed bad_code (valid_kind (valid.Import func place))
 invalid valid.Memory = Memory

@@ -1,13 +1,12 @@
 //! Methods: functions with code of a module that are exported, and take and leave nothing.
 
-ghost use Rattle.std.specs.Prelude.{◌≡◌, ◌-◌, ◌&&◌, MatchOption, None, Some, find, is_some, length, nat_eq};
-ghost use Rattle.std.specs.Prelude.{nat_lt, not};
-ghost use Rattle.std.specs.Str.{bytes_eq};
+ghost use Rattle.std.specs.Prelude.{◌≡◌, is_some, length};
 ghost use Rattle.nr_wasmexec.specs.Functions.{links, link_as, func_at, own_func};
-ghost use Rattle.nr_wasmexec.specs.Making.{is_method, method_as, method_in, method_of, program_of};
+ghost use Rattle.nr_wasmexec.specs.Making.{is_method, method_as, method_of, program_of};
 ghost use Rattle.nr_wasmtypes.specs.Host.{host_named};
 
-use nr_wasmtypes::{Export, ExportKind, FuncType, HostFn, Import, ImportKind, Module};
+use nr_wasmexec::{export_named, takes_and_leaves_nothing};
+use nr_wasmtypes::{Export, ExportKind, HostFn, Import, ImportKind, Module};
 
 fn is_link(import: &Import) -> bool
     ensures { result ≡ is_some (link_as (host_named import.now.name) import.now.kind) }
@@ -30,12 +29,6 @@ fn host_count(imports: &[Import]) -> usize
         }
     }
     count
-}
-
-fn takes_and_leaves_nothing(sig: &FuncType) -> bool
-    ensures { result ≡ nat_eq (length sig.now.params) 0 && not (is_some sig.now.result) }
-{
-    sig.params.inner().is_empty() && sig.result.is_none()
 }
 
 /// Whether the module's own function with this number is a method.
@@ -65,26 +58,6 @@ fn is_method_export(code: &Module, export: &Export) -> bool
         ExportKind::Func => is_method(code, export.index as usize),
         _ => false,
     }
-}
-
-fn is_named(export: &Export, name: &[u8]) -> bool
-    ensures { result ≡ bytes_eq export.now.name name.now }
-{
-    export.name.inner().as_bytes() == name
-}
-
-/// The first export of this name.
-#[tactic(auto, using(nr_wasmexec::proofs::Named::found_here, nr_wasmexec::proofs::Named::found_later, nr_wasmexec::proofs::Named::found_none))]
-fn export_named<'a>(exports: &'a [Export], name: &[u8]) -> Option<&'a Export>
-    ensures { MatchOption result (find (λ e. bytes_eq e.name name.now) exports.now ≡ None)
-        (λ e. find (λ e. bytes_eq e.name name.now) exports.now ≡ Some e.now) }
-{
-    for export in exports {
-        if is_named(export, name) {
-            return Some(export);
-        }
-    }
-    None
 }
 
 /// Whether a method is exported by this name.

@@ -9,11 +9,11 @@ ghost use Rattle.nr_contract.specs.Preparing.{IsLoaded, Prepares, CanRun, RunsOv
 
 use crate::keeping::KeptModules;
 use crate::methods::has_method;
-use crate::parts::{BAD_CODE, NO_METHOD, SEGMENT, decode_part, invalid};
+use crate::parts::{BAD_CODE, NO_METHOD, SEGMENT, invalid};
 use crate::refused::Refused;
 use nr_bytes::Blob;
 use nr_config::Config;
-use nr_wasmbin::{DecodeFault, decode};
+use nr_wasmbin::{DecodeFault, decode, decode_kind};
 use nr_wasmexec::{Machine, MakeFault};
 use nr_wasmtypes::Module;
 use nr_wasmvalid::{Valid, validate};
@@ -98,7 +98,7 @@ fn prepare(
         Err(DecodeFault::Memory) => Err(Refused::Memory),
         Err(fault) => Err(Refused::Failed {
             kind: BAD_CODE,
-            part: decode_part(fault),
+            part: decode_kind(fault),
         }),
     }
 }

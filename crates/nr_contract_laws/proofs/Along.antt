@@ -5,16 +5,16 @@ use Rattle.std.proofs.Common.{refl, sym, ap, ◌∙◌, subst, arith}
 use Rattle.nr_contract_laws.specs.Moments.{Leads}
 use Rattle.nr_machine_laws.specs.Steps.{AnswersNext, GivesOf, IsAnswered, LeadsTo, first_step}
 use Rattle.nr_wasmexec.specs.Functions.{Coded, Func, Hosted, func_at}
-use Rattle.nr_wasmexec.specs.Reduction.{Asks, Branches, Branching, Config, Effect, Frame, GasExceeded, Goes, Halted}
-use Rattle.nr_wasmexec.specs.Reduction.{Invokes, Label, NoRule, Opens, Outcome, Over, Plain, Returning, Returns, Rules}
-use Rattle.nr_wasmexec.specs.Reduction.{Runtime, Seq, Step, Stopping, Stuck, To, Trap, Traps, Unfinished, Writes}
+use Rattle.nr_wasmexec.specs.Reduction.{Asks, Branches, Branching, Config, Effect, Frame, GasExceeded, Goes}
+use Rattle.nr_wasmexec.specs.Reduction.{Invokes, Label, NoRule, Opens, Over, Plain, Returning, Returns, Rules}
+use Rattle.nr_wasmexec.specs.Reduction.{Runtime, Seq, Step, Stopping, Stuck, To, Traps, Unfinished, Writes}
 use Rattle.nr_wasmexec.specs.Reduction.{answered, behind_call, call_of, effect, has_instr, in_frame, in_label}
-use Rattle.nr_wasmexec.specs.Reduction.{is_too_large, left_over, paid, reduce, rewritten, run_by, run_in, runs, stepped}
-use Rattle.nr_wasmexec.specs.Reduction.{turn}
+use Rattle.nr_wasmexec.specs.Reduction.{left_over, paid, reduce, rewritten, run_by, run_in, runs, stepped}
 use Rattle.nr_wasmmem.specs.Meaning.{Answer, Fails, Gives, HostMeaning, OutOfGas}
 use Rattle.nr_wasmtypes.specs.Code.{Code, after, begins}
 use Rattle.nr_wasmtypes.specs.Host.{host_type}
 use Rattle.nr_wasmtypes.specs.declared.host.HostFn.{HostFn}
+use Rattle.nr_machine_laws.proofs.Preserved.{led_on, on_turn}
 
 -- ---- the host's state behind a step that leads on
 abbrev pub OnTo : {S : Type 0} → (S → Type 0) → Step S → Type 0
@@ -157,11 +157,6 @@ not_large : {O : Type 0} (b : Bool) (x y : O) → b ≡ false → cond b x y ≡
 not_large true x y e = absurd cc
 not_large false x y e = refl
 
-on_turn : {S : Type 0} (w : Rules S) (s : Runtime S) (step : Step S) (c : Config S) (go : Config S → Outcome S)
-    → LeadsTo w step c → turn w s step go ≡ go c
-on_turn w s step c go e =
-    ap (λ x. turn w s x go) e.0 ∙ not_large (is_too_large w c.locals c.seq) (Halted c.store (Trap 8)) (go c) e.1
-
 pub reached : {S : Type 0} (w : Rules S) (s : Runtime S) (f n : ℕ) (c : Config S) → Leads w s f n c → (k : ℕ)
     → run_by w s f (n + k) ≡ runs w k c
 reached w s f zero c r k =
@@ -175,21 +170,6 @@ reached w s f zero c r k =
 reached w s f (suc n) c r k =
     let same : suc n + k ≡ n + suc k = omega arith in
     ap (run_by w s f) same ∙ (reached w s f n r.0 r.1 (suc k) ∙ on_turn w r.0.store (stepped w r.0) c (runs w k) r.2)
-
-led_on : {S : Type 0} (w : Rules S) (s : Runtime S) (step : Step S) (go : Config S → Outcome S)
-    → turn w s step go ≡ Unfinished → (c : Config S) × LeadsTo w step c
-led_on {S} w s (To t own seq) go e = by_size (is_too_large w own seq) refl e
-  where
-    by_size : (b : Bool) → is_too_large w own seq ≡ b
-        → cond b (Halted t (Trap 8)) (go (record { store = t; locals = own; seq = seq })) ≡ Unfinished → (c : Config S)
-        × LeadsTo w (To t own seq) c
-    by_size true is e = absurd cc
-    by_size false is e = (record { store = t; locals = own; seq = seq }, (refl, is))
-led_on w s (Over values) go e = absurd cc
-led_on w s (Branching depth values) go e = absurd cc
-led_on w s (Returning values) go e = absurd cc
-led_on w s (Stopping t stop) go e = absurd cc
-led_on w s NoRule go e = absurd cc
 
 -- a run that isn't over in so many steps is where these lead
 pub each : {S : Type 0} (w : Rules S) (s : Runtime S) (f n k : ℕ) → run_by w s f (n + k) ≡ Unfinished

@@ -1,13 +1,13 @@
 -- The verdict on a module is what typing says.
-use Rattle.std.proofs.Common.{◌≡◌, ◌≢◌, ℕ, zero, suc, ◌+◌, ◌<◌, List, [], ◌∷◌, length, get_or, Option, Some, None}
+use Rattle.std.proofs.Common.{◌≡◌, ℕ, suc, ◌+◌, List, [], ◌∷◌, length, Option, Some, None}
 use Rattle.std.proofs.Common.{slice_get, Result, Ok, Err, refl, ap, subst, ◌∙◌, inl, inr, arith}
 use Rattle.nr_bytes.specs.Reading.{◌>>=◌}
-use Rattle.nr_contract.proofs.Judging.{passed}
+use Rattle.nr_contract.proofs.Judging.{passed, is_there, HaveTypes}
 use Rattle.nr_contract.specs.Verdicts.{of_func, func_verdict, funcs_verdict, module_verdict}
 use Rattle.nr_wasmtypes.specs.Body.{Body}
 use Rattle.nr_wasmtypes.specs.declared.module.FuncType.{FuncType}
 use Rattle.nr_wasmtypes.specs.declared.module.Module.{Module}
-use Rattle.nr_wasmvalid.proofs.Once.{Tells, breach_judged, judged_tells, typed_judged}
+use Rattle.nr_wasmvalid.proofs.Once.{TellsTyping, breach_judged, judged_tells, typed_judged}
 use Rattle.nr_wasmvalid.proofs.Whole.{gives_breach, has_type}
 use Rattle.nr_wasmvalid.specs.Modules.{in_func, func_context, FirstIn, IsFirstBreach, IsValid}
 use Rattle.nr_wasmvalid.specs.Parts.{imported_types, parts_outcome}
@@ -22,21 +22,12 @@ Breaks m n ts bs (Ok x) = Unit {0}
 Breaks m n ts bs (Err e) = FirstIn m n ts bs e
 
 on_one : (m : Module) (n t : ℕ) (b : Body) (ts : List ℕ) (bs : List Body) (sig : FuncType)
-    → slice_get m.types t ≡ Some sig → (r : Result Shape BodyFault) → Tells (func_context m sig b) b.code r
+    → slice_get m.types t ≡ Some sig → (r : Result Shape BodyFault) → TellsTyping (func_context m sig b) b.code r
     → (rest : Result (Unit {0}) ValidFault) → Breaks m (n + 1) ts bs rest
     → Breaks m n (t ∷ ts) (b ∷ bs) (of_func n r >>= λ typed. rest)
 on_one m n t b ts bs sig is (Ok s) typed (Ok x) k = tt
 on_one m n t b ts bs sig is (Ok s) typed (Err e) k = inr ((sig, is, typed), k)
 on_one m n t b ts bs sig is (Err e) x rest k = inl (sig, is, (x.0, x.1, x.3, ap (in_func n) x.2))
-
-is_there : (types : List FuncType) (t : ℕ) → t < length types → slice_get types t ≢ None
-is_there [] t lt = absurd (omega (arith, lt))
-is_there (x ∷ xs) zero lt = λ e. cc
-is_there (x ∷ xs) (suc t) lt = is_there xs t (omega (arith, lt))
-
--- each function has a type that is there
-abbrev HaveTypes : Module → List ℕ → Type 0
-HaveTypes m ts = (k d : ℕ) → k < length ts → get_or ts k d < length m.types
 
 breaks : (m : Module) (n : ℕ) (ts : List ℕ) (bs : List Body) → HaveTypes m ts
     → Breaks m n ts bs (funcs_verdict m n ts bs)

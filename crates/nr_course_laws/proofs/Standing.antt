@@ -1,5 +1,5 @@
 -- What stands at a moment at which no shard is in a chunk.
-use Rattle.std.proofs.Common.{◌≡◌, ℕ, zero, suc, ◌+◌, ◌<◌, List, [], ◌∷◌, map, length, Some, refl, sym, ap, ◌∙◌, arith}
+use Rattle.std.proofs.Common.{◌≡◌, ℕ, zero, suc, ◌+◌, ◌<◌, List, [], ◌∷◌, map, length, Some, refl, ap, ◌∙◌, arith}
 use Rattle.std.specs.Prelude.{sum_by}
 use Rattle.std.specs.List.{range_with_len}
 use Rattle.std.proofs.lemmas.List.Sums.{sum_by-cons}
@@ -20,22 +20,12 @@ use Rattle.nr_places.specs.Totals.{list_tally, report_tally, shard_tally, tally_
 use Rattle.nr_records.specs.declared.chunk_result.ChunkResult.{ChunkResult}
 use Rattle.nr_records.specs.declared.receipt.Receipt.{Receipt}
 use Rattle.nr_state.specs.World.{World}
+use Rattle.nr_legs.proofs.Ends.{sum_mapped as sum_from}
 
 -- ---- sums over numbers and over lists
 sum_front : (n : ℕ) (f : ℕ → ℕ) → sum_below (suc n) f ≡ f 0 + sum_below n (λ s. f (suc s))
 sum_front zero f = omega arith
 sum_front (suc n) f = omega (arith, sum_front n f)
-
-sum_from : {A : Type 0} (g : A → ℕ) (h : ℕ → A) (n a : ℕ) → sum_by g (map h (range_with_len a n))
-    ≡ sum_below n (λ s. g (h (a + s)))
-sum_from g h zero a = refl
-sum_from g h (suc n) a =
-    let first : a + 0 ≡ a = omega arith in
-    let later : (s : ℕ) → (a + 1) + s ≡ a + suc s = λ s. omega arith in
-    sum_by-cons g (h a) (map h (range_with_len (a + 1) n))
-    ∙ ap (λ t. g (h a) + t) (sum_from g h n (a + 1) ∙ (λ i. sum_below n (λ s. g (h (later s i)))))
-    ∙ (λ i. g (h (sym first i)) + sum_below n (λ s. g (h (a + suc s))))
-    ∙ sym (sum_front n (λ s. g (h (a + s))))
 
 pub sum_mapped : {A : Type 0} (g : A → ℕ) (h : ℕ → A) (n : ℕ) → sum_by g (map h (range_with_len 0 n))
     ≡ sum_below n (λ s. g (h s))

@@ -1,5 +1,5 @@
 -- Finite maps side by side, and the part of one whose keys pass a test: what is found in them, and sums over them.
-use Rattle.std.proofs.Common.{◌≡◌, ℕ, zero, suc, ◌+◌, ◌<◌, ◌≤◌, Bool, true, false, cond, List, [], ◌∷◌, ◌++◌, map}
+use Rattle.std.proofs.Common.{◌≡◌, ℕ, zero, suc, ◌+◌, ◌<◌, ◌≤◌, Bool, true, false, cond, List, [], ◌∷◌, ◌++◌}
 use Rattle.std.proofs.Common.{Option, Some, None, Ordering, inl, inr, ◌⊎◌, eqb, rules, refl, sym, ap, ◌∙◌, arith}
 use Rattle.std.specs.Prelude.{T, ◌&&◌, ◌==◌, sum_by, filter, is_some, IsSome}
 use Rattle.std.specs.declared.cmp.Ordering.TheVariants.{Less, Equal, Greater}
@@ -13,6 +13,7 @@ use Rattle.std.proofs.lemmas.List.{nil_from_length}
 use Rattle.std.proofs.lemmas.List.Sums.{sum_by-cons, sum_by-append}
 use Rattle.nr_cut.specs.Cut.{joined}
 use Rattle.nr_state.proofs.ValidSums.{at_key, sum-insert, entries-retain_keys}
+pub use Rattle.nr_state.proofs.ValidSums.{sum_of_values}
 
 -- the owners of what a map has pass a test
 abbrev pub HasOwners : {K X : Type 0} {R : K → K → Ordering} → (K → List ℕ) → (List ℕ → Bool) → FinMap R X → Type 0
@@ -27,13 +28,6 @@ none_left None = refl
 none_left (Some x) = refl
 
 -- ---- sums over lists
-pub sum_of_values : {K X : Type 0} (f : X → ℕ) (es : List (K × X))
-    → sum_by f (map (λ e. e.1) es) ≡ sum_by (λ e. f e.1) es
-sum_of_values f [] = refl
-sum_of_values {K} {X} f (e ∷ es) =
-    sum_by-cons f e.1 (map (λ (e : K × X). e.1) es) ∙ ap (λ n. f e.1 + n) (sum_of_values f es)
-    ∙ sym (sum_by-cons (λ (e : K × X). f e.1) e es)
-
 -- what passes a test
 abbrev pub if_passes : {A : Type 0} → (A → Bool) → (A → ℕ) → A → ℕ
 if_passes p f x = cond (p x) (f x) 0

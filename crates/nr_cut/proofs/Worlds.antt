@@ -3,7 +3,7 @@
 use Rattle.std.proofs.Common.{◌≡◌, ℕ, ◌+◌, ◌^◌, ◌≤◌, Bool, true, false, cond, List, [], ◌∷◌, ◌++◌, length, Option}
 use Rattle.std.proofs.Common.{Some, None, Ordering, inl, inr, ◌⊎◌, refl, sym, ap, subst, ◌∙◌, arith}
 use Rattle.std.specs.Prelude.{sum_by, filter, not, is_some, is_none, IsSome, option_map}
-use Rattle.std.specs.FinMap.{FinMap, IsAntisymmetric, empty, get, get-empty, entries, values, retain_keys}
+use Rattle.std.specs.FinMap.{FinMap, IsAntisymmetric, get, entries, values, retain_keys}
 use Rattle.std.specs.List.{AllByRecursion, list_any}
 use Rattle.std.specs.Str.{bytes_eq}
 use Rattle.std.specs.Cmp.{IsTotalOrder}
@@ -30,6 +30,7 @@ use Rattle.nr_state.specs.Valid.{usage_in, hash_of_code}
 use Rattle.nr_state.specs.View.{IsPostponed, has_input}
 use Rattle.nr_state.specs.World.{World, no_world, bytes_cmp, pair_cmp, key_cmp, account_tokens, accounts_tokens}
 use Rattle.nr_state.proofs.ValidOwned.{key_total, pair_total, exact_keys, exact_data, same_id, owned_none}
+use Rattle.nr_state.proofs.ValidQueues.{nobody}
 
 -- ---- tests and lists
 pub to_false : (b : Bool) → not b ≡ true → b ≡ false
@@ -395,9 +396,6 @@ owned_weaker test more w so is = record {
   received = λ k h. so k.0 (is.received k h);
   postponed = λ k h. so k.0 (is.postponed k h);
 }
-
-nobody : {K A : Type 0} (X : Type 0) (R : K → K → Ordering) (k : K) → IsSome (get (empty {X = X} {R = R}) k) → A
-nobody X R k h = absurd (let e : false ≡ true = ap is_some (sym (get-empty {X = X} R k)) ∙ h in cc)
 
 pub owned_none_here : (test : List ℕ → Bool) → Owned test no_world
 owned_none_here test = record {

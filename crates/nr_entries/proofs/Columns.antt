@@ -1,6 +1,6 @@
 -- An entry that is told is one of its column's table.
 use Rattle.std.proofs.Common.{◌≡◌, ℕ, suc, ◌+◌, ◌<◌, ◌^◌, Bool, true, false, cond, eqb, List, [], ◌∷◌, ◌++◌, ◌&&◌, length, Option, Some, None, refl, sym, ap, subst, ◌∙◌, arith}
-use Rattle.std.specs.Prelude.{◌==◌, Result, Ok, Err, is_some, is_none, slice_index}
+use Rattle.std.specs.Prelude.{◌==◌, is_some, is_none, slice_index}
 use Rattle.std.specs.Option.{option_map, option_and_then}
 use Rattle.std.proofs.lemmas.Bool.{eq-eqb, eqb-true}
 use Rattle.nr_bytes.proofs.Fields.{blob_law, nat_law}
@@ -28,12 +28,12 @@ use Rattle.nr_records.specs.ReceiptLaws.{receipt_law}
 use Rattle.nr_records.specs.Receipts.{IsReceipt, receipt_at, receipt_bytes}
 use Rattle.nr_records.specs.declared.access_key.AccessKey.{AccessKey}
 use Rattle.nr_records.specs.declared.account.Account.{Account}
-use Rattle.nr_records.specs.declared.fault.RecordFault.{RecordFault}
 use Rattle.nr_records.specs.declared.receipt.Receipt.{Receipt}
 use Rattle.nr_columns.specs.Columns.{queue_bytes}
 use Rattle.nr_columns.specs.Tables.{Table, key_of, read_of}
 use Rattle.nr_columns.specs.View.{at_first, grown, with_key, spelled_key, key_of_rest, queue_at, queue_of, count_of}
 use Rattle.nr_columns.specs.View.{pair_table, text_table, accounts_table, keys_table, code_table, data_table, received_table, awaited_table, missing_table, postponed_table, delayed_table}
+use Rattle.nr_columns.proofs.SpelledKeys.{read_ok}
 use Rattle.nr_columns.proofs.Tables.{spells}
 use Rattle.nr_entries.specs.Told.{is_told_in, is_owned, is_owned_key, is_received, is_kept, is_queued}
 use Rattle.nr_entries.proofs.Rising.{left, right}
@@ -51,13 +51,9 @@ pub some_of : {A : Type 0} (o : Option A) → is_some o ≡ true → (x : A) × 
 some_of None h = absurd (let no : false ≡ true = h in cc)
 some_of (Some x) h = (x, refl)
 
-ok_of : {X : Type 0} (r : Result X RecordFault) (x : X) → read_of r ≡ Some x → r ≡ Ok x
-ok_of (Ok y) x e = ap (λ z. Ok z) (let same : y ≡ x = cc in same)
-ok_of (Err f) x e = absurd (let no : ◌≡◌ {A = Option _} None (Some x) = e in cc)
-
 pub taken : {X : Type 0} (r : Input → Read X) (a : X → List ℕ) (P : X → Type 0) → IsRead r a P → (v : List ℕ) (x : X) → IsBytes v → read_of (all_of r v) ≡ Some x → P x × (a x ≡ v)
 taken r a P law v x fits e =
-    let h = whole_taken record_fault r a P law v x fits (ok_of (all_of r v) x e) in
+    let h = whole_taken record_fault r a P law v x fits (read_ok (all_of r v) x e) in
     (h.0, sym h.1)
 
 pub queue_law : IsRead queue_at queue_bytes (Both (Below (256 ^ 8)) (Below (256 ^ 8)))

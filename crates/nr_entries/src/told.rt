@@ -1,6 +1,6 @@
 //! Entries that are those of a column.
 
-ghost use Rattle.std.specs.Prelude.{◌≡◌, ◌&&◌, IfOk, IfSome, OnOk, is_none, is_some};
+ghost use Rattle.std.specs.Prelude.{◌≡◌, ◌&&◌, IfOk, OnOk, is_none, is_some};
 ghost use Rattle.std.specs.List.{AllByRecursion};
 ghost use Rattle.nr_bytes.specs.Numbers.{IsBytes};
 ghost use Rattle.nr_records.specs.Reading.{all_of};
@@ -11,9 +11,9 @@ ghost use Rattle.nr_entries.specs.Told.{is_received, is_kept, is_queued};
 
 use crate::split::split_at_first;
 use nr_bytes::{Blob, Reader};
-use nr_columns::Entry;
+use nr_columns::{Entry, read_record};
 use nr_ids::{AccountId, Hash32, IdFault, PublicKey};
-use nr_records::{AccessKey, Account, Receipt, RecordFault, Spelled, decode};
+use nr_records::{AccessKey, Account, Receipt, Spelled};
 use std::alloc::{AllocError, Global};
 
 /// The byte between an owner and a public key.
@@ -30,23 +30,11 @@ fn is_id(alloc: Global, bytes: &[u8]) -> Result<bool, AllocError>
     }
 }
 
-/// The record that the bytes spell, if they spell one.
-fn read<T: Spelled>(alloc: Global, bytes: &[u8]) -> Result<Option<T>, AllocError>
-    ensures found { IfOk result (λ found. found ≡ read_of (all_of T.reading bytes.now)) }
-    ensures fits { IfOk result (λ found. IfSome found T.fits) }
-{
-    match decode::<T>(alloc, bytes) {
-        Ok(value) => Ok(Some(value)),
-        Err(RecordFault::Memory) => Err(AllocError),
-        Err(_) => Ok(None),
-    }
-}
-
 /// Whether the bytes spell a record.
 fn reads<T: Spelled>(alloc: Global, bytes: &[u8]) -> Result<bool, AllocError>
     ensures { IfOk result (λ is. is ≡ is_some (read_of (all_of T.reading bytes.now))) }
 {
-    let found = read::<T>(alloc, bytes)?;
+    let found = read_record::<T>(alloc, bytes)?;
     Ok(found.is_some())
 }
 
@@ -76,7 +64,7 @@ fn is_owned_key(alloc: Global, rest: &[u8]) -> Result<bool, AllocError>
     let Some((owner, key)) = split_at_first(rest, KEY_MARK) else {
         return Ok(false);
     };
-    match read::<PublicKey>(alloc, key)? {
+    match read_record::<PublicKey>(alloc, key)? {
         Some(_) => is_id(alloc, owner),
         None => Ok(false),
     }
@@ -116,7 +104,7 @@ fn is_kept(alloc: Global, rest: &[u8], value: &[u8]) -> Result<bool, AllocError>
     let Some((receiver, hash)) = split_at_first(rest, b',') else {
         return Ok(false);
     };
-    match read::<Receipt>(alloc, value)? {
+    match read_record::<Receipt>(alloc, value)? {
         Some(receipt) => {
             Ok(receiver == receipt.receiver.bytes() && hash == receipt.receipt_id.0.as_slice())
         }

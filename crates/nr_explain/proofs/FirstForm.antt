@@ -3,7 +3,7 @@ use Rattle.std.proofs.Common.{◌≡◌, ℕ, ◌+◌, ◌<◌, ◌≤◌, true,
 use Rattle.std.proofs.lemmas.List.{drop_more, drop_all}
 use Rattle.nr_explain.specs.Words.{pieces}
 use Rattle.nr_explain.specs.Forms.{Field, Form, fits, form_of}
-use Rattle.nr_explain.proofs.Pieces.{some_piece}
+use Rattle.nr_words.proofs.Pieces.{some_piece}
 
 next_form : {X : Type 0} (v : X → Form) (xs : List X) (i : ℕ) (d : X) (words : List (List ℕ)) → i < length xs
     → form_of (map v (drop i xs)) words ≡ cond (fits (v (get_or xs i d)) words) (Some (v (get_or xs i d))) (form_of (map v (drop (i + 1) xs)) words)

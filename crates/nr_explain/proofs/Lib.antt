@@ -1,6 +1,4 @@
 -- Lemmas behind the answers.
-pub mod Pieces
-pub mod Numerals
 pub mod Objects
 pub mod FirstForm
 pub mod NthEntry

@@ -7,7 +7,7 @@ use Rattle.nr_explain.specs.Lines.{AddsWhere, object_of}
 use Rattle.nr_explain.specs.Report.{with_object, last_piece, objects_from, report_json}
 use Rattle.nr_explain.specs.declared.report.ReportFault.{ReportFault}
 use Rattle.nr_explain.specs.declared.report.ReportFault.TheVariants.{NoLine}
-use Rattle.nr_explain.proofs.Pieces.{some_piece}
+use Rattle.nr_words.proofs.Pieces.{some_piece}
 
 -- the objects so far, and those of what is left
 abbrev pub behind : List ℕ → Result (List ℕ) ReportFault → Result (List ℕ) ReportFault

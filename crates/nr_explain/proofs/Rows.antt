@@ -6,7 +6,7 @@ use Rattle.nr_explain.specs.Words.{pieces}
 use Rattle.nr_explain.specs.Forms.{Field, Form, form_of}
 use Rattle.nr_explain.specs.Lines.{lines, member, members, object, object_by, object_of, AddsWhere}
 use Rattle.nr_explain.specs.Sentences.{phrase, sentence}
-use Rattle.nr_explain.proofs.Pieces.{some_piece}
+use Rattle.nr_words.proofs.Pieces.{some_piece}
 
 -- ---- a word more
 more_members : (f : Field) (fs : Form) (bytes w rest : List ℕ) → pieces 32 bytes ≡ w ∷ pieces 32 rest

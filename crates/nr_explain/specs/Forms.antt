@@ -1,7 +1,7 @@
 -- Forms of lines: for each word what it may be, and a text that goes with it. This project's own.
 use Rattle.std.specs.Prelude.{ℕ, ◌^◌, ◌&&◌, List, [], ◌∷◌, Bool, true, false, cond, is_some, Option, Some, None}
 use Rattle.std.specs.Str.{bytes_eq}
-use Rattle.nr_explain.specs.Words.{number_below, is_hash, is_name, are_bytes}
+use Rattle.nr_explain.specs.Words.{number_below, is_digest, is_name, are_bytes}
 use Rattle.nr_explain.specs.Entries.{entry_of}
 
 -- this word, or this number; a number of 64 or of 128 bits; a hash, bytes; an entry of a configuration; a name
@@ -51,7 +51,7 @@ is_of (Word text) word = bytes_eq word text
 is_of (Figure text) word = bytes_eq word text
 is_of Number word = is_some (number_below (2 ^ 64) word)
 is_of Amount word = is_some (number_below (2 ^ 128) word)
-is_of Hash word = is_hash word
+is_of Hash word = is_digest word
 is_of Bytes word = are_bytes word
 is_of Entry word = is_some (entry_of word)
 is_of Name word = is_name word

@@ -281,7 +281,7 @@ invalid_modules =
     ∷ (word (codes "valid") (codes "The module isn't valid: ") ∷ figure (codes "15") (codes "an import is no function that a contract may have, in function ") ∷ number (codes " at instruction ") ∷ number (codes " (from 0).") ∷ [])
     ∷ []
 
--- runs that trapped
+-- runs that trapped, and where
 unfoldable pub module_traps : List Form
 module_traps =
     (word (codes "trap") (codes "The run stopped at a trap: ") ∷ figure (codes "1") (codes "`unreachable`. It burnt ")
@@ -300,6 +300,8 @@ module_traps =
     (codes "a call of a function of another type. It burnt ") ∷ amount (codes " gas.") ∷ [])
     ∷ (word (codes "trap") (codes "The run stopped at a trap: ") ∷ figure (codes "8")
     (codes "too many frames, or operands and locals. It burnt ") ∷ amount (codes " gas.") ∷ [])
+    ∷ (word (codes "at") (codes "The instruction that trapped stands in function ") ∷ number (codes ", at byte ")
+    ∷ number (codes " (from 0) of the file.") ∷ [])
     ∷ []
 
 -- what a module brings

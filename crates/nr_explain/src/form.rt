@@ -5,9 +5,9 @@ ghost use Rattle.nr_explain.specs.Words.{pieces};
 ghost use Rattle.nr_explain.specs.Forms.{is_of, fits, form_of};
 ghost use Rattle.nr_explain.specs.Coded.{kind_of, form_in};
 
-use crate::cut::cut;
 use crate::entries::is_entry;
-use crate::numbers::{amount_of, are_bytes, is_hash, is_name, number_of};
+use crate::numbers::{amount_of, are_bytes, is_name, number_of};
+use nr_words::{cut, is_digest};
 
 /// What a word of a line may be.
 #[derive(Clone, Copy, Debug)]
@@ -54,7 +54,7 @@ fn is_of(kind: &Kind, word: &[u8]) -> bool
         Kind::Figure(text) => word == text.as_bytes(),
         Kind::Number => number_of(word).is_some(),
         Kind::Amount => amount_of(word).is_some(),
-        Kind::Hash => is_hash(word),
+        Kind::Hash => is_digest(word),
         Kind::Bytes => are_bytes(word),
         Kind::Entry => is_entry(word),
         Kind::Name => is_name(word),

@@ -2,7 +2,6 @@
 #![tactic(auto)]
 
 mod call_sentences;
-mod cut;
 mod entries;
 mod explaining;
 mod form;

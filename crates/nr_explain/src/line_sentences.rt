@@ -558,7 +558,7 @@ static INVALID_MODULES: [&[Field]; 10] = [
     ],
 ];
 
-static MODULE_TRAPS: [&[Field]; 8] = [
+static MODULE_TRAPS: [&[Field]; 9] = [
     fields![
         Word("trap"): "The run stopped at a trap: ", Figure("1"): "`unreachable`. It burnt ",
         Amount: " gas."
@@ -590,6 +590,10 @@ static MODULE_TRAPS: [&[Field]; 8] = [
     fields![
         Word("trap"): "The run stopped at a trap: ",
         Figure("8"): "too many frames, or operands and locals. It burnt ", Amount: " gas."
+    ],
+    fields![
+        Word("at"): "The instruction that trapped stands in function ", Number: ", at byte ",
+        Number: " (from 0) of the file."
     ],
 ];
 
@@ -703,9 +707,9 @@ pub(crate) fn invalid_modules() -> &'static [&'static [Field]; 10]
     &INVALID_MODULES
 }
 
-/// Runs that trapped.
+/// Runs that trapped, and where.
 #[tactic(auto, unfolding(crate::specs::LineSentences::module_traps))]
-pub(crate) fn module_traps() -> &'static [&'static [Field]; 8]
+pub(crate) fn module_traps() -> &'static [&'static [Field]; 9]
     ensures { map (λ f. form_in f.now) result.now ≡ module_traps }
 {
     &MODULE_TRAPS

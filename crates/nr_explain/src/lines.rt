@@ -5,10 +5,10 @@ ghost use Rattle.nr_explain.specs.Words.{pieces};
 ghost use Rattle.nr_explain.specs.Lines.{lines, quoted, value, beside, member, members, object, object_of, AddsWhere};
 ghost use Rattle.nr_explain.specs.Coded.{kind_of, field_of, form_in};
 
-use crate::cut::cut;
 use crate::form::{Field, Kind, fields, form_of};
 use crate::numbers::is_dash;
 use crate::shown::beside_bytes;
+use nr_words::cut;
 use std::alloc::{AllocError, Global};
 
 /// The forms, with a member's name for each word.

@@ -1,53 +1,10 @@
 //! Words of digits, and names.
 
 ghost use Rattle.std.specs.Prelude.{◌≡◌, ◌^◌};
-ghost use Rattle.std.specs.List.{list_all};
-ghost use Rattle.nr_explain.specs.Words.{is_digit, is_hex_digit, has_no_leading_zero, is_numeral, number_below};
-ghost use Rattle.nr_explain.specs.Words.{is_hash, is_name_byte, is_name, is_dash, are_bytes};
+ghost use Rattle.nr_explain.specs.Words.{number_below, is_name_byte, is_name, is_dash, are_bytes};
 
+use nr_words::{all_hex_digits, is_numeral, large_number};
 use std::str;
-
-fn is_digit(byte: u8) -> bool
-    ensures { result ≡ is_digit byte }
-{
-    48 <= byte && byte <= 57
-}
-
-fn is_hex_digit(byte: u8) -> bool
-    ensures { result ≡ is_hex_digit byte }
-{
-    is_digit(byte) || (97 <= byte && byte <= 102)
-}
-
-// Not empty, and no zero before further digits.
-fn has_no_leading_zero(word: &[u8]) -> bool
-    ensures { result ≡ has_no_leading_zero word.now }
-{
-    match word {
-        [] => false,
-        [_] => true,
-        [first, ..] => *first != b'0',
-    }
-}
-
-fn all_digits(word: &[u8]) -> bool
-    ensures { result ≡ list_all is_digit word.now }
-{
-    word.iter().all(|byte| is_digit(*byte))
-}
-
-fn all_hex_digits(word: &[u8]) -> bool
-    ensures { result ≡ list_all is_hex_digit word.now }
-{
-    word.iter().all(|byte| is_hex_digit(*byte))
-}
-
-/// Decimal digits without a leading zero.
-fn is_numeral(word: &[u8]) -> bool
-    ensures { result ≡ is_numeral word.now }
-{
-    has_no_leading_zero(word) && all_digits(word)
-}
 
 fn small_number(word: &str) -> Option<u64>
     ensures { result ≡ number_below (2 ^ 64) word.now }
@@ -56,18 +13,6 @@ fn small_number(word: &str) -> Option<u64>
         return None;
     }
     match word.parse::<u64>() {
-        Ok(number) => Some(number),
-        Err(_) => None,
-    }
-}
-
-fn large_number(word: &str) -> Option<u128>
-    ensures { result ≡ number_below (2 ^ 128) word.now }
-{
-    if !is_numeral(word.as_bytes()) {
-        return None;
-    }
-    match word.parse::<u128>() {
         Ok(number) => Some(number),
         Err(_) => None,
     }
@@ -91,13 +36,6 @@ pub(crate) fn amount_of(word: &[u8]) -> Option<u128>
         Ok(word) => large_number(word),
         Err(_) => None,
     }
-}
-
-/// 32 bytes in hexadecimal.
-pub(crate) fn is_hash(word: &[u8]) -> bool
-    ensures { result ≡ is_hash word.now }
-{
-    word.len() == 64 && all_hex_digits(word)
 }
 
 fn is_name_byte(byte: u8) -> bool

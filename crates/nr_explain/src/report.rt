@@ -5,9 +5,9 @@ ghost use Rattle.nr_bytes.specs.Answers.{GivesAs};
 ghost use Rattle.nr_explain.specs.Report.{report_json};
 ghost use Rattle.nr_explain.specs.declared.report.ReportFault.TheVariants as fault;
 
-use crate::cut::cut;
 use crate::lines::put_line;
 use nr_bytes::Blob;
+use nr_words::cut;
 use std::alloc::{AllocError, Global};
 
 /// Why a text can't be shown.

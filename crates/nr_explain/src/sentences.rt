@@ -6,10 +6,10 @@ ghost use Rattle.nr_explain.specs.Sentences.{programs, items, configurations, ge
 ghost use Rattle.nr_explain.specs.Sentences.{gathered_chunks, state_parts, said, phrase, sentence, sentence_by};
 ghost use Rattle.nr_explain.specs.Coded.{kind_of, field_of, form_in};
 
-use crate::cut::cut;
 use crate::entries::put_entry;
 use crate::form::{Field, Kind, fields};
 use nr_bytes::Blob;
+use nr_words::cut;
 use std::alloc::{AllocError, Global};
 
 // What is said behind each number that a program prints, by its status.

@@ -14,7 +14,7 @@ use Rattle.nr_chunk.specs.Store.{StateStore}
 use Rattle.nr_chunk.specs.Views.{Kept}
 use Rattle.nr_chunk.specs.declared.chain.ChainRun.{ChainRun}
 use Rattle.nr_columns.specs.declared.entry.Entry.{Entry}
-use Rattle.nr_gather.specs.Entries.{InOrder, pairs_of}
+use Rattle.nr_columns.specs.Entries.{InOrder, pairs_of}
 use Rattle.nr_gather.specs.Gathered.{gathered}
 use Rattle.nr_gathered.specs.declared.gathered.Gathered.{Gathered}
 use Rattle.nr_ids.specs.declared.key.Hash32.{Hash32}

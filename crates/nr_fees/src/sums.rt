@@ -10,7 +10,8 @@ use nr_bytes::List;
 use nr_config::Config;
 use nr_records::Action;
 
-fn attached_to(action: &Action) -> u64
+/// The gas that an action's call may burn: 0 for any other action.
+pub fn attached_to(action: &Action) -> u64
     ensures { result ≡ attached action.now }
 {
     match action {
@@ -19,7 +20,8 @@ fn attached_to(action: &Action) -> u64
     }
 }
 
-fn deposit_in(action: &Action) -> u128
+/// The deposit of a call or a transfer, in the smallest unit of the ledger: 0 for any other action.
+pub fn deposit_in(action: &Action) -> u128
     ensures { result ≡ deposit_of action.now }
 {
     match action {
@@ -85,10 +87,19 @@ pub fn send_gas(config: &Config, actions: &List<Action>, local: bool) -> Option<
 /// receipt, and those of the actions.
 ///
 /// `None` exactly where that is 2^64 or more.
+pub fn exec_gas_of(config: &Config, actions: &[Action]) -> Option<u64>
+    ensures { FitsIn 64 result (exec_gas config.now actions.now) }
+{
+    receipt_gas(config, Payment::Execute, actions)
+}
+
+/// The same of a whole list of actions.
+///
+/// `None` exactly where that is 2^64 or more.
 pub fn exec_gas(config: &Config, actions: &List<Action>) -> Option<u64>
     ensures { FitsIn 64 result (exec_gas config.now actions.now) }
 {
-    receipt_gas(config, Payment::Execute, actions.inner())
+    exec_gas_of(config, actions.inner())
 }
 
 /// The gas that the calls among these actions may burn, in all.
@@ -111,7 +122,9 @@ pub fn deposits(actions: &List<Action>) -> Option<u128>
 }
 
 /// The gas that is paid for when a receipt of these actions is made: to execute it, and to attach.
-pub(crate) fn prepaid_gas(config: &Config, actions: &List<Action>) -> Option<u64>
+///
+/// `None` exactly where that is 2^64 or more.
+pub fn prepaid_gas(config: &Config, actions: &List<Action>) -> Option<u64>
     ensures { FitsIn 64 result (prepaid_gas config.now actions.now) }
 {
     let executing = exec_gas(config, actions)?;

@@ -34,7 +34,7 @@ use Rattle.nr_outproof.specs.declared.proof.Proof.{Proof}
 use Rattle.nr_parts.specs.Files.{part_in}
 use Rattle.nr_parts.specs.declared.part.Part.{Part}
 use Rattle.nr_files.specs.Answers.{Tells, TellsText, Refuses, AnswersAs}
-use Rattle.nr_files.specs.Due.{Due, Output, Bytes, Json, IsLineOf, IsWritten, laid, value_in, value_of, without_feed}
+use Rattle.nr_files.specs.Due.{Due, Output, Bytes, Json, IsLineOf, IsWritten, laid, stated_in, value_in, value_of, without_feed}
 use Rattle.nr_files.specs.Due.{made_blocks, shown_blocks, judged, made_genesis, shown_genesis, shown_part, shown_proof}
 use Rattle.nr_files.specs.Due.{shown_gathered, shown_report}
 use Rattle.nr_files.specs.Filling.{filled, stated}
@@ -118,11 +118,17 @@ pub shown : (bytes : List ℕ) (file : StatedBlocks) (json : Data) → with_faul
 unfolding shown_blocks
 shown bytes file json one is = rw one (ap shown_as (sym is))
 
+-- what a text states, by its value
+pub stated_then : (text : List ℕ) (d : Data) → value_in text ≡ Ok d → with_fault fault_line (genesis_of d) ≡ stated_in text
+stated_then text d is = rw is refl
+
+pub state_found : (text front : List ℕ) (g : StatedGenesis) → front ≡ without_feed text → IsUtf8 front × (d : Data) × (read front ≡ Some d) × (genesis_of d ≡ Ok g) → stated_in text ≡ Ok g
+state_found text front g same h = rw (value_found text front h.1 same h.0 h.2, h.3) refl
+
 -- what stands before the judging of a genesis
-pub made_up_to : (c : Config) (text : List ℕ) (d : Data) (g : StatedGenesis) (bytes : List ℕ) → value_in text ≡ Ok d → with_fault fault_line (genesis_of d) ≡ Ok g
-    → bytes ≡ genesis_bytes (filled c g) → judged c bytes ≡ made_genesis c text
+pub made_up_to : (c : Config) (text : List ℕ) (g : StatedGenesis) (bytes : List ℕ) → stated_in text ≡ Ok g → bytes ≡ genesis_bytes (filled c g) → judged c bytes ≡ made_genesis c text
 unfolding made_genesis
-made_up_to c text d g bytes one two is = rw (one, two) (ap (judged c) is)
+made_up_to c text g bytes one is = rw one (ap (judged c) is)
 
 pub judged_ok : (c : Config) (bytes held : List ℕ) (g : Genesis) → held ≡ bytes → with_fault (genesis_line true held) (genesis_read c held) ≡ Ok g → judged c bytes ≡ Ok (Bytes bytes)
 judged_ok c bytes held g same is =

@@ -18,6 +18,7 @@ use Rattle.nr_blocks.specs.Spellings.{file_of}
 use Rattle.nr_json.specs.ChainFiles.{stated_json, stated_of}
 use Rattle.nr_json.specs.Genesis.{genesis_json, genesis_of}
 use Rattle.nr_json.specs.Plain.{bytes_json}
+use Rattle.nr_json.specs.declared.genesis.StatedGenesis.{StatedGenesis}
 use Rattle.nr_explain.specs.Report.{report_json}
 use Rattle.nr_gathered.specs.Files.{gathered_in}
 use Rattle.nr_outproof.specs.Texts.{proof_read}
@@ -97,10 +98,15 @@ judged c bytes = do
   sound ← with_fault (genesis_line true bytes) (genesis_read c bytes)
   Ok (Bytes bytes)
 
+-- what a JSON text states
+abbrev pub stated_in : List ℕ → Result StatedGenesis (List ℕ)
+stated_in text = do
+  d ← value_in text
+  with_fault fault_line (genesis_of d)
+
 unfoldable pub made_genesis : Config → List ℕ → Due
 made_genesis c text = do
-  d ← value_in text
-  g ← with_fault fault_line (genesis_of d)
+  g ← stated_in text
   judged c (genesis_bytes (filled c g))
 
 unfoldable pub shown_genesis : Config → List ℕ → Due

@@ -4,7 +4,7 @@ use Rattle.std.specs.Prelude.{ℕ, List, [], ◌∷◌, ◌++◌, cond, Option, 
 use Rattle.std.specs.List.{flat_map}
 use Rattle.std.specs.Str.{bytes_eq}
 use Rattle.nr_words.specs.Command.{form, replay_forms, serial_forms}
-use Rattle.nr_words.specs.Forms.{Form, Place, file, name_of}
+use Rattle.nr_words.specs.Forms.{Form, Place, file, form_line}
 
 abbrev pub one_file : List Place
 one_file = file (codes "FILE") ∷ []
@@ -39,10 +39,6 @@ shown_forms =
     form (codes "genesis") (file (codes "CONFIG") ∷ one_file) ∷ form (codes "blocks") one_file
     ∷ form (codes "report") one_file
     ∷ form (codes "part") one_file ∷ form (codes "proof") one_file ∷ form (codes "gathered") one_file ∷ []
-
--- the words of a form behind the program's name, and behind more of its words, parted by single spaces
-abbrev pub form_line : List ℕ → Form → List ℕ
-form_line program form = program ++ 32 ∷ form.verb ++ flat_map (λ p. 32 ∷ name_of p) form.places ++ 10 ∷ []
 
 abbrev pub made_line : Form → List ℕ
 made_line form = form_line (codes "near_files") form

@@ -2,6 +2,7 @@
 
 ghost use Rattle.std.specs.Prelude.{◌≡◌, IfOk, OnErr, Err};
 ghost use Rattle.serde_json.specs.View.{view};
+ghost use Rattle.nr_blocks.specs.Files.{genesis_bytes as file_bytes};
 ghost use Rattle.nr_blocks.specs.Judging.{with_fault, genesis_read};
 ghost use Rattle.nr_outproof.specs.Texts.{proof_read};
 ghost use Rattle.nr_gathered.specs.Files.{gathered_in};
@@ -10,9 +11,10 @@ ghost use Rattle.nr_shell.specs.Answers.{Judges};
 ghost use Rattle.nr_files.specs.Answers.{AnswersAs, output_in, refuses};
 ghost use Rattle.nr_files.specs.Due.{value_in, made_blocks, shown_blocks, judged, made_genesis, made_hex};
 ghost use Rattle.nr_files.specs.Due.{shown_genesis, shown_part, shown_proof, shown_gathered, shown_report, of_bytes};
-ghost use Rattle.nr_files.specs.Due.{without_feed};
+ghost use Rattle.nr_files.specs.Due.{stated_in, without_feed};
 ghost use Rattle.nr_files.specs.Command.{request_in};
 ghost use Rattle.nr_files.specs.Damage.{blocks_line};
+ghost use Rattle.nr_files.specs.Filling.{filled};
 ghost use Rattle.nr_files.specs.Lines.{fault_line, gathered_line, genesis_line, part_line, proof_line};
 ghost use Rattle.nr_files.specs.Plans.{by_bytes};
 ghost use Rattle.nr_files.specs.Versions.{blocks_read, stated_bytes};
@@ -35,6 +37,7 @@ use nr_config::Config;
 use nr_explain::show_report;
 use nr_gathered::{Gathered, read_gathered};
 use nr_json::{Form, StatedBlocks, StatedGenesis};
+use nr_jsonstream::{Unread, genesis_in_text};
 use nr_outproof::{Proof, read_proof};
 use nr_parts::{Part, read_part};
 use nr_shell::Stop;
@@ -150,15 +153,43 @@ fn if_sound(alloc: Global, config: &Config, bytes: Blob) -> Result<Output, Fault
     }
 }
 
+/// The genesis that a JSON text states, by the tree of the whole text.
+#[tactic(auto, using(crate::proofs::Steps::refuses_on))]
+fn stated_by_tree(alloc: Global, text: &[u8]) -> Result<StatedGenesis, Fault>
+    ensures { AnswersAs (λ x. x) result (stated_in text.now) }
+{
+    let value = value_in(alloc, text)?;
+    record_in(alloc, &value)
+}
+
+/// The genesis that a JSON text states. It is read entry by entry, which takes less memory, or else by its tree.
+fn stated_in(alloc: Global, text: &[u8]) -> Result<StatedGenesis, Fault>
+    ensures { AnswersAs (λ x. x) result (stated_in text.now) }
+{
+    match genesis_in_text(alloc, without_feed(text)) {
+        Ok(stated) => Ok(stated),
+        Err(Unread::Other) => stated_by_tree(alloc, text),
+        Err(Unread::Memory) => Err(Fault::Memory),
+    }
+}
+
+/// The bytes of a stated genesis, with what was left out. The entries are given back.
+fn bytes_of_state(alloc: Global, config: &Config, state: StatedGenesis) -> Result<Blob, Fault>
+    ensures ok { IfOk result (λ bytes. bytes ≡ file_bytes (filled config.now state)) }
+    ensures err { OnErr result (result ≡ Err Memory) }
+{
+    match genesis_bytes(alloc, config, &state) {
+        Ok(bytes) => Ok(bytes),
+        Err(_) => Err(Fault::Memory),
+    }
+}
+
 #[tactic(auto, using(crate::proofs::Steps::refuses_on), unfolding(crate::specs::Due::made_genesis))]
 fn made_genesis(alloc: Global, config: &Config, text: &[u8]) -> Result<Output, Fault>
     ensures { AnswersAs output_in result (made_genesis config.now text.now) }
 {
-    let value = value_in(alloc, text)?;
-    let stated = record_in::<StatedGenesis>(alloc, &value)?;
-    let Ok(bytes) = genesis_bytes(alloc, config, &stated) else {
-        return Err(Fault::Memory);
-    };
+    let state = stated_in(alloc, text)?;
+    let bytes = bytes_of_state(alloc, config, state)?;
     if_sound(alloc, config, bytes)
 }
 

@@ -1,23 +1,20 @@
 //! What the entries of a stated genesis are counted as, by account.
 
-ghost use Rattle.std.specs.Prelude.{◌≡◌, ◌+◌, ℕ, List, cond, map, unwrap_or, IfOk, OnOk};
+ghost use Rattle.std.specs.Prelude.{◌≡◌, ℕ, List, map, unwrap_or, IfOk, OnOk};
 ghost use Rattle.std.specs.BTreeMap as tree;
 ghost use Rattle.std.specs.Map.{count_at};
-ghost use Rattle.std.specs.Str.{bytes_eq};
 ghost use Rattle.nr_blocks.specs.Genesis.{code_hash_in, entry_usage, owner, usage_in};
 ghost use Rattle.nr_blocks.specs.Parts.{hash_with};
 ghost use Rattle.nr_files.specs.Filling.{plain, usage_with};
 ghost use Rattle.nr_state.specs.Usage.{zero_hash};
 ghost use Rattle.nr_state.specs.World.{bytes_cmp};
-ghost use Rattle.nr_triedef.specs.Node.{digest};
 
-use nr_bytes::Blob;
+use nr_blocks::{add_code, add_usage};
 use nr_config::Config;
 use nr_config::entries::ACCOUNT_BYTES;
 use nr_ids::{AccountId, Hash32};
 use nr_json::StatedEntry;
 use nr_state::usage::{code_usage, datum_usage, key_usage};
-use nr_triedef::value_hash;
 use std::alloc::{AllocError, Global};
 use std::collections::BTreeMap;
 
@@ -50,31 +47,6 @@ fn usage_of(alloc: Global, config: &Config, entry: &StatedEntry) -> Result<u128,
     }
 }
 
-/// The sum, where it is a number of 128 bits; it is, of bytes that are held.
-fn sum_of(before: u128, bytes: u128) -> Result<u128, AllocError>
-    ensures { IfOk result (λ sum. sum ≡ before + bytes) }
-{
-    before.checked_add(bytes).ok_or(AllocError)
-}
-
-/// Adds to the usage of an account.
-fn add_usage(
-    alloc: Global,
-    usages: &mut BTreeMap<AccountId, u128>,
-    id: &AccountId,
-    bytes: u128,
-) -> Result<(), AllocError>
-    ensures { OnOk result ((q : List ℕ) → count_at (tree.get bytes_cmp usages.new) q
-        ≡ cond (bytes_eq id.now q) (count_at (tree.get bytes_cmp usages.old) q + bytes)
-        (count_at (tree.get bytes_cmp usages.old) q)) }
-{
-    let name = id.duplicate(alloc)?;
-    let before = usages.get(&name).copied().unwrap_or(0);
-    let after = sum_of(before, bytes)?;
-    usages.insert(name, after)?;
-    Ok(())
-}
-
 fn add_entry(
     alloc: Global,
     config: &Config,
@@ -105,21 +77,6 @@ pub(crate) fn usages_of(
         add_entry(alloc, config, &mut usages, &entries[left])?;
     }
     Ok(usages)
-}
-
-fn add_code(
-    alloc: Global,
-    hashes: &mut BTreeMap<AccountId, Hash32>,
-    id: &AccountId,
-    code: &Blob,
-) -> Result<(), AllocError>
-    ensures { OnOk result ((q : List ℕ) → unwrap_or (tree.get bytes_cmp hashes.new q) zero_hash
-        ≡ cond (bytes_eq id.now q) (digest code.now) (unwrap_or (tree.get bytes_cmp hashes.old q) zero_hash)) }
-{
-    let name = id.duplicate(alloc)?;
-    let hash = value_hash(code.inner());
-    hashes.insert(name, hash)?;
-    Ok(())
 }
 
 fn add_hash(

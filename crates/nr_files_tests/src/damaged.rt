@@ -1,6 +1,6 @@
 //! Files that are damaged, or that are of another kind. Places are counted by hand from the formats.
 
-use crate::files::{BLOCKS_HEX, GENESIS_HEX, PART, refuses_bytes};
+use crate::files::{BLOCKS_HEX, GENESIS_HEX, PART, refuses_bytes, with_byte, with_rest};
 use crate::gathered::GATHERED;
 use std::alloc::Global;
 use std::test::Fail;
@@ -10,15 +10,6 @@ fn bytes_of(alloc: Global, digits: &str) -> Result<Vec<u8>, Fail> {
     Ok(hex::decode(alloc, digits)?)
 }
 
-/// The bytes with another byte at a place.
-fn with_byte(alloc: Global, bytes: &[u8], at: usize, byte: u8) -> Result<Vec<u8>, Fail> {
-    let mut other = Vec::from_slice(alloc, bytes)?;
-    if let Some(place) = other.get_mut(at) {
-        *place = byte;
-    }
-    Ok(other)
-}
-
 /// The bytes without the last one.
 fn without_last(alloc: Global, bytes: &[u8]) -> Result<Vec<u8>, Fail> {
     let mut other = Vec::from_slice(alloc, bytes)?;
@@ -26,114 +17,126 @@ fn without_last(alloc: Global, bytes: &[u8]) -> Result<Vec<u8>, Fail> {
     Ok(other)
 }
 
-/// The bytes with one more.
-fn with_rest(alloc: Global, bytes: &[u8]) -> Result<Vec<u8>, Fail> {
-    let mut other = Vec::from_slice(alloc, bytes)?;
-    other.push(0)?;
-    Ok(other)
-}
+/// Words over a file of another kind, and the line that refuses it.
+const OF_ANOTHER_KIND: [(&[&str], &[u8], &str); 9] = [
+    (
+        &["show", "genesis", "free", "F"],
+        b"NRB1\0\0\0\0",
+        "the file begins with NRB1: it is a blocks file",
+    ),
+    (
+        &["show", "blocks", "F"],
+        b"NRG1\0\0\0\0\0\0\0\0",
+        "the file begins with NRG1: it is a genesis file",
+    ),
+    (
+        &["show", "part", "F"],
+        b"NRB2\0\0\0\0",
+        "the file begins with NRB2: it is a blocks file",
+    ),
+    (
+        &["show", "gathered", "F"],
+        b"NRP1",
+        "the file begins with NRP1: it is a part of a state",
+    ),
+    (
+        &["show", "report", "F"],
+        b"NRB3\0\0\0\0\0",
+        "the file begins with NRB3: it is a blocks file",
+    ),
+    (
+        &["show", "proof", "F"],
+        b"NRS1",
+        "the file begins with NRS1: it is a gathered chunk",
+    ),
+    (
+        &["blocks", "F"],
+        b"NRB1\0\0\0\0",
+        "the file begins with NRB1: it is a blocks file",
+    ),
+    (
+        &["show", "blocks", "F"],
+        b"{\"blocks\": []}",
+        "the file begins with none of NRB1, NRB2 and NRB3",
+    ),
+    (
+        &["show", "genesis", "free", "F"],
+        b"NRG2\0\0\0\0",
+        "the file doesn't begin with NRG1",
+    ),
+];
 
 #[test]
 fn another_kind_of_file_is_named(rt: HostRuntime) -> Result<(), Fail> {
-    let rows: [(&[&str], &[u8], &str); 9] = [
-        (
-            &["show", "genesis", "free", "F"],
-            b"NRB1\0\0\0\0",
-            "the file begins with NRB1: it is a blocks file",
-        ),
-        (
-            &["show", "blocks", "F"],
-            b"NRG1\0\0\0\0\0\0\0\0",
-            "the file begins with NRG1: it is a genesis file",
-        ),
-        (
-            &["show", "part", "F"],
-            b"NRB2\0\0\0\0",
-            "the file begins with NRB2: it is a blocks file",
-        ),
-        (
-            &["show", "gathered", "F"],
-            b"NRP1",
-            "the file begins with NRP1: it is a part of a state",
-        ),
-        (
-            &["show", "report", "F"],
-            b"NRB3\0\0\0\0\0",
-            "the file begins with NRB3: it is a blocks file",
-        ),
-        (
-            &["show", "proof", "F"],
-            b"NRS1",
-            "the file begins with NRS1: it is a gathered chunk",
-        ),
-        (
-            &["blocks", "F"],
-            b"NRB1\0\0\0\0",
-            "the file begins with NRB1: it is a blocks file",
-        ),
-        (
-            &["show", "blocks", "F"],
-            b"{\"blocks\": []}",
-            "the file begins with none of NRB1, NRB2 and NRB3",
-        ),
-        (
-            &["show", "genesis", "free", "F"],
-            b"NRG2\0\0\0\0",
-            "the file doesn't begin with NRG1",
-        ),
-    ];
-    for (words, bytes, line) in rows {
+    for (words, bytes, line) in OF_ANOTHER_KIND {
         assert!(rt; refuses_bytes(rt.alloc(), words, bytes, line)?, "{line}");
     }
     Ok(())
 }
 
-#[test]
-fn damaged_blocks_are_told(rt: HostRuntime) -> Result<(), Fail> {
-    let rows: [(&[u8], &str); 10] = [
-        (b"", "the file ends inside the field at byte 0"),
-        (b"NRB1\0\0\0", "the file ends inside the field at byte 4"),
-        (
-            b"NRB1\0\0\0\0\x07",
-            "1 byte stands after the last field, at byte 8",
-        ),
-        (
-            b"NRB1\0\0\0\0\0\0\0",
-            "3 bytes stand after the last field, at byte 8",
-        ),
-        (
-            b"NRB3\x02\0\0\0\0",
-            "the field at byte 4 is neither 0 nor 1: 2",
-        ),
-        (
-            b"NRB3\0\0\0\0\0\x02",
-            "1 byte stands after the last field, at byte 9",
-        ),
-        (
-            b"NRB3\x01\x02\0\0\0\0\0\0\0\x10\0\0\0",
-            "the boundaries at byte 13 are more than 15",
-        ),
-        (
-            b"NRB3\x01\x02\0\0\0\0\0\0\0\x02\0\0\0\x02\0\0\0mm\x02\0\0\0ab",
-            "the boundary at byte 23 isn't above the one before it",
-        ),
-        (
-            b"NRB1\x01\0\0\0\x01\0\0\0\0\0\0\0\0\0\0\0\0\0\0\0\x01\0\0\0\x01\x01\0\0\0\x02\0\0\0A!",
-            "the text at byte 33 is no account id",
-        ),
-        (
-            b"NRB1\x01\0\0\0\x01\0\0\0\0\0\0\0\0\0\0\0\0\0\0\0\x01\0\0\0\x01\x01\0\0\0\x02\0\0\0\xff\xff",
-            "the text at byte 33 isn't UTF-8",
-        ),
-    ];
-    for (bytes, line) in rows {
-        assert!(rt;
-            refuses_bytes(rt.alloc(), &["show", "blocks", "F"], bytes, line)?,
-            "{line}"
-        );
-    }
-    Ok(())
-}
+/// What is shown, a damaged file of it, and the line that refuses it.
+const DAMAGED: [(&str, &[u8], &str); 16] = [
+    ("blocks", b"", "the file ends inside the field at byte 0"),
+    (
+        "blocks",
+        b"NRB1\0\0\0",
+        "the file ends inside the field at byte 4",
+    ),
+    (
+        "blocks",
+        b"NRB1\0\0\0\0\x07",
+        "1 byte stands after the last field, at byte 8",
+    ),
+    (
+        "blocks",
+        b"NRB1\0\0\0\0\0\0\0",
+        "3 bytes stand after the last field, at byte 8",
+    ),
+    (
+        "blocks",
+        b"NRB3\x02\0\0\0\0",
+        "the field at byte 4 is neither 0 nor 1: 2",
+    ),
+    (
+        "blocks",
+        b"NRB3\0\0\0\0\0\x02",
+        "1 byte stands after the last field, at byte 9",
+    ),
+    (
+        "blocks",
+        b"NRB3\x01\x02\0\0\0\0\0\0\0\x10\0\0\0",
+        "the boundaries at byte 13 are more than 15",
+    ),
+    (
+        "blocks",
+        b"NRB3\x01\x02\0\0\0\0\0\0\0\x02\0\0\0\x02\0\0\0mm\x02\0\0\0ab",
+        "the boundary at byte 23 isn't above the one before it",
+    ),
+    (
+        "blocks",
+        b"NRB1\x01\0\0\0\x01\0\0\0\0\0\0\0\0\0\0\0\0\0\0\0\x01\0\0\0\x01\x01\0\0\0\x02\0\0\0A!",
+        "the text at byte 33 is no account id",
+    ),
+    (
+        "blocks",
+        b"NRB1\x01\0\0\0\x01\0\0\0\0\0\0\0\0\0\0\0\0\0\0\0\x01\0\0\0\x01\x01\0\0\0\x02\0\0\0\xff\xff",
+        "the text at byte 33 isn't UTF-8",
+    ),
+    ("part", b"", "the file ends inside the field at byte 0"),
+    ("part", b"NRP2", "the file doesn't begin with NRP1"),
+    (
+        "part",
+        b"NRP1root",
+        "the file ends inside the field at byte 4",
+    ),
+    (
+        "gathered",
+        b"NRS",
+        "the file ends inside the field at byte 0",
+    ),
+    ("gathered", b"NRS2", "the file doesn't begin with NRS1"),
+    ("gathered", b"NRS1root", "the field at byte 4 can't be read"),
+];
 
 #[test]
 fn wrong_actions_are_told(rt: HostRuntime) -> Result<(), Fail> {
@@ -186,25 +189,9 @@ fn a_damaged_genesis_is_told(rt: HostRuntime) -> Result<(), Fail> {
 }
 
 #[test]
-fn damaged_parts_and_chunks_are_told(rt: HostRuntime) -> Result<(), Fail> {
+fn damaged_files_are_told(rt: HostRuntime) -> Result<(), Fail> {
     let alloc = rt.alloc();
-    let rows: [(&str, &[u8], &str); 6] = [
-        ("part", b"", "the file ends inside the field at byte 0"),
-        ("part", b"NRP2", "the file doesn't begin with NRP1"),
-        (
-            "part",
-            b"NRP1root",
-            "the file ends inside the field at byte 4",
-        ),
-        (
-            "gathered",
-            b"NRS",
-            "the file ends inside the field at byte 0",
-        ),
-        ("gathered", b"NRS2", "the file doesn't begin with NRS1"),
-        ("gathered", b"NRS1root", "the field at byte 4 can't be read"),
-    ];
-    for (what, bytes, line) in rows {
+    for (what, bytes, line) in DAMAGED {
         assert!(rt;
             refuses_bytes(alloc, &["show", what, "F"], bytes, line)?,
             "{line}"

@@ -121,6 +121,22 @@ pub(crate) fn ended(alloc: Global, words: &[&str], file: &[u8]) -> Result<(Statu
     Ok((status, Vec::from_slice(alloc, sink.bytes())?))
 }
 
+/// The bytes with another byte at a place.
+pub(crate) fn with_byte(alloc: Global, bytes: &[u8], at: usize, byte: u8) -> Result<Vec<u8>, Fail> {
+    let mut other = Vec::from_slice(alloc, bytes)?;
+    if let Some(place) = other.get_mut(at) {
+        *place = byte;
+    }
+    Ok(other)
+}
+
+/// The bytes with a zero behind them.
+pub(crate) fn with_rest(alloc: Global, bytes: &[u8]) -> Result<Vec<u8>, Fail> {
+    let mut other = Vec::from_slice(alloc, bytes)?;
+    other.push(0)?;
+    Ok(other)
+}
+
 /// Whether a file is refused with this line, and nothing is written.
 pub(crate) fn refuses_bytes(
     alloc: Global,
@@ -172,158 +188,175 @@ fn other_proofs_are_refused(rt: HostRuntime) -> Result<(), Fail> {
     Ok(())
 }
 
-#[test]
-fn blocks_are_made_and_shown(rt: HostRuntime) -> Result<(), Fail> {
-    let alloc = rt.alloc();
-    let (made, bytes) = ended(alloc, &["blocks", "F"], BLOCKS.as_bytes())?;
-    assert_eq!(rt; made.exit_status(), 0);
-    assert_eq!(rt; hex::encode(alloc, bytes.as_slice())?.as_str(), BLOCKS_HEX);
-    let (shown, text) = ended(alloc, &["show", "blocks", "F"], &bytes)?;
-    assert_eq!(rt; shown.exit_status(), 0);
-    let (again, same) = ended(alloc, &["blocks", "F"], &text)?;
-    assert_eq!(rt; again.exit_status(), 0);
-    assert!(rt; same == bytes);
-    Ok(())
+/// Whether a text is made into these bytes, and they are shown as a text that is made into them again.
+fn comes_back(
+    alloc: Global,
+    make: &[&str],
+    show: &[&str],
+    text: &str,
+    want: &[u8],
+) -> Result<bool, Fail> {
+    let (made, bytes) = ended(alloc, make, text.as_bytes())?;
+    let (shown, told) = ended(alloc, show, want)?;
+    let (again, same) = ended(alloc, make, &told)?;
+    let exits = [made.exit_status(), shown.exit_status(), again.exit_status()];
+    Ok(exits == [0; 3] && bytes.as_slice() == want && same.as_slice() == want)
+}
+
+/// The same of blocks.
+fn blocks_come_back(alloc: Global, text: &str, want: &[u8]) -> Result<bool, Fail> {
+    comes_back(
+        alloc,
+        &["blocks", "F"],
+        &["show", "blocks", "F"],
+        text,
+        want,
+    )
 }
 
 #[test]
-fn prices_are_made_and_shown(rt: HostRuntime) -> Result<(), Fail> {
+fn files_are_made_and_shown(rt: HostRuntime) -> Result<(), Fail> {
     let alloc = rt.alloc();
-    let (made, bytes) = ended(alloc, &["blocks", "F"], PRICED.as_bytes())?;
-    assert_eq!(rt; made.exit_status(), 0);
-    assert_eq!(rt; hex::encode(alloc, bytes.as_slice())?.as_str(), PRICED_HEX);
-    let (shown, text) = ended(alloc, &["show", "blocks", "F"], &bytes)?;
-    assert_eq!(rt; shown.exit_status(), 0);
-    let (again, same) = ended(alloc, &["blocks", "F"], &text)?;
-    assert_eq!(rt; again.exit_status(), 0);
-    assert!(rt; same == bytes);
-    Ok(())
-}
-
-#[test]
-fn a_version_stands_without_blocks(rt: HostRuntime) -> Result<(), Fail> {
-    let alloc = rt.alloc();
-    let rows: [(&str, &[u8]); 4] = [
+    for (text, digits) in [(BLOCKS, BLOCKS_HEX), (PRICED, PRICED_HEX)] {
+        let want = hex::decode(alloc, digits)?;
+        assert!(rt; blocks_come_back(alloc, text, &want)?, "{text}");
+    }
+    let rows: [(&str, &[u8]); 5] = [
+        (RESHARDED, RESHARDED_BYTES),
         ("{\"blocks\": []}", b"NRB1\0\0\0\0"),
         ("{\"version\": 1, \"blocks\": []}", b"NRB1\0\0\0\0"),
         ("{\"version\": 2, \"blocks\": []}", b"NRB2\0\0\0\0"),
         ("{\"version\": 3, \"blocks\": []}", b"NRB3\0\0\0\0\0"),
     ];
     for (text, want) in rows {
-        let (made, bytes) = ended(alloc, &["blocks", "F"], text.as_bytes())?;
-        assert_eq!(rt; made.exit_status(), 0);
-        assert!(rt; bytes.as_slice() == want);
-        let (shown, told) = ended(alloc, &["show", "blocks", "F"], want)?;
-        assert_eq!(rt; shown.exit_status(), 0);
-        let (again, same) = ended(alloc, &["blocks", "F"], &told)?;
-        assert_eq!(rt; again.exit_status(), 0);
-        assert!(rt; same.as_slice() == want);
+        assert!(rt; blocks_come_back(alloc, text, want)?, "{text}");
     }
+    let make = ["genesis", "free", "F"];
+    let show = ["show", "genesis", "free", "F"];
+    let want = hex::decode(alloc, GENESIS_HEX)?;
+    assert!(rt; comes_back(alloc, &make, &show, GENESIS, &want)?);
     Ok(())
 }
 
-#[test]
-fn other_boundaries_are_made_and_shown(rt: HostRuntime) -> Result<(), Fail> {
-    let alloc = rt.alloc();
-    let (made, bytes) = ended(alloc, &["blocks", "F"], RESHARDED.as_bytes())?;
-    assert_eq!(rt; made.exit_status(), 0);
-    assert_eq!(rt; bytes.as_slice(), RESHARDED_BYTES);
-    let (shown, text) = ended(alloc, &["show", "blocks", "F"], RESHARDED_BYTES)?;
-    assert_eq!(rt; shown.exit_status(), 0);
-    let (again, same) = ended(alloc, &["blocks", "F"], &text)?;
-    assert_eq!(rt; again.exit_status(), 0);
-    assert!(rt; same == bytes);
-    Ok(())
-}
+/// Texts of blocks that are refused, each with its line: by the version, by the prices, and by the path of a member.
+const FAULTY_BLOCKS: [(&str, &str); 20] = [
+    (
+        "{\"blocks\": [], \"reshard\": {\"height\": 2, \"boundaries\": [\"mm\"]}}",
+        ".reshard is in no file of version 1 or 2",
+    ),
+    (
+        "{\"version\": 2, \"blocks\": [], \"reshard\": null}",
+        ".reshard is in no file of version 1 or 2",
+    ),
+    (
+        "{\"version\": 3, \"blocks\": [], \"reshard\": null}",
+        ".reshard is no object",
+    ),
+    (
+        "{\"version\": 3, \"blocks\": [], \"reshard\": {\"height\": 2}}",
+        ".reshard.boundaries is missing",
+    ),
+    (
+        "{\"version\": 3, \"blocks\": [], \"reshard\": {\"height\": 2, \"boundaries\": [\"mm\", \"ab\"]}}",
+        ".reshard.boundaries are more than 15, or one isn't above the one before it",
+    ),
+    (
+        "{\"version\": 3, \"blocks\": [{\"height\": 1, \"timestamp\": 0, \"chunks\": []}]}",
+        ".blocks[0].price is missing",
+    ),
+    (
+        "{\"blocks\": [{\"height\": 1, \"timestamp\": 0, \"price\": 3, \"chunks\": []},\
+            {\"height\": 2, \"timestamp\": 0, \"chunks\": []}, {\"height\": 3, \"timestamp\": 0, \"chunks\": []}]}",
+        ".blocks[1].price is missing",
+    ),
+    (
+        "{\"blocks\": [{\"height\": 1, \"timestamp\": 0, \"chunks\": []},\
+            {\"height\": 2, \"timestamp\": 0, \"price\": 3, \"chunks\": []}]}",
+        ".blocks[1].price is in no block of version 1",
+    ),
+    (
+        "{\"version\": 2, \"blocks\": [{\"height\": 1, \"timestamp\": 0, \"chunks\": []}]}",
+        ".blocks[0].price is missing",
+    ),
+    (
+        "{\"version\": 1, \"blocks\": [{\"height\": 1, \"timestamp\": 0, \"price\": 3, \"chunks\": []}]}",
+        ".blocks[0].price is in no block of version 1",
+    ),
+    (
+        "{\"version\": 4, \"blocks\": []}",
+        ".version is no version: 1, 2 or 3",
+    ),
+    (
+        "{\"blocks\": [{\"height\": 1, \"timestamp\": 0, \"price\": null, \"chunks\": []}]}",
+        ".blocks[0].price is no whole number from 0 to 18446744073709551615",
+    ),
+    ("{\"blocks\": [", "the text is no JSON"),
+    ("[]", "the text is no object"),
+    ("{}", ".blocks is missing"),
+    ("{\"blocks\": {}}", ".blocks is no list"),
+    ("{\"blocks\": [7]}", ".blocks[0] is no object"),
+    (
+        "{\"blocks\": [{\"height\": -1}]}",
+        ".blocks[0].height is no whole number from 0 to 18446744073709551615",
+    ),
+    (
+        "{\"blocks\": [{\"height\": 1, \"timestamp\": 0, \"chunks\": [null, [{\"signer_id\": \"A\"}]]}]}",
+        ".blocks[0].chunks[1][0].signer_id is no account id: 2 to 64 characters, of `a` to `z` and `0` to `9`, \
+        and single `-`, `_` or `.` between these",
+    ),
+    (
+        "{\"blocks\": [{\"height\": 1, \"timestamp\": 0, \"chunks\": [[{\"signer_id\": \"alice\",\
+        \"public_key\": \"ed25519:0101010101010101010101010101010101010101010101010101010101010101\",\
+        \"nonce\": 1, \"receiver_id\": \"bob\", \"actions\": [\"Stake\"]}]]}]}",
+        ".blocks[0].chunks[0][0].actions[0] is no action: `CreateAccount`, `DeployContract`, `FunctionCall`, \
+        `Transfer`, `AddKey`, `DeleteKey` or `DeleteAccount`",
+    ),
+];
+
+/// Texts of a genesis whose entries do not hold together, each with its line.
+const FAULTY_GENESES: [(&str, &str); 5] = [
+    (
+        "{\"boundaries\": [], \"entries\": [{\"kind\": \"account\", \"account_id\": \"bob\",\
+            \"amount\": \"20\", \"locked\": \"0\", \"storage_usage\": 99}]}",
+        ".entries[0].storage_usage is 99, but 100 is counted",
+    ),
+    (
+        "{\"boundaries\": [], \"entries\": [{\"kind\": \"account\", \"account_id\": \"bob\",\
+            \"amount\": 20, \"locked\": \"0\"}]}",
+        ".entries[0].amount is no amount: a text of decimal digits, \
+            at most 340282366920938463463374607431768211455",
+    ),
+    (
+        "{\"boundaries\": [], \"entries\": [{\"kind\": \"code\", \"account_id\": \"bob\", \"code\": \"\"}]}",
+        ".entries[0].account_id has no account, or is `system`",
+    ),
+    (
+        "{\"boundaries\": [\"mm\", \"aa\"], \"entries\": []}",
+        ".boundaries are more than 15, or one isn't above the one before it",
+    ),
+    (
+        "{\"boundaries\": [], \"entries\": [{\"kind\": \"datum\", \"account_id\": \"bob\", \"key\": \"6\"}]}",
+        ".entries[0].key is no text of pairs of hexadecimal digits",
+    ),
+];
 
 #[test]
-fn other_boundaries_stand_by_the_version(rt: HostRuntime) -> Result<(), Fail> {
+fn faulty_texts_are_told(rt: HostRuntime) -> Result<(), Fail> {
     let alloc = rt.alloc();
-    let rows: [(&str, &str); 6] = [
-        (
-            "{\"blocks\": [], \"reshard\": {\"height\": 2, \"boundaries\": [\"mm\"]}}",
-            ".reshard is in no file of version 1 or 2",
-        ),
-        (
-            "{\"version\": 2, \"blocks\": [], \"reshard\": null}",
-            ".reshard is in no file of version 1 or 2",
-        ),
-        (
-            "{\"version\": 3, \"blocks\": [], \"reshard\": null}",
-            ".reshard is no object",
-        ),
-        (
-            "{\"version\": 3, \"blocks\": [], \"reshard\": {\"height\": 2}}",
-            ".reshard.boundaries is missing",
-        ),
-        (
-            "{\"version\": 3, \"blocks\": [], \"reshard\": {\"height\": 2, \"boundaries\": [\"mm\", \"ab\"]}}",
-            ".reshard.boundaries are more than 15, or one isn't above the one before it",
-        ),
-        (
-            "{\"version\": 3, \"blocks\": [{\"height\": 1, \"timestamp\": 0, \"chunks\": []}]}",
-            ".blocks[0].price is missing",
-        ),
-    ];
-    for (text, line) in rows {
+    for (text, line) in FAULTY_BLOCKS {
         assert!(rt; refuses(alloc, &["blocks", "F"], text, line)?, "{text}");
+    }
+    for (text, line) in FAULTY_GENESES {
+        assert!(rt;
+            refuses(alloc, &["genesis", "free", "F"], text, line)?,
+            "{text}"
+        );
     }
     let (cut, _) = ended(alloc, &["show", "blocks", "F"], b"NRB3\x02")?;
     assert_eq!(rt;
         format!(in alloc; "{cut}")?.as_str(),
         "the field at byte 4 is neither 0 nor 1: 2"
     );
-    Ok(())
-}
-
-#[test]
-fn prices_stand_by_the_version(rt: HostRuntime) -> Result<(), Fail> {
-    let alloc = rt.alloc();
-    let rows: [(&str, &str); 6] = [
-        (
-            "{\"blocks\": [{\"height\": 1, \"timestamp\": 0, \"price\": 3, \"chunks\": []},\
-                {\"height\": 2, \"timestamp\": 0, \"chunks\": []}, {\"height\": 3, \"timestamp\": 0, \"chunks\": []}]}",
-            ".blocks[1].price is missing",
-        ),
-        (
-            "{\"blocks\": [{\"height\": 1, \"timestamp\": 0, \"chunks\": []},\
-                {\"height\": 2, \"timestamp\": 0, \"price\": 3, \"chunks\": []}]}",
-            ".blocks[1].price is in no block of version 1",
-        ),
-        (
-            "{\"version\": 2, \"blocks\": [{\"height\": 1, \"timestamp\": 0, \"chunks\": []}]}",
-            ".blocks[0].price is missing",
-        ),
-        (
-            "{\"version\": 1, \"blocks\": [{\"height\": 1, \"timestamp\": 0, \"price\": 3, \"chunks\": []}]}",
-            ".blocks[0].price is in no block of version 1",
-        ),
-        (
-            "{\"version\": 4, \"blocks\": []}",
-            ".version is no version: 1, 2 or 3",
-        ),
-        (
-            "{\"blocks\": [{\"height\": 1, \"timestamp\": 0, \"price\": null, \"chunks\": []}]}",
-            ".blocks[0].price is no whole number from 0 to 18446744073709551615",
-        ),
-    ];
-    for (text, line) in rows {
-        assert!(rt; refuses(alloc, &["blocks", "F"], text, line)?, "{text}");
-    }
-    Ok(())
-}
-
-#[test]
-fn a_genesis_is_made_and_shown(rt: HostRuntime) -> Result<(), Fail> {
-    let alloc = rt.alloc();
-    let (made, bytes) = ended(alloc, &["genesis", "free", "F"], GENESIS.as_bytes())?;
-    assert_eq!(rt; made.exit_status(), 0);
-    assert_eq!(rt; hex::encode(alloc, bytes.as_slice())?.as_str(), GENESIS_HEX);
-    let (shown, text) = ended(alloc, &["show", "genesis", "free", "F"], &bytes)?;
-    assert_eq!(rt; shown.exit_status(), 0);
-    let (again, same) = ended(alloc, &["genesis", "free", "F"], &text)?;
-    assert_eq!(rt; again.exit_status(), 0);
-    assert!(rt; same == bytes);
     Ok(())
 }
 
@@ -370,75 +403,6 @@ fn bytes_are_told_in_hexadecimal(rt: HostRuntime) -> Result<(), Fail> {
     }
     let (no_file, _) = ended(alloc, &["hex"], b"")?;
     assert_eq!(rt; no_file.exit_status(), 1);
-    Ok(())
-}
-
-#[test]
-fn faults_have_the_path_of_the_member(rt: HostRuntime) -> Result<(), Fail> {
-    let alloc = rt.alloc();
-    let rows: [(&str, &str); 8] = [
-        ("{\"blocks\": [", "the text is no JSON"),
-        ("[]", "the text is no object"),
-        ("{}", ".blocks is missing"),
-        ("{\"blocks\": {}}", ".blocks is no list"),
-        ("{\"blocks\": [7]}", ".blocks[0] is no object"),
-        (
-            "{\"blocks\": [{\"height\": -1}]}",
-            ".blocks[0].height is no whole number from 0 to 18446744073709551615",
-        ),
-        (
-            "{\"blocks\": [{\"height\": 1, \"timestamp\": 0, \"chunks\": [null, [{\"signer_id\": \"A\"}]]}]}",
-            ".blocks[0].chunks[1][0].signer_id is no account id: 2 to 64 characters, of `a` to `z` and `0` to `9`, \
-            and single `-`, `_` or `.` between these",
-        ),
-        (
-            "{\"blocks\": [{\"height\": 1, \"timestamp\": 0, \"chunks\": [[{\"signer_id\": \"alice\",\
-            \"public_key\": \"ed25519:0101010101010101010101010101010101010101010101010101010101010101\",\
-            \"nonce\": 1, \"receiver_id\": \"bob\", \"actions\": [\"Stake\"]}]]}]}",
-            ".blocks[0].chunks[0][0].actions[0] is no action: `CreateAccount`, `DeployContract`, `FunctionCall`, \
-            `Transfer`, `AddKey`, `DeleteKey` or `DeleteAccount`",
-        ),
-    ];
-    for (text, line) in rows {
-        assert!(rt; refuses(alloc, &["blocks", "F"], text, line)?, "{text}");
-    }
-    Ok(())
-}
-
-#[test]
-fn entries_that_do_not_hold_together_are_told(rt: HostRuntime) -> Result<(), Fail> {
-    let alloc = rt.alloc();
-    let rows: [(&str, &str); 5] = [
-        (
-            "{\"boundaries\": [], \"entries\": [{\"kind\": \"account\", \"account_id\": \"bob\",\
-                \"amount\": \"20\", \"locked\": \"0\", \"storage_usage\": 99}]}",
-            ".entries[0].storage_usage is 99, but 100 is counted",
-        ),
-        (
-            "{\"boundaries\": [], \"entries\": [{\"kind\": \"account\", \"account_id\": \"bob\",\
-                \"amount\": 20, \"locked\": \"0\"}]}",
-            ".entries[0].amount is no amount: a text of decimal digits, \
-                at most 340282366920938463463374607431768211455",
-        ),
-        (
-            "{\"boundaries\": [], \"entries\": [{\"kind\": \"code\", \"account_id\": \"bob\", \"code\": \"\"}]}",
-            ".entries[0].account_id has no account, or is `system`",
-        ),
-        (
-            "{\"boundaries\": [\"mm\", \"aa\"], \"entries\": []}",
-            ".boundaries are more than 15, or one isn't above the one before it",
-        ),
-        (
-            "{\"boundaries\": [], \"entries\": [{\"kind\": \"datum\", \"account_id\": \"bob\", \"key\": \"6\"}]}",
-            ".entries[0].key is no text of pairs of hexadecimal digits",
-        ),
-    ];
-    for (text, line) in rows {
-        assert!(rt;
-            refuses(alloc, &["genesis", "free", "F"], text, line)?,
-            "{text}"
-        );
-    }
     Ok(())
 }
 

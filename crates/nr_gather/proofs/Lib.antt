@@ -1,5 +1,4 @@
 -- Lemmas behind the answers.
-mod Orders
 mod Levels
 mod Sweeps
 mod Turning

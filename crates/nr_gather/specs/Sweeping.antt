@@ -1,7 +1,6 @@
 -- The texts that are looked at, by the list of all nodes of a trie, depth first, and of its paths in their order.
 -- This project's own.
-use Rattle.std.specs.Prelude.{ℕ, zero, suc, ◌+◌, Bool, true, false, cond, List, [], ◌∷◌, ◌++◌, drop, count_by, Some}
-use Rattle.std.specs.Prelude.{is_some}
+use Rattle.std.specs.Prelude.{ℕ, zero, suc, ◌+◌, cond, List, [], ◌∷◌, ◌++◌, drop, count_by, Some, is_some}
 use Rattle.nr_triedef.specs.Node.{node_text}
 use Rattle.nr_triedef.specs.Root.{Paths}
 use Rattle.nr_triedef.specs.declared.node.Node.{Node}
@@ -9,13 +8,8 @@ use Rattle.nr_triedef.specs.declared.node.Node.TheVariants.{Leaf, Extension, Bra
 use Rattle.nr_walk.specs.declared.searched.Searched.{Searched}
 use Rattle.nr_walk.specs.declared.told.Spot.{Spot}
 use Rattle.nr_walk.specs.Searched.{looks}
-use Rattle.nr_walk.specs.Told.{spots_of}
+use Rattle.nr_walk.specs.Told.{has_value, spots_of}
 use Rattle.nr_gather.specs.Gathered.{found_text}
-
-abbrev pub has_value : Node → Bool
-has_value (Leaf part size hash usage) = true
-has_value (Extension part child usage) = false
-has_value (Branch value children usage) = is_some value
 
 -- how many children a node has
 abbrev pub count_of : Node → ℕ

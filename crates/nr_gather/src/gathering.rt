@@ -8,17 +8,16 @@ ghost use Rattle.nr_trielist.specs.Growing.{all_nodes};
 ghost use Rattle.nr_walk.specs.declared.walking.Gain.{Gain};
 ghost use Rattle.nr_walk.specs.Shown.{IsOf, walk_of};
 ghost use Rattle.nr_walk.specs.Texts.{texts_of};
-ghost use Rattle.nr_gather.specs.Entries.{pairs_of, InOrder};
+ghost use Rattle.nr_columns.specs.Entries.{pairs_of, InOrder};
 ghost use Rattle.nr_gather.specs.Gathered.{once, gathered, root_in};
 
-use crate::keys::keys_of;
 use crate::sweeping::looked_texts;
 use nr_bytes::{Blob, List};
 use nr_ids::Hash32;
 use nr_store::{PlainStore, Span};
 use nr_triedef::{Node, Store, value_hash};
 use nr_trielist::{Hashes, Top, list_nodes};
-use nr_walk::{Entry, Searched, Spot};
+use nr_walk::{Entry, Searched, Spot, keys_of};
 use std::alloc::{AllocError, Global};
 
 // Lists a text, unless one with its hash is held, and holds it.

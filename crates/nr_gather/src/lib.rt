@@ -2,8 +2,6 @@
 #![tactic(auto)]
 
 mod gathering;
-mod keys;
 mod sweeping;
-mod waiting;
 
 pub use gathering::{gather, root_of_gathered};

@@ -5,24 +5,13 @@ ghost use Rattle.std.specs.List.{AllByRecursion};
 ghost use Rattle.nr_triedef.specs.Node.{IsNode};
 ghost use Rattle.nr_triedef.specs.Root.{paths};
 ghost use Rattle.nr_triedef.specs.declared.node.Node.{Node as Nodes};
-ghost use Rattle.nr_gather.specs.Entries.{pairs_of};
-ghost use Rattle.nr_gather.specs.Sweeping.{has_value, count_of, value_text, paths_behind, swept};
+ghost use Rattle.nr_columns.specs.Entries.{pairs_of};
+ghost use Rattle.nr_gather.specs.Sweeping.{count_of, value_text, paths_behind, swept};
 
-use crate::waiting::Waiting;
 use nr_bytes::{Blob, List};
 use nr_triedef::{Node, nibbles, node_text};
-use nr_walk::{Entry, Searched, Sought, Spot, spots_of};
+use nr_walk::{Entry, Searched, Sought, Spot, Waiting, has_value, spots_of};
 use std::alloc::{AllocError, Global};
-
-fn has_value(node: &Node) -> bool
-    ensures { result ≡ has_value node.now }
-{
-    match node {
-        Node::Leaf { .. } => true,
-        Node::Extension { .. } => false,
-        Node::Branch { value, .. } => value.is_some(),
-    }
-}
 
 // How many children a node has.
 fn count_of(node: &Node) -> u128

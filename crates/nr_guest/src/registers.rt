@@ -110,7 +110,6 @@ impl Registers {
     fn total_with(&self, id: u64, bytes: &[u8]) -> u128
         ensures { result ≡ all_bytes (held_with self.now id bytes.now) }
     {
-        // It says that the numbers are in order.
         let _count = self.held.len();
         u128::from(self.total) + bytes.len() as u128 - self.size_at(id) as u128
     }

@@ -29,7 +29,6 @@ pub(crate) fn sending(local: bool) -> Payment
 pub(crate) fn both_fees(config: &Config, local: bool, which: Fee) -> u64
     ensures { result ≡ both_fees config.now local which }
 {
-    // It says that each fee is within its bounds.
     let _cost = config.entry(HOST_BASE);
     fee_of(config, sending(local), which) + fee_of(config, Payment::Execute, which)
 }

@@ -1,7 +1,6 @@
 //! The bindings that give a promise's receipt an action.
 
 ghost use Rattle.std.specs.Prelude.{◌≡◌};
-ghost use Rattle.nr_fees.specs.Fees.{attached, deposit_of};
 ghost use Rattle.nr_hostctx.specs.Acts.{Does};
 ghost use Rattle.nr_hostctx.specs.PromiseActions as row;
 ghost use Rattle.nr_hostctx.specs.State.{state_of, Keeps};
@@ -16,7 +15,7 @@ use crate::stops::{
 use crate::texts::is_text;
 use nr_bytes::{Blob, Text};
 use nr_config::entries::MAX_ACTIONS;
-use nr_fees::{Payment, action_fee};
+use nr_fees::{Payment, action_fee, attached_to, deposit_in};
 use nr_ids::{AccountId, PublicKey};
 use nr_records::{AccessKey, Action, CallPermission, Permission, RecordFault, decode};
 use nr_triedef::Store;
@@ -28,24 +27,6 @@ pub(crate) struct CallArguments {
     pub(crate) method: Blob,
     pub(crate) args: Blob,
     pub(crate) amount: u128,
-}
-
-fn attached_to(action: &Action) -> u64
-    ensures { result ≡ attached action.now }
-{
-    match action {
-        Action::FunctionCall { gas, .. } => *gas,
-        _ => 0,
-    }
-}
-
-fn deposit_in(action: &Action) -> u128
-    ensures { result ≡ deposit_of action.now }
-{
-    match action {
-        Action::FunctionCall { deposit, .. } | Action::Transfer { deposit } => *deposit,
-        _ => 0,
-    }
 }
 
 fn call_of(method: Text, args: Blob, gas: u64, deposit: u128) -> Action

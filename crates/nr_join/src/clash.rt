@@ -6,11 +6,10 @@ ghost use Rattle.std.specs.Str.{bytes_eq};
 ghost use Rattle.nr_join.specs.Offering.{first_repeated, first_awaited, inputs_held};
 
 use crate::offered::Held;
-use crate::running::inputs;
 use nr_ids::{AccountId, Hash32};
 use nr_records::Receipt;
 use nr_state::ShardState;
-use nr_state::queues::awaited;
+use nr_state::queues::{awaited, inputs};
 use nr_triedef::Store;
 use std::alloc::{AllocError, Global};
 

@@ -9,11 +9,13 @@ ghost use Rattle.nr_state.specs.Queues.{is_act};
 
 use crate::clash::inputs_held;
 use crate::offered::{Held, Offered};
-use crate::running::{inputs, read_data, run, run_complete};
+use crate::running::{read_data, run, run_complete};
 use nr_ids::{AccountId, Hash32};
 use nr_records::{Body, DataReceipt, Receipt};
 use nr_state::ShardState;
-use nr_state::queues::{add_postponed, add_received, awaited, missing, received, take_postponed};
+use nr_state::queues::{
+    add_postponed, add_received, awaited, inputs, missing, received, take_postponed,
+};
 use nr_triedef::Store;
 use std::alloc::{AllocError, Global};
 

@@ -9,21 +9,11 @@ ghost use Rattle.nr_state.specs.View.{with_world};
 use crate::offered::Offered;
 use nr_bytes::{Blob, List};
 use nr_ids::{AccountId, Hash32};
-use nr_records::{Body, Receipt};
+use nr_records::Receipt;
 use nr_state::ShardState;
-use nr_state::queues::{received, remove_received};
+use nr_state::queues::{inputs, received, remove_received};
 use nr_triedef::Store;
 use std::alloc::{AllocError, Global};
-
-/// The ids of the data that a receipt waits for.
-pub(crate) fn inputs(receipt: &Receipt) -> &[Hash32]
-    ensures { result.now ≡ inputs_of receipt.now.body }
-{
-    match &receipt.body {
-        Body::Act(act) => act.inputs.inner(),
-        Body::Datum(_) => &[],
-    }
-}
 
 /// The data that were received under these ids, in their order; `None` where one wasn't.
 pub(crate) fn read_data<S: Store>(

@@ -65,7 +65,7 @@ sum_flat g h (suc n) a =
     ∙ (λ i. sum_by g (h (sym first i)) + sum_below n (λ s. sum_by g (h (a + suc s))))
     ∙ sym (sum_front n (λ s. sum_by g (h (a + s))))
 
-sum_mapped : {A : Type 0} (g : A → ℕ) (h : ℕ → A) (n a : ℕ) → sum_by g (map h (range_with_len a n))
+pub sum_mapped : {A : Type 0} (g : A → ℕ) (h : ℕ → A) (n a : ℕ) → sum_by g (map h (range_with_len a n))
     ≡ sum_below n (λ s. g (h (a + s)))
 sum_mapped g h zero a = refl
 sum_mapped g h (suc n) a =

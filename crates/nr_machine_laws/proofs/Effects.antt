@@ -11,12 +11,11 @@ use Rattle.nr_machine_laws.proofs.Lists.{three}
 use Rattle.nr_machine_laws.proofs.Numbers.{OkIs, arith_fits, compare_fits, zero_test_fits, bit_count_fits}
 use Rattle.nr_machine_laws.proofs.Numbers.{convert_fits, load_fits}
 use Rattle.nr_machine_laws.specs.Typed.{AreOf, IsConstant, IsCode, kind_of, IsTypedGuest}
-use Rattle.nr_wasmexec.proofs.Branches.{some_is}
 use Rattle.nr_wasmexec.proofs.Signatures.{same_types_are, same_sig_is}
 use Rattle.nr_wasmexec.specs.Functions.{Func, Hosted, Coded, sig_of, func_at}
 use Rattle.nr_wasmexec.specs.Reduction.{Effect, Goes, Writes, Opens, Invokes, Asks, Branches, Returns, Traps, Stuck}
-use Rattle.nr_wasmexec.specs.Reduction.{with_value, computed, place_at, with_memory, read, written, grows, chosen}
-use Rattle.nr_wasmexec.specs.Reduction.{asks, called}
+use Rattle.nr_wasmexec.specs.Reduction.{with_value, computed, place_at, with_memory, read, written, grows}
+use Rattle.nr_wasmexec.specs.Reduction.{called}
 use Rattle.nr_wasmexec.specs.Reduction.{called_as, called_at, plain_effect, effect}
 use Rattle.nr_wasmexec.specs.Standing.{IsSound}
 use Rattle.nr_wasmexec.specs.declared.program.Program.{Program}
@@ -38,10 +37,11 @@ use Rattle.nr_wasmtypes.specs.declared.instr.ValType.TheVariants.{I32, I64}
 use Rattle.nr_wasmtypes.specs.declared.module.FuncType.{FuncType}
 use Rattle.nr_wasmtypes.specs.declared.module.Global.{Global}
 use Rattle.nr_wasmvalid.specs.Parts.{same_sig, func_indices}
-use Rattle.nr_wasmvalid.specs.Rules.{Types?, types, Context, within, Ask, Take, Give, Leave, Must, named, func_type}
+use Rattle.nr_wasmvalid.specs.Rules.{Types?, types, Context, within, Take, Give, Leave, Must, func_type}
 use Rattle.nr_wasmvalid.specs.Rules.{is_label, are_labels, rule}
 use Rattle.nr_wasmvalid.specs.Typing.{Obey}
 use Rattle.nr_wasmvalid.specs.declared.refusal.Refusal.TheVariants as kind
+use Rattle.nr_wasmexec.proofs.Sound.{label_at, func_there, found_for, label_for}
 
 -- ---- what an effect is
 -- what an effect of typed code is, where this code follows and leaves operands of these types
@@ -75,16 +75,6 @@ pub record IsInside (p : Program) (c : Context) : Type 0 where
   pub globals : c.globals ≡ p.code.globals
 
 -- ---- cases
-found_for : {X : Type 0} (o : Option X) (asks : X → List Ask) (ts us : List ValType)
-    → Obey (named kind.Index o asks) ts us → (x : X) × (o ≡ Some x) × Obey (asks x) ts us
-found_for None asks ts us o = absurd (let x = o.1.0 in cc)
-found_for (Some x) asks ts us o = (x, refl, o)
-
-label_for : {X : Type 0} (o : Option X) (asks : X → List Ask) (ts us : List ValType)
-    → Obey (named kind.Label o asks) ts us → (x : X) × (o ≡ Some x) × Obey (asks x) ts us
-label_for None asks ts us o = absurd (let x = o.1.0 in cc)
-label_for (Some x) asks ts us o = (x, refl, o)
-
 trapping : (t : ValType) (r : Result ℕ NumFault) (f : ℕ → Effect) (P : Effect → Type 0) → OkIs t r
     → ((k : ℕ) → P (Traps k)) → ((v : ℕ) → IsOf t v → P (f v)) → P (computed r f)
 trapping t (Ok v) f P is trap go = go v is
@@ -104,27 +94,11 @@ both_true : (a b : Bool) → (a && b) ≡ true → (a ≡ true) × (b ≡ true)
 both_true true b e = (refl, e)
 both_true false b e = absurd cc
 
-label_at : (ts : Types?) (labels : List Types?) (ls : List ℕ) (v other : ℕ) → are_labels ts labels ls ≡ true
-    → slice_get labels other ≡ Some ts → slice_get labels (chosen (slice_get ls v) other) ≡ Some ts
-label_at ts labels [] v other e h = h
-label_at ts labels (l ∷ ls) zero other e h =
-    label_is ts (slice_get labels l) (both_true (is_label ts (slice_get labels l)) (are_labels ts labels ls) e).0
-label_at ts labels (l ∷ ls) (suc v) other e h =
-    label_at ts labels ls v other (both_true (is_label ts (slice_get labels l)) (are_labels ts labels ls) e).1 h
-
 -- a function whose type an instruction names
 type_there : (sigs : List FuncType) (o : Option ℕ) (s : FuncType) → option_and_then (λ t. slice_get sigs t) o ≡ Some s
     → (t : ℕ) × (o ≡ Some t) × (slice_get sigs t ≡ Some s)
 type_there sigs None s e = absurd cc
 type_there sigs (Some t) s e = (t, refl, e)
-
-func_there : (p : Program) → IsSound p → (f : ℕ) (s : FuncType)
-    → func_type p.code.types (func_indices p.code) f ≡ Some s → (func : Func) × (func_at p f ≡ Some func)
-    × (sig_of func ≡ s)
-func_there p sound f s e =
-    let t = type_there p.code.types (slice_get (func_indices p.code) f) s e in
-    let func = sound.there f t.0 t.1 in
-    (func.0, func.1, some_is (sig_of func.0) s (sym func.2 ∙ t.2))
 
 -- ---- memory
 as_long : (bytes : List ℕ) (at : ℕ) (part : List ℕ) → at + length part ≤ length bytes

@@ -2,7 +2,7 @@
 mod Numbers
 mod Lists
 mod Effects
-mod Preserved
+pub mod Preserved
 mod First
 mod Constants
 mod Machines

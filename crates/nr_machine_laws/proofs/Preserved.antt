@@ -363,7 +363,7 @@ not_large : {O : Type 0} (b : Bool) (x y : O) → b ≡ false → cond b x y ≡
 not_large true x y e = absurd cc
 not_large false x y e = refl
 
-on_turn : {S : Type 0} (w : Rules S) (s : Runtime S) (step : Step S) (c : Config S) (go : Config S → Outcome S)
+pub on_turn : {S : Type 0} (w : Rules S) (s : Runtime S) (step : Step S) (c : Config S) (go : Config S → Outcome S)
     → LeadsTo w step c → turn w s step go ≡ go c
 on_turn w s step c go e =
     ap (λ x. turn w s x go) e.0 ∙ not_large (is_too_large w c.locals c.seq) (Halted c.store (Trap 8)) (go c) e.1
@@ -383,7 +383,7 @@ reached w s f (suc n) c r k =
     ap (run_by w s f) same ∙ (reached w s f n r.0 r.1 (suc k) ∙ on_turn w r.0.store (stepped w r.0) c (runs w k) r.3)
 
 -- a step that doesn't end the run leads somewhere
-led_on : {S : Type 0} (w : Rules S) (s : Runtime S) (step : Step S) (go : Config S → Outcome S)
+pub led_on : {S : Type 0} (w : Rules S) (s : Runtime S) (step : Step S) (go : Config S → Outcome S)
     → turn w s step go ≡ Unfinished → (c : Config S) × LeadsTo w step c
 led_on {S} w s (To t own seq) go e = by_size (is_too_large w own seq) refl e
   where

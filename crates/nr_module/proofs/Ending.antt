@@ -5,7 +5,7 @@ use Rattle.std.specs.Prelude.{string_bytes}
 use Rattle.std.specs.declared.alloc.AllocError.{AllocError}
 use Rattle.nr_shell.specs.Answers.{Comes}
 use Rattle.nr_shell.specs.Plans.{Plan}
-use Rattle.nr_module.specs.Answers.{Serves, Tells, Told}
+use Rattle.nr_module.specs.Answers.{Serves, TellsEnd, Told}
 use Rattle.nr_module.specs.Plans.{Due}
 use Rattle.nr_module.specs.declared.status.Status.{Status}
 use Rattle.nr_module.specs.declared.status.Status.TheVariants.{Sound, Unfit, Faulty, Usage, Config, ReadFault, WriteFault}
@@ -14,14 +14,14 @@ use Rattle.nr_module.specs.declared.telling.Line.{Line}
 use Rattle.nr_module.specs.declared.verdict.Rating.{Rating}
 
 module _ (plan : Plan Due Status) (held : List ℕ → Option (List ℕ)) (asked asks : List (List ℕ)) (took takes : Option (List ℕ)) where
-  pub told_end : (end : Plan Due Status) (line : Result Line AllocError) (status : Status) → Comes held asked asks plan end → IfOk line (λ l. Tells end (string_bytes l.text) l.rating) → Told line status took takes
+  pub told_end : (end : Plan Due Status) (line : Result Line AllocError) (status : Status) → Comes held asked asks plan end → IfOk line (λ l. TellsEnd end (string_bytes l.text) l.rating) → Told line status took takes
       → Serves status plan held asked asks took takes
   told_end end (Ok l) Sound comes tells told =
-      record { end = end; line = string_bytes l.text; comes = comes; tells = subst (λ (r : Rating). Tells end (string_bytes l.text) r) told.0 tells; grew = told.1 }
+      record { end = end; line = string_bytes l.text; comes = comes; tells = subst (λ (r : Rating). TellsEnd end (string_bytes l.text) r) told.0 tells; grew = told.1 }
   told_end end (Ok l) Unfit comes tells told =
-      record { end = end; line = string_bytes l.text; comes = comes; tells = subst (λ (r : Rating). Tells end (string_bytes l.text) r) told.0 tells; grew = told.1 }
+      record { end = end; line = string_bytes l.text; comes = comes; tells = subst (λ (r : Rating). TellsEnd end (string_bytes l.text) r) told.0 tells; grew = told.1 }
   told_end end (Ok l) Faulty comes tells told =
-      record { end = end; line = string_bytes l.text; comes = comes; tells = subst (λ (r : Rating). Tells end (string_bytes l.text) r) told.0 tells; grew = told.1 }
+      record { end = end; line = string_bytes l.text; comes = comes; tells = subst (λ (r : Rating). TellsEnd end (string_bytes l.text) r) told.0 tells; grew = told.1 }
   told_end end (Ok l) WriteFault comes tells told =
       record { end = end; line = string_bytes l.text; rated_as = l.rating; comes = comes; tells = tells; grew = told }
   told_end end (Ok l) Usage comes tells told = absurd told

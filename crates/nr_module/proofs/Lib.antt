@@ -1,7 +1,5 @@
 -- Lemmas behind the answers.
 pub mod Runs
-pub mod Counts
-pub mod Deposits
 pub mod Listed
 pub mod Methods
 pub mod Asking

@@ -80,13 +80,13 @@ TellsShown view bytes line r = TellsDecoded view (length bytes) (decoded (max_co
 
 -- what tells an end of a plan: the line of a verdict on what the files give, the lines of a call or of a module, a
 -- text, or `long` for a file that is too long
-abbrev pub Tells : Plan Due Status → List ℕ → Rating → Type 0
-Tells (Answer (Judge q)) line r = TellsVerdict q line r
-Tells (Answer (Try c q code)) line r = TellsCall (called_of c code q) line r
-Tells (Answer (Show view bytes)) line r = TellsShown view bytes line r
-Tells (Answer (Write text)) line r = TellsText text line r
-Tells (Refuse status) line r = (status ≡ Faulty) × (line ≡ codes "long" ++ 10 ∷ []) × (r ≡ rating.Faulty)
-Tells (Ask name limit long by_bytes) line r = ⊥
+abbrev pub TellsEnd : Plan Due Status → List ℕ → Rating → Type 0
+TellsEnd (Answer (Judge q)) line r = TellsVerdict q line r
+TellsEnd (Answer (Try c q code)) line r = TellsCall (called_of c code q) line r
+TellsEnd (Answer (Show view bytes)) line r = TellsShown view bytes line r
+TellsEnd (Answer (Write text)) line r = TellsText text line r
+TellsEnd (Refuse status) line r = (status ≡ Faulty) × (line ≡ codes "long" ++ 10 ∷ []) × (r ≡ rating.Faulty)
+TellsEnd (Ask name limit long by_bytes) line r = ⊥
 
 -- a line that tells the end to which the files lead was written
 pub record Writes (r : Rating) (plan : Plan Due Status) (held : List ℕ → Option (List ℕ)) (asked asks : List (List ℕ))
@@ -94,7 +94,7 @@ pub record Writes (r : Rating) (plan : Plan Due Status) (held : List ℕ → Opt
   pub end : Plan Due Status
   pub line : List ℕ
   pub comes : Comes held asked asks plan end
-  pub tells : Tells end line r
+  pub tells : TellsEnd end line r
   pub grew : Grew took takes line
 
 -- or a front of it
@@ -104,7 +104,7 @@ pub record Begins (plan : Plan Due Status) (held : List ℕ → Option (List ℕ
   pub line : List ℕ
   pub rated_as : Rating
   pub comes : Comes held asked asks plan end
-  pub tells : Tells end line rated_as
+  pub tells : TellsEnd end line rated_as
   pub grew : GrewInPart took takes line
 
 -- The answer is right for the plan and the files, only files of the plan were asked for, in their order, and the sink

@@ -1,11 +1,10 @@
 -- The arguments and the tokens of a call, as words. This project's own.
-use Rattle.std.specs.Prelude.{ℕ, ◌^◌, ◌&&◌, List, length, take, drop, Bool, cond, Option, Some, None, Result, Ok, Err}
-use Rattle.std.specs.Prelude.{codes, nat_lt, if◌then◌else◌}
+use Rattle.std.specs.Prelude.{ℕ, ◌^◌, List, length, take, drop, Bool, Option, Some, None, Result, Ok, Err}
+use Rattle.std.specs.Prelude.{codes, if◌then◌else◌}
 use Rattle.std.specs.Str.{bytes_eq}
-use Rattle.std.specs.Str.Parse.{digits_value}
 use Rattle.hex.specs.Hex.{decode_of}
 use Rattle.hex.specs.declared.error.FromHexError.{FromHexError}
-use Rattle.nr_words.specs.Numbers.{is_numeral}
+use Rattle.nr_words.specs.Numbers.{number_below}
 
 -- ---- arguments
 abbrev pub mark : List ℕ
@@ -23,9 +22,5 @@ unfoldable pub args_in : List ℕ → Option (List ℕ)
 args_in word = if is_marked word then without_fault (decode_of (drop (length mark) word)) else Some word
 
 -- ---- tokens: a number in decimal digits without leading zeros
-abbrev pub number_below : ℕ → List ℕ → Option ℕ
-number_below limit word =
-    cond (is_numeral word && nat_lt (digits_value 10 word) limit) (Some (digits_value 10 word)) None
-
 unfoldable pub deposit_in : List ℕ → Option ℕ
 deposit_in = number_below (2 ^ 128)

@@ -2,13 +2,15 @@
 use Rattle.std.specs.Prelude.{ℕ, List, [], ◌∷◌, ◌++◌, codes}
 use Rattle.std.specs.List.{flat_map}
 use Rattle.nr_words.specs.Command.{form}
-use Rattle.nr_words.specs.Forms.{Form, file, name_of, number}
+use Rattle.nr_words.specs.Forms.{Form, file, form_line, number}
 
 -- the gas is any number of 64 bits
 abbrev pub forms : List Form
 forms =
     form (codes "check") (file (codes "CONFIG") ∷ file (codes "FILE") ∷ [])
     ∷ form (codes "run") (file (codes "CONFIG") ∷ file (codes "FILE") ∷ file (codes "METHOD")
+    ∷ number (codes "GAS") 0 18446744073709551615 ∷ [])
+    ∷ form (codes "trap") (file (codes "CONFIG") ∷ file (codes "FILE") ∷ file (codes "METHOD")
     ∷ number (codes "GAS") 0 18446744073709551615 ∷ [])
     ∷ form (codes "list") (file (codes "FILE") ∷ []) ∷ form (codes "text") (file (codes "FILE") ∷ [])
     ∷ form (codes "help") [] ∷ form (codes "version") []
@@ -20,10 +22,6 @@ abbrev pub paid_forms : List Form
 paid_forms =
     form (codes "call") (file (codes "CONFIG") ∷ file (codes "FILE") ∷ file (codes "METHOD") ∷ file (codes "ARGS")
     ∷ number (codes "GAS") 0 18446744073709551615 ∷ file (codes "DEPOSIT") ∷ []) ∷ []
-
--- the words of a form behind the program's name, parted by single spaces
-abbrev pub form_line : List ℕ → Form → List ℕ
-form_line program form = program ++ 32 ∷ form.verb ++ flat_map (λ p. 32 ∷ name_of p) form.places ++ 10 ∷ []
 
 -- a line for each form, and two that say what four of the words may be
 abbrev pub help_text : List ℕ

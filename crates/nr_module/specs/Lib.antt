@@ -3,7 +3,6 @@ pub mod Help
 pub mod Arguments
 pub mod Command
 pub mod Plans
-pub mod Counter
 pub mod Running
 pub mod Verdicts
 pub mod Lines

@@ -1,12 +1,12 @@
 -- The line that tells what a file is or how a run of a method ended, and whether that is well. This project's own.
 use Rattle.std.specs.Prelude.{ℕ, List, [], ◌∷◌, ◌++◌, codes, decimal}
+use Rattle.nr_wasmbin.specs.Kinds.{decode_kind, decode_place}
 use Rattle.nr_wasmbin.specs.declared.fault.DecodeFault.{DecodeFault}
-use Rattle.nr_wasmbin.specs.declared.fault.DecodeFault.TheVariants as decode
+use Rattle.nr_wasmvalid.specs.Kinds.{valid_func, valid_kind, valid_place}
 use Rattle.nr_wasmvalid.specs.declared.fault.ValidFault.{ValidFault}
-use Rattle.nr_wasmvalid.specs.declared.fault.ValidFault.TheVariants as valid
 use Rattle.nr_module.specs.declared.verdict.Answer.{Answer}
 use Rattle.nr_module.specs.declared.verdict.Answer.TheVariants.{Good, Unfit, NoMethod, Unmade, Ended, Trapped, Failed}
-use Rattle.nr_module.specs.declared.verdict.Answer.TheVariants.{OutOfGas}
+use Rattle.nr_module.specs.declared.verdict.Answer.TheVariants.{OutOfGas, TrappedAt}
 use Rattle.nr_module.specs.declared.verdict.Rating.{Rating}
 use Rattle.nr_module.specs.declared.verdict.Rating.TheVariants as rating
 use Rattle.nr_module.specs.declared.verdict.Verdict.{Verdict}
@@ -21,22 +21,10 @@ valid_line kind func place = codes "valid" ++ 32 ∷ decimal kind ++ 32 ∷ deci
 
 -- a fault's kind, and its place
 abbrev pub decode_text : DecodeFault → List ℕ
-decode_text (decode.Short at) = decode_line 1 at
-decode_text (decode.Leb at) = decode_line 2 at
-decode_text (decode.Section at) = decode_line 3 at
-decode_text (decode.Opcode at) = decode_line 4 at
-decode_text (decode.Float at) = decode_line 5 at
-decode_text (decode.Utf8 at) = decode_line 6 at
-decode_text (decode.TooMany at) = decode_line 7 at
-decode_text decode.Memory = []
+decode_text fault = decode_line (decode_kind fault) (decode_place fault)
 
 abbrev pub valid_text : ValidFault → List ℕ
-valid_text (valid.Types func place) = valid_line 11 func place
-valid_text (valid.Index func place) = valid_line 12 func place
-valid_text (valid.Label func place) = valid_line 13 func place
-valid_text (valid.Limit func place) = valid_line 14 func place
-valid_text (valid.Import func place) = valid_line 15 func place
-valid_text valid.Memory = []
+valid_text fault = valid_line (valid_kind fault) (valid_func fault) (valid_place fault)
 
 -- a word and the gas that was burnt, and the same with a kind between them
 abbrev pub burnt_line : List ℕ → ℕ → List ℕ
@@ -45,11 +33,19 @@ burnt_line word burnt = word ++ 32 ∷ decimal burnt ++ 10 ∷ []
 abbrev pub stop_line : List ℕ → ℕ → ℕ → List ℕ
 stop_line word kind burnt = word ++ 32 ∷ decimal kind ++ 32 ∷ decimal burnt ++ 10 ∷ []
 
+-- the number of a function, and a place of the file
+abbrev pub place_line : ℕ → ℕ → List ℕ
+place_line func at = codes "at" ++ 32 ∷ decimal func ++ 32 ∷ decimal at ++ 10 ∷ []
+
+abbrev pub trap_lines : ℕ → ℕ → ℕ → ℕ → List ℕ
+trap_lines kind burnt func at = stop_line (codes "trap") kind burnt ++ place_line func at
+
 abbrev pub answer_text : Answer → List ℕ
 answer_text Good = codes "ok" ++ 10 ∷ []
 answer_text Unfit = codes "ok" ++ 10 ∷ []
 answer_text (Ended burnt) = burnt_line (codes "end") burnt
 answer_text (Trapped kind burnt) = stop_line (codes "trap") kind burnt
+answer_text (TrappedAt kind burnt func at) = trap_lines kind burnt func at
 answer_text (Failed kind burnt) = stop_line (codes "fault") kind burnt
 answer_text (OutOfGas burnt) = burnt_line (codes "gas") burnt
 answer_text Unmade = codes "make 21" ++ 10 ∷ []
@@ -67,6 +63,7 @@ rated_answer Good = rating.Sound
 rated_answer Unfit = rating.Unfit
 rated_answer (Ended burnt) = rating.Sound
 rated_answer (Trapped kind burnt) = rating.Faulty
+rated_answer (TrappedAt kind burnt func at) = rating.Faulty
 rated_answer (Failed kind burnt) = rating.Faulty
 rated_answer (OutOfGas burnt) = rating.Faulty
 rated_answer Unmade = rating.Faulty

@@ -2,7 +2,7 @@
 -- the host has it, what it exports, the sizes of its tables
 -- and memories, and its own. Imports and exports by WebAssembly Core 1.0, "Modules"; the host's functions after the
 -- Nomicon, "Bindings Spec"; names with escapes as in WebAssembly's text format; the lines are this project's own.
-use Rattle.std.specs.Prelude.{ℕ, ◌-◌, ◌==◌, ◌&&◌, Bool, true, false, cond, not, nat_le, nat_eq, List, [], ◌∷◌, ◌++◌}
+use Rattle.std.specs.Prelude.{ℕ, ◌-◌, ◌==◌, ◌&&◌, Bool, false, cond, not, nat_le, nat_eq, List, [], ◌∷◌, ◌++◌}
 use Rattle.std.specs.Prelude.{length, count_by}
 use Rattle.std.specs.Prelude.{Option, Some, None, is_some, option_and_then, slice_get, codes, decimal}
 use Rattle.std.specs.List.{flat_map}
@@ -20,6 +20,7 @@ use Rattle.nr_wasmtypes.specs.declared.module.ImportKind.TheVariants as imported
 use Rattle.nr_wasmtypes.specs.declared.module.Limits.{Limits}
 use Rattle.nr_wasmtypes.specs.declared.module.Module.{Module}
 use Rattle.nr_wasmvalid.specs.Parts.{has_sig}
+pub use Rattle.nr_wat.specs.Fields.{is_function}
 use Rattle.nr_module.specs.declared.offer.Offer.{Offer}
 use Rattle.nr_module.specs.declared.offer.Offer.TheVariants as offer
 
@@ -66,12 +67,6 @@ import_line types i =
 abbrev pub is_bare : Option FuncType → Bool
 is_bare None = false
 is_bare (Some sig) = nat_eq (length sig.params) 0 && not (is_some sig.result)
-
-abbrev pub is_function : ImportKind → Bool
-is_function (imported.Func t) = true
-is_function imported.Table = false
-is_function imported.Memory = false
-is_function imported.Global = false
 
 -- how many functions are imported: they have the first numbers
 abbrev pub imported_count : Module → ℕ

@@ -4,7 +4,7 @@ use Rattle.std.specs.Prelude.{ℕ, List, [], ◌∷◌, ◌++◌, Option, Some, 
 use Rattle.nr_config.specs.Config.{Config}
 use Rattle.nr_configfile.specs.Plans.{config_files, config_plan}
 use Rattle.nr_shell.specs.Plans.{Plan, Answer, Refuse, and_then, file_plan}
-use Rattle.nr_onecall.specs.Setting.{Request}
+use Rattle.nr_onecall.specs.Setting.{CallRequest}
 use Rattle.nr_module.specs.Command.{Command, OfModule, OfCall, OfShown, OfText, Call, Names, Task, task_in}
 use Rattle.nr_module.specs.declared.command.View.{View}
 use Rattle.nr_module.specs.declared.question.Loaded.{Loaded}
@@ -23,7 +23,7 @@ pub record Question : Type 0 where
 -- is to be written
 pub data Due : Type 0 where
   Judge : Question → Due
-  Try : Config → Request → List ℕ → Due
+  Try : Config → CallRequest → List ℕ → Due
   Show : View → List ℕ → Due
   Write : List ℕ → Due
 
@@ -33,7 +33,7 @@ question_in q = record { config = q.config; task = task_in q.work; bytes = q.byt
 abbrev pub due_in : LentQuestion → Due
 due_in q = Judge (question_in q)
 
-abbrev pub tried_in : Request → Loaded → Due
+abbrev pub tried_in : CallRequest → Loaded → Due
 tried_in q l = Try l.config q l.code.items
 
 abbrev pub shown_in : Shown → Due

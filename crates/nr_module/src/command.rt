@@ -3,7 +3,7 @@
 ghost use Rattle.std.specs.Prelude.{◌≡◌, IfOk, map, option_map};
 ghost use Rattle.nr_words.specs.Words.{found_in, table_in, texts, value_in};
 ghost use Rattle.nr_module.specs.Command.{call_of, check_of, command, command_in, found_command, paid_command};
-ghost use Rattle.nr_module.specs.Command.{paid_by, paid_of, run_of, to_call, to_pay, view_of};
+ghost use Rattle.nr_module.specs.Command.{paid_by, paid_of, run_of, to_call, to_pay, trap_of, view_of};
 ghost use Rattle.nr_module.specs.Help.{forms, paid_forms};
 
 use crate::arguments::{args_of, deposit_of};
@@ -19,6 +19,8 @@ pub(crate) enum Work<'a> {
     Check,
     /// A method of it is run with so much gas.
     Run { method: &'a str, gas: u64 },
+    /// The same, and the place of a trap is told.
+    Trap { method: &'a str, gas: u64 },
 }
 
 /// The configuration, `free` or the name of a file, the module's file, and what is done with it.
@@ -52,7 +54,7 @@ pub(crate) struct CallNames<'a> {
 /// The words of a command.
 #[derive(Debug, Drop)]
 pub(crate) enum Words<'a> {
-    /// `check CONFIG FILE` or `run CONFIG FILE METHOD GAS`
+    /// `check CONFIG FILE`, `run CONFIG FILE METHOD GAS` or `trap CONFIG FILE METHOD GAS`
     Module(FileNames<'a>),
     /// `call CONFIG FILE METHOD ARGS GAS`, or the same with DEPOSIT behind it
     Call(CallNames<'a>),
@@ -62,8 +64,8 @@ pub(crate) enum Words<'a> {
     Text(&'a str),
 }
 
-/// `check CONFIG FILE`, `run CONFIG FILE METHOD GAS` with a number below 2^64, `list FILE`, `text FILE`, `help`,
-/// `version` and `call CONFIG FILE METHOD ARGS GAS`.
+/// `check CONFIG FILE`, `run CONFIG FILE METHOD GAS` and `trap CONFIG FILE METHOD GAS` with a number below 2^64, `list
+/// FILE`, `text FILE`, `help`, `version` and `call CONFIG FILE METHOD ARGS GAS`.
 const FORMS: &[Form] = &[
     Form {
         verb: "check",
@@ -71,6 +73,19 @@ const FORMS: &[Form] = &[
     },
     Form {
         verb: "run",
+        places: &[
+            Place::File("CONFIG"),
+            Place::File("FILE"),
+            Place::File("METHOD"),
+            Place::Number {
+                name: "GAS",
+                least: 0,
+                most: 18_446_744_073_709_551_615,
+            },
+        ],
+    },
+    Form {
+        verb: "trap",
         places: &[
             Place::File("CONFIG"),
             Place::File("FILE"),
@@ -176,6 +191,25 @@ fn run_of<'a>(values: &[Value<'a>]) -> Option<Words<'a>>
     }
 }
 
+/// The run of a method, with the place of a trap.
+fn trap_of<'a>(values: &[Value<'a>]) -> Option<Words<'a>>
+    ensures { option_map command_in result ≡ trap_of (map value_in values.now) }
+{
+    match values {
+        [
+            Value::Text(config),
+            Value::Text(file),
+            Value::Text(method),
+            Value::Number(gas),
+        ] => Some(Words::Module(FileNames {
+            config,
+            file,
+            work: Work::Trap { method, gas: *gas },
+        })),
+        _ => None,
+    }
+}
+
 /// The call of a method, where its arguments are some.
 fn to_call<'a>(
     config: &'a str,
@@ -274,6 +308,7 @@ fn found_command<'a>(alloc: Global, found: &Found<'a>) -> Result<Option<Words<'a
     match found.verb {
         "check" => Ok(check_of(values)),
         "run" => Ok(run_of(values)),
+        "trap" => Ok(trap_of(values)),
         "call" => call_of(alloc, values),
         "list" => Ok(view_of(View::Brief, values)),
         "text" => Ok(view_of(View::Whole, values)),
@@ -300,8 +335,9 @@ fn paid_command(alloc: Global, words: &[String]) -> Result<Option<Words<'_>>, Al
     }
 }
 
-/// The command that the words are: `check CONFIG FILE`, `run CONFIG FILE METHOD GAS`, `call CONFIG FILE METHOD ARGS
-/// GAS`, or the same with DEPOSIT behind it, `list FILE`, `text FILE`, `help` or `version`.
+/// The command that the words are: `check CONFIG FILE`, `run CONFIG FILE METHOD GAS`, `trap CONFIG FILE METHOD GAS`,
+/// `call CONFIG FILE METHOD ARGS GAS`, or the same with DEPOSIT behind it, `list FILE`, `text FILE`, `help` or
+/// `version`.
 ///
 /// # Errors
 ///

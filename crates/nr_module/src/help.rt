@@ -9,6 +9,7 @@ pub(crate) fn help_text() -> &'static str
 {
     "near_module check CONFIG FILE\n\
     near_module run CONFIG FILE METHOD GAS\n\
+    near_module trap CONFIG FILE METHOD GAS\n\
     near_module list FILE\n\
     near_module text FILE\n\
     near_module help\n\

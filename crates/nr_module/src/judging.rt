@@ -25,7 +25,13 @@ fn judge_module(
 {
     match validate(alloc, module, &question.config) {
         Ok(valid) => {
-            let answer = answer(alloc, valid, &question.config, question.work)?;
+            let answer = answer(
+                alloc,
+                valid,
+                &question.config,
+                &question.bytes,
+                question.work,
+            )?;
             Ok(Verdict::Done(answer))
         }
         Err(ValidFault::Memory) => Err(AllocError),

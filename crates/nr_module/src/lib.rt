@@ -4,7 +4,6 @@
 
 mod arguments;
 mod command;
-mod counter;
 mod exit;
 mod help;
 mod judging;
@@ -18,6 +17,7 @@ mod running;
 mod status;
 mod telling;
 mod top;
+mod tracing;
 mod verdict;
 
 pub use laws::{asked_law, listing_law};

@@ -3,13 +3,14 @@
 ghost use Rattle.std.specs.Prelude.{◌≡◌, ◌<◌, ◌++◌, IfOk, OnOk, option_and_then, slice_get, string_bytes, true};
 ghost use Rattle.std.specs.List.{flat_map};
 ghost use Rattle.std.specs.Option.{option_copied};
-ghost use Rattle.nr_module.specs.Listing.{export_line, export_word, import_line, imported_count, is_bare, is_function};
+ghost use Rattle.nr_module.specs.Listing.{export_line, export_word, import_line, imported_count, is_bare};
 ghost use Rattle.nr_module.specs.Listing.{is_method, is_plain, limits_line, module_text, most_word, name_byte};
 ghost use Rattle.nr_module.specs.Listing.{name_word};
 ghost use Rattle.nr_module.specs.Listing.{size_line};
 
 use crate::offer::{offer_of, offer_word};
-use nr_wasmtypes::{Export, ExportKind, FuncType, Import, ImportKind, Limits, Module};
+use nr_wasmtypes::{Export, ExportKind, FuncType, Import, Limits, Module};
+use nr_wat::is_function;
 use std::alloc::{AllocError, Global};
 use std::fmt::Write;
 
@@ -78,17 +79,8 @@ fn print_imports(
 
 // ---- exports
 
-fn is_function(kind: ImportKind) -> bool
-    ensures { result ≡ is_function kind }
-{
-    match kind {
-        ImportKind::Func(_) => true,
-        ImportKind::Table | ImportKind::Memory | ImportKind::Global => false,
-    }
-}
-
 /// How many functions a module imports.
-#[tactic(auto, using(crate::proofs::Counts::one_more, crate::proofs::Counts::no_more))]
+#[tactic(auto, using(nr_wat::proofs::Counts::one_function, nr_wat::proofs::Counts::no_function))]
 pub(crate) fn imported_count(module: &Module) -> usize
     ensures { result ≡ imported_count module.now }
 {

@@ -1,11 +1,11 @@
 //! Methods by name: functions of a module's own that are exported, and take and leave nothing.
 
-ghost use Rattle.std.specs.Prelude.{◌≡◌, IfSome, IsTrue, MatchOption, None, Some, find};
-ghost use Rattle.std.specs.Str.{bytes_eq};
+ghost use Rattle.std.specs.Prelude.{◌≡◌, IfSome, IsTrue};
 ghost use Rattle.nr_wasmexec.specs.Functions.{func_at};
 ghost use Rattle.nr_wasmexec.specs.Making.{is_method as may_run, method_as, method_of, program_of};
 
 use crate::listing::{imported_count, is_method};
+use nr_wasmexec::export_named;
 use nr_wasmtypes::{Export, ExportKind};
 use nr_wasmvalid::Valid;
 
@@ -25,26 +25,6 @@ fn method_as(valid: &Valid, export: &Export) -> Option<u32>
         ExportKind::Func if may_run(valid, export.index) => Some(export.index),
         _ => None,
     }
-}
-
-fn is_named(export: &Export, name: &[u8]) -> bool
-    ensures { result ≡ bytes_eq export.now.name name.now }
-{
-    export.name.inner().as_bytes() == name
-}
-
-/// The first export of this name; a valid module has one at most.
-#[tactic(auto, using(nr_wasmexec::proofs::Named::found_here, nr_wasmexec::proofs::Named::found_later, nr_wasmexec::proofs::Named::found_none))]
-fn export_named<'a>(exports: &'a [Export], name: &[u8]) -> Option<&'a Export>
-    ensures { MatchOption result (find (λ e. bytes_eq e.name name.now) exports.now ≡ None)
-        (λ e. find (λ e. bytes_eq e.name name.now) exports.now ≡ Some e.now) }
-{
-    for export in exports {
-        if is_named(export, name) {
-            return Some(export);
-        }
-    }
-    None
 }
 
 /// The function that is exported by this name, where it may be run.

@@ -1,12 +1,12 @@
 //! The line of a verdict.
 
-ghost use Rattle.std.specs.Prelude.{◌≡◌, IfOk, string_bytes};
-ghost use Rattle.nr_module.specs.Lines.{answer_text, burnt_line, decode_line, decode_text, stop_line, valid_line};
-ghost use Rattle.nr_module.specs.Lines.{valid_text, verdict_text};
+ghost use Rattle.std.specs.Prelude.{◌≡◌, ◌++◌, IfOk, OnOk, string_bytes};
+ghost use Rattle.nr_module.specs.Lines.{answer_text, burnt_line, decode_line, decode_text, place_line, stop_line};
+ghost use Rattle.nr_module.specs.Lines.{trap_lines, valid_line, valid_text, verdict_text};
 
 use crate::verdict::{Answer, Verdict};
-use nr_wasmbin::DecodeFault;
-use nr_wasmvalid::ValidFault;
+use nr_wasmbin::{DecodeFault, decode_kind, decode_place};
+use nr_wasmvalid::{ValidFault, valid_func, valid_kind, valid_place};
 use std::alloc::{AllocError, Global};
 use std::fmt::Write;
 
@@ -21,16 +21,7 @@ fn decode_line(alloc: Global, kind: u32, at: usize) -> Result<String, AllocError
 pub(crate) fn decode_text(alloc: Global, fault: DecodeFault) -> Result<String, AllocError>
     ensures { IfOk result (λ text. string_bytes text ≡ decode_text fault) }
 {
-    match fault {
-        DecodeFault::Short { at } => decode_line(alloc, 1, at),
-        DecodeFault::Leb { at } => decode_line(alloc, 2, at),
-        DecodeFault::Section { at } => decode_line(alloc, 3, at),
-        DecodeFault::Opcode { at } => decode_line(alloc, 4, at),
-        DecodeFault::Float { at } => decode_line(alloc, 5, at),
-        DecodeFault::Utf8 { at } => decode_line(alloc, 6, at),
-        DecodeFault::TooMany { at } => decode_line(alloc, 7, at),
-        DecodeFault::Memory => Ok(String::new(alloc)),
-    }
+    decode_line(alloc, decode_kind(fault), decode_place(fault))
 }
 
 fn valid_line(alloc: Global, kind: u32, func: u32, place: u32) -> Result<String, AllocError>
@@ -44,14 +35,9 @@ fn valid_line(alloc: Global, kind: u32, func: u32, place: u32) -> Result<String,
 fn valid_text(alloc: Global, fault: ValidFault) -> Result<String, AllocError>
     ensures { IfOk result (λ text. string_bytes text ≡ valid_text fault) }
 {
-    match fault {
-        ValidFault::Types { func, place } => valid_line(alloc, 11, func, place),
-        ValidFault::Index { func, place } => valid_line(alloc, 12, func, place),
-        ValidFault::Label { func, place } => valid_line(alloc, 13, func, place),
-        ValidFault::Limit { func, place } => valid_line(alloc, 14, func, place),
-        ValidFault::Import { func, place } => valid_line(alloc, 15, func, place),
-        ValidFault::Memory => Ok(String::new(alloc)),
-    }
+    let func = valid_func(fault);
+    let place = valid_place(fault);
+    valid_line(alloc, valid_kind(fault), func, place)
 }
 
 fn burnt_line(alloc: Global, word: &str, burnt: u128) -> Result<String, AllocError>
@@ -70,6 +56,26 @@ fn stop_line(alloc: Global, word: &str, kind: u32, burnt: u128) -> Result<String
     Ok(text)
 }
 
+fn print_place(func: u32, at: usize, text: &mut String) -> Result<(), AllocError>
+    ensures { OnOk result (string_bytes text.new ≡ string_bytes text.old ++ place_line func at) }
+{
+    writeln!(text, "at {func} {at}")
+}
+
+fn trap_lines(
+    alloc: Global,
+    kind: u32,
+    burnt: u128,
+    func: u32,
+    at: usize,
+) -> Result<String, AllocError>
+    ensures { IfOk result (λ text. string_bytes text ≡ trap_lines kind burnt func at) }
+{
+    let mut text = stop_line(alloc, "trap", kind, burnt)?;
+    print_place(func, at, &mut text)?;
+    Ok(text)
+}
+
 fn answer_text(alloc: Global, answer: Answer) -> Result<String, AllocError>
     ensures { IfOk result (λ text. string_bytes text ≡ answer_text answer) }
 {
@@ -77,6 +83,12 @@ fn answer_text(alloc: Global, answer: Answer) -> Result<String, AllocError>
         Answer::Good | Answer::Unfit => String::from_str(alloc, "ok\n"),
         Answer::Ended { burnt } => burnt_line(alloc, "end", burnt),
         Answer::Trapped { kind, burnt } => stop_line(alloc, "trap", kind, burnt),
+        Answer::TrappedAt {
+            kind,
+            burnt,
+            func,
+            at,
+        } => trap_lines(alloc, kind, burnt, func, at),
         Answer::Failed { kind, burnt } => stop_line(alloc, "fault", kind, burnt),
         Answer::OutOfGas { burnt } => burnt_line(alloc, "gas", burnt),
         Answer::Unmade => String::from_str(alloc, "make 21\n"),
@@ -84,7 +96,8 @@ fn answer_text(alloc: Global, answer: Answer) -> Result<String, AllocError>
     }
 }
 
-/// The line of a verdict: `ok`, `decode KIND AT`, `valid KIND FUNC PLACE`, or that of a run.
+/// The line of a verdict: `ok`, `decode KIND AT`, `valid KIND FUNC PLACE`, or that of a run, behind which that of a
+/// trap's place may stand.
 pub(crate) fn verdict_text(alloc: Global, verdict: Verdict) -> Result<String, AllocError>
     ensures { IfOk result (λ text. string_bytes text ≡ verdict_text verdict) }
 {

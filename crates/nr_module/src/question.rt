@@ -2,7 +2,7 @@
 
 ghost use Rattle.nr_shell.specs.Answers.{Follows};
 ghost use Rattle.nr_module.specs.Answers.{refuses};
-ghost use Rattle.nr_module.specs.Command.{call_in, names_in, request_in};
+ghost use Rattle.nr_module.specs.Command.{call_in, names_in, named_request};
 ghost use Rattle.nr_module.specs.Plans.{by_config, call_plan, code_plan, due_in, module_plan, shown_in, shown_plan};
 ghost use Rattle.nr_module.specs.Plans.{tried_in};
 
@@ -110,7 +110,7 @@ fn with_code<S: Shelf>(
     names: &CallNames<'_>,
     shelf: &mut S,
 ) -> Result<Loaded, Stop<Status>>
-    ensures { Follows refuses (tried_in (request_in names.now)) (S.held shelf.old) (S.held shelf.new)
+    ensures { Follows refuses (tried_in (named_request names.now)) (S.held shelf.old) (S.held shelf.new)
         (S.asked shelf.old) (S.asked shelf.new) (S.faults shelf.old) (S.faults shelf.new)
         result (code_plan (call_in names.now) config) }
 {
@@ -130,7 +130,7 @@ pub(crate) fn loaded_of<S: Shelf>(
     names: &CallNames<'_>,
     shelf: &mut S,
 ) -> Result<Loaded, Stop<Status>>
-    ensures { Follows refuses (tried_in (request_in names.now)) (S.held shelf.old) (S.held shelf.new)
+    ensures { Follows refuses (tried_in (named_request names.now)) (S.held shelf.old) (S.held shelf.new)
         (S.asked shelf.old) (S.asked shelf.new) (S.faults shelf.old) (S.faults shelf.new)
         result (call_plan (call_in names.now)) }
 {

@@ -10,11 +10,11 @@ ghost use Rattle.nr_module.specs.Verdicts.{IsAnswer};
 ghost use Rattle.nr_module.specs.Running.{IsCheck, IsRun, IsRunIn, RunsTo, told};
 
 use crate::command::Work;
-use crate::counter::Counter;
 use crate::lookup::method_named;
+use crate::tracing::trace_method;
 use crate::verdict::Answer;
 use nr_config::Config;
-use nr_wasmexec::{Machine, MakeFault, RunStop};
+use nr_wasmexec::{Gauge, Machine, MakeFault, RunStop};
 use nr_wasmvalid::Valid;
 use std::alloc::{AllocError, Global};
 
@@ -37,7 +37,7 @@ fn run_func(machine: &mut Machine, func: u32, gas: u64) -> Result<Answer, AllocE
     requires { IsTrue (is_method (func_at machine.old.program func)) }
     ensures { IfOk result (λ a. RunsTo machine.old gas func a) }
 {
-    let mut host = Counter {
+    let mut host = Gauge {
         gas: u128::from(gas),
     };
     let end = machine.run(&mut host, func);
@@ -93,7 +93,7 @@ fn check(alloc: Global, valid: Valid, config: &Config) -> Result<Answer, AllocEr
     }
 }
 
-/// Does the work with a valid module.
+/// Does the work with a valid module, whose file has these bytes.
 ///
 /// # Errors
 ///
@@ -102,13 +102,15 @@ pub(crate) fn answer(
     alloc: Global,
     valid: Valid,
     config: &Config,
+    bytes: &Vec<u8>,
     work: Work<'_>,
 ) -> Result<Answer, AllocError>
     requires { IsValid (max_pages config.now) valid }
-    ensures { IfOk result (λ a. IsAnswer config.now valid (task_in work.entry) a) }
+    ensures { IfOk result (λ a. IsAnswer config.now bytes.now.items valid (task_in work.entry) a) }
 {
     match work {
         Work::Check => check(alloc, valid, config),
         Work::Run { method, gas } => run_method(alloc, valid, config, method, gas),
+        Work::Trap { method, gas } => trace_method(alloc, valid, config, bytes, method, gas),
     }
 }

@@ -3,10 +3,10 @@
 ghost use Rattle.std.specs.Prelude.{◌≡◌, ◌≢◌, IfOk, string_bytes};
 ghost use Rattle.nr_bytes.specs.Outside.{Rose};
 ghost use Rattle.nr_shell.specs.Plans.{Refuse};
-ghost use Rattle.nr_onecall.specs.Setting.{called_of, request_in as asked_in};
-ghost use Rattle.nr_module.specs.Answers.{Tells, TellsCall, TellsShown, TellsText, TellsVerdict, Told, rated_end};
+ghost use Rattle.nr_onecall.specs.Setting.{called_of, call_request_in};
+ghost use Rattle.nr_module.specs.Answers.{TellsEnd, TellsCall, TellsShown, TellsText, TellsVerdict, Told, rated_end};
 ghost use Rattle.nr_module.specs.Answers.{view_text};
-ghost use Rattle.nr_module.specs.Command.{request_in};
+ghost use Rattle.nr_module.specs.Command.{named_request};
 ghost use Rattle.nr_module.specs.Lines.{rated, rated_answer};
 ghost use Rattle.nr_module.specs.Plans.{question_in};
 ghost use Rattle.nr_module.specs.declared.status.Status.TheVariants.{Faulty, ReadFault, Sound, Unfit, WriteFault};
@@ -20,7 +20,7 @@ use crate::status::Status;
 use crate::verdict::{Answer, Rating, Verdict};
 use nr_bytes::Sink;
 use nr_config::Config;
-use nr_onecall::{Request, try_call};
+use nr_onecall::{CallRequest, try_call};
 use nr_shell::write_all;
 use nr_wasmbin::{DecodeFault, decode};
 use nr_wasmtypes::Module;
@@ -70,10 +70,10 @@ pub(crate) fn verdict_line(alloc: Global, question: &Question<'_>) -> Result<Lin
 }
 
 /// What is called, by its names.
-fn request_of<'a>(names: &'a CallNames<'_>) -> Request<'a>
-    ensures { asked_in result ≡ request_in names.now }
+fn request_of<'a>(names: &'a CallNames<'_>) -> CallRequest<'a>
+    ensures { call_request_in result ≡ named_request names.now }
 {
-    Request {
+    CallRequest {
         method: names.method,
         args: names.args.inner(),
         gas: names.gas,
@@ -98,7 +98,7 @@ pub(crate) fn call_line(
     names: &CallNames<'_>,
 ) -> Result<Line, AllocError>
     ensures { IfOk result (λ line.
-        TellsCall (called_of loaded.now.config loaded.now.code.items (request_in names.now))
+        TellsCall (called_of loaded.now.config loaded.now.code.items (named_request names.now))
         (string_bytes line.text) line.rating) }
 {
     let request = request_of(names);
@@ -160,7 +160,7 @@ pub(crate) fn shown_line(alloc: Global, shown: &Shown) -> Result<Line, AllocErro
 ///
 /// Where memory runs out.
 pub(crate) fn long_line(alloc: Global) -> Result<Line, AllocError>
-    ensures { IfOk result (λ line. Tells (Refuse Faulty) (string_bytes line.text) line.rating) }
+    ensures { IfOk result (λ line. TellsEnd (Refuse Faulty) (string_bytes line.text) line.rating) }
 {
     let text = String::from_str(alloc, "long\n")?;
     Ok(Line {

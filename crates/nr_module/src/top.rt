@@ -111,12 +111,13 @@ fn serve_command<S: Shelf, K: Sink>(
 
 /// Does what the words ask for: `check CONFIG FILE` decodes and validates the module of a file, and
 /// writes a line that says what it is; `run CONFIG FILE METHOD GAS` runs a method of it besides, and
-/// writes how the run ended; `call CONFIG FILE METHOD ARGS GAS`, or the same with DEPOSIT behind it, calls a method
-/// of a contract in a state of its account alone, and tells how the call ended; `list FILE` decodes the module of a file and tells
-/// what it imports and exports; `text FILE` decodes it and writes it in WebAssembly's text format. CONFIG is `free`,
-/// the built-in configuration, or the name of a file. GAS is a decimal number below 2^64 without leading zeros, and
-/// DEPOSIT one below 2^128. ARGS is a text, or behind `hex:` two digits for each byte. `help` writes the words of the
-/// commands, and `version` the program's name and version.
+/// writes how the run ended; `trap CONFIG FILE METHOD GAS` does the same, and tells where a trap came;
+/// `call CONFIG FILE METHOD ARGS GAS`, or the same with DEPOSIT behind it, calls a method of a contract in a state of
+/// its account alone, and tells how the call ended; `list FILE` decodes the module of a file and tells what it imports
+/// and exports; `text FILE` decodes it and writes it in WebAssembly's text format. CONFIG is `free`, the built-in
+/// configuration, or the name of a file. GAS is a decimal number below 2^64 without leading zeros, and DEPOSIT one
+/// below 2^128. ARGS is a text, or behind `hex:` two digits for each byte. `help` writes the words of the commands, and
+/// `version` the program's name and version.
 ///
 /// The line is `ok`; `decode KIND AT` with the kind of the first fault (1 `Short`, 2 `Leb`,
 /// 3 `Section`, 4 `Opcode`, 5 `Float`, 6 `Utf8`, 7 `TooMany`) and its place; `valid KIND FUNC PLACE`
@@ -127,6 +128,11 @@ fn serve_command<S: Shelf, K: Sink>(
 /// none; `gas BURNT` where no gas was left; `method` where no method has the name: a function of the
 /// module's own that is exported by it and takes and leaves nothing; or `make 21` where there is such a
 /// method, but an element or a segment doesn't fit.
+///
+/// `trap` writes the line of `run`, and behind `trap KIND BURNT` the line `at FUNC BYTE`: the number of the function,
+/// imported ones first, and the place in the file of the opcode of the instruction that trapped. Of more frames or
+/// values than there may be it is the instruction that made them so many, and the method's first where the method's own
+/// frame does; there is no such line where it has none.
 ///
 /// `call` writes the lines of `nr_onecall::try_call`, or `long`.
 ///

@@ -11,13 +11,30 @@ pub(crate) enum Answer {
     /// It was checked, and no machine of it can be made: an element or a segment doesn't fit.
     Unfit,
     /// The run of a method came to its end, and burnt so much gas.
-    Ended { burnt: u128 },
+    Ended {
+        burnt: u128,
+    },
     /// The run stopped at a trap.
-    Trapped { kind: u32, burnt: u128 },
+    Trapped {
+        kind: u32,
+        burnt: u128,
+    },
+    /// The same, at the instruction of the function with this number whose opcode has this place in the file.
+    TrappedAt {
+        kind: u32,
+        burnt: u128,
+        func: u32,
+        at: usize,
+    },
     /// The run stopped at a fault of the host.
-    Failed { kind: u32, burnt: u128 },
+    Failed {
+        kind: u32,
+        burnt: u128,
+    },
     /// The run stopped because no gas was left for the next instruction.
-    OutOfGas { burnt: u128 },
+    OutOfGas {
+        burnt: u128,
+    },
     /// There is such a method, but no machine could be made: an element or a segment doesn't fit.
     Unmade,
     /// The module has no such method.

@@ -1,23 +1,17 @@
 -- The world in which a call begins: its account stands, and has its code.
-use Rattle.std.proofs.Common.{◌≡◌, ℕ, cond, List, Some, refl, sym, ap, subst, ◌∙◌}
+use Rattle.std.proofs.Common.{◌≡◌, ℕ, List, refl, sym, ap, subst, ◌∙◌}
 use Rattle.std.specs.Prelude.{IsSome, is_some, option_map}
-use Rattle.std.specs.FinMap.{FinMap, get, insert, get-insert}
-use Rattle.std.specs.Cmp.{eq_by_cmp_equiv}
-use Rattle.std.specs.Cmp.Lexicographic.{nat_list_cmp_total}
+use Rattle.std.specs.FinMap.{get, insert}
 use Rattle.nr_config.specs.Config.{Config}
 use Rattle.nr_records.specs.declared.account.Account.{Account}
-use Rattle.nr_columns.specs.Orders.{bytes_cmp}
 use Rattle.nr_state.specs.Calls.{CanCall}
 use Rattle.nr_state.specs.Changes.{set_code}
 use Rattle.nr_state.specs.Owners.{with_code_of}
 use Rattle.nr_state.specs.World.{World, no_world, with_account}
 use Rattle.nr_state.specs.declared.calls.CallContext.{CallContext}
-use Rattle.nr_state.proofs.CodeWrites.{code_set}
+use Rattle.nr_state.proofs.CodeWrites.{code_set, get_inserted as inserted}
 use Rattle.nr_contract.specs.Contract.{call}
-use Rattle.nr_onecall.specs.Setting.{Request, called_of, contract, first_account, first_context, first_world}
-
-inserted : {X : Type 0} (m : FinMap bytes_cmp X) (k : List ℕ) (v : X) → get (insert m k v) k ≡ Some v
-inserted m k v = get-insert nat_list_cmp_total m k v k ∙ ap (λ b. cond b (Some v) (get m k)) ((eq_by_cmp_equiv nat_list_cmp_total).refl k)
+use Rattle.nr_onecall.specs.Setting.{CallRequest, called_of, contract, first_account, first_context, first_world}
 
 pub stands : (w : World) (id : List ℕ) (account : Account) → IsSome (get (with_account w id account).accounts id)
 stands w id account = ap is_some (inserted w.accounts id account)
@@ -50,7 +44,7 @@ module _ (c : Config) (code : List ℕ) (deposit : ℕ) where
   has_code =
       subst (λ (w : World). IsSome (get w.code contract)) (sym first_is) (ap is_some (inserted before.code contract code))
 
-pub can_call : (c : Config) (code : List ℕ) (q : Request) (w : World) (x : CallContext) → w ≡ first_world c code q.deposit
+pub can_call : (c : Config) (code : List ℕ) (q : CallRequest) (w : World) (x : CallContext) → w ≡ first_world c code q.deposit
     → x ≡ first_context c q → CanCall w x
 can_call c code q w x world context =
     subst (λ (v : World). CanCall v x) (sym world)
@@ -58,7 +52,7 @@ can_call c code q w x world context =
     (record { stands = has_account c code q.deposit; code = has_code c code q.deposit }))
 
 -- the call is what is asked for
-pub came : (c : Config) (code : List ℕ) (q : Request) (caller : Config) (w : World) (x : CallContext) → caller ≡ c → w ≡ first_world c code q.deposit → x ≡ first_context c q → call caller w x ≡ called_of c code q
+pub came : (c : Config) (code : List ℕ) (q : CallRequest) (caller : Config) (w : World) (x : CallContext) → caller ≡ c → w ≡ first_world c code q.deposit → x ≡ first_context c q → call caller w x ≡ called_of c code q
 came c code q caller w x same world context =
     ap (λ (k : Config). call k w x) same
     ∙ (ap (λ (v : World). call c v x) world ∙ ap (λ (y : CallContext). call c (first_world c code q.deposit) y) context)

@@ -11,17 +11,17 @@ use Rattle.nr_state.specs.Usage.{zero_hash}
 use Rattle.nr_state.specs.World.{World, no_world, with_account}
 use Rattle.nr_state.specs.declared.calls.CallContext.{CallContext}
 use Rattle.nr_contract.specs.Contract.{call}
-use Rattle.nr_onecall.specs.declared.request.Request.{Request as LentRequest}
+use Rattle.nr_onecall.specs.declared.request.CallRequest.{CallRequest as LentRequest}
 
 -- the function's name, its arguments, the gas that it may burn or promise, and the tokens that come with it
-pub record Request : Type 0 where
+pub record CallRequest : Type 0 where
   pub method : List ℕ
   pub args : List ℕ
   pub gas : ℕ
   pub deposit : ℕ
 
-abbrev pub request_in : LentRequest → Request
-request_in r = record { method = r.method.now; args = r.args.now; gas = r.gas; deposit = r.deposit }
+abbrev pub call_request_in : LentRequest → CallRequest
+call_request_in r = record { method = r.method.now; args = r.args.now; gas = r.gas; deposit = r.deposit }
 
 -- ---- accounts
 -- the one whose code is called, and the one that calls it and signed
@@ -48,7 +48,7 @@ first_account c deposit =
 unfoldable pub first_world : Config → List ℕ → ℕ → World
 first_world c code deposit = set_code (with_account no_world contract (first_account c deposit)) contract code
 
-abbrev pub first_context : Config → Request → CallContext
+abbrev pub first_context : Config → CallRequest → CallContext
 first_context c q =
     record {
       current = contract;
@@ -69,5 +69,5 @@ first_context c q =
     }
 
 -- ---- what it comes to
-abbrev pub called_of : Config → List ℕ → Request → Called
+abbrev pub called_of : Config → List ℕ → CallRequest → Called
 called_of c code q = call c (first_world c code q.deposit) (first_context c q)

@@ -84,5 +84,5 @@ has_ended (Ended end after) = true
 has_ended (Stopped kind part burnt) = false
 
 -- what tells how a call ended
-abbrev pub Tells : Trial → Called → Type 0
-Tells trial called = (string_bytes trial.text ≡ called_text called) × (trial.ended ≡ has_ended called)
+abbrev pub TellsTrial : Trial → Called → Type 0
+TellsTrial trial called = (string_bytes trial.text ≡ called_text called) × (trial.ended ≡ has_ended called)

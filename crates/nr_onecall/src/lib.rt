@@ -9,5 +9,5 @@ mod setting;
 mod trial;
 mod words;
 
-pub use request::Request;
+pub use request::CallRequest;
 pub use trial::{Trial, try_call};

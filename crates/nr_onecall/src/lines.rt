@@ -3,15 +3,13 @@
 ghost use Rattle.std.specs.Prelude.{◌≡◌, ◌++◌, IfOk, OnOk, string_bytes};
 ghost use Rattle.std.specs.List.{flat_map};
 ghost use Rattle.nr_columns.specs.Entries.{pairs_of};
-ghost use Rattle.nr_report.specs.Lines.{log_line};
 ghost use Rattle.nr_state.specs.declared.calls.Returned.TheVariants.{Promise, Value};
 ghost use Rattle.nr_onecall.specs.Texts.{data_prefix, end_line, ended_text, failure_line, stored_text};
 
 use crate::receipts::print_receipts;
-use crate::words::{byte_digits, hash_digits};
-use nr_bytes::Blob;
 use nr_columns::Entry;
 use nr_ids::Hash32;
+use nr_report::{byte_digits, hash_digits, print_logs};
 use nr_state::{CallEnd, Returned};
 use std::alloc::{AllocError, Global};
 use std::fmt::Write;
@@ -48,17 +46,6 @@ fn print_end(
         Returned::Value(bytes) => print_value(alloc, bytes.inner(), burnt, text),
         Returned::Promise(id) => print_promise(alloc, id, burnt, text),
     }
-}
-
-/// A line for each log.
-fn print_logs(alloc: Global, logs: &[Blob], text: &mut String) -> Result<(), AllocError>
-    ensures { OnOk result (string_bytes text.new ≡ string_bytes text.old ++ flat_map log_line logs.now) }
-{
-    for log in logs {
-        let bytes = byte_digits(alloc, log.inner())?;
-        writeln!(text, "log {bytes}")?;
-    }
-    Ok(())
 }
 
 /// What the keys of the contract's data begin with in the trie.

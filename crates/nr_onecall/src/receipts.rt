@@ -4,9 +4,10 @@ ghost use Rattle.std.specs.Prelude.{◌≡◌, ◌++◌, OnOk, string_bytes};
 ghost use Rattle.std.specs.List.{flat_map};
 ghost use Rattle.nr_onecall.specs.Texts.{act_text, action_line, body_text, give_line, receipt_text, wait_line};
 
-use crate::words::{action_word, hash_digits, id_word};
+use crate::words::{action_word, id_word};
 use nr_ids::Hash32;
 use nr_records::{Action, ActionReceipt, Body, DataReceiver, Receipt};
+use nr_report::hash_digits;
 use std::alloc::{AllocError, Global};
 use std::fmt::Write;
 

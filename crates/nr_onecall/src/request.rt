@@ -2,7 +2,7 @@
 
 /// What is called, and with what.
 #[derive(Clone, Copy, Debug)]
-pub struct Request<'a> {
+pub struct CallRequest<'a> {
     /// The name of the function.
     pub method: &'a str,
     /// Its arguments: any bytes, or none.

@@ -2,9 +2,10 @@
 
 ghost use Rattle.std.specs.Prelude.{◌≡◌, [], true, IfOk, None};
 ghost use Rattle.nr_ids.specs.Grammar.{id_fault};
-ghost use Rattle.nr_onecall.specs.Setting.{caller, contract, first_account, first_context, first_world, request_in};
+ghost use Rattle.nr_onecall.specs.Setting.{call_request_in, caller, contract, first_account, first_context};
+ghost use Rattle.nr_onecall.specs.Setting.{first_world};
 
-use crate::request::Request;
+use crate::request::CallRequest;
 use nr_bytes::{Blob, List, Text};
 use nr_config::Config;
 use nr_config::entries::{ACCOUNT_BYTES, GAS_PRICE};
@@ -89,9 +90,9 @@ pub(crate) fn first_state(
 pub(crate) fn first_context(
     alloc: Global,
     config: &Config,
-    request: &Request<'_>,
+    request: &CallRequest<'_>,
 ) -> Result<CallContext, AllocError>
-    ensures { IfOk result (λ context. context ≡ first_context config.now (request_in request.now)) }
+    ensures { IfOk result (λ context. context ≡ first_context config.now (call_request_in request.now)) }
 {
     Ok(CallContext {
         current: contract(alloc)?,

@@ -2,11 +2,11 @@
 
 ghost use Rattle.std.specs.Prelude.{◌≡◌, ◌≤◌, IfOk, length, true};
 ghost use Rattle.nr_state.specs.Calls.{CanCall, Ended, Stopped};
-ghost use Rattle.nr_onecall.specs.Setting.{called_of, request_in};
-ghost use Rattle.nr_onecall.specs.Texts.{Tells};
+ghost use Rattle.nr_onecall.specs.Setting.{called_of, call_request_in};
+ghost use Rattle.nr_onecall.specs.Texts.{TellsTrial};
 
 use crate::lines::{ended_text, failure_text};
-use crate::request::Request;
+use crate::request::CallRequest;
 use crate::setting::{first_context, first_state};
 use nr_config::Config;
 use nr_contract::ContractCaller;
@@ -30,7 +30,7 @@ fn ended_trial(
     state: &ShardState<PlainStore>,
 ) -> Result<Trial, AllocError>
     requires { state.now.whole ≡ true }
-    ensures { IfOk result (λ trial. Tells trial (Ended end.now state.now.world)) }
+    ensures { IfOk result (λ trial. TellsTrial trial (Ended end.now state.now.world)) }
 {
     let entries = state.entries()?;
     let text = ended_text(alloc, end, entries.inner())?;
@@ -39,7 +39,7 @@ fn ended_trial(
 
 /// What tells a call that failed.
 fn failed_trial(alloc: Global, kind: u32, part: u32, burnt: u64) -> Result<Trial, AllocError>
-    ensures { IfOk result (λ trial. Tells trial (Stopped kind part burnt)) }
+    ensures { IfOk result (λ trial. TellsTrial trial (Stopped kind part burnt)) }
 {
     let text = failure_text(alloc, kind, part, burnt)?;
     Ok(Trial { text, ended: false })
@@ -56,7 +56,7 @@ fn told_call<C: Caller<PlainStore>>(
     requires config { C.config caller.now ≡ state.old.config }
     requires callable { CanCall state.old.world context.now }
     requires marks { length state.old.marks ≤ 7 }
-    ensures { IfOk result (λ trial. Tells trial (C.meaning caller.now state.old.world context.now)) }
+    ensures { IfOk result (λ trial. TellsTrial trial (C.meaning caller.now state.old.world context.now)) }
 {
     match caller.call(alloc, state, context) {
         Ok(end) => ended_trial(alloc, &end, state),
@@ -85,9 +85,9 @@ pub fn try_call(
     alloc: Global,
     config: &Config,
     code: &[u8],
-    request: &Request<'_>,
+    request: &CallRequest<'_>,
 ) -> Result<Trial, AllocError>
-    ensures { IfOk result (λ trial. Tells trial (called_of config.now code.now (request_in request.now))) }
+    ensures { IfOk result (λ trial. TellsTrial trial (called_of config.now code.now (call_request_in request.now))) }
 {
     let context = first_context(alloc, config, request)?;
     let mut state = first_state(alloc, config, code, request.deposit)?;

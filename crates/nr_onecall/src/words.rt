@@ -2,33 +2,12 @@
 
 ghost use Rattle.std.specs.Prelude.{◌≡◌, IfOk, string_bytes};
 ghost use Rattle.nr_json.specs.Actions.{action_json};
-ghost use Rattle.nr_report.specs.Lines.{bytes_word, hash_word};
 ghost use Rattle.serde_json.specs.Written.{compact_text};
 
-use nr_ids::{AccountId, Hash32};
+use nr_ids::AccountId;
 use nr_json::Form;
 use nr_records::Action;
 use std::alloc::{AllocError, Global};
-
-/// A hash in hexadecimal.
-#[tactic(auto, unfolding(nr_report::specs::Lines::hash_word))]
-pub(crate) fn hash_digits(alloc: Global, hash: &Hash32) -> Result<String, AllocError>
-    ensures { IfOk result (λ digits. string_bytes digits ≡ hash_word hash.now) }
-{
-    hex::encode(alloc, hash.0)
-}
-
-/// Bytes in hexadecimal, and a dash for none.
-#[tactic(auto, unfolding(nr_report::specs::Lines::bytes_word))]
-pub(crate) fn byte_digits(alloc: Global, bytes: &[u8]) -> Result<String, AllocError>
-    ensures { IfOk result (λ digits. string_bytes digits ≡ bytes_word bytes.now) }
-{
-    if bytes.is_empty() {
-        String::from_str(alloc, "-")
-    } else {
-        hex::encode(alloc, bytes)
-    }
-}
 
 /// An account's id.
 #[tactic(auto, using(nr_ids::proofs::Ids::text_id))]

@@ -34,7 +34,7 @@ module _ {R : Type 0} where
   in_rows (row ∷ rows) zero k = in_row row.items k
   in_rows (row ∷ rows) (suc s) k = in_rows rows s k
 
-past_places : (n s : ℕ) (p : Position) → n ≤ s → at (replicate n p) s ≡ start
+pub past_places : (n s : ℕ) (p : Position) → n ≤ s → at (replicate n p) s ≡ start
 past_places zero s p l = refl
 past_places (suc n) zero p l = absurd (omega (arith, l))
 past_places (suc n) (suc s) p l = past_places n s p (omega (arith, l))

@@ -6,11 +6,7 @@ use Rattle.std.specs.List.{AllByRecursion, flat_map, range_with_len}
 use Rattle.std.proofs.lemmas.List.FromFn.{map-range_with_len_more}
 use Rattle.std.proofs.lemmas.List.Sums.{sum_by-append, sum_by-cons}
 use Rattle.nr_overlap.specs.Balance.{sum_below}
-use Rattle.nr_overlap.proofs.Sums.{sum_same}
-
-sum_front : (n : ℕ) (f : ℕ → ℕ) → sum_below (suc n) f ≡ f 0 + sum_below n (λ i. f (suc i))
-sum_front zero f = omega arith
-sum_front (suc n) f = let before : sum_below (suc n) f ≡ f 0 + sum_below n (λ i. f (suc i)) = sum_front n f in omega arith
+use Rattle.nr_overlap.proofs.Sums.{sum_same, sum_front}
 
 first_at : (a : ℕ) → a + 0 ≡ a
 first_at a = omega arith

@@ -1,11 +1,7 @@
 -- The lines of a proof's text, taken off its bytes one by one.
-use Rattle.std.proofs.Common.{◌≡◌, ◌≢◌, ℕ, ◌+◌, ◌<◌, ◌≤◌, ◌==◌, Bool, true, false, cond, List, [], ◌∷◌, ◌++◌, length, take, drop, Option, Some, None, Result, Ok, Err, refl, sym, ap, subst, ◌∙◌, arith, append_assoc}
-use Rattle.std.specs.Prelude.{nat_lt, position}
-use Rattle.std.specs.List.{onto_first, position_or_len}
-use Rattle.std.proofs.lemmas.Bool.{eqb-true, ltb-true, ltb-false}
+use Rattle.std.proofs.Common.{◌≡◌, ◌≢◌, ℕ, ◌+◌, ◌==◌, true, false, List, [], ◌∷◌, ◌++◌, length, Some, None, Result, Ok, Err, refl, sym, ap, subst, ◌∙◌, arith, append_assoc}
+use Rattle.std.proofs.lemmas.Bool.{eqb-true}
 use Rattle.std.proofs.lemmas.List.{append-nil}
-use Rattle.std.proofs.lemmas.List.Splits.{slice_split_none, slice_split_first}
-use Rattle.std.proofs.lemmas.List.Sums.{fails_before_first}
 use Rattle.nr_bytes.specs.Answers.{Gives}
 use Rattle.nr_ids.specs.declared.key.Hash32.{Hash32}
 use Rattle.nr_outproof.specs.declared.fault.ProofFault.{ProofFault}
@@ -13,46 +9,7 @@ use Rattle.nr_outproof.specs.declared.fault.ProofFault.TheVariants.{Form, Memory
 use Rattle.nr_outproof.specs.declared.proof.Proof.{Proof}
 use Rattle.nr_outproof.specs.declared.reading.Head.{Head}
 use Rattle.nr_outproof.specs.Texts.{behind_head, by_lines, hash_in, head_in, item_in, last_piece, path_from, pieces, proof_read, with_hash, with_head, with_item, with_path, word_behind}
-
--- ---- one piece
-no_place : (p : ℕ → Bool) (bytes : List ℕ) → position p bytes ≡ None → length bytes ≤ position_or_len p bytes
-no_place p bytes = by (nat_lt (position_or_len p bytes) (length bytes)) refl
-  where
-    by : (b : Bool) → nat_lt (position_or_len p bytes) (length bytes) ≡ b → ◌≡◌ {A = Option ℕ} (cond b (Some (position_or_len p bytes)) None) None → length bytes ≤ position_or_len p bytes
-    by true e f = absurd cc
-    by false e f = ltb-false (position_or_len p bytes) (length bytes) e
-
-a_place : (p : ℕ → Bool) (bytes : List ℕ) (i : ℕ) → position p bytes ≡ Some i → (position_or_len p bytes ≡ i) × (position_or_len p bytes < length bytes)
-a_place p bytes i = by (nat_lt (position_or_len p bytes) (length bytes)) refl
-  where
-    by : (b : Bool) → nat_lt (position_or_len p bytes) (length bytes) ≡ b → cond b (Some (position_or_len p bytes)) None ≡ Some i → (position_or_len p bytes ≡ i) × (position_or_len p bytes < length bytes)
-    by true e f = (cc, ltb-true (position_or_len p bytes) (length bytes) e)
-    by false e f = absurd cc
-
-pub one_piece : (separator : ℕ) (bytes : List ℕ) → position (λ b. b == separator) bytes ≡ None → pieces separator bytes ≡ bytes ∷ []
-one_piece separator bytes e =
-    let p : ℕ → Bool = λ b. b == separator in
-    let l : length bytes ≤ position_or_len p bytes = no_place p bytes e in
-    slice_split_none p bytes (λ k d k_in. fails_before_first p bytes k d (omega (arith, k_in, l)))
-
-pub first_piece : (separator : ℕ) (bytes : List ℕ) (i : ℕ) → position (λ b. b == separator) bytes ≡ Some i → pieces separator bytes ≡ take i bytes ∷ pieces separator (drop (i + 1) bytes)
-first_piece separator bytes i e =
-    let p : ℕ → Bool = λ b. b == separator in
-    let at = a_place p bytes i e in
-    slice_split_first p bytes 0 at.1 ∙ ap (λ n. take n bytes ∷ pieces separator (drop (n + 1) bytes)) at.0
-
-some_onto : (b : ℕ) (parts : List (List ℕ)) → (first : List ℕ) × (more : List (List ℕ)) × (onto_first b parts ≡ first ∷ more)
-some_onto b [] = (b ∷ [], [], refl)
-some_onto b (part ∷ parts) = (b ∷ part, parts, refl)
-
--- there is always one
-pub some_piece : (separator : ℕ) (bytes : List ℕ) → (first : List ℕ) × (more : List (List ℕ)) × (pieces separator bytes ≡ first ∷ more)
-some_piece separator [] = ([], [], refl)
-some_piece separator (b ∷ bytes) = by (b == separator)
-  where
-    by : (t : Bool) → (first : List ℕ) × (more : List (List ℕ)) × (cond t ([] ∷ pieces separator bytes) (onto_first b (pieces separator bytes)) ≡ first ∷ more)
-    by true = ([], pieces separator bytes, refl)
-    by false = some_onto b (pieces separator bytes)
+use Rattle.nr_words.proofs.Pieces.{some_piece}
 
 -- a line of seven words or more is none
 pub seven_words : (line a p b q c r d s e t f u : List ℕ) → pieces 32 line ≡ a ∷ pieces 32 p → pieces 32 p ≡ b ∷ pieces 32 q → pieces 32 q ≡ c ∷ pieces 32 r → pieces 32 r ≡ d ∷ pieces 32 s → pieces 32 s ≡ e ∷ pieces 32 t

@@ -2,7 +2,7 @@
 -- own.
 use Rattle.std.specs.Prelude.{◌≡◌, ◌<◌, ◌^◌, ℕ, ◌+◌, ◌==◌, List, [], ◌∷◌, ◌++◌, length, Bool, cond, Option, Some, None}
 use Rattle.std.specs.Prelude.{Result, Ok, Err, codes, decimal}
-use Rattle.std.specs.List.{AllByRecursion, flat_map, list_all, slice_split}
+use Rattle.std.specs.List.{AllByRecursion, flat_map, list_all}
 use Rattle.std.specs.Result.{result_ok}
 use Rattle.std.specs.Str.{bytes_eq}
 use Rattle.hex.specs.Hex.{decode_of}
@@ -12,6 +12,7 @@ use Rattle.nr_report.specs.Lines.{line, hash_word, bytes_word}
 use Rattle.nr_words.specs.Command.{number_in}
 use Rattle.nr_words.specs.Forms.{is_hex_digit}
 use Rattle.nr_words.specs.Kinds.{kind_word}
+pub use Rattle.nr_words.specs.Pieces.{pieces}
 use Rattle.nr_words.specs.declared.kind.ProofKind.{ProofKind}
 use Rattle.nr_words.specs.declared.kind.ProofKind.TheVariants.{Outcome, Receipt}
 use Rattle.nr_outproof.specs.declared.proof.Proof.{Proof}
@@ -44,10 +45,6 @@ pub record FitsProof (p : Proof) : Type 0 where
   pub path : AllByRecursion (λ (hash : Hash32). IsBytes hash.0 × (length hash.0 ≡ 32)) p.path
 
 -- ---- words and lines
--- what stands before, between and behind the separators: one piece more than there are of them
-abbrev pub pieces : ℕ → List ℕ → List (List ℕ)
-pieces separator bytes = slice_split (λ b. b == separator) bytes
-
 abbrev pub kind_in : List ℕ → Option ProofKind
 kind_in word =
     cond (bytes_eq word (kind_word Outcome)) (Some Outcome)

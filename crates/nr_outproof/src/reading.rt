@@ -1,14 +1,11 @@
 //! The reading of a proof's text.
 
-ghost use Rattle.std.specs.Prelude.{◌≡◌, ◌<◌, ◌==◌, ◌∷◌, [], IfOk, IfSome, MatchOption, cond, length, position, Some};
-ghost use Rattle.std.specs.Prelude.{None};
-ghost use Rattle.std.specs.List.{list_all};
+ghost use Rattle.std.specs.Prelude.{◌≡◌, IfOk, cond, Some, None};
 ghost use Rattle.std.specs.Option.{option_copied};
 ghost use Rattle.std.specs.Str.{bytes_eq};
 ghost use Rattle.nr_bytes.specs.Answers.{Gives, GivesAs};
 ghost use Rattle.nr_outproof.specs.Texts.{bytes_in, hash_in, hash_of, head_by, head_in, head_of, hex_in, item_in};
 ghost use Rattle.nr_outproof.specs.Texts.{kind_in, behind_head, path_from, pieces, proof_read, word_behind};
-ghost use Rattle.nr_words.specs.Forms.{is_hex_digit};
 ghost use Rattle.nr_outproof.specs.declared.fault.ProofFault.TheVariants.{Memory};
 
 use crate::fault::ProofFault;
@@ -16,7 +13,7 @@ use crate::proof::Proof;
 use hex::FromHexError;
 use nr_bytes::{Blob, List};
 use nr_ids::{Hash32, Height, ShardId};
-use nr_words::{ProofKind, is_hex_digit, number_in};
+use nr_words::{ProofKind, all_hex_digits, cut, number_in};
 use std::alloc::{AllocError, Global};
 
 /// What the first line of a proof states.
@@ -29,24 +26,6 @@ pub(crate) struct Head {
     count: u64,
 }
 
-fn place_of(bytes: &[u8], separator: u8) -> Option<usize>
-    ensures { result ≡ position (λ b. b == separator) bytes.now }
-{
-    bytes.iter().position(|byte| *byte == separator)
-}
-
-/// What stands before the first separator and behind it, where there is one.
-fn cut(bytes: &[u8], separator: u8) -> Option<(&[u8], &[u8])>
-    ensures pieces { MatchOption result (pieces separator bytes.now ≡ bytes.now ∷ [])
-        (λ parts. pieces separator bytes.now ≡ parts.0.now ∷ pieces separator parts.1.now) }
-    ensures shorter { IfSome result (λ parts. length parts.1.now < length bytes.now) }
-{
-    match place_of(bytes, separator) {
-        Some(at) => Some((&bytes[..at], &bytes[at + 1..])),
-        None => None,
-    }
-}
-
 fn kind_in(word: &[u8]) -> Option<ProofKind>
     ensures { result ≡ kind_in word.now }
 {
@@ -57,12 +36,6 @@ fn kind_in(word: &[u8]) -> Option<ProofKind>
     } else {
         None
     }
-}
-
-fn all_hex_digits(word: &[u8]) -> bool
-    ensures { result ≡ list_all is_hex_digit word.now }
-{
-    word.iter().all(|byte| is_hex_digit(*byte))
 }
 
 /// The bytes that a word spells in lower-case hexadecimal.

@@ -2,34 +2,14 @@
 
 ghost use Rattle.std.specs.Prelude.{◌≡◌, ◌++◌, IfOk, OnErr, OnOk, string_bytes};
 ghost use Rattle.std.specs.List.{flat_map};
-ghost use Rattle.nr_report.specs.Lines.{bytes_word, hash_word};
 ghost use Rattle.nr_outproof.specs.Texts.{head_line, item_line, path_line, proof_text};
 
 use crate::proof::Proof;
 use nr_bytes::Blob;
 use nr_ids::Hash32;
+use nr_report::{byte_digits, hash_digits};
 use std::alloc::{AllocError, Global};
 use std::fmt::Write;
-
-/// A hash in hexadecimal.
-#[tactic(auto, unfolding(nr_report::specs::Lines::hash_word))]
-fn hash_digits(alloc: Global, hash: &Hash32) -> Result<String, AllocError>
-    ensures { IfOk result (λ digits. string_bytes digits ≡ hash_word hash.now) }
-{
-    hex::encode(alloc, hash.0)
-}
-
-/// Bytes in hexadecimal, and a dash for none.
-#[tactic(auto, unfolding(nr_report::specs::Lines::bytes_word))]
-fn byte_digits(alloc: Global, bytes: &[u8]) -> Result<String, AllocError>
-    ensures { IfOk result (λ digits. string_bytes digits ≡ bytes_word bytes.now) }
-{
-    if bytes.is_empty() {
-        String::from_str(alloc, "-")
-    } else {
-        hex::encode(alloc, bytes)
-    }
-}
 
 fn print_head(proof: &Proof, text: &mut String) -> Result<(), AllocError>
     ensures { OnOk result (string_bytes text.new ≡ string_bytes text.old ++ head_line proof.now) }

@@ -30,7 +30,7 @@ nothing : {A : Type 0} (a : A) → ◌≡◌ {A = Option A} None (Some a) → �
 nothing a e = cc
 
 -- what stands at a place is within
-within : {A : Type 0} (xs : List A) (n : ℕ) (x : A) → slice_get xs n ≡ Some x → n < length xs
+pub within : {A : Type 0} (xs : List A) (n : ℕ) (x : A) → slice_get xs n ≡ Some x → n < length xs
 within [] n x e = absurd (nothing x e)
 within (y ∷ ys) zero x e = omega arith
 within (y ∷ ys) (suc n) x e = omega (arith, within ys n x e)

@@ -44,7 +44,7 @@ pub sum_none : (n : ℕ) (f : ℕ → ℕ) → ((i : ℕ) → i < n → f i ≡ 
 sum_none zero f e = refl
 sum_none (suc n) f e = let a : sum_below n f ≡ 0 = sum_none n f (λ j l. e j (omega arith)) in let b : f n ≡ 0 = e n (omega arith) in omega arith
 
-sum_front : (n : ℕ) (f : ℕ → ℕ) → sum_below (suc n) f ≡ f 0 + sum_below n (λ i. f (suc i))
+pub sum_front : (n : ℕ) (f : ℕ → ℕ) → sum_below (suc n) f ≡ f 0 + sum_below n (λ i. f (suc i))
 sum_front zero f = omega arith
 sum_front (suc n) f = let before : sum_below (suc n) f ≡ f 0 + sum_below n (λ i. f (suc i)) = sum_front n f in omega arith
 

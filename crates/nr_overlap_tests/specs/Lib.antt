@@ -4,3 +4,5 @@ pub mod Amounts
 pub mod SmallLaws
 pub mod Roll
 pub mod RollLaws
+pub mod Pair
+pub mod PairLaws

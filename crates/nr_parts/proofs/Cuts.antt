@@ -1,70 +1,30 @@
 -- The part that is cut out of entries, by the list of all nodes.
-use Rattle.std.proofs.Common.{◌≡◌, ◌<◌, ◌≤◌, ◌+◌, ℕ, zero, suc, Bool, true, false, List, [], ◌∷◌, ◌++◌, length, map, Some, None, refl, ap, sym, subst, ◌∙◌, arith, append-nil}
-use Rattle.std.specs.Prelude.{T, ◌&&◌}
+use Rattle.std.proofs.Common.{◌≡◌, ◌+◌, ℕ, zero, suc, List, [], ◌∷◌, ◌++◌, map, Some, None, refl, ap, sym, subst, ◌∙◌, arith, append-nil}
 use Rattle.std.specs.List.{AllByRecursion}
 use Rattle.std.specs.FinMap.{empty}
-use Rattle.std.specs.FinMap.Entries.{below_all, is_sorted}
-use Rattle.std.specs.Ordering.{is_lt}
-use Rattle.std.proofs.Common.{Ordering}
-use Rattle.std.specs.declared.cmp.Ordering.TheVariants.{Less, Equal, Greater}
 use Rattle.nr_bytes.specs.Numbers.{IsBytes}
 use Rattle.nr_triedef.specs.Node.{nibbles, IsNibbles, node_text, IsNode}
 use Rattle.nr_triedef.specs.Root.{Paths, paths, depth, trie, usage_below, summary_of, no_root, root_of_entries}
 use Rattle.nr_triedef.specs.declared.node.Node.{Node}
 use Rattle.nr_triedef.specs.declared.hash.Summary.{Summary}
-use Rattle.nr_store.specs.Tries.{Before, Rise, CanWalk, whole}
-use Rattle.nr_store.proofs.Held.{R}
-use Rattle.nr_store.proofs.Links.{CanStand}
-use Rattle.nr_store.proofs.Orders.{differ_rising, nibbles_before}
+use Rattle.nr_store.specs.Tries.{CanWalk, whole}
 use Rattle.nr_columns.specs.declared.entry.Entry.{Entry}
 use Rattle.nr_trielist.specs.Forest.{Stood, Forest, bare, tree, forest, forest_of}
 use Rattle.nr_trielist.specs.Growing.{nodes_at, all_nodes}
 use Rattle.nr_walk.specs.Walking.{entry}
 use Rattle.nr_parts.specs.Offsets.{tops_usage, entries_in, share_of, part_of_entries}
 use Rattle.nr_columns.specs.Entries.{pairs_of}
-use Rattle.nr_parts.specs.Cutting.{InOrder, looked_from_root, once, part_texts, part_cut}
+use Rattle.nr_parts.specs.Cutting.{looked_from_root, once, part_texts, part_cut}
 use Rattle.nr_parts.specs.Sweeping.{swept_entries, swept_nodes, owns}
 use Rattle.nr_parts.specs.declared.share.Share.{Share}
 use Rattle.nr_ids.specs.declared.key.Hash32.{Hash32}
-use Rattle.nr_store.proofs.Levels.{whole_one, whole_several}
+use Rattle.nr_store.proofs.Levels.{whole_one, whole_several, stands}
 use Rattle.nr_walk.proofs.Placing.{all-append}
 use Rattle.nr_parts.proofs.Grown.{IsGrown, usage_forest, grown_forest}
 use Rattle.nr_trielist.proofs.Branches.{nodes_in, nodes_tree, nodes_forest}
 use Rattle.nr_parts.proofs.Accepted.{map_top, TopOf}
 use Rattle.nr_parts.proofs.Sweeping.{entries_all, sweep_entries, sweep_root, owns_grown}
 use Rattle.nr_parts.proofs.Telling.{told, all_forest, packed_nibbles}
-
--- ---- keys in the order of their bytes are in that of their nibbles
-left_true : (a b : Bool) → T (a && b) → T a
-left_true true b p = tt
-left_true false b p = p
-
-right_true : (a b : Bool) → T (a && b) → T b
-right_true true b p = p
-right_true false b p = absurd p
-
-is_less : (r : Ordering) → T (is_lt r) → r ≡ Less
-is_less Less p = refl
-is_less Equal p = absurd p
-is_less Greater p = absurd p
-
-before_paths : (k : List ℕ) (es : List (List ℕ × List ℕ)) → T (below_all R k es) → AllByRecursion (λ (q : List ℕ × List ℕ). Before (nibbles k) q.0) (paths es)
-before_paths k [] h = tt
-before_paths k (e ∷ es) h = (nibbles_before k e.0 (is_less (R k e.0) (left_true (is_lt (R k e.0)) (below_all R k es) h)), before_paths k es (right_true (is_lt (R k e.0)) (below_all R k es) h))
-
-rise_paths : (es : List (List ℕ × List ℕ)) → T (is_sorted R es) → Rise (paths es)
-rise_paths [] h = tt
-rise_paths (e ∷ es) h = (before_paths e.0 es (left_true (below_all R e.0 es) (is_sorted R es) h), rise_paths es (right_true (below_all R e.0 es) (is_sorted R es) h))
-
-pub walk_pairs : (es : List Entry) (keys : Paths) → keys ≡ paths (pairs_of es) → InOrder es → AllByRecursion (λ (p : List ℕ × List ℕ). IsNibbles p.0) keys → CanWalk keys
-walk_pairs es keys e order small = record { order = subst Rise (sym e) (rise_paths (pairs_of es) order); small = small }
-
-short_below : (ps : Paths) (n : ℕ) → depth ps ≤ n → AllByRecursion (λ (p : List ℕ × List ℕ). length p.0 < n) ps
-short_below [] n h = tt
-short_below (p ∷ ps) n h = (omega (arith, h), short_below ps n (omega (arith, h)))
-
-stands : (ps : Paths) → CanWalk ps → CanStand (depth ps) ps
-stands ps h = record { short = short_below ps (depth ps) (omega arith); small = h.small; differ = differ_rising ps h.order }
 
 -- ---- the forest of entries
 pub nodes_pairs : (es : List (List ℕ × List ℕ)) → nodes_in (forest_of es) ≡ all_nodes (paths es)

@@ -13,7 +13,8 @@ use Rattle.nr_walk.specs.Told.{own_usage}
 use Rattle.nr_parts.specs.Offsets.{has}
 use Rattle.nr_columns.specs.Entries.{pairs_of}
 use Rattle.nr_parts.specs.Cutting.{once}
-use Rattle.nr_parts.specs.Sweeping.{has_value, swept_entries, passed_by, swept_nodes}
+use Rattle.nr_parts.specs.Sweeping.{swept_entries, passed_by, swept_nodes}
+use Rattle.nr_walk.specs.Told.{has_value}
 use Rattle.nr_parts.specs.declared.share.Share.{Share}
 
 pub entry_skipped : (share : Share) (at : ℕ) (node : Node) (more : List Node) (es : List Entry) → has_value node ≡ false → swept_entries share at (node ∷ more) es ≡ swept_entries share (at + own_usage node) more es

@@ -1,20 +1,17 @@
 -- The trie of a map with keys of bytes: its keys stand, and its nodes are grown.
-use Rattle.std.proofs.Common.{◌<◌, ◌≤◌, ℕ, List, [], ◌∷◌, length, refl, arith}
+use Rattle.std.proofs.Common.{ℕ, List, [], ◌∷◌, refl, arith}
 use Rattle.std.specs.List.{AllByRecursion}
 use Rattle.std.specs.FinMap.{entries}
 use Rattle.nr_bytes.specs.Numbers.{IsBytes}
 use Rattle.nr_triedef.specs.Node.{nibbles, IsNibbles}
-use Rattle.nr_triedef.specs.Root.{Contents, Paths, paths, depth}
+use Rattle.nr_triedef.specs.Root.{Contents, paths, depth}
 use Rattle.nr_triedef.proofs.Parts.{nibbles_small}
 use Rattle.nr_store.proofs.Links.{CanStand}
 use Rattle.nr_store.proofs.Listed.{walk_whole}
 use Rattle.nr_store.proofs.Orders.{differ_rising}
 use Rattle.nr_trielist.specs.Forest.{bare, forest_of}
 use Rattle.nr_parts.proofs.Grown.{IsGrown, grown_forest}
-
-short_below : (ps : Paths) (n : ℕ) → depth ps ≤ n → AllByRecursion (λ (p : List ℕ × List ℕ). length p.0 < n) ps
-short_below [] n h = tt
-short_below (p ∷ ps) n h = (omega (arith, h), short_below ps n (omega (arith, h)))
+use Rattle.nr_store.proofs.Levels.{short_below}
 
 small_paths : (es : List (List ℕ × List ℕ)) → AllByRecursion (λ (e : List ℕ × List ℕ). IsBytes e.0) es → AllByRecursion (λ (p : List ℕ × List ℕ). IsNibbles p.0) (paths es)
 small_paths [] h = tt

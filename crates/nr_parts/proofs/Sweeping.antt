@@ -14,7 +14,8 @@ use Rattle.nr_trielist.specs.Forest.{Stood, Forest, bare, tree, listed}
 use Rattle.nr_parts.specs.Offsets.{tops_usage, has, entry_list, entry_in, entries_in, meets}
 use Rattle.nr_parts.specs.Walking.{claim_of}
 use Rattle.nr_parts.specs.Cutting.{looked, looked_from_root}
-use Rattle.nr_parts.specs.Sweeping.{has_value, swept_entries, passed_by, swept_nodes, owns}
+use Rattle.nr_parts.specs.Sweeping.{swept_entries, passed_by, swept_nodes, owns}
+use Rattle.nr_walk.specs.Told.{has_value}
 use Rattle.nr_parts.specs.declared.share.Share.{Share}
 use Rattle.nr_parts.proofs.Grown.{claimed, Fitting, IsGrown}
 use Rattle.nr_parts.proofs.Shares.{some_own, entries_tree}

@@ -20,7 +20,8 @@ use Rattle.nr_parts.proofs.Grown.{IsGrown, usage_forest}
 use Rattle.nr_parts.proofs.Shares.{total, total_grown, some_own}
 use Rattle.nr_parts.proofs.Sweeping.{entries_all, all_tree}
 use Rattle.nr_walk.proofs.Placing.{all-append}
-use Rattle.nr_parts.proofs.Cuts.{all_pairs, grown_pairs, bytes_pairs, walk_pairs}
+use Rattle.nr_parts.proofs.Cuts.{all_pairs, grown_pairs, bytes_pairs}
+use Rattle.nr_walk.proofs.Orders.{walk_pairs}
 
 -- the number of the part of an offset
 abbrev number_at : ℕ → ℕ → ℕ → ℕ

@@ -1,22 +1,14 @@
 -- The part that is cut out of entries: what it holds. This project's own.
-use Rattle.std.specs.Prelude.{ℕ, ◌+◌, ◌-◌, cond, T, List, [], ◌∷◌, ◌++◌, map, is_some}
+use Rattle.std.specs.Prelude.{ℕ, ◌+◌, ◌-◌, cond, List, [], ◌∷◌, ◌++◌, map, is_some}
 use Rattle.std.specs.FinMap.{empty, get, insert}
-use Rattle.std.specs.FinMap.Entries.{is_sorted}
-use Rattle.std.specs.Ordering.{nat_cmp}
-use Rattle.std.specs.Cmp.Lexicographic.{slice_cmp}
 use Rattle.sha2.specs.Sha256.{sha256}
 use Rattle.nr_triedef.specs.Node.{node_text, usage_of}
 use Rattle.nr_triedef.specs.Root.{Contents, root_of_entries}
-use Rattle.nr_columns.specs.Entries.{pairs_of}
-use Rattle.nr_columns.specs.declared.entry.Entry.{Entry}
+pub use Rattle.nr_columns.specs.Entries.{InOrder}
 use Rattle.nr_trielist.specs.Forest.{Stood, Forest, bare, tree, forest_of}
 use Rattle.nr_parts.specs.Offsets.{tops_usage, meets, share_of, part_of_entries}
 use Rattle.nr_parts.specs.declared.part.Part.{Part}
 use Rattle.nr_parts.specs.declared.share.Share.{Share}
-
--- the keys are in the order of their bytes, and no two are the same
-abbrev pub InOrder : List Entry → Type 0
-InOrder es = T (is_sorted (slice_cmp nat_cmp) (pairs_of es))
 
 -- ---- the nodes whose texts a part has: of those side by side all, and below one all where its offsets meet the part's
 abbrev pub looked : Share → ℕ → Forest → List Stood

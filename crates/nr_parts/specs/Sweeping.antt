@@ -1,18 +1,11 @@
 -- One pass over the list of all nodes of a trie, as the code makes it. This project's own.
-use Rattle.std.specs.Prelude.{ℕ, ◌+◌, Bool, true, false, cond, not, ◌&&◌, nat_le, nat_lt, List, [], ◌∷◌, ◌++◌, take}
-use Rattle.std.specs.Prelude.{drop, is_some}
+use Rattle.std.specs.Prelude.{ℕ, ◌+◌, cond, not, ◌&&◌, nat_le, nat_lt, List, [], ◌∷◌, ◌++◌, take, drop}
 use Rattle.nr_triedef.specs.Node.{usage_of}
 use Rattle.nr_triedef.specs.declared.node.Node.{Node}
-use Rattle.nr_triedef.specs.declared.node.Node.TheVariants.{Leaf, Extension, Branch}
 use Rattle.nr_columns.specs.declared.entry.Entry.{Entry}
-use Rattle.nr_walk.specs.Told.{own_usage}
+use Rattle.nr_walk.specs.Told.{has_value, own_usage}
 use Rattle.nr_parts.specs.Offsets.{has, meets}
 use Rattle.nr_parts.specs.declared.share.Share.{Share}
-
-abbrev pub has_value : Node → Bool
-has_value (Leaf part size hash usage) = true
-has_value (Extension part child usage) = false
-has_value (Branch value children usage) = is_some value
 
 -- the entries of the nodes with a value, in turn, that belong to the part
 abbrev pub swept_entries : Share → ℕ → List Node → List Entry → List Entry

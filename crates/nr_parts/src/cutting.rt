@@ -5,14 +5,14 @@ ghost use Rattle.std.specs.Prelude.{IfOk, OnOk};
 ghost use Rattle.std.specs.List.{AllByRecursion};
 ghost use Rattle.std.specs.FinMap as map_of;
 ghost use Rattle.sha2.specs.Sha256.{sha256};
-ghost use Rattle.nr_triedef.specs.Node.{nibbles, node_text, IsNode, IsNibbles};
+ghost use Rattle.nr_triedef.specs.Node.{node_text, IsNode};
 ghost use Rattle.nr_triedef.specs.Root.{paths};
 ghost use Rattle.nr_store.specs.Tries.{CanWalk, whole};
 ghost use Rattle.nr_trielist.specs.Growing.{all_nodes};
 ghost use Rattle.nr_columns.specs.Entries.{pairs_of};
 ghost use Rattle.nr_parts.specs.Cutting.{InOrder, once, part_cut};
 ghost use Rattle.nr_parts.specs.Agreeing.{IsAcceptedOf};
-ghost use Rattle.nr_parts.specs.Sweeping.{has_value, swept_entries, passed_by, swept_nodes, owns};
+ghost use Rattle.nr_parts.specs.Sweeping.{swept_entries, passed_by, swept_nodes, owns};
 
 use crate::joining::copy_of;
 use crate::part::Part;
@@ -20,32 +20,11 @@ use crate::share::{Share, has, meets};
 use nr_bytes::{Blob, List};
 use nr_columns::Entry;
 use nr_ids::Hash32;
-use nr_store::{Entry as Keyed, PlainStore, Span};
-use nr_triedef::{Node, Store, node_text, value_hash};
+use nr_store::{PlainStore, Span};
+use nr_triedef::{Node, Store, node_text, usage_of, value_hash};
 use nr_trielist::{Hashes, Top, list_nodes};
-use nr_walk::{own_usage, usage_of};
+use nr_walk::{has_value, keys_of, own_usage};
 use std::alloc::{AllocError, Global};
-
-// The entries as keys and values, in their order.
-fn keyed_of(alloc: Global, entries: &[Entry]) -> Result<Vec<Keyed<'_>>, AllocError>
-    requires { InOrder entries.now }
-    ensures value { IfOk result (λ keys. keys.items ≡ paths (pairs_of entries.now)) }
-    ensures order { IfOk result (λ keys. CanWalk keys.items) }
-{
-    let mut keys = Vec::new(alloc);
-    for entry in entries {
-        push_key(&mut keys, entry)?;
-    }
-    Ok(keys)
-}
-
-fn push_key<'a>(keys: &mut Vec<Keyed<'a>>, entry: &'a Entry) -> Result<(), AllocError>
-    ensures value { OnOk result (keys.new.items ≡ keys.old.items ++ (nibbles entry.now.key, entry.now.value) ∷ []) }
-    ensures small { IsNibbles (nibbles entry.now.key) }
-{
-    keys.push(Keyed::of(entry.key.inner(), entry.value.inner()))?;
-    Ok(())
-}
 
 // The trie of the entries: its root, where there is one, and all nodes, depth first.
 fn nodes_of(alloc: Global, entries: &[Entry]) -> Result<(Option<Top>, List<Node>), AllocError>
@@ -54,19 +33,9 @@ fn nodes_of(alloc: Global, entries: &[Entry]) -> Result<(Option<Top>, List<Node>
     ensures top { IfOk result (λ r. r.0 ≡ whole (paths (pairs_of entries.now))) }
     ensures nodes { IfOk result (λ r. r.1 ≡ all_nodes (paths (pairs_of entries.now))) }
 {
-    let keys = keyed_of(alloc, entries)?;
+    let keys = keys_of(alloc, entries)?;
     let mut hashes = Hashes::new(alloc);
     list_nodes(alloc, Span::of(&keys), &mut hashes)
-}
-
-fn has_value(node: &Node) -> bool
-    ensures { result ≡ has_value node.now }
-{
-    match node {
-        Node::Leaf { .. } => true,
-        Node::Extension { .. } => false,
-        Node::Branch { value, .. } => value.is_some(),
-    }
 }
 
 // Adds the entry of an index, where there is one.

@@ -10,7 +10,6 @@ mod joining;
 mod laws;
 mod part;
 mod share;
-mod waiting;
 mod walking;
 
 pub use checking::check_part;

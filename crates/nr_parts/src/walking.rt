@@ -10,13 +10,12 @@ ghost use Rattle.nr_parts.specs.Offsets.{has, share_of};
 ghost use Rattle.nr_parts.specs.Walking.{claim_of, claim_at, seen, visited, walk_from, walk_below, walked, most_nodes};
 
 use crate::share::{Share, has, meets};
-use crate::waiting::Waiting;
 use nr_bytes::{Blob, List};
 use nr_ids::Hash32;
-use nr_triedef::Node;
+use nr_triedef::{Node, usage_of};
 use nr_walk::{
-    Ending, Spot, Texts, WalkFault, ending_of, further, look_at, own_usage, packed, room_behind,
-    room_behind_children, spots_of, usage_of,
+    Ending, Spot, Texts, Waiting, WalkFault, ending_of, further, look_at, own_usage, packed,
+    room_behind, room_behind_children, spots_of,
 };
 use std::alloc::{AllocError, Global};
 

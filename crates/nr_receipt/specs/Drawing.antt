@@ -1,14 +1,14 @@
 -- The receipts that an execution makes behind its actions, each under the next id: the result for those who wait for
 -- it, and refunds. After the Nomicon, Runtime Specification
 -- (Receipts, Refunds); the ids and their order are this project's.
-use Rattle.std.specs.Prelude.{ℕ, ◌+◌, ◌==◌, cond, List, [], ◌∷◌, ◌++◌, Option, Some, None, fold}
+use Rattle.std.specs.Prelude.{ℕ, ◌==◌, cond, List, [], ◌∷◌, ◌++◌, Option, Some, None, fold}
 use Rattle.std.specs.Str.{bytes_eq}
 use Rattle.nr_actions.specs.Actions.{with_refund}
+pub use Rattle.nr_actions.specs.Actions.{next_id, with_drawn}
 use Rattle.nr_actions.specs.Refunds.{refund}
 use Rattle.nr_actions.specs.declared.frame.Frame.{Frame}
 use Rattle.nr_config.specs.Config.{Config}
 use Rattle.nr_fees.specs.Fees.{deposits}
-use Rattle.nr_ids.specs.Derive.{derived}
 use Rattle.nr_ids.specs.Grammar.{is_system}
 use Rattle.nr_ids.specs.declared.key.Hash32.{Hash32}
 use Rattle.nr_receipt.specs.Frames.{gas_back}
@@ -18,12 +18,6 @@ use Rattle.nr_records.specs.declared.receipt.DataReceiver.{DataReceiver}
 use Rattle.nr_records.specs.declared.receipt.Receipt.{Receipt}
 use Rattle.nr_state.specs.declared.calls.Returned.{Returned}
 use Rattle.nr_state.specs.declared.calls.Returned.TheVariants.{Value, Promise}
-
-abbrev pub next_id : Frame → Hash32
-next_id f = derived f.receipt_id f.place.height.0 f.next_ordinal
-
-abbrev pub with_drawn : Frame → Receipt → Frame
-with_drawn f r = record f { made = f.made ++ r ∷ []; next_ordinal = f.next_ordinal + 1 }
 
 -- ---- a datum for each output, in order: the value, or none where the receipt failed
 abbrev pub datum_for : Frame → Option (List ℕ) → DataReceiver → Receipt

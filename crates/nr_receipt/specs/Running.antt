@@ -1,17 +1,18 @@
 -- The actions of a receipt in order, up to the first failure, and the check of storage behind the last one. After the
 -- Nomicon, Runtime Specification, Receipts and Actions.
-use Rattle.std.specs.Prelude.{ℕ, ◌+◌, ◌*◌, ◌==◌, ◌&&◌, not, Bool, false, cond, List, [], ◌∷◌, length, Option, Some}
+use Rattle.std.specs.Prelude.{ℕ, ◌+◌, ◌==◌, ◌&&◌, not, Bool, false, cond, List, [], ◌∷◌, length, Option, Some}
 use Rattle.std.specs.Prelude.{None, nat_lt}
 use Rattle.std.specs.FinMap.{get}
 use Rattle.nr_actions.specs.Actions.{Acted, Acts, Fails, act}
 use Rattle.nr_actions.specs.Failures.{number}
 use Rattle.nr_actions.specs.declared.failure.Failure.TheVariants.{LackBalanceForState}
 use Rattle.nr_actions.specs.declared.frame.Frame.{Frame}
-use Rattle.nr_config.specs.Config.{Config, storage_price}
+use Rattle.nr_config.specs.Config.{Config}
 use Rattle.nr_ids.specs.Grammar.{is_system}
 use Rattle.nr_records.specs.declared.account.Account.{Account}
 use Rattle.nr_records.specs.declared.action.Action.{Action}
 use Rattle.nr_state.specs.Calls.{Called}
+use Rattle.nr_state.specs.Usage.{storage_stake}
 use Rattle.nr_state.specs.World.{World, account_tokens}
 use Rattle.nr_state.specs.declared.calls.CallContext.{CallContext}
 
@@ -24,7 +25,7 @@ pub data Ran : Type 0 where
 -- ---- the check of storage, which no receipt of the system
 -- has: a receiver that stands must have enough for what it uses
 abbrev pub lacks_balance : Config → Account → Bool
-lacks_balance c account = nat_lt (account_tokens account) (account.storage_usage * storage_price c)
+lacks_balance c account = nat_lt (account_tokens account) (storage_stake c account)
 
 abbrev pub receiver_lacks : Config → Option Account → Bool
 receiver_lacks c None = false

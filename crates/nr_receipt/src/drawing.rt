@@ -3,29 +3,12 @@
 ghost use Rattle.std.specs.Prelude.{◌≡◌, ◌^◌, ◌<◌, IfOk, OnOk};
 ghost use Rattle.nr_actions.specs.Refunds.{refund};
 ghost use Rattle.nr_fees.specs.Fees.{deposits};
-ghost use Rattle.nr_receipt.specs.Drawing.{next_id, with_drawn, deposits_lost, with_deposits_back, with_gas_back};
+ghost use Rattle.nr_receipt.specs.Drawing.{next_id, deposits_lost, with_deposits_back, with_gas_back};
 
-use nr_actions::{Frame, deposit_refund, refund};
+use nr_actions::{Frame, deposit_refund, draw, next_id, refund};
 use nr_fees::deposits;
-use nr_ids::{Hash32, derive};
 use nr_records::Receipt;
 use std::alloc::{AllocError, Global};
-
-/// The next id that is drawn from the receipt's.
-pub(crate) fn next_id(frame: &Frame) -> Hash32
-    ensures { result ≡ next_id frame.now }
-{
-    derive(&frame.receipt_id, frame.place.height, frame.next_ordinal)
-}
-
-/// Adds a receipt that has the next id.
-pub(crate) fn draw(frame: &mut Frame, receipt: Receipt) -> Result<(), AllocError>
-    ensures { OnOk result (frame.new ≡ with_drawn frame.old receipt) }
-{
-    frame.next_ordinal = frame.next_ordinal.checked_add(1).ok_or(AllocError)?;
-    frame.made.vec_mut().push(receipt)?;
-    Ok(())
-}
 
 /// What came with the actions, in all.
 fn deposits_of(frame: &Frame) -> u128

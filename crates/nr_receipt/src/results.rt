@@ -5,8 +5,8 @@ ghost use Rattle.nr_fees.specs.Fees.{deposits};
 ghost use Rattle.nr_receipt.specs.Drawing.{datum_for, with_datum, with_data, with_outputs, handed_on, with_result};
 ghost use Rattle.nr_receipt.specs.Drawing.{given_up};
 
-use crate::drawing::{draw, give_deposits_back, next_id};
-use nr_actions::Frame;
+use crate::drawing::give_deposits_back;
+use nr_actions::{Frame, draw, next_id};
 use nr_bytes::{Blob, List};
 use nr_ids::Hash32;
 use nr_records::{Body, DataReceipt, DataReceiver, Receipt, Spelled};

@@ -11,8 +11,9 @@ ghost use Rattle.nr_receipt.specs.declared.running.Stop.TheVariants.{Memory};
 use nr_actions::laws::action_laws;
 use nr_actions::{ActionFault, Failure, Frame, apply};
 use nr_config::Config;
-use nr_config::entries::STORAGE_PRICE;
-use nr_records::{Account, Action};
+use nr_fees::attached_to;
+use nr_records::Account;
+use nr_state::usage::storage_stake;
 use nr_state::{Caller, ShardState};
 use nr_triedef::Store;
 use std::alloc::{AllocError, Global};
@@ -30,16 +31,6 @@ impl From<AllocError> for Stop {
 
     fn from(_fault: AllocError) -> Stop {
         Stop::Memory
-    }
-}
-
-/// The gas attached to an action.
-fn attached_to(action: &Action) -> u64
-    ensures { result ≡ attached action.now }
-{
-    match action {
-        Action::FunctionCall { gas, .. } => *gas,
-        _ => 0,
     }
 }
 
@@ -111,7 +102,7 @@ fn run_all<S: Store, C: Caller<S>>(
 fn lacks_balance(config: &Config, account: &Account) -> bool
     ensures { result ≡ lacks_balance config.now account.now }
 {
-    let needs = u128::from(account.storage_usage) * u128::from(config.entry(STORAGE_PRICE));
+    let needs = storage_stake(config, account);
     match account.amount.checked_add(account.locked) {
         Some(has) => has < needs,
         None => false,

@@ -36,7 +36,7 @@ use Rattle.nr_state.specs.declared.place.Place.{Place}
 use Rattle.nr_state.proofs.EntryWorlds.{none_again, none_whole, world_fits}
 use Rattle.nr_state.proofs.ValidQueues.{empty_valid}
 use Rattle.nr_recheck.specs.Rechecking.{before, is_placed, place_of, sealed_on, shards_in}
-use Rattle.nr_recheck.specs.Running.{CanRun, block_of, by_shard, chain_of, first_sealed, resumed_on}
+use Rattle.nr_recheck.specs.Running.{CanRun, block_of, by_shard, resumed_chain, first_sealed, resumed_on}
 
 -- ---- one thing among others
 abbrev padded : {A : Type 0} → ℕ → ℕ → A → A → List A
@@ -148,7 +148,7 @@ module _ (c : Config) (g : Gathered) (es : List Entry) (can : CanRun c g es) whe
 
   module _ (call : World → CallContext → Called) where
     abbrev x : Chain
-    x = chain_of c call g es
+    x = resumed_chain c call g es
 
     first_is : (rules_of x).begins n ≡ before c g (world_from es)
     first_is = λ i. record {

@@ -39,8 +39,8 @@ block_of g =
       chunks = by_shard g (Some g.transactions) None;
     }
 
-abbrev pub chain_of : Config → (World → CallContext → Called) → Gathered → List Entry → Chain
-chain_of c call g es = chain_with c (start_of (first.Resumed (resumed_on g es))) (block_of g ∷ []) call
+abbrev pub resumed_chain : Config → (World → CallContext → Called) → Gathered → List Entry → Chain
+resumed_chain c call g es = chain_with c (start_of (first.Resumed (resumed_on g es))) (block_of g ∷ []) call
 
 -- what the first chunk of a shard comes to
 abbrev pub first_sealed : Chain → ℕ → Sealing Kept (List Receipt) ChunkResult

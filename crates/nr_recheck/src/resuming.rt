@@ -2,7 +2,7 @@
 
 ghost use Rattle.std.specs.Prelude.{◌≡◌, ◌++◌, ◌∷◌, [], replicate, IfOk, OnOk, Some, None};
 ghost use Rattle.nr_chunk.specs.Runs.{chain_in};
-ghost use Rattle.nr_recheck.specs.Running.{CanRun, chain_of};
+ghost use Rattle.nr_recheck.specs.Running.{CanRun, resumed_chain};
 
 use nr_blocks::Block;
 use nr_bytes::List;
@@ -81,7 +81,7 @@ pub(crate) fn resume<C: Caller<ChunkStore> + Drop>(
 ) -> Result<ChainRun<C>, AllocError>
     requires caller { C.config parts.1 ≡ parts.0 }
     requires can { CanRun parts.0 gathered entries }
-    ensures { IfOk result (λ chain. chain_in chain ≡ chain_of parts.0 (C.meaning parts.1) gathered entries) }
+    ensures { IfOk result (λ chain. chain_in chain ≡ resumed_chain parts.0 (C.meaning parts.1) gathered entries) }
 {
     let Gathered {
         layout,

@@ -7,6 +7,7 @@ use Rattle.nr_bytes.specs.Numbers.{IsBytes}
 use Rattle.nr_triedef.specs.Node.{nibbles, digest}
 use Rattle.nr_ids.specs.declared.key.Hash32.{Hash32}
 use Rattle.nr_triedef.specs.Root.{Contents, Paths, paths, summary_of}
+pub use Rattle.nr_columns.specs.Entries.{pairs_of}
 use Rattle.nr_columns.specs.declared.entry.Entry.{Entry}
 use Rattle.nr_walk.specs.declared.fault.WalkFault.{WalkFault}
 use Rattle.nr_walk.specs.Shown.{IsSplit, IsBeside}
@@ -72,9 +73,6 @@ AllBeside searched all (k ∷ ks) ps = IsSplit (IsBeside searched all k) (AllBes
 -- what is kept stands for the paths that aren't searched
 abbrev pub IsKept : List Searched → Paths → List Kept → Type 0
 IsKept searched ps ks = AllBeside searched ps ks (others_of searched ps)
-
-abbrev pub pairs_of : List Entry → List (List ℕ × List ℕ)
-pairs_of es = map (λ e. (e.key, e.value)) es
 
 -- the root of the trie of what is kept and of new entries
 abbrev pub remade : List Kept → List Entry → Hash32

@@ -1,13 +1,13 @@
 //! Nodes of the trie: what each tells the one above it.
 
-ghost use Rattle.std.specs.Prelude.{◌≡◌, ◌≤◌, ◌<◌, ◌+◌, false, true, length, map, sum_by, Some, IfOk};
+ghost use Rattle.std.specs.Prelude.{◌≡◌, ◌≤◌, ◌<◌, false, length, map, sum_by, IfOk};
 ghost use Rattle.std.specs.Bool.{OnTrue};
 ghost use Rattle.nr_triedef.specs.Node.{IsNibbles, IsNode, key_part, links, summary, usage_of};
-ghost use Rattle.nr_triedef.specs.Root.{part_usage, extension, hash_below, usage_below, with_front};
+ghost use Rattle.nr_triedef.specs.Root.{extension, hash_below, usage_below, with_front};
 ghost use Rattle.nr_remake.specs.Marks.{alone, branch_with, field, field_usage, leaf_of};
 
 use nr_ids::Hash32;
-use nr_triedef::{Node, key_part, node_text, value_hash};
+use nr_triedef::{Node, key_part, node_text, part_usage, sum_of, value_hash};
 use nr_walk::Known;
 use std::alloc::{AllocError, Global};
 use std::marker::Model;
@@ -27,27 +27,6 @@ impl Model for Top {
     ghost view = { λ t. record { hash = t.hash; usage = t.usage } };
 
     ghost inverse = { λ s. record { hash = s.hash; usage = s.usage } };
-}
-
-// A length of 2^32 or more counts as want of memory.
-fn length_of(bytes: &[u8]) -> Result<u32, AllocError>
-    ensures { IfOk result (λ n. n ≡ length bytes.now) }
-{
-    u32::try_from(bytes.len()).map_err(|_| AllocError)
-}
-
-// A sum that passes u64 counts as want of memory.
-fn sum_of(a: u64, b: u64) -> Result<u64, AllocError>
-    ensures { IfOk result (λ n. n ≡ a + b) }
-{
-    a.checked_add(b).ok_or(AllocError)
-}
-
-fn part_usage(part: &[u8]) -> Result<u64, AllocError>
-    ensures { IfOk result (λ n. n ≡ part_usage part.now) }
-{
-    let length = length_of(part)?;
-    Ok(50 + 2 * u64::from(length))
 }
 
 fn are_nibbles(path: &[u8]) -> bool

@@ -1,6 +1,7 @@
 //! Chains of as many blocks as a file may have, by both calls.
 
-use crate::rows::{GENESIS, words_of};
+use crate::rows::GENESIS;
+use crate::setting::{shelf_of, words_of};
 use nr_bytes::{MemoryShelf, MemorySink};
 use nr_replay::replay;
 use nr_top::{Status, serial};
@@ -36,11 +37,13 @@ fn blocks_of(alloc: Global, count: u32) -> Result<Vec<u8>, Fail> {
 }
 
 /// The genesis `G`, and blocks `B` of so many.
-fn shelf_of(alloc: Global, count: u32) -> Result<MemoryShelf, Fail> {
-    let mut files = Vec::new(alloc);
-    files.push((String::from_str(alloc, "G")?, hex::decode(alloc, GENESIS)?))?;
-    files.push((String::from_str(alloc, "B")?, blocks_of(alloc, count)?))?;
-    Ok(MemoryShelf::new(files, Vec::new(alloc)))
+fn chain_of(alloc: Global, count: u32) -> Result<MemoryShelf, Fail> {
+    let genesis = hex::decode(alloc, GENESIS)?;
+    let blocks = blocks_of(alloc, count)?;
+    Ok(shelf_of(
+        alloc,
+        &[("G", genesis.as_slice()), ("B", blocks.as_slice())],
+    )?)
 }
 
 fn sink_of(alloc: Global) -> Result<MemorySink, Fail> {
@@ -50,7 +53,7 @@ fn sink_of(alloc: Global) -> Result<MemorySink, Fail> {
 /// How the serial run ends, and what it wrote.
 fn serially(alloc: Global, count: u32) -> Result<(Status, MemorySink), Fail> {
     let words = words_of(alloc, &["run", "free", "G", "B"])?;
-    let mut shelf = shelf_of(alloc, count)?;
+    let mut shelf = chain_of(alloc, count)?;
     let mut sink = sink_of(alloc)?;
     let status = serial(alloc, &words, &mut shelf, &mut sink);
     Ok((status, sink))
@@ -63,7 +66,7 @@ fn beside<R: Threads + Wait + Sync>(
     count: u32,
 ) -> Result<(Status, MemorySink), Fail> {
     let words = words_of(alloc, &["replay", "free", "G", "B"])?;
-    let mut shelf = shelf_of(alloc, count)?;
+    let mut shelf = chain_of(alloc, count)?;
     let mut sink = sink_of(alloc)?;
     let status = replay(rt, alloc, &words, &mut shelf, &mut sink, &OpenGate);
     Ok((status, sink))

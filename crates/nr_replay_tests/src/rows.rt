@@ -1,6 +1,7 @@
 //! Runs of two shards, by words and files.
 
 use crate::gates::{AheadOfBarrier, TwoAtOpen};
+use crate::setting::{shelf_of, words_of};
 use nr_bytes::{MemoryShelf, MemorySink};
 use nr_replay::replay;
 use nr_top::{Status, serial};
@@ -36,7 +37,7 @@ const TOTALS: &str = "total supply 0\ntotal accounts 0\ntotal receipts 0\ntotal 
                       total places 0 0 0 0 0\n";
 
 /// A genesis of one shard with `aa`, who has a key, and `zz`.
-const BOTH_ACCOUNTS: &str =
+pub(crate) const BOTH_ACCOUNTS: &str =
     "4e5247310000000003000000000200000061616400000000000000000000000000000000000000000000\
      0000000000000000000000000000000000000000000000000000000000000000000000000000000000b6\
      0000000000000000020000007a7a14000000000000000000000000000000000000000000000000000000\
@@ -45,7 +46,7 @@ const BOTH_ACCOUNTS: &str =
      000000000000000001";
 
 /// Two blocks, with the boundary `mm` from the second on. In the first `aa` sends 5 to `zz`.
-const RESHARDED: &str =
+pub(crate) const RESHARDED: &str =
     "4e52423301020000000000000001000000020000006d6d02000000010000000000000000000000000000\
      000000000000000000010000000101000000020000006161000101010101010101010101010101010101\
      0101010101010101010101010101010100000000000000020000007a7a00000000000000000000000000\
@@ -82,24 +83,18 @@ const SUMMARY: &str = "gen 4 2 2\n\
                        total burnt 17174400\n\
                        total places 44 16 0 0 28\n";
 
-pub(crate) fn words_of(alloc: Global, of: &[&str; 4]) -> Result<Vec<String>, Fail> {
-    let mut words = Vec::new(alloc);
-    for word in *of {
-        words.push(String::from_str(alloc, word)?)?;
-    }
-    Ok(words)
-}
-
 /// A shelf with the genesis `G` and blocks `B`, given in hexadecimal.
-fn shelf_of(alloc: Global, genesis: &str, blocks: &str) -> Result<MemoryShelf, Fail> {
-    let mut files = Vec::new(alloc);
-    files.push((String::from_str(alloc, "G")?, hex::decode(alloc, genesis)?))?;
-    files.push((String::from_str(alloc, "B")?, hex::decode(alloc, blocks)?))?;
-    Ok(MemoryShelf::new(files, Vec::new(alloc)))
+pub(crate) fn chain_of(alloc: Global, genesis: &str, blocks: &str) -> Result<MemoryShelf, Fail> {
+    let genesis = hex::decode(alloc, genesis)?;
+    let blocks = hex::decode(alloc, blocks)?;
+    Ok(shelf_of(
+        alloc,
+        &[("G", genesis.as_slice()), ("B", blocks.as_slice())],
+    )?)
 }
 
 /// Whether the words over these files, through a gate, write just this text.
-fn writes_over<R: Threads + Wait + Sync, G: Gate + Sync>(
+fn writes<R: Threads + Wait + Sync, G: Gate + Sync>(
     rt: &R,
     alloc: Global,
     words: &[&str; 4],
@@ -108,22 +103,10 @@ fn writes_over<R: Threads + Wait + Sync, G: Gate + Sync>(
     text: &str,
 ) -> Result<bool, Fail> {
     let words = words_of(alloc, words)?;
-    let mut shelf = shelf_of(alloc, genesis, blocks)?;
+    let mut shelf = chain_of(alloc, genesis, blocks)?;
     let mut sink = MemorySink::new(alloc, 64, Vec::new(alloc), 4096)?;
     let status = replay(rt, alloc, &words, &mut shelf, &mut sink, gate);
     Ok(status == Status::Done && sink.bytes() == text.as_bytes())
-}
-
-/// The same over the genesis of two shards.
-fn writes<R: Threads + Wait + Sync, G: Gate + Sync>(
-    rt: &R,
-    alloc: Global,
-    words: &[&str; 4],
-    blocks: &str,
-    gate: &G,
-    text: &str,
-) -> Result<bool, Fail> {
-    writes_over(rt, alloc, words, (GENESIS, blocks), gate, text)
 }
 
 #[test]
@@ -132,7 +115,8 @@ fn two_at_open(rt: HostRuntime) -> Result<(), Fail> {
         there: [AtomicBool::new(false), AtomicBool::new(false)],
         alone: AtomicBool::new(false),
     };
-    assert!(rt; writes(&rt, rt.alloc(), &REPLAY, BOTH, &gate, CHUNKS)?);
+    let files = (GENESIS, BOTH);
+    assert!(rt; writes(&rt, rt.alloc(), &REPLAY, files, &gate, CHUNKS)?);
     assert!(rt; !gate.alone.load(Ordering::SeqCst));
     Ok(())
 }
@@ -143,27 +127,26 @@ fn ahead_of_barrier(rt: HostRuntime) -> Result<(), Fail> {
         ahead: AtomicBool::new(false),
         alone: AtomicBool::new(false),
     };
-    assert!(rt; writes(&rt, rt.alloc(), &REPLAY, BOTH, &gate, CHUNKS)?);
+    let files = (GENESIS, BOTH);
+    assert!(rt; writes(&rt, rt.alloc(), &REPLAY, files, &gate, CHUNKS)?);
     assert!(rt; !gate.alone.load(Ordering::SeqCst));
     Ok(())
 }
 
+/// Two blocks without a chunk, boundaries that change where all threads have ended, and a generated chain.
 #[test]
-fn missing_chunks_give_totals_alone(rt: HostRuntime) -> Result<(), Fail> {
-    assert!(rt; writes(&rt, rt.alloc(), &REPLAY, NONE, &OpenGate, TOTALS)?);
-    Ok(())
-}
-
-#[test]
-fn boundaries_change_where_all_threads_have_ended(rt: HostRuntime) -> Result<(), Fail> {
-    let files = (BOTH_ACCOUNTS, RESHARDED);
-    assert!(rt; writes_over(&rt, rt.alloc(), &REPLAY, files, &OpenGate, RESHARDED_REPORT)?);
-    Ok(())
-}
-
-#[test]
-fn a_generated_chain_has_its_digest(rt: HostRuntime) -> Result<(), Fail> {
-    assert!(rt; writes(&rt, rt.alloc(), &GENERATED, NONE, &OpenGate, SUMMARY)?);
+fn runs_by_threads_are_written(rt: HostRuntime) -> Result<(), Fail> {
+    let rows: [(&[&str; 4], (&str, &str), &str); 3] = [
+        (&REPLAY, (GENESIS, NONE), TOTALS),
+        (&REPLAY, (BOTH_ACCOUNTS, RESHARDED), RESHARDED_REPORT),
+        (&GENERATED, (GENESIS, NONE), SUMMARY),
+    ];
+    for (words, files, text) in rows {
+        assert!(rt;
+            writes(&rt, rt.alloc(), words, files, &OpenGate, text)?,
+            "{text}"
+        );
+    }
     Ok(())
 }
 
@@ -171,7 +154,7 @@ fn a_generated_chain_has_its_digest(rt: HostRuntime) -> Result<(), Fail> {
 fn the_serial_call_knows_no_replay(rt: HostRuntime) -> Result<(), Fail> {
     let alloc = rt.alloc();
     let words = words_of(alloc, &REPLAY)?;
-    let mut shelf = shelf_of(alloc, GENESIS, BOTH)?;
+    let mut shelf = chain_of(alloc, GENESIS, BOTH)?;
     let mut sink = MemorySink::new(alloc, 64, Vec::new(alloc), 4096)?;
     let status = serial(alloc, &words, &mut shelf, &mut sink);
     assert!(rt; status == Status::Usage);

@@ -4,35 +4,16 @@ ghost use Rattle.std.specs.Prelude.{◌≡◌, [], ◌∷◌, ◌++◌, IfOk, On
 ghost use Rattle.std.specs.List.{flat_map};
 ghost use Rattle.nr_records.specs.declared.chunk_result.RunStatus.TheVariants.{Value, Promise, Failure, Clash};
 ghost use Rattle.nr_records.specs.declared.chunk_result.ChunkLine.TheVariants.{TxOk, TxRefused, Sent};
-ghost use Rattle.nr_report.specs.Lines.{line, hash_word, bytes_word, run_line, log_line, told_logs, line_text};
+ghost use Rattle.nr_report.specs.Lines.{line, hash_word, run_line, log_line, told_logs, line_text};
 ghost use Rattle.nr_report.specs.Lines.{chunk_line, chunk_text, total_line, places_words, tokens_text, totals_text};
 
+use crate::digits::{byte_digits, hash_digits};
 use crate::totals::Totals;
 use nr_bytes::Blob;
 use nr_ids::{Hash32, ShardId};
 use nr_records::{ChunkLine, ChunkResult, Outcome, RunStatus};
 use std::alloc::{AllocError, Global};
 use std::fmt::Write;
-
-/// A hash in hexadecimal.
-#[tactic(auto, unfolding(crate::specs::Lines::hash_word))]
-fn hash_digits(alloc: Global, hash: &Hash32) -> Result<String, AllocError>
-    ensures { IfOk result (λ digits. string_bytes digits ≡ hash_word hash.now) }
-{
-    hex::encode(alloc, hash.0)
-}
-
-/// Bytes in hexadecimal, and a dash for none.
-#[tactic(auto, unfolding(crate::specs::Lines::bytes_word))]
-fn byte_digits(alloc: Global, bytes: &[u8]) -> Result<String, AllocError>
-    ensures { IfOk result (λ digits. string_bytes digits ≡ bytes_word bytes.now) }
-{
-    if bytes.is_empty() {
-        String::from_str(alloc, "-")
-    } else {
-        hex::encode(alloc, bytes)
-    }
-}
 
 /// A line of one word and an id.
 fn print_receipt(
@@ -143,8 +124,12 @@ fn print_run(alloc: Global, outcome: &Outcome, text: &mut String) -> Result<(), 
     }
 }
 
-/// A line for each log.
-fn print_logs(alloc: Global, logs: &[Blob], text: &mut String) -> Result<(), AllocError>
+/// A line for each log, `log` and its bytes.
+///
+/// # Errors
+///
+/// Where memory ran out; a part of the lines may then have been added.
+pub fn print_logs(alloc: Global, logs: &[Blob], text: &mut String) -> Result<(), AllocError>
     ensures { OnOk result (string_bytes text.new ≡ string_bytes text.old ++ flat_map log_line logs.now) }
 {
     for log in logs {

@@ -20,7 +20,8 @@ use Rattle.nr_records.specs.Options.{option_at, option_bytes}
 use Rattle.nr_records.specs.Reading.{Read, all_of}
 use Rattle.nr_records.specs.declared.fault.RecordFault.{RecordFault}
 use Rattle.nr_records.specs.declared.fault.RecordFault.TheVariants.{Memory}
-use Rattle.nr_reshard.specs.FileLaws.{magic_law, reshard_law, third_law}
+use Rattle.nr_blocks.specs.FileLaws.{magic_law}
+use Rattle.nr_reshard.specs.FileLaws.{reshard_law, third_law}
 use Rattle.nr_reshard.specs.Files.{IsThird, file_of, reshard_at, reshard_bytes, third_at, third_bytes, third_magic}
 use Rattle.nr_reshard.specs.Outlines.{outline_of, third_outline_at}
 use Rattle.nr_reshard.specs.declared.chain_file.ChainFile.{ChainFile}

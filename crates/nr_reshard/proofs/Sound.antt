@@ -2,7 +2,7 @@
 -- no chunk is missing.
 use Rattle.std.proofs.Common.{◌≡◌, ℕ, zero, suc, ◌+◌, ◌-◌, ◌^◌, ◌<◌, ◌≤◌, Bool, true, false, inl, inr, List, [], ◌∷◌}
 use Rattle.std.proofs.Common.{length, Option, Some, None, Result, Ok, Err, refl, sym, ap, subst, ◌∙◌, arith}
-use Rattle.std.specs.Prelude.{◌&&◌, ◌==◌, IfOk, if◌then◌else◌, is_some, nat_le, slice_get}
+use Rattle.std.specs.Prelude.{◌&&◌, ◌==◌, IfOk, is_some, nat_le, slice_get}
 use Rattle.std.specs.List.{AllByRecursion, list_all, starts_with}
 use Rattle.std.proofs.lemmas.Bool.{and_parts, eqb-true, le-ltb, leb-true, lt-ltb}
 use Rattle.nr_blocks.specs.BlocksFiles.{FitsPrice, IsBlock, IsPrice}
@@ -31,11 +31,7 @@ use Rattle.nr_reshard.specs.declared.chain_file.ChainFile.{ChainFile}
 use Rattle.nr_reshard.specs.declared.fault.ChainFault.{ChainFault}
 use Rattle.nr_reshard.specs.declared.fault.ChainFault.TheVariants.{Blocks, Reshard as AtReshard}
 use Rattle.nr_reshard.specs.declared.reshard.Reshard.{Reshard}
-
-bound : {A B F : Type 0} (r : Result A F) (f : A → Result B F) (y : B) → (r >>= f) ≡ Ok y
-    → (x : A) × (r ≡ Ok x) × (f x ≡ Ok y)
-bound (Ok x) f y e = (x, refl, e)
-bound (Err d) f y e = absurd cc
+use Rattle.nr_blocks.proofs.Sound.{through, bound}
 
 named : {A F G : Type 0} (name : F → G) (r : Result A F) (x : A) → with_fault name r ≡ Ok x → r ≡ Ok x
 named name (Ok y) x e = cc
@@ -66,9 +62,6 @@ third_again shards f fits =
     rw (whole_again record_fault third_at third_bytes IsThird third_law f fits.fits, fits.laid) refl
 
 -- ---- each block has what its check asks for
-abbrev through : {F : Type 0} → Bool → F → Result (Unit {0}) F
-through b fault = if b then Ok tt else Err fault
-
 abbrev all_through : {F : Type 0} → Result (Unit {0}) F
 all_through = Ok tt
 

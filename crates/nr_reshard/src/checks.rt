@@ -2,14 +2,14 @@
 
 ghost use Rattle.std.specs.List.{list_all};
 ghost use Rattle.std.specs.Prelude.{◌≡◌, ℕ, is_some, slice_get};
-ghost use Rattle.nr_blocks.specs.Judging.{each, has_height};
+ghost use Rattle.nr_blocks.specs.Judging.{each};
 ghost use Rattle.nr_reshard.specs.Judging.{has_all, has_chunks_by, laid_out, may_reshard, ordered_by, reshards};
 ghost use Rattle.nr_reshard.specs.Judging.{shards_at};
 
 use crate::chain_file::ChainFile;
 use crate::fault::ChainFault;
 use crate::reshard::Reshard;
-use nr_blocks::{Block, BlocksFault, MOST_BLOCKS};
+use nr_blocks::{Block, BlocksFault, MOST_BLOCKS, check_all_heights};
 
 /// How many shards there are at a height.
 fn shards_at(first: u32, reshard: &Option<Reshard>, height: u64) -> u32
@@ -49,28 +49,6 @@ fn check_all_chunks(
 {
     for index in 0..blocks.len() {
         check_chunks(&blocks[index], first, reshard)?;
-    }
-    Ok(())
-}
-
-fn check_height(index: usize, block: &Block) -> Result<(), BlocksFault>
-    ensures { result ≡ has_height index block.now }
-{
-    let height = block.height.0;
-    if u128::from(height) == index as u128 + 1 {
-        Ok(())
-    } else {
-        Err(BlocksFault::HeightOrder { height })
-    }
-}
-
-/// The heights count from 1.
-#[tactic(auto, using(nr_blocks::proofs::Turns::each_begins, nr_blocks::proofs::Turns::each_goes_on, nr_blocks::proofs::Turns::each_stops, nr_blocks::proofs::Turns::each_ends))]
-fn check_all_heights(blocks: &[Block]) -> Result<(), BlocksFault>
-    ensures { result ≡ each has_height blocks.now }
-{
-    for index in 0..blocks.len() {
-        check_height(index, &blocks[index])?;
     }
     Ok(())
 }

@@ -1,18 +1,14 @@
 -- The lines of a schedule, and which bytes spell them. This project's own.
-use Rattle.std.specs.Prelude.{ℕ, ◌+◌, ◌-◌, ◌==◌, List, [], ◌∷◌, cond, Option, Some, None, Result, Ok, Err, codes}
-use Rattle.std.specs.List.{slice_split}
+use Rattle.std.specs.Prelude.{ℕ, ◌+◌, ◌-◌, List, [], ◌∷◌, cond, Option, Some, None, Result, Ok, Err, codes}
 use Rattle.std.specs.Str.{bytes_eq}
 use Rattle.nr_overlap.specs.declared.event.Event.{Event}
 use Rattle.nr_overlap.specs.declared.event.Event.TheVariants.{OpenChunk, TakeList, SealChunk, PublishLists}
 use Rattle.nr_words.specs.Command.{number_in}
+pub use Rattle.nr_words.specs.Pieces.{pieces}
 use Rattle.nr_schedule.specs.declared.schedule.Line.{Line}
 use Rattle.nr_schedule.specs.declared.schedule.Line.TheVariants.{Step, Rest, Reshard}
 use Rattle.nr_schedule.specs.declared.schedule.ScheduleFault.{ScheduleFault}
 use Rattle.nr_schedule.specs.declared.schedule.ScheduleFault.TheVariants.{NoLine}
-
--- what stands before, between and behind the separators: one piece more than there are of them
-abbrev pub pieces : ℕ → List ℕ → List (List ℕ)
-pieces separator bytes = slice_split (λ b. b == separator) bytes
 
 -- ---- a line by its words: `open S`, `seal S`, `publish S`, `take S SOURCE HEIGHT`, `rest` or `reshard`
 -- a shard is one of so many

@@ -1,6 +1,6 @@
 //! Schedules: the lines of a file, each a step of a shard, the change of boundaries or the run to the end.
 
-ghost use Rattle.std.specs.Prelude.{◌≡◌, ◌∷◌, [], ◌<◌, ◌==◌, IfSome, MatchOption, length, position};
+ghost use Rattle.std.specs.Prelude.{◌≡◌, ◌∷◌, [], ◌<◌, MatchOption};
 ghost use Rattle.nr_bytes.specs.Answers.{GivesAs};
 ghost use Rattle.nr_schedule.specs.Schedule.{pieces, step_of, one_word, one_shard, taken, shard_in, height_in};
 ghost use Rattle.nr_schedule.specs.Schedule.{line_of, schedule_read};
@@ -8,7 +8,7 @@ ghost use Rattle.nr_schedule.specs.declared.schedule.ScheduleFault.TheVariants a
 
 use nr_ids::{Height, ShardId};
 use nr_overlap::Event;
-use nr_words::number_in;
+use nr_words::{cut, number_in};
 use std::alloc::{AllocFailed, Global};
 
 /// A line of a schedule.
@@ -36,24 +36,6 @@ impl From<AllocFailed<Line>> for ScheduleFault {
 
     fn from(_fault: AllocFailed<Line>) -> ScheduleFault {
         ScheduleFault::Memory
-    }
-}
-
-fn place_of(bytes: &[u8], separator: u8) -> Option<usize>
-    ensures { result ≡ position (λ b. b == separator) bytes.now }
-{
-    bytes.iter().position(|byte| *byte == separator)
-}
-
-/// What stands before the first separator and behind it, where there is one.
-fn cut(bytes: &[u8], separator: u8) -> Option<(&[u8], &[u8])>
-    ensures pieces { MatchOption result (pieces separator bytes.now ≡ bytes.now ∷ [])
-        (λ parts. pieces separator bytes.now ≡ parts.0.now ∷ pieces separator parts.1.now) }
-    ensures shorter { IfSome result (λ parts. length parts.1.now < length bytes.now) }
-{
-    match place_of(bytes, separator) {
-        Some(at) => Some((&bytes[..at], &bytes[at + 1..])),
-        None => None,
     }
 }
 

@@ -2,4 +2,5 @@
 pub mod Plans
 pub mod Answers
 pub mod Writing
+pub mod Classes
 pub mod Exit

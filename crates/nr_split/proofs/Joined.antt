@@ -1,17 +1,17 @@
 -- The trie entries of worlds side by side: of each key the entry of the world that has it.
-use Rattle.std.proofs.Common.{◌≡◌, ℕ, suc, ◌+◌, ◌<◌, Bool, true, false, cond, List, [], ◌∷◌, map, Option, Some, None}
+use Rattle.std.proofs.Common.{◌≡◌, ℕ, suc, ◌+◌, ◌<◌, Bool, true, false, cond, List, [], ◌∷◌, Option, Some, None}
 use Rattle.std.proofs.Common.{Ordering, refl, sym, ap, subst, ◌∙◌, arith}
 use Rattle.std.specs.Prelude.{◌==◌, ◌||◌, not, slice_get}
 use Rattle.std.specs.Cmp.{IsTotalOrder}
 use Rattle.std.specs.Cmp.Lexicographic.{nat_list_cmp_total}
-use Rattle.std.specs.FinMap.{FinMap, IsAntisymmetric, empty, from_entries, get, get-empty, retain_keys, same_map}
-use Rattle.std.specs.List.{AllByRecursion, flat_map}
+use Rattle.std.specs.FinMap.{FinMap, IsAntisymmetric, empty, get, get-empty, retain_keys, same_map}
+use Rattle.std.specs.List.{AllByRecursion}
 use Rattle.std.specs.Option.{option_and_then}
 use Rattle.std.proofs.lemmas.Map.Lookups.{exact_bytes}
-use Rattle.nr_columns.proofs.Empty.{entries_empty, is_laid_empty, no_columns_in, part_empty}
+use Rattle.nr_columns.proofs.Empty.{is_laid_empty, no_columns_in, part_empty}
 use Rattle.nr_columns.proofs.Laid.{delayed_law, laid_without, moved}
 use Rattle.nr_columns.proofs.Tables.{part_same}
-use Rattle.nr_columns.specs.Columns.{laid_columns, no_columns}
+use Rattle.nr_columns.specs.Columns.{laid_columns}
 use Rattle.nr_columns.specs.Keys.{delayed_key}
 use Rattle.nr_columns.specs.Orders.{bytes_cmp, pair_cmp}
 use Rattle.nr_columns.specs.View.{IsLaid, at_first, columns_in, delayed_table, queue_of}
@@ -22,11 +22,11 @@ use Rattle.nr_layout.specs.Layout.{shard_of}
 use Rattle.nr_records.specs.declared.receipt.Receipt.{Receipt}
 use Rattle.nr_split.proofs.Found.{firsts, none_of}
 use Rattle.nr_split.specs.Owned.{is_queued}
-use Rattle.nr_state.proofs.OverEntries.{entries_of_part, entries_over, read_over}
+use Rattle.nr_state.proofs.OverEntries.{entries_of_part, entries_over, read_over, no_world_columns as none_columns}
 use Rattle.nr_state.proofs.OverMaps.{get-over}
 use Rattle.nr_state.proofs.ValidOwned.{exact_data, exact_keys, key_total, pair_total}
 use Rattle.nr_state.specs.Entries.{IsReadBack, has_owner, is_of}
-use Rattle.nr_state.specs.Flat.{awaits, columns_of, flat, missing_inputs}
+use Rattle.nr_state.specs.Flat.{columns_of, flat}
 use Rattle.nr_state.specs.Keyed.{IsKeyed}
 use Rattle.nr_state.specs.Scopes.{all_of, over, over_map}
 use Rattle.nr_state.specs.World.{World, no_world}
@@ -43,12 +43,6 @@ Key = List ℕ × List ℕ
 as_laid : (w : World) → flat w ≡ laid_columns (columns_of w)
 unfolding flat
 as_laid w = refl
-
-none_columns : columns_of no_world ≡ no_columns
-none_columns = λ i. record no_columns {
-  awaited = from_entries (flat_map awaits (map (λ e. e.1) (entries_empty {X = Receipt} pair_cmp i)));
-  missing = from_entries (map (λ (e : Key × Receipt). (e.0, missing_inputs no_world e.1)) (entries_empty pair_cmp i));
-}
 
 none_flat : flat no_world ≡ empty
 none_flat = as_laid no_world ∙ ap laid_columns (none_columns ∙ sym no_columns_in) ∙ is_laid_empty

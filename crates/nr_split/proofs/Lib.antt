@@ -1,5 +1,4 @@
 -- Lemmas behind the answers.
-mod Counting
 mod Steps
 mod Found
 mod Joined

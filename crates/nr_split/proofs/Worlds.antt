@@ -15,8 +15,9 @@ use Rattle.nr_records.specs.declared.receipt.Receipt.{Receipt}
 use Rattle.nr_split.proofs.Joined.{unqueued}
 use Rattle.nr_state.proofs.ValidOwned.{exact_data, exact_keys, key_total, pair_total}
 use Rattle.nr_state.specs.Scopes.{part_of}
-use Rattle.nr_state.specs.World.{World, no_world}
+use Rattle.nr_state.specs.World.{World}
 use Rattle.nr_state.specs.Worlds.{IsWorld}
+use Rattle.nr_state.proofs.Worlds.{none_fits as fits_none}
 
 -- ---- what holds of each entry of a map
 abbrev Each : {K X : Type 0} {R : K → K → Ordering} → (K → X → Type 0) → FinMap R X → Type 0
@@ -50,18 +51,6 @@ fits_unqueued w fits = record {
   data_of = fits.data_of;
   received = fits.received;
   postponed = fits.postponed;
-  delayed = tt;
-  served = omega arith;
-}
-
-fits_none : IsWorld no_world
-fits_none = record {
-  accounts = each_none _ _;
-  keys = each_none _ _;
-  code = each_none _ _;
-  data_of = each_none _ _;
-  received = each_none _ _;
-  postponed = each_none _ _;
   delayed = tt;
   served = omega arith;
 }

@@ -12,7 +12,7 @@ use nr_ids::AccountId;
 use nr_layout::Layout;
 
 /// How many boundaries are not greater than the id.
-#[tactic(auto, using(crate::proofs::Counting::one_more, crate::proofs::Counting::no_more))]
+#[tactic(auto, using(nr_layout::proofs::Counting::one_more, nr_layout::proofs::Counting::no_more))]
 fn shard_of(boundaries: &[AccountId], id: &[u8]) -> u32
     requires { length boundaries.now ≤ 15 }
     ensures { result ≡ shard_of boundaries.now id.now }

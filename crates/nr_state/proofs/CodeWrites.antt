@@ -14,7 +14,7 @@ use Rattle.nr_state.specs.Changes.{with_moved, with_code_hash, with_usage, usage
 use Rattle.nr_state.specs.Owners.{with_code_of, HasCode}
 use Rattle.nr_state.specs.World.{World, with_account}
 
-get_inserted : {X : Type 0} (m : FinMap bytes_cmp X) (k : List ℕ) (v : X) → get (insert m k v) k ≡ Some v
+pub get_inserted : {X : Type 0} (m : FinMap bytes_cmp X) (k : List ℕ) (v : X) → get (insert m k v) k ≡ Some v
 get_inserted m k v = get-insert nat_list_cmp_total m k v k ∙ ap (λ b. cond b (Some v) (get m k)) ((eq_by_cmp_equiv nat_list_cmp_total).refl k)
 
 insert_again : {X : Type 0} (m : FinMap bytes_cmp X) (k : List ℕ) (u v : X) → insert (insert m k u) k v ≡ insert m k v

@@ -231,7 +231,7 @@ part_is x w = λ i. record (part_of x w) {
   postponed = sym (over-empty pair_total exact_data (λ k. x k.0) w.postponed) i;
 }
 
-no_world_columns : columns_of no_world ≡ no_columns
+pub no_world_columns : columns_of no_world ≡ no_columns
 no_world_columns = λ i. record no_columns {
   awaited = from_entries (flat_map awaits (map (λ e. e.1) (entries_empty {X = Receipt} pair_cmp i)));
   missing = from_entries (map (λ (e : Key × Receipt). (e.0, missing_inputs no_world e.1)) (entries_empty pair_cmp i));

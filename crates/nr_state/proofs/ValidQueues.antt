@@ -164,10 +164,10 @@ module _ (c : Config) (w : World) (v : IsValidWorld c w) where
 nothing : {K X A : Type 0} (R : K → K → Ordering) (k : K) (x : X) → get (empty {X = X} {R = R}) k ≡ Some x → A
 nothing R k x h = absurd (let e : None ≡ Some x = sym (get-empty R k) ∙ h in cc)
 
-nobody : {K A : Type 0} (X : Type 0) (R : K → K → Ordering) (k : K) → IsSome (get (empty {X = X} {R = R}) k) → A
+pub nobody : {K A : Type 0} (X : Type 0) (R : K → K → Ordering) (k : K) → IsSome (get (empty {X = X} {R = R}) k) → A
 nobody X R k h = absurd (let e : false ≡ true = ap is_some (sym (get-empty {X = X} R k)) ∙ h in cc)
 
-no_sum : {K X : Type 0} (R : K → K → Ordering) (f : X → ℕ) → sum_by f (values (empty {X = X} {R = R})) ≡ 0
+pub no_sum : {K X : Type 0} (R : K → K → Ordering) (f : X → ℕ) → sum_by f (values (empty {X = X} {R = R})) ≡ 0
 no_sum {K} {X} R f =
     let none : entries (empty {X = X} {R = R}) ≡ [] = nil_from_length _ (sym (len-entries (empty {X = X} {R = R})) ∙ len-empty R X) in
     ap (λ (es : List (K × X)). sum_by f (map (λ e. e.1) es)) none

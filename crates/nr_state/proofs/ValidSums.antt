@@ -25,7 +25,7 @@ absent : {K X : Type 0} (f : K × X → ℕ) (k : K) (o : Option X) (n : ℕ) �
 absent f k None n e = refl
 absent f k (Some x) n e = absurd (omega arith)
 
-sum_of_values : {K X : Type 0} (f : X → ℕ) (es : List (K × X)) → sum_by f (map (λ e. e.1) es) ≡ sum_by (λ e. f e.1) es
+pub sum_of_values : {K X : Type 0} (f : X → ℕ) (es : List (K × X)) → sum_by f (map (λ e. e.1) es) ≡ sum_by (λ e. f e.1) es
 sum_of_values f [] = refl
 sum_of_values {K} {X} f (e ∷ es) = sum_by-cons f e.1 (map (λ (e : K × X). e.1) es) ∙ ap (λ n. f e.1 + n) (sum_of_values f es) ∙ sym (sum_by-cons (λ (e : K × X). f e.1) e es)
 

@@ -56,7 +56,11 @@ pub fn served<S: Store>(state: &ShardState<S>) -> Result<u64, AllocError>
 }
 
 /// How many delayed receipts were served, and how many wait.
-fn queue_of<S: Store>(columns: &Columns<S>) -> Result<(u64, u64), AllocError>
+///
+/// # Errors
+///
+/// Where there is no memory.
+pub fn queue_of<S: Store>(columns: &Columns<S>) -> Result<(u64, u64), AllocError>
     ensures served { IfOk result (λ queue. queue.0 ≡ served_in columns.now.columns.queue) }
     ensures waiting { IfOk result (λ queue. queue.1 ≡ waiting_in columns.now.columns.queue) }
     ensures fits { IfOk result (λ queue. queue.0 + queue.1 < 2 ^ 64) }
@@ -78,8 +82,12 @@ fn push_found(found: &mut Vec<Receipt>, receipt: Option<Receipt>) -> Result<(), 
 }
 
 /// So many delayed receipts behind those that were served.
+///
+/// # Errors
+///
+/// Where there is no memory.
 #[tactic(auto, using(crate::proofs::ShownWorlds::more_listed))]
-fn delayed_after<S: Store>(
+pub fn delayed_after<S: Store>(
     alloc: Global,
     columns: &Columns<S>,
     served: u64,

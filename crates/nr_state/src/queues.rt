@@ -266,8 +266,8 @@ fn raise_missing<S: Store>(
     Ok(())
 }
 
-// The data that a receipt waits for.
-fn inputs(receipt: &Receipt) -> &[Hash32]
+/// The ids of the data that a receipt waits for: none where it is a datum itself.
+pub fn inputs(receipt: &Receipt) -> &[Hash32]
     ensures { result.now ≡ inputs_of receipt.now.body }
 {
     match &receipt.body {

@@ -4,15 +4,23 @@ ghost use Rattle.std.specs.Prelude.{◌≡◌, IfOk, length};
 ghost use Rattle.nr_state.specs.Changes.{moved};
 ghost use Rattle.nr_state.specs.Owners.{IsMoved};
 ghost use Rattle.nr_state.specs.View.{world_in};
-ghost use Rattle.nr_state.specs.Usage.{key_usage, datum_usage};
+ghost use Rattle.nr_state.specs.Usage.{key_usage, datum_usage, storage_stake};
 
 use nr_columns::{Columns, SpelledKey};
 use nr_config::Config;
-use nr_config::entries::EXTRA_RECORD_BYTES;
+use nr_config::entries::{EXTRA_RECORD_BYTES, STORAGE_PRICE};
 use nr_ids::{AccountId, PublicKey};
 use nr_records::{AccessKey, Account, encode};
 use nr_triedef::Store;
 use std::alloc::{AllocError, Global};
+
+/// The tokens that an account's storage asks it to keep, in the smallest unit of the ledger: for each
+/// byte that it is counted as, the entry `storage_price` of the configuration.
+pub fn storage_stake(config: &Config, account: &Account) -> u128
+    ensures { result ≡ storage_stake config.now account.now }
+{
+    u128::from(account.storage_usage) * u128::from(config.entry(STORAGE_PRICE))
+}
 
 /// The bytes that code is counted as: its own.
 pub fn code_usage(code: &[u8]) -> u64

@@ -4,7 +4,6 @@ use Rattle.std.specs.List.{range_with_len}
 use Rattle.std.proofs.lemmas.List.FromFn.{map-range_with_len_more}
 use Rattle.nr_triedef.specs.declared.hash.Summary.{Summary}
 use Rattle.nr_triedef.specs.Node.{summary, links}
-use Rattle.nr_ids.specs.declared.key.Hash32.{Hash32}
 use Rattle.std.specs.List.{AllByRecursion}
 use Rattle.nr_triedef.specs.Root.{Paths, front, behind, value_here, value_field, hash_below, under, leaf, branch, with_front, sixteen, depth, trie, Contents, paths, summary_of, root_of, root_of_entries}
 use Rattle.std.specs.FinMap.{entries}
@@ -39,14 +38,14 @@ split n [] len = absurd (omega arith)
 split n (p ∷ []) len = absurd (omega arith)
 split n (p ∷ q ∷ ps) len = refl
 
-short_below : (ps : Paths) (n : ℕ) → depth ps ≤ n → AllByRecursion (λ (p : List ℕ × List ℕ). length p.0 < n) ps
+pub short_below : (ps : Paths) (n : ℕ) → depth ps ≤ n → AllByRecursion (λ (p : List ℕ × List ℕ). length p.0 < n) ps
 short_below [] n h = tt
 short_below (p ∷ ps) n h = (omega (arith, h), short_below ps n (omega (arith, h)))
 
-enough : (n : ℕ) (ps : Paths) → CanStand n ps → CanStand (depth ps) ps
+pub enough : (n : ℕ) (ps : Paths) → CanStand n ps → CanStand (depth ps) ps
 enough n ps h = record { short = short_below ps (depth ps) (omega arith); small = h.small; differ = h.differ }
 
-children_stand : (n : ℕ) (ps : Paths) (nibble : ℕ) → CanStand (suc n) ps → CanStand n (under nibble (cut ps))
+pub children_stand : (n : ℕ) (ps : Paths) (nibble : ℕ) → CanStand (suc n) ps → CanStand n (under nibble (cut ps))
 children_stand n ps nibble h =
     stands_under n nibble (cut ps) (under nibble (cut ps)) refl (subst (λ m. CanStand m (cut ps)) (sym (add-one n)) (stands_behind (suc n) ps (cut ps) (front ps) refl refl h))
 
@@ -61,7 +60,7 @@ same_trie (suc n) (suc m) (p ∷ q ∷ ps) h g =
     ∙ (λ i. Some (joined (front all) (cut all) (map (λ nibble. same_trie n m (under nibble (cut all)) (children_stand n all nibble h) (children_stand m all nibble g) i) sixteen)))
     ∙ sym (split m all (omega arith))
 
-stands : (ps : Paths) → CanWalk ps → CanStand (depth ps) ps
+pub stands : (ps : Paths) → CanWalk ps → CanStand (depth ps) ps
 stands ps h = record { short = short_below ps (depth ps) (omega arith); small = h.small; differ = differ_rising ps h.order }
 
 -- ---- the trie of all of them
@@ -79,7 +78,7 @@ whole_one (p ∷ q ∷ ps) one = absurd (omega arith)
 abbrev pub children : Paths → List (Option Summary)
 children rest = map (λ nibble. whole (under nibble rest)) sixteen
 
-levels : (ps : Paths) → 2 ≤ length ps → CanWalk ps → depth ps ≡ suc (depth ps - 1)
+pub levels : (ps : Paths) → 2 ≤ length ps → CanWalk ps → depth ps ≡ suc (depth ps - 1)
 levels ps many h = let above = stands_above (depth ps) ps (omega arith) (stands ps h) in omega arith
 
 children_are : (ps : Paths) → 2 ≤ length ps → CanWalk ps → map (λ nibble. trie (depth ps - 1) (under nibble (cut ps))) sixteen ≡ children (cut ps)
@@ -122,12 +121,3 @@ root_is m keys found e f = ap summary_of (f ∙ ap whole e)
 pub made_more : (rest : Paths) (k : ℕ) (new old : List (Option Summary)) (child : Option Summary) → old ≡ map (λ nibble. whole (under nibble rest)) (range_with_len 0 k) → child ≡ whole (under k rest) → new ≡ old ++ child ∷ [] → new ≡ map (λ nibble. whole (under nibble rest)) (range_with_len 0 (k + 1))
 made_more rest k new old child before is e =
     e ∙ ap (λ (l : List (Option Summary)). l ++ child ∷ []) before ∙ ap (λ c. map (λ nibble. whole (under nibble rest)) (range_with_len 0 k) ++ c ∷ []) is ∙ sym (map-range_with_len_more (λ nibble. whole (under nibble rest)) 0 k k (omega arith))
-
-pub hashes_all : (children : List (Option Hash32)) (below : List (Option Summary)) → length children ≡ length below → ((k : ℕ) → k < length below → get_or children k None ≡ hash_below (get_or below k None)) → children ≡ map hash_below below
-hashes_all [] [] len h = refl
-hashes_all [] (s ∷ below) len h = absurd (omega arith)
-hashes_all (c ∷ children) [] len h = absurd (omega arith)
-hashes_all (c ∷ children) (s ∷ below) len h =
-    let first : c ≡ hash_below s = h 0 (omega arith) in
-    let others : children ≡ map hash_below below = hashes_all children below (omega arith) (λ k lt. h (suc k) (omega arith)) in
-    cc

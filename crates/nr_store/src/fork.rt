@@ -4,9 +4,9 @@ ghost use Rattle.std.specs.Prelude.{◌≡◌, ◌≤◌, ◌<◌, ◌==◌, ◌
 ghost use Rattle.nr_triedef.specs.Root.{under};
 ghost use Rattle.nr_store.specs.Tries.{CanWalk, cut, whole};
 
-use crate::nodes::{branch, with_front};
+use crate::nodes::branch;
 use crate::span::Span;
-use nr_triedef::{Steps, Summary};
+use nr_triedef::{Steps, Summary, with_front};
 use std::alloc::{AllocError, Global};
 use std::marker::Model;
 use std::sync::ledger::Ledger;

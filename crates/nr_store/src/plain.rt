@@ -120,7 +120,6 @@ impl Store for PlainStore {
     }
 
     fn sizes(&self) {
-        // The fields are named so that the proof sees the type's own promise.
         let _spare = self.spare;
     }
 

@@ -88,7 +88,6 @@ pub(crate) fn drop_slot(slots: &mut Slots, key: &[u8])
     ensures after { held_in slots.new.entries ≡ map.remove (held_in slots.old.entries) key.now }
     ensures kept { (q : List ℕ) → q ≢ key.now → HasSlot slots.old.entries q → HasSlot slots.new.entries q }
 {
-    // `len` says that the keys are in order, and `remove` says so only of what it leaves.
     let _ = slots.len();
     let _ = slots.remove(key);
 }

@@ -4,8 +4,6 @@
 #[cfg(test)]
 mod by_config;
 #[cfg(test)]
-mod called;
-#[cfg(test)]
 mod checked;
 #[cfg(test)]
 mod config_text;
@@ -21,6 +19,8 @@ mod faulty;
 mod four_parts;
 #[cfg(test)]
 mod gathered;
+#[cfg(test)]
+mod generated;
 #[cfg(test)]
 mod lengths;
 #[cfg(test)]
@@ -41,7 +41,5 @@ mod schedules;
 mod setting;
 #[cfg(test)]
 mod sharded;
-#[cfg(test)]
-mod spellings;
 #[cfg(test)]
 mod worked;

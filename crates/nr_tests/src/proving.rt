@@ -232,23 +232,3 @@ fn files_are_refused_before_items(rt: HostRuntime) -> Result<(), Fail> {
     assert!(rt; ended.wrote_nothing(rt.alloc(), "Some([\"B\"])")?);
     Ok(())
 }
-
-#[test]
-fn words_that_prove_nothing_are_usage(rt: HostRuntime) -> Result<(), Fail> {
-    let rows: [&[&str]; 8] = [
-        &["roots", "free", "G"],
-        &["roots", "free", "G", "B", "P"],
-        &["prove", "free", "G", "B", "1", "0", "receipt"],
-        &["prove", "free", "G", "B", "01", "0", "receipt", "0"],
-        &["prove", "free", "G", "B", "1", "4294967296", "receipt", "0"],
-        &["prove", "free", "G", "B", "1", "0", "receipts", "0"],
-        &["verify", "00", "P"],
-        &["verify", "-", "P"],
-    ];
-    for words in rows {
-        let ended = ended_by(rt.alloc(), words, worked::TRANSFER, PROOF)?;
-        assert_eq!(rt; ended.status, Status::Usage);
-        assert!(rt; ended.wrote_nothing(rt.alloc(), "None")?);
-    }
-    Ok(())
-}

@@ -14,7 +14,7 @@ fn answer_to(alloc: Global, words: &[&str]) -> Result<Ended, Fail> {
 
 #[test]
 fn words_of_no_command_are_usage(rt: HostRuntime) -> Result<(), Fail> {
-    let rows: [&[&str]; 20] = [
+    let rows: [&[&str]; 28] = [
         &[],
         &["run", "free", "G"],
         &["run", "free", "G", "B", "S"],
@@ -35,6 +35,14 @@ fn words_of_no_command_are_usage(rt: HostRuntime) -> Result<(), Fail> {
         &["gen", "7", "4", "0"],
         &["gen", "7", "4", "257"],
         &["gen", "18446744073709551616", "4", "200"],
+        &["roots", "free", "G"],
+        &["roots", "free", "G", "B", "P"],
+        &["prove", "free", "G", "B", "1", "0", "receipt"],
+        &["prove", "free", "G", "B", "01", "0", "receipt", "0"],
+        &["prove", "free", "G", "B", "1", "4294967296", "receipt", "0"],
+        &["prove", "free", "G", "B", "1", "0", "receipts", "0"],
+        &["verify", "00", "P"],
+        &["verify", "-", "P"],
     ];
     for row in rows {
         let ended = answer_to(rt.alloc(), row)?;

@@ -12,7 +12,7 @@ struct Row {
     report: &'static str,
 }
 
-const ROWS: [Row; 17] = [
+const ROWS: [Row; 18] = [
     Row {
         genesis: worked::GENESIS,
         blocks: worked::TRANSFER,
@@ -97,6 +97,11 @@ const ROWS: [Row; 17] = [
         genesis: contracts::ABSENT_CALLED_GENESIS,
         blocks: contracts::ABSENT_CALLED_BLOCKS,
         report: contracts::ABSENT_CALLED_REPORT,
+    },
+    Row {
+        genesis: contracts::CALL_GENESIS,
+        blocks: contracts::CALL_BLOCKS,
+        report: contracts::CALL_REPORT,
     },
 ];
 

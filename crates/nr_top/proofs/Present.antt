@@ -1,6 +1,6 @@
 -- Which chunks the run to the end has results of.
 use Rattle.std.proofs.Common.{◌≡◌, ℕ, zero, suc, ◌+◌, ◌<◌, ◌≤◌, Bool, true, false, cond, length, Option, Some, None, inl, inr, refl, sym, ap, subst, ◌∙◌, arith, add-one}
-use Rattle.std.specs.Prelude.{IsSome, is_some, nat_le, nat_lt, ◌&&◌, replicate, option_map, slice_get}
+use Rattle.std.specs.Prelude.{IsSome, is_some, nat_le, nat_lt, ◌&&◌, option_map, slice_get}
 use Rattle.std.specs.Option.{option_and_then}
 use Rattle.std.proofs.lemmas.Bool.{and_parts, cases_lt}
 use Rattle.std.proofs.lemmas.List.{get_or-replicate}
@@ -17,15 +17,11 @@ use Rattle.nr_overlap.proofs.Basics.{is_le, is_lt, lt_of}
 use Rattle.nr_overlap.proofs.Flights.{chunk_or_not, shown_past}
 use Rattle.nr_overlap.proofs.SerialLemmas.{sealing_first, sealing_there}
 use Rattle.nr_top.specs.Chunks.{has_chunk, result_at}
+use Rattle.nr_outcome.proofs.Cells.{past_places}
 
 not_none : {A : Type 0} (o : Option A) → o ≡ None → IsSome o → ⊥
 not_none None e is = cc
 not_none (Some a) e is = cc
-
-past_places : (n s : ℕ) (p : Position) → n ≤ s → at (replicate n p) s ≡ start
-past_places zero s p l = refl
-past_places (suc n) zero p l = absurd (omega (arith, l))
-past_places (suc n) (suc s) p l = past_places n s p (omega (arith, l))
 
 module _ {W K L R : Type 0} (r : Rules W K L R) where
   none_shown : (s h : ℕ) (p : Position) → sealing_at r s h ≡ None → option_map (λ z. z.report) (shown r s p h) ≡ None

@@ -8,14 +8,7 @@ use Rattle.nr_overlap.specs.Positions.{at}
 use Rattle.nr_overlap.specs.Rules.{Rules}
 use Rattle.nr_overlap.specs.declared.event.Event.{Event}
 use Rattle.nr_overlap.specs.declared.position.Position.{Position}
-use Rattle.nr_overlap.specs.declared.position.Stage.{Stage}
-use Rattle.nr_overlap.specs.declared.position.Stage.TheVariants.{Idle, Opened, Sealed}
-
--- a shard that is in no chunk above the height
-abbrev pub IsUpTo : ℕ → Stage → ℕ → Type 0
-IsUpTo height Idle number = number ≤ height
-IsUpTo height Opened number = number < height
-IsUpTo height Sealed number = number < height
+pub use Rattle.nr_extract.specs.Reaching.{IsUpTo}
 
 module _ {W K L R : Type 0} (r : Rules W K L R) (shard height : ℕ) where
   -- the run has a chunk of the shard at the height

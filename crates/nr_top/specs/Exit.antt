@@ -1,5 +1,6 @@
 -- How a program ends with an answer: its exit status, and the line that tells it. This project's own.
 use Rattle.std.specs.Prelude.{ℕ, List, [], ◌∷◌, ◌++◌, decimal}
+use Rattle.nr_shell.specs.Exit.{spaced}
 use Rattle.nr_top.specs.declared.status.Status.{Status}
 use Rattle.nr_top.specs.declared.status.Status.TheVariants.{Done, Usage, Config, Genesis, Blocks, Schedule, Proof}
 use Rattle.nr_top.specs.declared.status.Status.TheVariants.{NoItem, Gathered, Parts, ReadFault, WriteFault, NoMemory}
@@ -19,11 +20,6 @@ told (Proof kind line) = (10, kind ∷ line ∷ [])
 told (NoItem count) = (11, count ∷ [])
 told (Gathered kind a) = (12, kind ∷ a ∷ [])
 told (Parts kind a) = (13, kind ∷ a ∷ [])
-
--- in decimal, each with a space before it
-abbrev pub spaced : List ℕ → List ℕ
-spaced [] = []
-spaced (n ∷ ns) = 32 ∷ decimal n ++ spaced ns
 
 -- the exit status and the numbers, parted by single spaces
 abbrev pub status_line : Status → List ℕ

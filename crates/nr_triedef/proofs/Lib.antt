@@ -1,4 +1,5 @@
 -- Lemmas behind the answers.
 pub mod Parts
 pub mod Each
+pub mod Children
 pub mod Laws

@@ -4,6 +4,7 @@
 
 mod fault;
 mod hash;
+mod making;
 mod node;
 mod part;
 mod read;
@@ -12,7 +13,8 @@ mod threads;
 
 pub use fault::NodeFault;
 pub use hash::{NodeHash, Steps, Summary, bytes_of, empty_root, hash_node, value_hash};
-pub use node::{Node, node_text};
+pub use making::{child_hashes, length_of, part_usage, sum_of, summarize, usage_below, with_front};
+pub use node::{Node, node_text, usage_of};
 pub use part::{key_part, nibbles};
 pub use read::read_node;
 pub use store::Store;

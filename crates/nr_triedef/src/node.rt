@@ -4,7 +4,7 @@ ghost use Rattle.std.specs.Prelude.{◌≡◌, ◌<◌, ◌^◌, ◌+◌, ◌*�
 ghost use Rattle.std.specs.List.{flat_map};
 ghost use Rattle.nr_bytes.specs.Numbers.{little};
 ghost use Rattle.nr_bytes.specs.Writing.{Puts, counted_bytes};
-ghost use Rattle.nr_triedef.specs.Node.{IsNode, bitmap, child_bytes, children_bytes, node_text};
+ghost use Rattle.nr_triedef.specs.Node.{IsNode, bitmap, child_bytes, children_bytes, node_text, usage_of};
 
 use nr_bytes::{Blob, Writer};
 use nr_ids::Hash32;
@@ -35,6 +35,17 @@ pub enum Node {
         children: [Option<Hash32>; 16],
         usage: u64,
     },
+}
+
+/// The memory usage that a node tells: its own and that of all below it, in bytes.
+pub fn usage_of(node: &Node) -> u64
+    ensures { result ≡ usage_of node.now }
+{
+    match node {
+        Node::Leaf { usage, .. } => *usage,
+        Node::Extension { usage, .. } => *usage,
+        Node::Branch { usage, .. } => *usage,
+    }
 }
 
 // A part of 2^32 bytes or more counts as want of memory.

@@ -1,14 +1,13 @@
 -- The list of a trie's nodes: of no key, of one, and of several; that any depth above the keys gives the same; and that they are the nodes of the forest.
-use Rattle.std.proofs.Common.{◌≡◌, ◌≤◌, ◌<◌, ◌-◌, ℕ, zero, suc, false, List, [], ◌∷◌, ◌++◌, length, map, Option, Some, None, refl, ap, sym, subst, ◌∙◌, arith, add-one, append-nil}
-use Rattle.std.specs.List.{AllByRecursion, flat_map}
+use Rattle.std.proofs.Common.{◌≡◌, ◌≤◌, ◌-◌, ℕ, zero, suc, false, List, [], ◌∷◌, ◌++◌, length, map, Option, Some, None, refl, ap, sym, subst, ◌∙◌, arith, append-nil}
+use Rattle.std.specs.List.{flat_map}
 use Rattle.nr_triedef.specs.Node.{key_part, summary}
 use Rattle.nr_triedef.specs.declared.node.Node.{Node}
 use Rattle.nr_triedef.specs.declared.hash.Summary.{Summary}
 use Rattle.nr_triedef.specs.Root.{Paths, front, value_here, under, leaf, branch, extension, with_front, sixteen, depth, trie}
 use Rattle.nr_store.specs.Tries.{CanWalk, first_path, cut, whole}
-use Rattle.nr_store.proofs.Links.{CanStand, stands_behind, stands_under, stands_above}
-use Rattle.nr_store.proofs.Orders.{differ_rising}
-use Rattle.nr_store.proofs.Levels.{trie_empty, trie_one, children}
+use Rattle.nr_store.proofs.Links.{CanStand}
+use Rattle.nr_store.proofs.Levels.{trie_empty, trie_one, children, children_stand, stands, levels, enough}
 use Rattle.nr_trielist.specs.Forest.{Stood, Forest, bare, tree, stood, fronted, rows, forest, listed}
 use Rattle.nr_trielist.specs.Growing.{head_nodes, nodes_at, all_nodes, heads}
 
@@ -39,17 +38,6 @@ nodes_one n (p ∷ []) len = refl
 nodes_one n (p ∷ q ∷ ps) len = absurd (omega arith)
 
 -- ---- any depth above the keys
-short_below : (ps : Paths) (n : ℕ) → depth ps ≤ n → AllByRecursion (λ (p : List ℕ × List ℕ). length p.0 < n) ps
-short_below [] n h = tt
-short_below (p ∷ ps) n h = (omega (arith, h), short_below ps n (omega (arith, h)))
-
-enough : (n : ℕ) (ps : Paths) → CanStand n ps → CanStand (depth ps) ps
-enough n ps h = record { short = short_below ps (depth ps) (omega arith); small = h.small; differ = h.differ }
-
-children_stand : (n : ℕ) (ps : Paths) (nibble : ℕ) → CanStand (suc n) ps → CanStand n (under nibble (cut ps))
-children_stand n ps nibble h =
-    stands_under n nibble (cut ps) (under nibble (cut ps)) refl (subst (λ m. CanStand m (cut ps)) (sym (add-one n)) (stands_behind (suc n) ps (cut ps) (front ps) refl refl h))
-
 same_trie : (n m : ℕ) (ps : Paths) → CanStand n ps → CanStand m ps → trie n ps ≡ trie m ps
 same_trie n m [] h g = trie_empty n [] refl ∙ sym (trie_empty m [] refl)
 same_trie n m (p ∷ []) h g = trie_one n (p ∷ []) p refl refl ∙ sym (trie_one m (p ∷ []) p refl refl)
@@ -77,12 +65,6 @@ same_nodes (suc n) (suc m) (p ∷ q ∷ ps) h g =
 pub any_depth : (n : ℕ) (ps : Paths) → CanStand n ps → trie n ps ≡ whole ps
 unfolding whole
 any_depth n ps h = same_trie n (depth ps) ps h (enough n ps h)
-
-stands : (ps : Paths) → CanWalk ps → CanStand (depth ps) ps
-stands ps h = record { short = short_below ps (depth ps) (omega arith); small = h.small; differ = differ_rising ps h.order }
-
-levels : (ps : Paths) → 2 ≤ length ps → CanWalk ps → depth ps ≡ suc (depth ps - 1)
-levels ps many h = let above = stands_above (depth ps) ps (omega arith) (stands ps h) in omega arith
 
 -- ---- all of them
 pub all_none : (ps : Paths) → length ps ≡ 0 → all_nodes ps ≡ []

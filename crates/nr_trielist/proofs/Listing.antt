@@ -1,5 +1,5 @@
 -- Branches that wait for a child, what is left to do, and which nodes were listed.
-use Rattle.std.proofs.Common.{◌≡◌, ◌==◌, ◌<◌, ◌≤◌, ◌+◌, ◌-◌, ◌*◌, ℕ, suc, Bool, true, false, cond, List, [], ◌∷◌, ◌++◌, length, drop, map, Option, refl, ap, sym, subst, ◌∙◌, inl, inr, arith, length-drop, eq-eqb, append_assoc, append-nil}
+use Rattle.std.proofs.Common.{◌≡◌, ◌<◌, ◌≤◌, ◌+◌, ◌-◌, ◌*◌, ℕ, suc, Bool, true, false, cond, List, [], ◌∷◌, ◌++◌, length, drop, map, Option, refl, ap, sym, subst, ◌∙◌, inl, inr, arith, length-drop, eq-eqb, append_assoc, append-nil}
 use mathlib.Core.Bool.{false≢true}
 use Rattle.std.specs.Prelude.{reverse, Result, Ok, Err, IfOk, OnOk}
 use Rattle.std.specs.List.{flat_map, range_with_len}
@@ -12,6 +12,7 @@ use Rattle.nr_triedef.specs.Root.{Paths, front, behind, under, value_here, branc
 use Rattle.nr_store.specs.Tries.{is_below, cut, whole, Branching}
 use Rattle.nr_trielist.specs.Growing.{head_nodes, all_nodes, heads}
 use Rattle.nr_store.proofs.Levels.{children}
+pub use Rattle.nr_store.proofs.Waiting.{not_full}
 
 -- the keys are what the last branch waits for, whose keys are what the one before it waits for, up to all keys
 abbrev pub Wait : List Branching → Paths → Paths → Type 0
@@ -80,12 +81,6 @@ work_begun : (keys child : Paths) (made : ℕ) → made < 16 → child ≡ under
 work_begun keys child made lt is many =
     let some : right 16 (cut child) + length child ≤ total (under (15 - made) (cut keys)) = subst (λ (u : Paths). right 16 (cut child) + length child ≤ total u) is (right_behind 16 (length (front child)) child) in
     omega (arith, under_made keys made lt, some)
-
-pub not_full : (b : Bool) (n : ℕ) → b ≡ (n == 16) → b ≡ false → n ≤ 16 → n < 16
-not_full b n e f le = elim (cases_lt n 16) [
-  | inl lt ↦ lt
-  | inr ge ↦ let is : n ≡ 16 = omega arith in absurd (false≢true (sym f ∙ e ∙ eq-eqb n 16 is))
-]
 
 pub smaller_given : (gs : List Branching) (f g : Branching) (child : Option Summary) → length f.made < 16 → g.keys ≡ f.keys → g.made ≡ child ∷ f.made → works gs + work (16 - length g.made) (length g.made) g.keys < works gs + work (16 - length f.made) (length f.made) f.keys
 smaller_given gs f g child lt keys made =

@@ -1,15 +1,15 @@
 //! Nodes of the trie of entries, and what each tells the node above it.
 
-ghost use Rattle.std.specs.Prelude.{◌≡◌, ◌<◌, ◌≤◌, ◌+◌, false, length, map, sum_by, IfOk};
-ghost use Rattle.nr_triedef.specs.Node.{IsNibbles, IsNode, key_part, links, summary, usage_of};
-ghost use Rattle.nr_triedef.specs.Root.{value_here, part_usage, value_usage, usage_below, leaf, extension, value_field};
-ghost use Rattle.nr_triedef.specs.Root.{hash_below, branch};
+ghost use Rattle.std.specs.Prelude.{◌≡◌, ◌<◌, false, length, map, sum_by, IfOk};
+ghost use Rattle.nr_triedef.specs.Node.{IsNibbles, IsNode, key_part, summary};
+ghost use Rattle.nr_triedef.specs.Root.{value_here, value_usage, usage_below, leaf, extension, value_field, hash_below};
+ghost use Rattle.nr_triedef.specs.Root.{branch};
 ghost use Rattle.nr_store.specs.Tries.{first_path};
 
 use crate::hashes::Hashes;
 use nr_ids::Hash32;
 use nr_store::Span;
-use nr_triedef::{Node, key_part, node_text, value_hash};
+use nr_triedef::{Node, key_part, length_of, node_text, part_usage, sum_of, usage_of, value_hash};
 use std::alloc::{AllocError, Global};
 use std::marker::Model;
 
@@ -47,17 +47,6 @@ impl Top {
     }
 }
 
-// The memory usage that a node tells.
-fn usage_of(node: &Node) -> u64
-    ensures { result ≡ usage_of node.now }
-{
-    match node {
-        Node::Leaf { usage, .. } => *usage,
-        Node::Extension { usage, .. } => *usage,
-        Node::Branch { usage, .. } => *usage,
-    }
-}
-
 /// What a node tells the one above it.
 pub(crate) fn top_of(alloc: Global, node: &Node) -> Result<Top, AllocError>
     requires { IsNode node.now }
@@ -68,27 +57,6 @@ pub(crate) fn top_of(alloc: Global, node: &Node) -> Result<Top, AllocError>
         hash: value_hash(text.inner()),
         usage: usage_of(node),
     })
-}
-
-// A length of 2^32 or more counts as want of memory.
-fn length_of(bytes: &[u8]) -> Result<u32, AllocError>
-    ensures { IfOk result (λ n. n ≡ length bytes.now) }
-{
-    u32::try_from(bytes.len()).map_err(|_| AllocError)
-}
-
-// A sum that passes u64 counts as want of memory.
-fn sum_of(a: u64, b: u64) -> Result<u64, AllocError>
-    ensures { IfOk result (λ n. n ≡ a + b) }
-{
-    a.checked_add(b).ok_or(AllocError)
-}
-
-fn part_usage(part: &[u8]) -> Result<u64, AllocError>
-    ensures { IfOk result (λ n. n ≡ part_usage part.now) }
-{
-    let length = length_of(part)?;
-    Ok(50 + 2 * u64::from(length))
 }
 
 /// The leaf of a key that stands alone.

@@ -234,8 +234,5 @@ kept_is nodes id kept hash sound lt ek es = (sound id lt).hash hash (sym ek ∙ 
 pub kept_absurd : (nodes : List Shape) (id : ℕ) (kept : Option Hash32) → is_hashed nodes id ≡ true → kept ≡ (shape_at nodes id).hash → kept ≡ None → ⊥
 kept_absurd nodes id kept some ek none = let no : is_hashed nodes id ≡ false = ap (λ (h : Option Hash32). is_some h) (sym ek ∙ none) in absurd cc
 
-pub each_hash : (below : List (Option Summary)) (children : List (Option Hash32)) → length below ≡ 16 → length children ≡ 16 → ((k : ℕ) → k < 16 → get_or children k None ≡ hash_below (get_or below k None)) → children ≡ map hash_below below
-each_hash below children len same h = each_made hash_below below children len same h
-
 pub warm_there : (old new : List Shape) (root : Option NodeId) (r : NodeId) → Warms old new → IsRoot old root → root ≡ Some r → r.0 < length new
 warm_there old new root r w is e = let here : IsRoot old (Some r) = subst (IsRoot old) e is in subst (λ n. r.0 < n) (sym w.same) here.0

@@ -1,11 +1,10 @@
 //! Hashes and usages of nodes, made of those of their children.
 
-ghost use Rattle.std.specs.Prelude.{◌≡◌, ◌==◌, ◌<◌, ◌≤◌, ◌+◌, ℕ, true, false, length, cond, map, is_some, count_by};
-ghost use Rattle.std.specs.Prelude.{sum_by, slice_index_or, None, IfOk};
+ghost use Rattle.std.specs.Prelude.{◌≡◌, ◌<◌, ◌≤◌, ◌+◌, ℕ, true, false, length, map, is_some, count_by};
+ghost use Rattle.std.specs.Prelude.{slice_index_or, None, IfOk};
 ghost use Rattle.std.specs.Option.{option_copied, option_map};
-ghost use Rattle.nr_triedef.specs.Node.{IsNibbles, IsNode, key_part, links, summary, usage_of};
-ghost use Rattle.nr_triedef.specs.Root.{part_usage, value_usage, usage_below, leaf_with, extension, value_field};
-ghost use Rattle.nr_triedef.specs.Root.{hash_below, branch, with_front};
+ghost use Rattle.nr_triedef.specs.Node.{IsNibbles, key_part, links, summary};
+ghost use Rattle.nr_triedef.specs.Root.{value_usage, leaf_with, value_field, hash_below, branch};
 ghost use Rattle.nr_trienodes.specs.Shape.{shape_at};
 ghost use Rattle.nr_trienodes.specs.Tries.{is_leaf, summary_at};
 ghost use Rattle.nr_trienodes.specs.Hashing.{HasHashes, IsWarm, weight_at};
@@ -14,47 +13,12 @@ use crate::body::is_alone;
 use crate::nodes::Nodes;
 use crate::packed::Row;
 use nr_ids::Hash32;
-use nr_triedef::{Node, Steps, Summary, bytes_of, hash_node, key_part, node_text, value_hash};
+use nr_triedef::{
+    Node, Steps, Summary, child_hashes, key_part, length_of, part_usage, sum_of, summarize,
+    usage_below, value_hash, with_front,
+};
 use std::alloc::{AllocError, Global};
 use std::sync::ledger::Ledger;
-
-// A length of 2^32 or more counts as want of memory.
-fn length_of(bytes: &[u8]) -> Result<u32, AllocError>
-    ensures { IfOk result (λ n. n ≡ length bytes.now) }
-{
-    u32::try_from(bytes.len()).map_err(|_| AllocError)
-}
-
-// A sum that passes u64 counts as want of memory.
-fn sum_of(a: u64, b: u64) -> Result<u64, AllocError>
-    ensures { IfOk result (λ n. n ≡ a + b) }
-{
-    a.checked_add(b).ok_or(AllocError)
-}
-
-fn part_usage(part: &[u8]) -> Result<u64, AllocError>
-    ensures { IfOk result (λ n. n ≡ part_usage part.now) }
-{
-    let length = length_of(part)?;
-    Ok(50 + 2 * u64::from(length))
-}
-
-// What a node tells the one above it. It counts as one step.
-fn summarize<L: Ledger>(
-    alloc: Global,
-    node: &Node,
-    usage: u64,
-    steps: &mut Steps<L>,
-) -> Result<Summary, AllocError>
-    requires form { IsNode node.now }
-    requires usage { usage ≡ usage_of node.now }
-    ensures made { IfOk result (λ s. s ≡ summary node.now) }
-    ensures steps { steps.new ≤ steps.old + 1 }
-{
-    let text = node_text(alloc, node)?;
-    let hash = hash_node(text.inner(), steps);
-    Ok(Summary { hash, usage })
-}
 
 fn leaf<L: Ledger>(
     alloc: Global,
@@ -79,51 +43,6 @@ fn leaf<L: Ledger>(
     summarize(alloc, &node, usage, steps)
 }
 
-fn hash_bytes(below: &Summary) -> Hash32
-    ensures { result ≡ below.now.hash }
-{
-    Hash32(bytes_of(&below.hash))
-}
-
-fn extension<L: Ledger>(
-    alloc: Global,
-    shared: &[u8],
-    below: Summary,
-    steps: &mut Steps<L>,
-) -> Result<Summary, AllocError>
-    requires small { IsNibbles shared.now }
-    requires some { 0 < length shared.now }
-    ensures made { IfOk result (λ s. s ≡ summary (extension (key_part shared.now false) below)) }
-    ensures steps { steps.new ≤ steps.old + 1 }
-{
-    let part = key_part(alloc, shared, false)?;
-    let usage = sum_of(part_usage(part.inner())?, below.usage)?;
-    let node = Node::Extension {
-        part,
-        child: hash_bytes(&below),
-        usage,
-    };
-    summarize(alloc, &node, usage, steps)
-}
-
-// A branch behind a front, which may be empty.
-fn with_front<L: Ledger>(
-    alloc: Global,
-    shared: &[u8],
-    below: Summary,
-    steps: &mut Steps<L>,
-) -> Result<Summary, AllocError>
-    requires { IsNibbles shared.now }
-    ensures made { IfOk result (λ s. s ≡ with_front shared.now below) }
-    ensures steps { steps.new ≤ steps.old + cond (length shared.now == 0) 0 1 }
-{
-    if shared.is_empty() {
-        Ok(below)
-    } else {
-        extension(alloc, shared, below, steps)
-    }
-}
-
 // A value as a branch has it, and its memory usage.
 fn value_of(value: Option<&[u8]>) -> Result<(Option<(u32, Hash32)>, u64), AllocError>
     ensures { IfOk result (λ v. v ≡ (
@@ -138,45 +57,6 @@ fn value_of(value: Option<&[u8]>) -> Result<(Option<(u32, Hash32)>, u64), AllocE
             Ok((Some((length, value_hash(value))), 50 + u64::from(length)))
         }
     }
-}
-
-fn usage_of(below: &Option<Summary>) -> u64
-    ensures { result ≡ usage_below below.now }
-{
-    match below {
-        None => 0,
-        Some(child) => child.usage,
-    }
-}
-
-fn usage_below(below: &[Option<Summary>]) -> Result<u64, AllocError>
-    ensures { IfOk result (λ n. n ≡ sum_by usage_below below.now) }
-{
-    let mut usage = 0;
-    for child in below {
-        usage = sum_of(usage, usage_of(child))?;
-    }
-    Ok(usage)
-}
-
-fn hash_of(below: &Option<Summary>) -> Option<Hash32>
-    ensures { result ≡ hash_below below.now }
-{
-    match below {
-        None => None,
-        Some(child) => Some(hash_bytes(child)),
-    }
-}
-
-fn hashes(below: &[Option<Summary>]) -> [Option<Hash32>; 16]
-    requires { length below.now ≡ 16 }
-    ensures { result ≡ map hash_below below.now }
-{
-    let mut children = [None; 16];
-    for i in 0..16 {
-        children[i] = hash_of(&below[i]);
-    }
-    children
 }
 
 fn branch<L: Ledger>(
@@ -195,7 +75,7 @@ fn branch<L: Ledger>(
     let usage = sum_of(own, usage_below(below)?)?;
     let node = Node::Branch {
         value,
-        children: hashes(below),
+        children: child_hashes(below),
         usage,
     };
     summarize(alloc, &node, usage, steps)

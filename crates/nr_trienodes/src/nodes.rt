@@ -17,7 +17,7 @@ use crate::names::Names;
 use crate::node_bytes::NodeBytes;
 use crate::packed::{Packed, Row};
 use crate::spare::Spare;
-use nr_triedef::NodeHash;
+use nr_triedef::{NodeHash, sum_of};
 use std::alloc::{AllocError, Global};
 use std::marker::Model;
 
@@ -484,13 +484,6 @@ impl Nodes {
     {
         self.nodes.truncate(count);
     }
-}
-
-// A sum that passes u64 counts as want of memory.
-fn sum_of(a: u64, b: u64) -> Result<u64, AllocError>
-    ensures { IfOk result (λ n. n ≡ a + b) }
-{
-    a.checked_add(b).ok_or(AllocError)
 }
 
 // A length of 2^32 or more counts as want of memory.

@@ -1,7 +1,7 @@
 -- What a store over nodes shows. This project's own.
 use Rattle.std.specs.Prelude.{ℕ, List, refl}
-use Rattle.std.specs.FinMap.{code}
 use Rattle.std.specs.Coded.{Coded, code_by, coded×, coded_ℕ, coded_list}
+use Rattle.nr_store.specs.Contents.{contents_code}
 use Rattle.nr_triedef.specs.Root.{Contents}
 
 -- what it holds, what each standing checkpoint saw (the newest first), how many more can be made, and how many nodes
@@ -11,9 +11,6 @@ pub record TrieView : Type 0 where
   pub marks : List Contents
   pub spare : ℕ
   pub unhashed : ℕ
-
-abbrev pub contents_code : Coded Contents
-contents_code = code (coded_list coded_ℕ) (coded_list coded_ℕ)
 
 abbrev pub trie_code : Coded TrieView
 trie_code =

@@ -66,7 +66,6 @@ impl Base {
     pub(crate) fn sizes(&self)
         ensures { IsSized self.now.contents }
     {
-        // The field is named so that the proof sees the type's own promise.
         let _top = self.top;
     }
 
@@ -88,13 +87,13 @@ impl Base {
         self.nodes.below(self.top.root, prefix)
     }
 
-    /// Works changes in, the first one first.
+    /// Works changes in, the first one first, whose values have so many bytes.
     ///
     /// # Errors
     ///
     /// Where memory ran out. What is held is then the same.
     #[tactic(auto, using(crate::proofs::Standing::level_moved))]
-    pub(crate) fn merge(&mut self, changes: &[Change<'_>]) -> Result<(), AllocError>
+    pub(crate) fn merge(&mut self, changes: &[Change<'_>], bytes: usize) -> Result<(), AllocError>
         requires sized { IsSized (merged changes.now self.old.contents) }
         requires short { AreShort changes.now }
         ensures ok { OnOk result (self.new.contents ≡ merged changes.now self.old.contents) }
@@ -102,7 +101,13 @@ impl Base {
         ensures unhashed { OnOk result (self.new.unhashed ≤ self.old.unhashed + merge_weight changes.now) }
         ensures less { OnErr result (self.new.unhashed ≤ self.old.unhashed) }
     {
-        let draft = draft_of(&mut self.nodes, &mut self.top, &mut self.limits, changes)?;
+        let draft = draft_of(
+            &mut self.nodes,
+            &mut self.top,
+            &mut self.limits,
+            changes,
+            bytes,
+        )?;
         self.top = draft;
         Ok(())
     }
@@ -124,8 +129,8 @@ impl Base {
         Ok(hash)
     }
 
-    /// The Merkle root of what would be held once changes are worked in, the first one first. What is
-    /// held stays.
+    /// The Merkle root of what would be held once changes are worked in, the first one first, whose
+    /// values have so many bytes. What is held stays.
     ///
     /// # Errors
     ///
@@ -134,6 +139,7 @@ impl Base {
     pub(crate) fn root_with<L: Ledger>(
         &mut self,
         changes: &[Change<'_>],
+        bytes: usize,
         steps: &mut Steps<L>,
     ) -> Result<NodeHash, AllocError>
         requires { AreShort changes.now }
@@ -142,7 +148,13 @@ impl Base {
         ensures steps { steps.new ≤ steps.old + (self.old.unhashed + merge_weight changes.now) }
         ensures unhashed { self.new.unhashed ≤ self.old.unhashed }
     {
-        let draft = draft_of(&mut self.nodes, &mut self.top, &mut self.limits, changes)?;
+        let draft = draft_of(
+            &mut self.nodes,
+            &mut self.top,
+            &mut self.limits,
+            changes,
+            bytes,
+        )?;
         let hash = self.nodes.hash(draft.root, steps)?;
         Ok(hash)
     }

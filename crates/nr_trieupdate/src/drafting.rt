@@ -6,7 +6,7 @@ ghost use Rattle.nr_trienodes.specs.Roots.{IsRoot, IsChanged, Keeps, contents};
 ghost use Rattle.nr_trienodes.specs.Merging.{merged, merge_weight};
 ghost use Rattle.nr_trieupdate.specs.Room.{most_nodes, IsLevel, IsMoved, IsBounded, AreShort};
 
-use crate::room::{Limits, make_room};
+use crate::room::{Limits, limits_with, make_room};
 use nr_trienodes::{Change, CountedRoot, Nodes, NodesFault};
 use std::alloc::AllocError;
 
@@ -46,8 +46,9 @@ fn merge_some(
     }
 }
 
-/// The root of a draft with all of these changes, the first one first. The trie's root stands for what
-/// it did. Before changes are worked in, the arena is trimmed where it has grown.
+/// The root of a draft with all of these changes, the first one first, whose values have so many bytes.
+/// The trie's root stands for what it did. Before changes are worked in, the arena is trimmed where it
+/// has grown.
 ///
 /// # Errors
 ///
@@ -57,6 +58,7 @@ pub(crate) fn draft_of(
     top: &mut CountedRoot,
     limits: &mut Limits,
     changes: &[Change<'_>],
+    bytes: usize,
 ) -> Result<CountedRoot, AllocError>
     requires level { IsLevel nodes.old top.old }
     requires bounded { IsBounded limits.old }
@@ -77,5 +79,6 @@ pub(crate) fn draft_of(
         draft = part.draft;
         done += part.count;
     }
+    *limits = limits_with(*limits, bytes);
     Ok(draft)
 }

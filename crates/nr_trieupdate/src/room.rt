@@ -17,6 +17,16 @@ const YOUNG: usize = 1 << 13;
 
 const LEAST_YOUNG: usize = 1 << 12;
 
+// Young nodes are trimmed too where values of more than so many bytes came since the last trim, since
+// the nodes in whose place they came may hold as many.
+const YOUNG_BYTES: usize = 1 << 22;
+
+// All nodes are where, behind that, more than so many bytes came since the last trim of all, or more than
+// so many for each node.
+const MOST_BYTES: usize = 1 << 26;
+
+const NODE_BYTES: usize = 1 << 6;
+
 /// When the arena is next trimmed.
 #[derive(Clone, Copy)]
 pub(crate) struct Limits {
@@ -26,10 +36,15 @@ pub(crate) struct Limits {
     young: usize,
     /// All nodes are trimmed where, behind that, the arena comes near this many.
     all: usize,
+    /// How many bytes of values came since the last trim.
+    young_bytes: usize,
+    /// The same since the last trim of all.
+    all_bytes: usize,
 }
 
-// The limits of an arena that holds so many nodes after a trim.
-fn limits_of(held: usize, all: usize) -> Limits
+// The limits of an arena that holds so many nodes after a trim, where values of so many bytes came since
+// the last trim of all.
+fn limits_of(held: usize, all: usize, bytes: usize) -> Limits
     requires held { held ≤ all }
     requires all { all ≤ most_nodes }
     ensures oldest { result.oldest ≡ held }
@@ -41,6 +56,8 @@ fn limits_of(held: usize, all: usize) -> Limits
         oldest: held,
         young: (held + YOUNG).min(all),
         all,
+        young_bytes: 0,
+        all_bytes: bytes,
     }
 }
 
@@ -49,7 +66,25 @@ pub(crate) fn first_limits() -> Limits
     ensures oldest { result.oldest ≡ 0 }
     ensures bounded { IsBounded result }
 {
-    limits_of(0, SLACK)
+    limits_of(0, SLACK, 0)
+}
+
+/// The limits once values of so many bytes came.
+pub(crate) fn limits_with(limits: Limits, bytes: usize) -> Limits
+    requires { IsBounded limits }
+    ensures { IsBounded result }
+{
+    Limits {
+        young_bytes: limits.young_bytes.saturating_add(bytes),
+        all_bytes: limits.all_bytes.saturating_add(bytes),
+        ..limits
+    }
+}
+
+// Whether values of so many bytes are more than may come between two trims of all nodes, where so many
+// are held.
+fn is_much(bytes: usize, held: usize) -> bool {
+    bytes > MOST_BYTES.max(held.saturating_mul(NODE_BYTES))
 }
 
 // Trims the young nodes to the tries of the two roots. These stay where memory ran out.
@@ -89,12 +124,12 @@ fn trim_all(
     *root = roots[0];
     *draft = roots[1];
     let held = nodes.len();
-    Ok(limits_of(held, held + held / 4 + SLACK))
+    Ok(limits_of(held, held + held / 4 + SLACK, 0))
 }
 
 /// Trims the arena to the tries of a root and of a draft beside it, where it holds more nodes than the
-/// limits allow: its young nodes, and behind that all, where few more could be made until then. Gives
-/// the next limits.
+/// limits allow, or more values came: its young nodes, and behind that all, where few more nodes could
+/// be made until then, or many values came since the last time. Gives the next limits.
 ///
 /// # Errors
 ///
@@ -113,13 +148,14 @@ pub(crate) fn make_room(
     ensures room { OnOk result (length nodes.new ≤ most_nodes) }
     ensures bounded { IfOk result (λ limits. IsBounded limits) }
 {
-    if nodes.len() <= limits.young {
+    if nodes.len() <= limits.young && limits.young_bytes <= YOUNG_BYTES {
         return Ok(limits);
     }
     trim_young(nodes, root, draft, limits.oldest)?;
     let held = nodes.len();
-    if limits.all.saturating_sub(held) >= LEAST_YOUNG {
-        return Ok(limits_of(held, limits.all));
+    let much = is_much(limits.all_bytes, held);
+    if limits.all.saturating_sub(held) >= LEAST_YOUNG && !much {
+        return Ok(limits_of(held, limits.all, limits.all_bytes));
     }
     trim_all(nodes, root, draft)
 }

@@ -153,7 +153,6 @@ impl Store for TrieStore {
     fn sizes(&self) {
         self.base.sizes();
         self.changes.sizes();
-        // The field is named so that the proof sees the type's own promise.
         let _count = self.count;
     }
 

@@ -46,6 +46,13 @@ pub(crate) fn is_counted(base: &Base, changes: &PlainStore, count: usize, key: &
     found.is_some()
 }
 
+// Changes of the trie, and how many bytes the values of those that wait have.
+#[derive(Drop)]
+struct Changes<'a> {
+    list: Vec<Change<'a>>,
+    bytes: usize,
+}
+
 // A waiting change as one of the trie.
 fn change_of<'a>(waiting: &Lent<'a>) -> Change<'a>
     ensures { result ≡ change_of waiting.now }
@@ -64,17 +71,26 @@ fn changes_of<'a>(alloc: Global, waiting: &[Lent<'a>]) -> Result<Vec<Change<'a>>
     Ok(changes)
 }
 
+fn bytes_of(waiting: &[Lent<'_>]) -> usize {
+    let mut bytes: usize = 0;
+    for waits in waiting {
+        bytes = bytes.saturating_add(waits.value().len());
+    }
+    bytes
+}
+
 // All waiting changes as changes of the trie, in the order of their keys.
 #[tactic(auto, using(crate::proofs::Overlays::short_changes))]
-fn changes_in(alloc: Global, waiting: &PlainStore) -> Result<Vec<Change<'_>>, AllocError>
-    ensures changes { IfOk result (λ changes. changes.items ≡ changes_in waiting.now.contents) }
+fn changes_in(alloc: Global, waiting: &PlainStore) -> Result<Changes<'_>, AllocError>
+    ensures changes { IfOk result (λ changes. changes.list.items ≡ changes_in waiting.now.contents) }
     ensures short { AreShort (changes_in waiting.now.contents) }
 {
     // It tells that what waits keeps within the sizes.
     waiting.sizes();
     let entries = waiting.entries()?;
-    let changes = changes_of(alloc, &entries)?;
-    Ok(changes)
+    let list = changes_of(alloc, &entries)?;
+    let bytes = bytes_of(&entries);
+    Ok(Changes { list, bytes })
 }
 
 // Works all waiting changes into the trie.
@@ -86,7 +102,7 @@ fn work_in(alloc: Global, base: &mut Base, waiting: &PlainStore) -> Result<(), A
     ensures less { OnErr result (base.new.unhashed ≤ base.old.unhashed) }
 {
     let changes = changes_in(alloc, waiting)?;
-    base.merge(&changes)?;
+    base.merge(&changes.list, changes.bytes)?;
     Ok(())
 }
 
@@ -127,6 +143,6 @@ pub(crate) fn root_over<L: Ledger>(
     ensures steps { steps.new ≤ steps.old + (base.old.unhashed + debt waiting.now.contents) }
 {
     let changes = changes_in(alloc, waiting)?;
-    let root = base.root_with(&changes, steps)?;
+    let root = base.root_with(&changes.list, changes.bytes, steps)?;
     Ok(root)
 }

@@ -4,5 +4,3 @@ pub mod Charging
 pub mod Paying
 pub mod Converting
 pub mod OverConversion
-pub mod SpelledNames
-pub mod LentKeys

@@ -4,5 +4,3 @@ pub mod Refusals
 pub mod Conversion
 pub mod Parts
 pub mod Keeping
-pub mod Names
-pub mod Lent

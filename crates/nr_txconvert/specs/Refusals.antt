@@ -1,10 +1,10 @@
 -- Why a transaction of a signer who has the key becomes no receipt. After the Nomicon, Runtime Specification
 -- (Transactions) and Data Structures (Access Keys); order and bounds are this project's.
-use Rattle.std.specs.Prelude.{ℕ, ◌+◌, ◌-◌, ◌*◌, ◌==◌, ◌||◌, not, Bool, true, false, cond, List, [], ◌∷◌, ◌++◌, length}
+use Rattle.std.specs.Prelude.{ℕ, ◌+◌, ◌-◌, ◌==◌, ◌||◌, not, Bool, true, false, cond, List, [], ◌∷◌, ◌++◌, length}
 use Rattle.std.specs.Prelude.{Option, Some, None, unwrap_or, nat_lt, nat_le}
 use Rattle.std.specs.List.{list_any}
 use Rattle.std.specs.Str.{bytes_eq}
-use Rattle.nr_config.specs.Config.{Config, storage_price, max_actions, max_prepaid_gas}
+use Rattle.nr_config.specs.Config.{Config, max_actions, max_prepaid_gas}
 use Rattle.nr_fees.specs.Fees.{attached_gas, deposits}
 use Rattle.nr_records.specs.declared.access_key.AccessKey.{AccessKey}
 use Rattle.nr_records.specs.declared.access_key.CallPermission.{CallPermission}
@@ -14,6 +14,7 @@ use Rattle.nr_records.specs.declared.account.Account.{Account}
 use Rattle.nr_records.specs.declared.action.Action.{Action}
 use Rattle.nr_records.specs.declared.action.Action.TheVariants.{FunctionCall}
 use Rattle.nr_records.specs.declared.transaction.Transaction.{Transaction}
+pub use Rattle.nr_state.specs.Usage.{storage_stake}
 use Rattle.nr_txconvert.specs.Costs.{gas_cost, whole_cost, is_too_dear}
 use Rattle.nr_txconvert.specs.declared.fault.TxFault.{TxFault}
 use Rattle.nr_txconvert.specs.declared.fault.TxFault.TheVariants.{Nonce, TooManyActions, GasTooLarge, KeyForbids}
@@ -66,9 +67,6 @@ is_below (Some allowance) cost = nat_lt allowance cost
 -- what the account is left with, and what its storage asks for
 abbrev pub left_with : Account → ℕ → ℕ
 left_with account cost = (account.amount - cost) + account.locked
-
-abbrev pub storage_stake : Config → Account → ℕ
-storage_stake c account = account.storage_usage * storage_price c
 
 abbrev pub payment_refusals : Config → Account → Permission → ℕ → ℕ → List (Bool × TxFault)
 payment_refusals c account permission gas whole =

@@ -6,17 +6,18 @@ ghost use Rattle.nr_state.specs.View.{with_world};
 ghost use Rattle.nr_state.specs.World.{with_account};
 ghost use Rattle.nr_state.specs.Changes.{set_key};
 ghost use Rattle.nr_columns.specs.SpelledKeys.{key_read};
+ghost use Rattle.nr_keys.specs.Changed.{with_allowance};
+ghost use Rattle.nr_keys.specs.Lent.{shown_permission, shown};
 ghost use Rattle.nr_txconvert.specs.Conversion.{transaction_hash, receipt_of, lowered, Converts};
-ghost use Rattle.nr_txconvert.specs.Lent.{shown};
 
 use crate::converted::Converted;
 use crate::cost::price_of;
 use crate::fault::TxFault;
-use crate::lent::{LentKey, lent, lowered, spelled};
 use crate::refusals::judge;
 use nr_bytes::{Blob, List};
 use nr_config::Config;
 use nr_ids::{Hash32, derive};
+use nr_keys::{LentKey, LentPermission, changed, lent_key};
 use nr_records::{Account, ActionReceipt, Body, Receipt, Spelled, Transaction, hash_of};
 use nr_state::{Place, ShardState, SpelledKey};
 use nr_triedef::Store;
@@ -55,24 +56,35 @@ fn receipt_of(
     })
 }
 
+/// What is left of a key's allowance once gas of this cost was paid for.
+fn lowered(permission: &LentPermission<'_>, cost: u128) -> Option<u128>
+    ensures { with_allowance result (shown_permission permission.now)
+        ≡ lowered cost (shown_permission permission.now) }
+{
+    match permission {
+        LentPermission::Call(calls) => calls
+            .allowance
+            .map(|allowance| allowance.saturating_sub(cost)),
+        LentPermission::Full => None,
+    }
+}
+
 /// The bytes that spell a key once it was used, for gas of this cost.
 fn used(
     alloc: Global,
     tx: &Transaction,
+    key: &SpelledKey<'_>,
     access: LentKey<'_>,
     cost: u128,
 ) -> Result<Blob, AllocError>
+    requires { shown access ≡ key.now }
     ensures { IfOk result (λ bytes. key_read bytes ≡ Some (record {
       nonce = tx.now.nonce;
-      permission =
-          lowered cost (shown access.entry).permission;
+      permission = lowered cost (shown access.entry).permission;
     })) }
 {
-    let used = LentKey {
-        nonce: tx.nonce,
-        permission: lowered(access.permission, cost),
-    };
-    spelled(alloc, &used)
+    let left = lowered(&access.permission, cost);
+    changed(alloc, key, &access, tx.nonce, left)
 }
 
 /// Takes the whole cost from the signer.
@@ -134,13 +146,13 @@ pub fn convert_hashed<S: Store>(
     let Some(spelled) = state.spelled_key(&tx.signer, &tx.public_key)? else {
         return Err(TxFault::NoKey);
     };
-    let access = lent(alloc, &spelled)?;
+    let access = lent_key(alloc, &spelled)?;
     let cost = match judge(config, tx, place.price, &account, &access) {
         Ok(cost) => cost,
         Err(fault) => return Err(fault),
     };
     let receipt = receipt_of(alloc, tx, hash, place)?;
-    let used = used(alloc, tx, access, cost.gas)?;
+    let used = used(alloc, tx, &spelled, access, cost.gas)?;
     charge(
         state,
         tx,

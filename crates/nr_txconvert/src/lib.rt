@@ -6,8 +6,6 @@ mod converted;
 mod cost;
 mod fault;
 pub mod laws;
-mod lent;
-mod names;
 mod refusals;
 mod threads;
 

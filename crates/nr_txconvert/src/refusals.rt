@@ -4,18 +4,18 @@ ghost use Rattle.std.specs.Prelude.{◌≡◌, ◌+◌};
 ghost use Rattle.nr_txconvert.specs.Refusals.{use_refusals, call_refusals, key_refusals, payment_refusals};
 ghost use Rattle.nr_txconvert.specs.Refusals.{allows_method, allowance_of, storage_stake};
 ghost use Rattle.nr_txconvert.specs.Parts.{FindsFirst, Judges, storage_refusals};
-ghost use Rattle.nr_txconvert.specs.Lent.{shown_calls, shown_permission, shown};
+ghost use Rattle.nr_keys.specs.Lent.{shown_calls, shown_permission, shown};
 
-use crate::cost::{Cost, cost_of, price_of};
+use crate::cost::{Cost, cost_of};
 use crate::fault::TxFault;
-use crate::lent::{LentCalls, LentKey, LentPermission};
-use crate::names::Names;
 use nr_bytes::{List, Text};
 use nr_config::Config;
-use nr_config::entries::{MAX_ACTIONS, MAX_PREPAID_GAS, STORAGE_PRICE};
+use nr_config::entries::{MAX_ACTIONS, MAX_PREPAID_GAS};
 use nr_fees::attached_gas;
 use nr_ids::AccountId;
+use nr_keys::{LentCalls, LentKey, LentPermission, Names};
 use nr_records::{Account, Action, Transaction};
+use nr_state::usage::storage_stake;
 
 /// The refusals of the nonce and of what the actions are.
 fn judge_use(config: &Config, tx: &Transaction, access: &LentKey<'_>) -> Result<(), TxFault>
@@ -96,7 +96,7 @@ fn allowance_of(permission: &LentPermission<'_>) -> Option<u128>
 fn judge_storage(config: &Config, account: &Account, left: u128) -> Result<(), TxFault>
     ensures { FindsFirst result (storage_refusals (left + account.now.locked) (storage_stake config.now account.now)) }
 {
-    let needs = price_of(account.storage_usage, config.entry(STORAGE_PRICE));
+    let needs = storage_stake(config, account);
     match left.checked_add(account.locked) {
         Some(has) if has < needs => Err(TxFault::StorageStake { has, needs }),
         _ => Ok(()),

@@ -4,6 +4,7 @@ pub mod Couples
 pub mod Entering
 pub mod Fitting
 pub mod Narrowing
+pub mod Orders
 pub mod Pairs
 pub mod Passing
 pub mod Placing

@@ -1,6 +1,6 @@
 -- What a node's text tells. This project's own.
 use Rattle.std.specs.Prelude.{ℕ, suc, ◌+◌, ◌*◌, ◌/◌, ◌%◌, ◌==◌, Bool, true, false, cond, List, [], ◌∷◌, ◌++◌, length}
-use Rattle.std.specs.Prelude.{Option, Some, None}
+use Rattle.std.specs.Prelude.{Option, Some, None, is_some}
 use Rattle.std.specs.List.{flat_map}
 use Rattle.nr_ids.specs.declared.key.Hash32.{Hash32}
 use Rattle.nr_triedef.specs.Node.{nibbles}
@@ -23,6 +23,12 @@ ending_of (Leaf part length hash usage) = Some (ending_with (part_nibbles part) 
 ending_of (Extension part child usage) = None
 ending_of (Branch None children usage) = None
 ending_of (Branch (Some value) children usage) = Some (ending_with [] value.0 value.1)
+
+-- whether it has one
+abbrev pub has_value : Node → Bool
+has_value (Leaf part length hash usage) = true
+has_value (Extension part child usage) = false
+has_value (Branch value children usage) = is_some value
 
 abbrev pub option_list : {A : Type 0} → Option A → List A
 option_list None = []

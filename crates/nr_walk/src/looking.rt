@@ -10,11 +10,9 @@ ghost use Rattle.nr_walk.specs.Looking.{sum_known, are_known, looked_at, value_t
 
 use crate::fault::WalkFault;
 use crate::texts::Texts;
-use crate::told::{
-    Ending, Spot, children_of, ending_of, is_branch, is_extension, own_usage, usage_of,
-};
+use crate::told::{Ending, Spot, children_of, ending_of, is_branch, is_extension, own_usage};
 use nr_ids::Hash32;
-use nr_triedef::{Node, NodeFault, read_node};
+use nr_triedef::{Node, NodeFault, read_node, usage_of};
 use std::alloc::{AllocError, Global};
 
 // The most nibbles of a key.

@@ -3,7 +3,7 @@
 
 ghost use Rattle.std.specs.Prelude.{◌≡◌, ◌∷◌, ◌++◌, ◌<◌, ◌+◌, ◌*◌, ◌^◌, [], length, IfOk, OnOk, Some};
 ghost use Rattle.nr_walk.specs.Told.{part_nibbles, ending_of, children_of, own_usage, spots_of, spots_from, spot_at};
-ghost use Rattle.nr_walk.specs.Told.{is_branch};
+ghost use Rattle.nr_walk.specs.Told.{has_value, is_branch};
 
 use nr_bytes::{Blob, List};
 use nr_ids::Hash32;
@@ -212,18 +212,16 @@ pub fn own_usage(node: &Node) -> u128
     }
 }
 
-/// The memory usage that a node's text tells.
-pub fn usage_of(node: &Node) -> u64
-    ensures { result ≡ usage_of node.now }
+/// Whether a node has a value.
+pub fn has_value(node: &Node) -> bool
+    ensures { result ≡ has_value node.now }
 {
     match node {
-        Node::Leaf { usage, .. } => *usage,
-        Node::Extension { usage, .. } => *usage,
-        Node::Branch { usage, .. } => *usage,
+        Node::Leaf { .. } => true,
+        Node::Extension { .. } => false,
+        Node::Branch { value, .. } => value.is_some(),
     }
 }
-
-ghost use Rattle.nr_triedef.specs.Node.{usage_of};
 
 /// Whether a node is an extension.
 pub fn is_extension(node: &Node) -> bool

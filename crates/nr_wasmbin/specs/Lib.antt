@@ -5,3 +5,4 @@ pub mod Parts
 pub mod Expressions
 pub mod Modules
 pub mod Grammar
+pub mod Kinds

@@ -56,8 +56,9 @@ fn read_groups(alloc: Global, cursor: &mut Cursor<'_>, count: u32) -> Result<Loc
     Ok(locals)
 }
 
+/// The locals of a body.
 #[tactic(auto, unfolding(crate::specs::Parts::locals_at))]
-fn read_locals(alloc: Global, cursor: &mut Cursor<'_>) -> Result<Locals, DecodeFault>
+pub fn read_locals(alloc: Global, cursor: &mut Cursor<'_>) -> Result<Locals, DecodeFault>
     ensures gives { Gives result cursor.new (locals_at cursor.old) }
     ensures shorter { OnOk result (length cursor.new.left ≤ length cursor.old.left) }
 {

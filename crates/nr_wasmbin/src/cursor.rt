@@ -1,7 +1,6 @@
 //! Reading of fields, one after the other.
 
-ghost use Rattle.std.specs.Prelude.{◌≡◌, ◌+◌, ◌<◌, ◌≤◌, ◌==◌, OnOk, Some, None, length, option_copied, if◌then◌else◌};
-ghost use Rattle.std.specs.Str.{is_utf8};
+ghost use Rattle.std.specs.Prelude.{◌≡◌, ◌+◌, ◌<◌, ◌≤◌, ◌==◌, OnOk, Some, None, length};
 ghost use Rattle.nr_bytes.specs.Answers.{GivesAs};
 ghost use Rattle.nr_bytes.specs.Reading.{past};
 ghost use Rattle.nr_wasmbin.specs.Fields.{Gives, begins, byte_at, u32_at, s32_at, s64_at, count_at, bytes_at, name_at};
@@ -10,7 +9,7 @@ ghost use Rattle.nr_wasmbin.specs.declared.fault.DecodeFault.TheVariants.{Memory
 
 use crate::fault::DecodeFault;
 use crate::leb::{LebFault, read_signed, read_unsigned};
-use nr_bytes::{Blob, Text};
+use nr_bytes::{Blob, Text, utf8};
 use std::alloc::Global;
 use std::marker::Model;
 
@@ -19,7 +18,7 @@ const MOST_ITEMS: u32 = 50_000;
 
 /// Reads fields from the front of some bytes. Places count from the front of the module.
 #[derive(Drop)]
-pub(crate) struct Cursor<'a> {
+pub struct Cursor<'a> {
     bytes: &'a [u8],
     at: usize,
 }
@@ -46,30 +45,23 @@ impl LebFault {
     }
 }
 
-fn utf8(bytes: &[u8]) -> Option<&str>
-    ensures { option_copied result ≡ (if is_utf8 bytes.now then Some bytes.now else None) }
-{
-    match str::from_utf8(bytes) {
-        Ok(text) => Some(text),
-        Err(_) => None,
-    }
-}
-
 impl<'a> Cursor<'a> {
-    pub(crate) fn new(bytes: &'a [u8]) -> Cursor<'a>
+    /// Before the first of these bytes.
+    pub fn new(bytes: &'a [u8]) -> Cursor<'a>
         ensures { result ≡ record { left = bytes.now; at = 0 } }
     {
         Cursor { bytes, at: 0 }
     }
 
     /// The place of the next byte.
-    pub(crate) fn at(&self) -> usize
+    pub fn at(&self) -> usize
         ensures { result ≡ self.now.at }
     {
         self.at
     }
 
-    pub(crate) fn byte(&mut self) -> Result<u8, DecodeFault>
+    /// The next byte.
+    pub fn byte(&mut self) -> Result<u8, DecodeFault>
         ensures gives { Gives result self.new (byte_at self.old) }
         ensures shorter { OnOk result (length self.new.left < length self.old.left) }
     {
@@ -142,7 +134,7 @@ impl<'a> Cursor<'a> {
     }
 
     /// How many items a list has.
-    pub(crate) fn count(&mut self) -> Result<u32, DecodeFault>
+    pub fn count(&mut self) -> Result<u32, DecodeFault>
         ensures gives { Gives result self.new (count_at self.old) }
         ensures shorter { OnOk result (length self.new.left < length self.old.left) }
     {
@@ -240,7 +232,7 @@ impl<'a> Cursor<'a> {
     }
 
     /// A size, and that many bytes, to be read on their own.
-    pub(crate) fn sized(&mut self) -> Result<Cursor<'a>, DecodeFault>
+    pub fn sized(&mut self) -> Result<Cursor<'a>, DecodeFault>
         ensures gives { Gives result self.new (sized_at self.old) }
         ensures shorter { OnOk result (length self.new.left ≤ length self.old.left) }
     {

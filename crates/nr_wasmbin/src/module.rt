@@ -22,7 +22,7 @@ use std::alloc::Global;
 
 /// The sections up to that of functions.
 #[derive(Drop)]
-struct Front {
+pub struct Front {
     types: List<FuncType>,
     imports: List<Import>,
     funcs: List<u32>,
@@ -30,7 +30,7 @@ struct Front {
 
 /// The sections from there to the code.
 #[derive(Drop)]
-struct Middle {
+pub struct Middle {
     tables: List<Limits>,
     memories: List<Limits>,
     globals: List<GlobalEntry>,
@@ -46,7 +46,7 @@ struct Back {
 }
 
 /// The magic and the version.
-fn read_word(cursor: &mut Cursor<'_>, word: [u8; 4]) -> Result<(), DecodeFault>
+pub fn read_word(cursor: &mut Cursor<'_>, word: [u8; 4]) -> Result<(), DecodeFault>
     ensures { Gives result cursor.new (word_at word cursor.old) }
 {
     let at = cursor.at();
@@ -57,8 +57,9 @@ fn read_word(cursor: &mut Cursor<'_>, word: [u8; 4]) -> Result<(), DecodeFault>
     Ok(())
 }
 
+/// The sections up to that of functions.
 #[tactic(auto, unfolding(crate::specs::Modules::front_at))]
-fn read_front(alloc: Global, cursor: &mut Cursor<'_>) -> Result<Front, DecodeFault>
+pub fn read_front(alloc: Global, cursor: &mut Cursor<'_>) -> Result<Front, DecodeFault>
     ensures { Gives result cursor.new (front_at cursor.old) }
 {
     let types = read_section(alloc, cursor, 1)?;
@@ -71,8 +72,9 @@ fn read_front(alloc: Global, cursor: &mut Cursor<'_>) -> Result<Front, DecodeFau
     })
 }
 
+/// The sections from there to the code.
 #[tactic(auto, unfolding(crate::specs::Modules::middle_at))]
-fn read_middle(alloc: Global, cursor: &mut Cursor<'_>) -> Result<Middle, DecodeFault>
+pub fn read_middle(alloc: Global, cursor: &mut Cursor<'_>) -> Result<Middle, DecodeFault>
     ensures { Gives result cursor.new (middle_at cursor.old) }
 {
     let tables = read_table_section(alloc, cursor)?;

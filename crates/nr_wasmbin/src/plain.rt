@@ -58,7 +58,7 @@ fn read_store(cursor: &mut Cursor<'_>, at: usize, what: Store) -> Result<Plain, 
 
 /// An instruction that holds no others, behind its opcode.
 #[tactic(auto, unfolding(crate::specs::Expressions::plain_at))]
-pub(crate) fn read_plain(
+pub fn read_plain(
     alloc: Global,
     cursor: &mut Cursor<'_>,
     at: usize,
@@ -108,7 +108,7 @@ pub(crate) fn read_plain(
 }
 
 /// The type of a block.
-fn read_block_type(cursor: &mut Cursor<'_>) -> Result<Option<ValType>, DecodeFault>
+pub fn read_block_type(cursor: &mut Cursor<'_>) -> Result<Option<ValType>, DecodeFault>
     ensures gives { Gives result cursor.new (block_type_at cursor.old) }
     ensures shorter { OnOk result (length cursor.new.left < length cursor.old.left) }
 {

@@ -41,7 +41,7 @@ pub(crate) fn skip_customs(cursor: &mut Cursor<'_>) -> Result<(), DecodeFault>
 
 /// The contents of a section, where it stands next.
 #[tactic(auto, unfolding(crate::specs::Modules::entered))]
-fn enter<'a>(cursor: &mut Cursor<'a>, id: u8) -> Result<Option<Cursor<'a>>, DecodeFault>
+pub fn enter<'a>(cursor: &mut Cursor<'a>, id: u8) -> Result<Option<Cursor<'a>>, DecodeFault>
     ensures { Gives result cursor.new (entered id cursor.old) }
 {
     skip_customs(cursor)?;

@@ -1,6 +1,6 @@
 -- The functions of a program that was linked to a valid module.
 use Rattle.std.proofs.Common.{◌≡◌, ℕ, zero, suc, ◌+◌, ◌-◌, ◌<◌, ◌≤◌, Bool, true, false, cond, ◌&&◌, List, [], ◌∷◌, ◌++◌, length, Option, Some, None, Result, Ok, Err, nat_lt, refl, sym, ap, ◌∙◌, subst, arith, inl, inr, ⊎_elim}
-use Rattle.std.specs.Prelude.{slice_get, is_some, if◌then◌else◌, option_and_then, codes, ◌⊎◌}
+use Rattle.std.specs.Prelude.{slice_get, is_some, option_and_then, codes, ◌⊎◌}
 use Rattle.std.specs.List.{cons_option}
 use Rattle.std.specs.Str.{bytes_eq}
 use Rattle.nr_bytes.specs.Reading.{◌>>=◌}
@@ -22,14 +22,11 @@ use Rattle.nr_wasmexec.specs.Functions.{Func, Hosted, Coded, sig_of, link_as, li
 use Rattle.nr_wasmexec.specs.Standing.{FuncFits, IsSound}
 use Rattle.nr_wasmexec.proofs.Branches.{some_is}
 use Rattle.nr_wasmexec.proofs.Signatures.{same_sig_is}
+pub use Rattle.nr_wasmvalid.proofs.Whole.{holds_first}
 
 pub both_ok : (r s : Result (Unit {0}) ValidFault) → (r >>= λ x. s) ≡ Ok tt → (r ≡ Ok tt) × (s ≡ Ok tt)
 both_ok (Ok x) s e = (refl, e)
 both_ok (Err f) s e = absurd cc
-
-pub holds_first : (b : Bool) (r : Result (Unit {0}) ValidFault) (f : ValidFault) → (if b then r else Err f) ≡ Ok tt → (b ≡ true) × (r ≡ Ok tt)
-holds_first true r f e = (refl, e)
-holds_first false r f e = absurd cc
 
 both_true : (a b : Bool) → (a && b) ≡ true → (a ≡ true) × (b ≡ true)
 both_true true b e = (refl, e)

@@ -89,7 +89,7 @@ type_there : (types : List FuncType) (o : Option ℕ) (s : FuncType) → option_
 type_there types None s e = cc
 type_there types (Some t) s e = (t, refl, e)
 
-func_there : (p : Program) → IsSound p → (f : ℕ) (s : FuncType) → func_type p.code.types (func_indices p.code) f ≡ Some s → (func : Func) × (func_at p f ≡ Some func) × (sig_of func ≡ s)
+pub func_there : (p : Program) → IsSound p → (f : ℕ) (s : FuncType) → func_type p.code.types (func_indices p.code) f ≡ Some s → (func : Func) × (func_at p f ≡ Some func) × (sig_of func ≡ s)
 func_there p sound f s e =
     let t = type_there p.code.types (slice_get (func_indices p.code) f) s e in
     let func = sound.there f t.0 t.1 in
@@ -111,11 +111,11 @@ EffectFits p c bs rest (Traps kind) = Unit {0}
 EffectFits p c bs rest Stuck = ⊥
 
 -- what is asked of a thing that must be there
-found_for : {X : Type 0} (o : Option X) (asks : X → List Ask) (ts us : List ValType) → Obey (named kind.Index o asks) ts us → (x : X) × (o ≡ Some x) × Obey (asks x) ts us
+pub found_for : {X : Type 0} (o : Option X) (asks : X → List Ask) (ts us : List ValType) → Obey (named kind.Index o asks) ts us → (x : X) × (o ≡ Some x) × Obey (asks x) ts us
 found_for None asks ts us o = absurd (let x = o.1.0 in cc)
 found_for (Some x) asks ts us o = (x, refl, o)
 
-label_for : {X : Type 0} (o : Option X) (asks : X → List Ask) (ts us : List ValType) → Obey (named kind.Label o asks) ts us → (x : X) × (o ≡ Some x) × Obey (asks x) ts us
+pub label_for : {X : Type 0} (o : Option X) (asks : X → List Ask) (ts us : List ValType) → Obey (named kind.Label o asks) ts us → (x : X) × (o ≡ Some x) × Obey (asks x) ts us
 label_for None asks ts us o = absurd (let x = o.1.0 in cc)
 label_for (Some x) asks ts us o = (x, refl, o)
 
@@ -137,7 +137,7 @@ both_true : (a b : Bool) → (a && b) ≡ true → (a ≡ true) × (b ≡ true)
 both_true true b e = (refl, e)
 both_true false b e = cc
 
-label_at : (ts : Types?) (labels : List Types?) (ls : List ℕ) (v other : ℕ) → are_labels ts labels ls ≡ true → slice_get labels other ≡ Some ts → slice_get labels (chosen (slice_get ls v) other) ≡ Some ts
+pub label_at : (ts : Types?) (labels : List Types?) (ls : List ℕ) (v other : ℕ) → are_labels ts labels ls ≡ true → slice_get labels other ≡ Some ts → slice_get labels (chosen (slice_get ls v) other) ≡ Some ts
 label_at ts labels [] v other e h = h
 label_at ts labels (l ∷ ls) zero other e h = label_is ts (slice_get labels l) (both_true (is_label ts (slice_get labels l)) (are_labels ts labels ls) e).0
 label_at ts labels (l ∷ ls) (suc v) other e h = label_at ts labels ls v other (both_true (is_label ts (slice_get labels l)) (are_labels ts labels ls) e).1 h

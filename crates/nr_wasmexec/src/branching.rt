@@ -94,7 +94,8 @@ pub fn branch_by(thread: &mut Thread, labels: &Labels) -> Result<(), Stop>
     branch(thread, label_of(labels, value))
 }
 
-fn label_of(labels: &Labels, value: u64) -> u32
+/// The label with this number, or the one for every other.
+pub fn label_of(labels: &Labels, value: u64) -> u32
     ensures { result ≡ chosen (slice_get labels.now.0 value) labels.now.1 }
 {
     match labels.labels().get(value as usize) {

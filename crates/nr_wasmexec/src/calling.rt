@@ -78,7 +78,8 @@ pub fn call_indirect<'a, H: Host>(
     }
 }
 
-fn entry(table: &List<Option<u32>>, at: u64) -> Option<Option<u32>>
+/// The entry of the table with this number, and what it holds.
+pub fn entry(table: &List<Option<u32>>, at: u64) -> Option<Option<u32>>
     ensures { result ≡ slice_get table.now at }
 {
     table.inner().get(at as usize).copied()

@@ -3,8 +3,7 @@
 use nr_wasmmem::{Host, HostStop, Memory};
 use nr_wasmtypes::{Exceeded, HostFn};
 
-/// A host that only counts gas, for modules that import nothing: each of its functions fails with
-/// fault 14.
+/// A host that only counts gas and has no functions: a call of one fails with fault 20.
 #[derive(Clone, Copy, Debug, PartialEq, Eq)]
 pub struct Gauge {
     /// What is left.
@@ -38,7 +37,7 @@ impl Host for Gauge {
         _args: &[u64],
         _memory: &mut Memory,
     ) -> Result<Option<u64>, HostStop> {
-        Err(HostStop::Fault { kind: 14 })
+        Err(HostStop::Fault { kind: 20 })
     }
 
     ghost law = { gauge_is_host };

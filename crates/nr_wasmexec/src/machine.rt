@@ -1,8 +1,6 @@
 //! Machines.
 
-ghost use Rattle.std.specs.Prelude.{◌≡◌, ◌≤◌, ℕ, IfOk, IfSome, IsTrue, MatchOption, Some, None, length, find, nat_eq};
-ghost use Rattle.std.specs.Prelude.{is_some, not, ◌&&◌};
-ghost use Rattle.std.specs.Str.{bytes_eq};
+ghost use Rattle.std.specs.Prelude.{◌≡◌, ◌≤◌, ℕ, IfOk, IfSome, IsTrue};
 ghost use Rattle.nr_bytes.specs.Answers.{Gives, GivesAs};
 ghost use Rattle.nr_config.specs.Config.{max_pages};
 ghost use Rattle.nr_wasmvalid.specs.Modules.{IsValid};
@@ -14,6 +12,7 @@ ghost use Rattle.nr_wasmexec.specs.Making.{MachineView, IsMachine, FitsFirst, mo
 ghost use Rattle.nr_wasmexec.specs.Making.{first_guest, limits_of, machine_of, is_method, method_as, method_in};
 ghost use Rattle.nr_wasmexec.specs.Making.{method_of};
 
+use crate::exports::{export_named, takes_and_leaves_nothing};
 use crate::making::{MakeFault, globals_of, links, put_elements, put_segments, table_of};
 use crate::program::{Func, Limits, Program, func_at};
 use crate::running::run;
@@ -22,7 +21,7 @@ use nr_bytes::List;
 use nr_config::Config;
 use nr_config::entries::{MAX_CALL_DEPTH, MAX_PAGES, MAX_STACK_VALUES, REGULAR_OP_COST};
 use nr_wasmmem::{Guest, Host, Memory};
-use nr_wasmtypes::{Export, ExportKind, FuncType, Module};
+use nr_wasmtypes::{ExportKind, Module};
 use nr_wasmvalid::Valid;
 use std::alloc::{AllocError, Global};
 use std::marker::Model;
@@ -34,6 +33,14 @@ pub struct Machine {
     program: Program,
     limits: Limits,
     guest: Guest,
+}
+
+/// What a machine is made of.
+#[derive(Drop)]
+pub struct Parts {
+    pub program: Program,
+    pub limits: Limits,
+    pub guest: Guest,
 }
 
 impl Model for Machine {
@@ -96,6 +103,30 @@ impl Machine {
         ensures { result ≡ self.program.code }
     {
         self.program.code
+    }
+
+    /// Takes the machine apart.
+    pub fn into_parts(self) -> Parts
+        ensures program { result.program ≡ self.program }
+        ensures limits { result.limits ≡ self.limits }
+        ensures guest { result.guest ≡ self.guest }
+        ensures sound { IsMachine (record {
+          program = result.program;
+          limits = result.limits;
+          guest = result.guest;
+        }) }
+    {
+        let Machine {
+            alloc: _,
+            program,
+            limits,
+            guest,
+        } = self;
+        Parts {
+            program,
+            limits,
+            guest,
+        }
     }
 
     /// Runs a method to its end over a host. What it did to memory and globals stays.
@@ -179,26 +210,6 @@ fn most_of(most: Option<u32>, pages: u32) -> u32
     }
 }
 
-/// The first export of this name; a valid module has one at most.
-#[tactic(auto, using(crate::proofs::Named::found_here, crate::proofs::Named::found_later, crate::proofs::Named::found_none))]
-fn export_named<'a>(exports: &'a [Export], name: &[u8]) -> Option<&'a Export>
-    ensures { MatchOption result (find (λ e. bytes_eq e.name name.now) exports.now ≡ None)
-        (λ e. find (λ e. bytes_eq e.name name.now) exports.now ≡ Some e.now) }
-{
-    for export in exports {
-        if is_named(export, name) {
-            return Some(export);
-        }
-    }
-    None
-}
-
-fn is_named(export: &Export, name: &[u8]) -> bool
-    ensures { result ≡ bytes_eq export.now.name name.now }
-{
-    export.name.inner().as_bytes() == name
-}
-
 fn method_as(program: &Program, kind: ExportKind, index: u32) -> Option<u32>
     ensures { result ≡ method_as program.now kind index }
 {
@@ -215,10 +226,4 @@ fn is_method(program: &Program, f: u32) -> bool
         Some(Func::Coded(sig, _)) => takes_and_leaves_nothing(sig),
         _ => false,
     }
-}
-
-fn takes_and_leaves_nothing(sig: &FuncType) -> bool
-    ensures { result ≡ (nat_eq (length sig.now.params) 0 && not (is_some sig.now.result)) }
-{
-    sig.params.inner().is_empty() && sig.result.is_none()
 }

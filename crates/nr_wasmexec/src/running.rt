@@ -45,7 +45,7 @@ fn obey<'a, H: Host>(
 }
 
 /// One step: an instruction, or the end of a block or a frame. False at the end of the run.
-fn turn<'a, H: Host>(
+pub fn turn<'a, H: Host>(
     thread: &mut Thread<'a>,
     program: &'a Program,
     limits: Limits,
@@ -69,8 +69,8 @@ fn turn<'a, H: Host>(
     }
 }
 
-// Whether a thread holds more than it may.
-fn is_too_large(thread: &Thread, limits: Limits) -> bool
+/// Whether a thread holds more than it may.
+pub fn is_too_large(thread: &Thread, limits: Limits) -> bool
     ensures { result ≡ is_too_large_at limits.max_frames limits.max_values thread.now }
 {
     either(
@@ -221,7 +221,13 @@ pub fn run<H: Host>(
 
 /// Valid code never comes to what no rule fits: a missing operand, an operand of the wrong type, or a
 /// branch out of its blocks.
-fn is_never_stuck<H: Host>(program: &Program, limits: Limits, host: &H, guest: &Guest, func: u32)
+pub fn is_never_stuck<H: Host>(
+    program: &Program,
+    limits: Limits,
+    host: &H,
+    guest: &Guest,
+    func: u32,
+)
     requires hosts { program.now.hosts ≡ links program.now.code.imports }
     requires guest { IsGuest program.now guest.now }
     requires method { IsTrue (is_method (func_at program.now func)) }

@@ -91,6 +91,13 @@ impl<'a> Thread<'a> {
         self.code.first()
     }
 
+    /// What runs next, lent by the program.
+    pub fn code(&self) -> &'a [Instr]
+        ensures { code_of result.now ≡ self.now.code }
+    {
+        self.code
+    }
+
     /// Goes past the next instruction.
     pub fn advance(&mut self)
         ensures { self.new ≡ record self.old { code = after self.old.code } }
@@ -347,8 +354,8 @@ impl<'a> Thread<'a> {
     }
 }
 
-// What follows the first instruction.
-fn after_first(code: &[Instr]) -> &[Instr]
+/// What follows the first instruction.
+pub fn after_first(code: &[Instr]) -> &[Instr]
     ensures { code_of result.now ≡ after (code_of code.now) }
 {
     match code.split_first() {

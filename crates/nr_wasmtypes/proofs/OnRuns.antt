@@ -40,7 +40,7 @@ ascending from to (r ∷ rs) h (suc i) zero d le lt = absurd (omega arith)
 ascending from to (r ∷ rs) h (suc i) (suc j) d le lt = ascending r.end to rs h.1 i j d (omega arith) (omega arith)
 
 -- ---- the local with a number
-behind : (xs ys : List ValType) (n : ℕ) → length xs ≤ n → slice_get (xs ++ ys) n ≡ slice_get ys (n - length xs)
+pub behind : (xs ys : List ValType) (n : ℕ) → length xs ≤ n → slice_get (xs ++ ys) n ≡ slice_get ys (n - length xs)
 behind [] ys n h = ap (slice_get ys) (omega arith)
 behind (x ∷ xs) ys zero h = absurd (omega arith)
 behind (x ∷ xs) ys (suc n) h = behind xs ys n (omega arith) ∙ ap (slice_get ys) (omega arith)

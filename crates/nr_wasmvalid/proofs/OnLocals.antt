@@ -1,5 +1,5 @@
 -- The locals of a function: those of two lists, one behind the other.
-use Rattle.std.proofs.Common.{◌≡◌, ℕ, zero, suc, ◌-◌, ◌<◌, ◌≤◌, List, [], ◌∷◌, ◌++◌, length, get_or, Some, sym, ap, ◌∙◌, arith}
+use Rattle.std.proofs.Common.{◌≡◌, ℕ, zero, suc, ◌<◌, List, [], ◌∷◌, ◌++◌, length, get_or, Some, sym, ap, arith}
 use Rattle.std.specs.Prelude.{slice_get}
 use Rattle.nr_wasmtypes.specs.declared.instr.ValType.{ValType}
 
@@ -7,8 +7,3 @@ pub in_front : (xs ys : List ValType) (n : ℕ) (x : ValType) → n < length xs 
 in_front [] ys n x h is = absurd (omega arith)
 in_front (y ∷ xs) ys zero x h is = ap (λ (z : ValType). Some z) (sym is)
 in_front (y ∷ xs) ys (suc n) x h is = in_front xs ys n x (omega arith) is
-
-pub behind : (xs ys : List ValType) (n : ℕ) → length xs ≤ n → slice_get (xs ++ ys) n ≡ slice_get ys (n - length xs)
-behind [] ys n h = ap (slice_get ys) (omega arith)
-behind (x ∷ xs) ys zero h = absurd (omega arith)
-behind (x ∷ xs) ys (suc n) h = behind xs ys n (omega arith) ∙ ap (slice_get ys) (omega arith)

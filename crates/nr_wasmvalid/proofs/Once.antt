@@ -229,15 +229,15 @@ nothing : Same None' fresh
 nothing ts = ((λ e. e), (λ e. e))
 
 -- judging a body says that it is typed, or its first breach
-abbrev pub Tells : Context → Code → Result Shape BodyFault → Type 0
-Tells c code (Ok t) = IsTyped c code
-Tells c code (Err fault) = (place : ℕ) × (kind : Refusal) × (fault ≡ fault_at place kind) × IsBreach c code place kind
+abbrev pub TellsTyping : Context → Code → Result Shape BodyFault → Type 0
+TellsTyping c code (Ok t) = IsTyped c code
+TellsTyping c code (Err fault) = (place : ℕ) × (kind : Refusal) × (fault ≡ fault_at place kind) × IsBreach c code place kind
 
-body_tells : (c : Context) (code : Code) (r : Result Shape BodyFault) → ExactBody (in_body c) 0 code c.result None' r → Tells c code r
+body_tells : (c : Context) (code : Code) (r : Result Shape BodyFault) → ExactBody (in_body c) 0 code c.result None' r → TellsTyping c code r
 body_tells c code (Ok t) e = e
 body_tells c code (Err fault) e = e
 
-pub judged_tells : (c : Context) (code : Code) → Tells c code (body_judged c code)
+pub judged_tells : (c : Context) (code : Code) → TellsTyping c code (body_judged c code)
 unfolding body_judged
 judged_tells c code =
     let e = body_exact (in_body c) 0 code c.result None' (judged (in_body c) 0 code fresh) (λ us h. h) (code_exact (in_body c) 0 code None' fresh nothing) in

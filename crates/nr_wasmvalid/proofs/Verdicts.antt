@@ -12,7 +12,7 @@ use Rattle.nr_wasmvalid.specs.declared.refusal.Refusal.{Refusal}
 use Rattle.nr_wasmvalid.specs.declared.refusal.Refusal.TheVariants as refusal
 use Rattle.nr_wasmvalid.specs.declared.refusal.BodyFault.{BodyFault}
 use Rattle.nr_wasmvalid.specs.declared.refusal.BodyFault.TheVariants as fault
-use Rattle.nr_wasmvalid.proofs.Once.{Tells, judged_tells, breach_judged, typed_judged}
+use Rattle.nr_wasmvalid.proofs.Once.{TellsTyping, judged_tells, breach_judged, typed_judged}
 
 breach_verdict : (c : Context) (code : Code) (place : ℕ) (kind : Refusal) → IsBreach c code place kind → Verdict c code (Err (fault_at place kind))
 breach_verdict c code place refusal.Types h = h
@@ -21,13 +21,13 @@ breach_verdict c code place refusal.Label h = h
 breach_verdict c code place refusal.Limit h = h
 breach_verdict c code place refusal.Memory h = tt
 
-told : (c : Context) (code : Code) (r : Result Shape BodyFault) (e : BodyFault) → r ≡ Err e → Tells c code r → Verdict c code (Err e)
+told : (c : Context) (code : Code) (r : Result Shape BodyFault) (e : BodyFault) → r ≡ Err e → TellsTyping c code r → Verdict c code (Err e)
 told c code r e is t =
-    let b = subst (Tells c code) is t in
+    let b = subst (TellsTyping c code) is t in
     subst (λ (f : BodyFault). Verdict c code (Err f)) (sym b.2) (breach_verdict c code b.0 b.1 b.3)
 
 pub verdict : (c : Context) (code : Code) (r : Result (Unit {0}) BodyFault) → BodyJudges r (body_judged c code) → Verdict c code r
-verdict c code (Ok x) h = subst (Tells c code) h (judged_tells c code)
+verdict c code (Ok x) h = subst (TellsTyping c code) h (judged_tells c code)
 verdict c code (Err (fault.Types n)) h = told c code (body_judged c code) (fault.Types n) (h (λ e. cc)) (judged_tells c code)
 verdict c code (Err (fault.Index n)) h = told c code (body_judged c code) (fault.Index n) (h (λ e. cc)) (judged_tells c code)
 verdict c code (Err (fault.Label n)) h = told c code (body_judged c code) (fault.Label n) (h (λ e. cc)) (judged_tells c code)

@@ -88,7 +88,7 @@ both_ok : (r s : Result (Unit {0}) ValidFault) → (r >>= λ x. s) ≡ Ok tt →
 both_ok (Ok x) s e = (refl, e)
 both_ok (Err f) s e = absurd cc
 
-holds_first : (b : Bool) (r : Result (Unit {0}) ValidFault) (f : ValidFault) → (if b then r else Err f) ≡ Ok tt → (b ≡ true) × (r ≡ Ok tt)
+pub holds_first : (b : Bool) (r : Result (Unit {0}) ValidFault) (f : ValidFault) → (if b then r else Err f) ≡ Ok tt → (b ≡ true) × (r ≡ Ok tt)
 holds_first true r f e = (refl, e)
 holds_first false r f e = absurd cc
 

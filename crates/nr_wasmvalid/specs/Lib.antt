@@ -1,5 +1,6 @@
 -- Definitions that the contracts cite.
 pub mod Faults
+pub mod Kinds
 pub mod Parts
 pub mod Modules
 pub mod Rules

@@ -8,6 +8,7 @@ mod entries;
 mod fault;
 mod frame;
 mod functions;
+mod kinds;
 mod locals;
 mod parts;
 mod plain;
@@ -18,4 +19,5 @@ mod typing;
 mod valid;
 
 pub use fault::ValidFault;
+pub use kinds::{valid_func, valid_kind, valid_place};
 pub use valid::{Valid, running_laws, validate};

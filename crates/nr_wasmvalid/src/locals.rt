@@ -31,7 +31,7 @@ impl<'a> LocalTypes<'a> {
     }
 
     /// The type of the local with this number.
-    #[tactic(auto, using(crate::proofs::OnLocals::in_front, crate::proofs::OnLocals::behind))]
+    #[tactic(auto, using(crate::proofs::OnLocals::in_front, nr_wasmtypes::proofs::OnRuns::behind))]
     pub(crate) fn get(&self, number: u32) -> Option<ValType>
         ensures { result ≡ slice_get self.now number }
     {

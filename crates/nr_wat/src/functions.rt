@@ -76,7 +76,8 @@ pub(crate) fn print_types(types: &[FuncType], text: &mut String) -> Result<(), A
 
 // ---- imports
 
-fn is_function(kind: ImportKind) -> bool
+/// Whether a function is imported.
+pub fn is_function(kind: ImportKind) -> bool
     ensures { result ≡ is_function kind }
 {
     match kind {

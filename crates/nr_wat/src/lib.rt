@@ -10,4 +10,5 @@ mod operands;
 mod pieces;
 
 pub use fields::write_text;
+pub use functions::is_function;
 pub use laws::names_law;

@@ -1,6 +1,7 @@
 -- Lemmas behind the answers.
 pub mod Both
 pub mod Numerals
+pub mod Pieces
 pub mod Plain
 pub mod Places
 pub mod Tables

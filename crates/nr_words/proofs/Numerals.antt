@@ -6,7 +6,7 @@ use Rattle.std.specs.Char.{digit_value}
 use Rattle.std.proofs.lemmas.Bool.{leb-true, lt-leb, ltb-true, ltb-false, eqb-true}
 use Rattle.std.specs.Str.{IsAscii, IsUtf8}
 use Rattle.std.proofs.lemmas.Str.{IsUtf8-from_ascii, digit_value_digit}
-use Rattle.nr_words.specs.Numbers.{is_digit, has_no_leading_zero, is_numeral, number_in}
+use Rattle.nr_words.specs.Numbers.{is_digit, has_no_leading_zero, is_numeral, number_below, number_in}
 use Rattle.nr_words.proofs.Both.{both_left, both_right}
 
 digit_low : (b : ℕ) → is_digit b ≡ true → 48 ≤ b
@@ -55,6 +55,18 @@ too_large least most bs e lt fails =
     below true is = absurd (fails (rw (numeral_parses bs e).0 ((numeral_parses bs e).1, ltb-true (digits_value 10 bs) 18446744073709551616 is)))
     below false is = omega (arith, lt, ltb-false (digits_value 10 bs) 18446744073709551616 is)
 
+not_both : (a b : Bool) (n : ℕ) → b ≡ false → None ≡ cond (a && b) (Some n) None
+not_both true b n e = rw e refl
+not_both false b n e = refl
+
+-- a numeral that isn't read is not below the limit
+pub not_read : (limit : ℕ) (bs : List ℕ) → is_numeral bs ≡ true → ¬ (IsNumeral 10 (without_leading_plus bs) × (digits_value 10 (without_leading_plus bs) < limit)) → None ≡ number_below limit bs
+not_read limit bs e fails = not_both (is_numeral bs) (ltb (digits_value 10 bs) limit) (digits_value 10 bs) (below (ltb (digits_value 10 bs) limit) refl)
+  where
+    below : (t : Bool) → ltb (digits_value 10 bs) limit ≡ t → t ≡ false
+    below true is = absurd (fails (rw (numeral_parses bs e).0 ((numeral_parses bs e).1, ltb-true (digits_value 10 bs) limit is)))
+    below false is = refl
+
 -- ---- words that are no text
 digits_ascii : (bs : List ℕ) → list_all is_digit bs ≡ true → IsAscii bs
 digits_ascii [] e i = lit< tt
@@ -66,5 +78,12 @@ pub no_text : (least most : ℕ) (bs : List ℕ) → ¬ (IsUtf8 bs) → None ≡
 no_text least most bs fails = by (is_numeral bs) refl
   where
     by : (t : Bool) → is_numeral bs ≡ t → None ≡ cond (t && (leb least (digits_value 10 bs) && leb (digits_value 10 bs) most)) (Some (digits_value 10 bs)) None
+    by true e = absurd (fails (IsUtf8-from_ascii bs (digits_ascii bs (both_right (has_no_leading_zero bs) (list_all is_digit bs) e))))
+    by false e = refl
+
+pub no_text_below : (limit : ℕ) (bs : List ℕ) → ¬ (IsUtf8 bs) → None ≡ number_below limit bs
+no_text_below limit bs fails = by (is_numeral bs) refl
+  where
+    by : (t : Bool) → is_numeral bs ≡ t → None ≡ cond (t && ltb (digits_value 10 bs) limit) (Some (digits_value 10 bs)) None
     by true e = absurd (fails (IsUtf8-from_ascii bs (digits_ascii bs (both_right (has_no_leading_zero bs) (list_all is_digit bs) e))))
     by false e = refl

@@ -1,7 +1,8 @@
 -- Commands by a table of forms: for each its verb and its places. This project's own.
 use Rattle.std.specs.Prelude.{◌≡◌, ℕ, ◌<◌, ◌≤◌, List, [], ◌∷◌, Bool, true, false, cond, not, ◌&&◌, ◌||◌, Option, Some}
-use Rattle.std.specs.Prelude.{None, IfSome, length, map, find, nat_le, ◌==◌, option_and_then, option_map, position}
-use Rattle.std.specs.List.{list_all, list_any}
+use Rattle.std.specs.Prelude.{None, IfSome, length, map, find, nat_le, ◌==◌, ◌++◌, option_and_then, option_map}
+use Rattle.std.specs.Prelude.{position}
+use Rattle.std.specs.List.{flat_map, list_all, list_any}
 use Rattle.std.specs.Str.{bytes_eq}
 use Rattle.nr_words.specs.Numbers.{is_digit, number_in}
 
@@ -77,6 +78,10 @@ is_plain (b ∷ bytes) = not (b == 45)
 -- the form that words have, by its verb, and what they are at its places; no word is empty or begins with a dash
 unfoldable pub read : List Form → List (List ℕ) → Option (List ℕ × List Value)
 read table words = cond (list_all is_plain words) (formed table words) None
+
+-- the words of a form behind a program's name, or behind more of its words, parted by single spaces
+abbrev pub form_line : List ℕ → Form → List ℕ
+form_line program form = program ++ 32 ∷ form.verb ++ flat_map (λ p. 32 ∷ name_of p) form.places ++ 10 ∷ []
 
 -- ---- tables
 abbrev pub are_distinct : List (List ℕ) → Bool

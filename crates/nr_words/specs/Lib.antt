@@ -1,5 +1,6 @@
 -- Definitions that the contracts cite.
 pub mod Numbers
+pub mod Pieces
 pub mod Forms
 pub mod Kinds
 pub mod Command

@@ -1,5 +1,6 @@
 -- Numbers among words.
-use Rattle.std.specs.Prelude.{ℕ, List, [], ◌∷◌, Bool, true, false, cond, not, ◌&&◌, Option, Some, None, nat_le, ◌==◌}
+use Rattle.std.specs.Prelude.{ℕ, List, [], ◌∷◌, Bool, true, false, cond, not, ◌&&◌, Option, Some, None, nat_le, nat_lt}
+use Rattle.std.specs.Prelude.{◌==◌}
 use Rattle.std.specs.List.{list_all}
 use Rattle.std.specs.Str.Parse.{digits_value}
 
@@ -21,3 +22,8 @@ abbrev pub number_in : ℕ → ℕ → List ℕ → Option ℕ
 number_in least most word =
     cond (is_numeral word && (nat_le least (digits_value 10 word) && nat_le (digits_value 10 word) most))
     (Some (digits_value 10 word)) None
+
+-- the number that a word spells, where it is below the limit
+abbrev pub number_below : ℕ → List ℕ → Option ℕ
+number_below limit word =
+    cond (is_numeral word && nat_lt (digits_value 10 word) limit) (Some (digits_value 10 word)) None

@@ -77,19 +77,21 @@ pub(crate) fn name_of(place: &Place) -> &'static str
 }
 
 /// Whether a byte is a digit of base 16, in lower case.
-pub fn is_hex_digit(byte: u8) -> bool
+fn is_hex_digit(byte: u8) -> bool
     ensures { result ≡ is_hex_digit byte }
 {
     is_digit(byte) || (97 <= byte && byte <= 102)
 }
 
-fn all_hex_digits(word: &[u8]) -> bool
+/// Whether a word is nothing but digits of base 16, in lower case. The empty one is.
+pub fn all_hex_digits(word: &[u8]) -> bool
     ensures { result ≡ list_all is_hex_digit word.now }
 {
     word.iter().all(|byte| is_hex_digit(*byte))
 }
 
-fn is_digest(word: &[u8]) -> bool
+/// Whether a word is 64 digits of base 16, in lower case, as 32 bytes are spelled.
+pub fn is_digest(word: &[u8]) -> bool
     ensures { result ≡ is_digest word.now }
 {
     word.len() == 64 && all_hex_digits(word)

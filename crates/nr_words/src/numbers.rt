@@ -1,8 +1,8 @@
 //! Numbers among words.
 
-ghost use Rattle.std.specs.Prelude.{◌≡◌, ◌≤◌, IfSome};
+ghost use Rattle.std.specs.Prelude.{◌≡◌, ◌≤◌, ◌^◌, IfSome};
 ghost use Rattle.std.specs.List.{list_all};
-ghost use Rattle.nr_words.specs.Numbers.{has_no_leading_zero, is_digit, is_numeral, number_in};
+ghost use Rattle.nr_words.specs.Numbers.{has_no_leading_zero, is_digit, is_numeral, number_below, number_in};
 
 pub(crate) fn is_digit(byte: u8) -> bool
     ensures { result ≡ is_digit byte }
@@ -27,8 +27,8 @@ fn all_digits(word: &[u8]) -> bool
     word.iter().all(|byte| is_digit(*byte))
 }
 
-/// Decimal digits without a leading zero.
-fn is_numeral(word: &[u8]) -> bool
+/// Whether a word is decimal digits without a leading zero.
+pub fn is_numeral(word: &[u8]) -> bool
     ensures { result ≡ is_numeral word.now }
 {
     has_no_leading_zero(word) && all_digits(word)
@@ -50,6 +50,19 @@ pub(crate) fn number_of(least: u64, most: u64, word: &str) -> Option<u64>
                 None
             }
         }
+        Err(_) => None,
+    }
+}
+
+/// The number of 128 bits that a word spells in decimal digits without leading zeros. Other words give nothing.
+pub fn large_number(word: &str) -> Option<u128>
+    ensures { result ≡ number_below (2 ^ 128) word.now }
+{
+    if !is_numeral(word.as_bytes()) {
+        return None;
+    }
+    match word.parse::<u128>() {
+        Ok(number) => Some(number),
         Err(_) => None,
     }
 }

@@ -1,13 +1,11 @@
 //! Entries of a delayed queue.
 
-ghost use Rattle.std.specs.Prelude.{◌≡◌, ◌+◌, ◌<◌, ◌^◌, ◌++◌, Some, None, cond, IfOk, OnOk, IfSome};
-ghost use Rattle.std.specs.FinMap as map;
-ghost use Rattle.std.specs.List.{flat_map, list_all, range_with_len};
-ghost use Rattle.std.specs.Option.{option_to_list};
+ghost use Rattle.std.specs.Prelude.{◌≡◌, Some, None, cond, IfOk};
+ghost use Rattle.std.specs.List.{list_all};
 ghost use Rattle.nr_bytes.specs.Answers.{Gives};
 ghost use Rattle.nr_columns.specs.Entries.{contents_of};
 ghost use Rattle.nr_columns.specs.View.{columns_in};
-ghost use Rattle.nr_state.specs.View.{delayed_in, served_in, waiting_in};
+ghost use Rattle.nr_state.specs.View.{delayed_in};
 ghost use Rattle.nr_worlds.specs.Answers.{memory_fault, queue_checked};
 ghost use Rattle.nr_worlds.specs.Judging.{is_queue};
 ghost use Rattle.nr_worlds.specs.Tests.{Numbers, are_of_queue, is_of_queue, numbers_told, queue_told};
@@ -18,6 +16,7 @@ use nr_bytes::List;
 use nr_columns::{Columns, Entry};
 use nr_entries::{bytes_law, count_in};
 use nr_records::Receipt;
+use nr_state::listings::delayed_after;
 use nr_triedef::Store;
 use std::alloc::{AllocError, Global};
 
@@ -34,35 +33,6 @@ fn numbers_of<S: Store>(columns: &Columns<S>) -> Result<Option<(u64, u64)>, Allo
         Some(_) => Ok(None),
         None => Ok(Some((0, 0))),
     }
-}
-
-/// Appends the receipt, where there is one.
-fn push_found(found: &mut Vec<Receipt>, receipt: Option<Receipt>) -> Result<(), AllocError>
-    ensures { OnOk result (found.new.items ≡ found.old.items ++ option_to_list receipt) }
-{
-    if let Some(receipt) = receipt {
-        found.push(receipt)?;
-    }
-    Ok(())
-}
-
-/// So many delayed receipts behind those that were served.
-#[tactic(auto, using(nr_state::proofs::ShownWorlds::more_listed))]
-fn delayed_after<S: Store>(
-    alloc: Global,
-    columns: &Columns<S>,
-    served: u64,
-    waiting: u64,
-) -> Result<Vec<Receipt>, AllocError>
-    requires { served + waiting < 2 ^ 64 }
-    ensures { IfOk result (λ found. found.items
-        ≡ flat_map (λ n. option_to_list (map.get columns.now.columns.delayed n)) (range_with_len served waiting)) }
-{
-    let mut found = Vec::new(alloc);
-    for behind in 0..waiting {
-        push_found(&mut found, columns.delayed(served + behind)?)?;
-    }
-    Ok(found)
 }
 
 /// The delayed receipts, the front first; `None` where they aren't those of a queue.

@@ -17,7 +17,7 @@ use crate::commands::check::scheduled;
 use crate::run::report;
 use crate::status::Status;
 use nr_bytes::{Blob, Shelf};
-use nr_chainfiles::{ChainFiles, chain_of};
+use nr_chainfiles::{ChainFiles, chain_in_bytes};
 use nr_config::Config;
 use nr_shell::Stop;
 use nr_words::FileNames;
@@ -38,7 +38,7 @@ fn course_of(
 {
     let first = genesis.into_inner();
     let second = blocks.into_inner();
-    match chain_of::<Status>(alloc, config, first, second) {
+    match chain_in_bytes::<Status>(alloc, config, first, second) {
         Ok(files) => {
             can_run(&files);
             Ok(files)

@@ -3,7 +3,8 @@ use Rattle.std.proofs.Common.{◌≡◌, ◌-◌, ◌∷◌, drop, map, ap, sym,
 use Rattle.nr_blocks.specs.Genesis.{code_hash_in}
 use Rattle.nr_blocks.specs.Parts.{hash_with}
 use Rattle.nr_files.specs.Filling.{plain}
-use Rattle.nr_files.proofs.Sums.{front_of, hash_more}
+use Rattle.nr_blocks.proofs.Turns.{front_of}
+use Rattle.nr_files.proofs.Sums.{hash_more}
 use Rattle.nr_files.proofs.counting.hashes_of.Goals as goal
 
 pub loop-left-preserved : goal.loop-left-preserved

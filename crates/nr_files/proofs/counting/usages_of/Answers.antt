@@ -2,7 +2,8 @@
 use Rattle.std.proofs.Common.{◌≡◌, ◌-◌, ◌∷◌, drop, map, ap, sym, ◌∙◌, arith}
 use Rattle.nr_blocks.specs.Genesis.{usage_in}
 use Rattle.nr_files.specs.Filling.{plain, usage_with}
-use Rattle.nr_files.proofs.Sums.{front_of, usage_more}
+use Rattle.nr_blocks.proofs.Turns.{front_of}
+use Rattle.nr_files.proofs.Sums.{usage_more}
 use Rattle.nr_files.proofs.counting.usages_of.Goals as goal
 
 pub loop-left-preserved : goal.loop-left-preserved

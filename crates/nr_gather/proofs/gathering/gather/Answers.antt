@@ -3,7 +3,7 @@ use Rattle.std.proofs.Common.{ℕ, ap, ◌∙◌, List, subst}
 use Rattle.nr_triedef.specs.Root.{paths}
 use Rattle.nr_store.specs.Tries.{CanWalk}
 use Rattle.nr_columns.specs.declared.entry.Entry.{Entry}
-use Rattle.nr_gather.specs.Entries.{pairs_of}
+use Rattle.nr_columns.specs.Entries.{pairs_of}
 use Rattle.nr_gather.specs.Gathered.{gathered, root_in}
 use Rattle.nr_gather.proofs.Looked.{gathered_walk}
 use Rattle.nr_gather.proofs.Results.{root_gathered}

@@ -1,6 +1,6 @@
 -- The goals of `gathering::texts_in` that no tactic closes.
 use Rattle.nr_triedef.specs.Root.{paths}
-use Rattle.nr_gather.specs.Entries.{pairs_of}
+use Rattle.nr_columns.specs.Entries.{pairs_of}
 use Rattle.nr_gather.proofs.Results.{form_nodes, gathered_whole}
 use Rattle.nr_gather.proofs.gathering.texts_in.Goals as goal
 

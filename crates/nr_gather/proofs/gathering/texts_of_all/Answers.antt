@@ -1,7 +1,7 @@
 -- The goals of `gathering::texts_of_all` that no tactic closes.
 use Rattle.std.proofs.Common.{sym, ◌∙◌}
 use Rattle.nr_triedef.specs.Root.{paths}
-use Rattle.nr_gather.specs.Entries.{pairs_of}
+use Rattle.nr_columns.specs.Entries.{pairs_of}
 use Rattle.nr_gather.proofs.Results.{none_gathered}
 use Rattle.nr_gather.proofs.gathering.texts_of_all.Goals as goal
 

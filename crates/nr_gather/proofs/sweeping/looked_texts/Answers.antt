@@ -2,7 +2,7 @@
 use Rattle.std.proofs.Common.{◌-◌, ◌+◌, ap, ◌∙◌, arith}
 use Rattle.nr_triedef.specs.Node.{IsNode}
 use Rattle.nr_triedef.specs.Root.{paths}
-use Rattle.nr_gather.specs.Entries.{pairs_of}
+use Rattle.nr_columns.specs.Entries.{pairs_of}
 use Rattle.nr_gather.proofs.Turning.{passed_by, looked_at, all_behind}
 use Rattle.nr_gather.proofs.sweeping.looked_texts.Goals as goal
 use Rattle.nr_gather.proofs.sweeping.looked_texts.Goals.{then-passed-gt0, else-passed-gt0+in-Some+in_ok-passed-in-Some}

@@ -3,7 +3,7 @@ use Rattle.std.proofs.Common.{◌≡◌, ◌≤◌, ◌+◌, ◌*◌, ◌++◌, 
 use Rattle.std.specs.List.{AllByRecursion}
 use Rattle.nr_triedef.specs.Node.{IsNode}
 use Rattle.nr_triedef.specs.Root.{paths}
-use Rattle.nr_gather.specs.Entries.{pairs_of}
+use Rattle.nr_columns.specs.Entries.{pairs_of}
 use Rattle.nr_gather.specs.Sweeping.{swept}
 use Rattle.nr_gather.proofs.sweeping.looked_texts.Given as goal
 

@@ -1,6 +1,6 @@
 -- The goals of `nodes::hashes` that no tactic closes.
 use Rattle.std.proofs.Common.{arith}
-use Rattle.nr_store.proofs.Levels.{hashes_all}
+use Rattle.nr_triedef.proofs.Children.{hashes_all}
 use Rattle.nr_remake.proofs.nodes.hashes.Goals as goal
 
 pub returns : goal.returns

@@ -1,6 +1,6 @@
--- The goals of `making::hashes` that no tactic closes.
+-- The goals of `making::child_hashes` that no tactic closes.
 use Rattle.std.proofs.Common.{arith}
-use Rattle.nr_store.proofs.Levels.{hashes_all}
+use Rattle.nr_triedef.proofs.Children.{hashes_all}
 use Rattle.nr_trielist.proofs.making.child_hashes.Goals as goal
 
 pub returns : goal.returns

@@ -1,4 +1,4 @@
--- What holds at the loops of `making::hashes`.
+-- What holds at the loops of `making::child_hashes`.
 use Rattle.std.proofs.Common.{◌≡◌, ◌<◌, ℕ, length, get_or, None}
 use Rattle.nr_triedef.specs.Root.{hash_below}
 use Rattle.nr_trielist.proofs.making.child_hashes.Given as goal

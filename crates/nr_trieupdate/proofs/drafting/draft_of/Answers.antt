@@ -65,8 +65,11 @@ returns-clause-moved c = c.on.invariant.draft.moved
 pub returns-clause-same : goal.returns-clause-same
 returns-clause-same c = c.on.invariant.draft.same
 
+pub limits_with-requires : goal.limits_with-requires
+limits_with-requires c = c.on.invariant.draft.bounded
+
 pub returns-clause-bounded : goal.returns-clause-bounded
-returns-clause-bounded c = c.on.invariant.draft.bounded
+returns-clause-bounded c = c.limits_with.ensures
 
 pub returns-clause-merged : goal.returns-clause-merged
 returns-clause-merged c = (draft_done c.args.nodes.now c.on.nodes c.args.top.now c.on.top c.on.draft c.on.done c.args.changes.now c.on.limits (omega arith) c.on.invariant.draft).made

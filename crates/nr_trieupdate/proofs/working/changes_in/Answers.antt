@@ -5,5 +5,5 @@ use Rattle.nr_trieupdate.proofs.working.changes_in.Goals as goal
 pub returns-in_err-entries-clause-short : goal.returns-in_err-entries-clause-short
 returns-in_err-entries-clause-short c = short_changes c.args.waiting.now.contents c.sizes.ensures
 
-pub returns-in_err-changes-clause-short : goal.returns-in_err-changes-clause-short
-returns-in_err-changes-clause-short c = short_changes c.args.waiting.now.contents c.sizes.ensures
+pub returns-in_err-list-clause-short : goal.returns-in_err-list-clause-short
+returns-in_err-list-clause-short c = short_changes c.args.waiting.now.contents c.sizes.ensures

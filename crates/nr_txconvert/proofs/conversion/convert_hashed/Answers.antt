@@ -4,7 +4,7 @@ use Rattle.std.specs.Prelude.{IsSome}
 use Rattle.nr_columns.specs.SpelledKeys.{key_read}
 use Rattle.nr_state.specs.View.{with_world}
 use Rattle.nr_txconvert.proofs.Converting.{no_signer, no_key, refuses, charges, same_key, converts}
-use Rattle.nr_txconvert.specs.Lent.{shown}
+use Rattle.nr_keys.specs.Lent.{shown}
 use Rattle.nr_txconvert.proofs.conversion.convert_hashed.Goals as goal
 
 pub returns-in_default : goal.returns-in_default

@@ -15,5 +15,5 @@ returns g c =
     whole_closed c.self.inside.keys c.self.inside.rest c.deref.result.now c.inner.result.now c.in_ok-split.split
     c.in_ok-found.found c.self.invariant.many c.self.invariant.order c.self.invariant.rest
     (c.deref.ensures.value ∙ made_all c.self.inside.rest c.self.inside.made.items c.self.invariant.made all)
-    (c.inner.ensures ∙ c.in_ok-shared.ensures.value) c.in_ok-split.ensures c.in_ok-found.ensures
+    (c.inner.ensures ∙ c.in_ok-shared.ensures.value) c.in_ok-split.ensures c.in_ok-found.ensures.made
     ∙ ap (λ (b : Branching). whole b.keys) c.self.view_is

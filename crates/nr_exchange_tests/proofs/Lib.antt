@@ -1,2 +1,0 @@
--- Lemmas behind the answers.
-pub mod Asks

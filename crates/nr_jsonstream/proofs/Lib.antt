@@ -1,0 +1,5 @@
+-- Lemmas behind the answers.
+pub mod Numbers
+pub mod Reading
+pub mod Records
+pub mod Trees

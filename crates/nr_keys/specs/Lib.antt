@@ -1,0 +1,4 @@
+-- Definitions that the contracts cite.
+pub mod Names
+pub mod Lent
+pub mod Changed

@@ -1,0 +1,15 @@
+-- What holds at the loops of `exchange::give_eight`.
+use Rattle.std.proofs.Common.{◌≡◌, ◌+◌}
+use Rattle.nr_exchange.specs.Plan.{plan_of}
+use Rattle.nr_exchange.specs.Notes.{link}
+use Rattle.nr_exchange.specs.Ports.{IsPortOf}
+use Rattle.nr_overlap_tests.specs.Pair.{rules}
+use Rattle.nr_overlap_tests.proofs.exchange.give_eight.Given as goal
+
+abbrev pub invariant-loop-height : goal.invariant-loop-height
+invariant-loop-height l = record {
+  port_of : IsPortOf (λ _. plan_of rules) l.exchange l.giver;
+  first : l.giver.note.shard ≡ 0;
+  number : l.height ≡ l.giver.note.number + 1;
+  claimed : (link l.giver.note 0).claimed ≡ (link l.fn.giver.note 0).claimed;
+}

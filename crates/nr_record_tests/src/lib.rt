@@ -1,5 +1,0 @@
-//! Tests of the spelling of records.
-#![tactic(auto)]
-
-#[cfg(test)]
-mod spelling;

@@ -1,5 +1,0 @@
-//! Tests of chains that go on from worlds and lists.
-#![tactic(auto)]
-
-#[cfg(test)]
-mod going_on;

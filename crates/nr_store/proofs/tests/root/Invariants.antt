@@ -1,5 +1,0 @@
--- What holds at the loops of `tests::root`.
-use Rattle.nr_store.proofs.tests.root.Given as goal
-
-abbrev pub ghosts-counted_root : goal.ghosts-counted_root
-ghosts-counted_root g a = record { name = a.blank.name; parts = a.blank.parts }

@@ -1,0 +1,3 @@
+-- Lemmas behind the answers.
+pub mod OnOffsets
+pub mod OnTrails
