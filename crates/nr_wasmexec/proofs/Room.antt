@@ -149,77 +149,77 @@ module _ (p : Program) (guest : Guest) (locals values : List ℕ) where
   Light e = IsLight (length locals) (length values) e
 
   plain_light : (o : Op) → IsNoCall o → Light (plain_effect p guest locals values o)
-  plain_light op.Unreachable no = tt
-  plain_light op.Nop no = (refl, omega arith)
-  plain_light (op.Br depth) no = omega arith
-  plain_light (op.BrIf depth) no =
+  plain_light op.Unreachable calm = tt
+  plain_light op.Nop calm = (refl, omega arith)
+  plain_light (op.Br depth) calm = omega arith
+  plain_light (op.BrIf depth) calm =
       top_light (length locals) (length values) values (λ v rest. if v == 0 then Goes locals rest else Branches depth rest)
       (λ v rest e. if_light (length locals) (length values) (v == 0) (Goes locals rest) (Branches depth rest) (refl, omega (arith, e)) (omega (arith, e)))
-  plain_light (op.BrTable table) no =
+  plain_light (op.BrTable table) calm =
       top_light (length locals) (length values) values (λ v rest. Branches (chosen (slice_get table.0 v) table.1) rest)
       (λ v rest e. omega (arith, e))
-  plain_light op.Return no = omega arith
-  plain_light (op.Call f) no = absurd no
-  plain_light (op.CallIndirect t) no = absurd no
-  plain_light op.Drop no =
+  plain_light op.Return calm = omega arith
+  plain_light (op.Call f) calm = absurd calm
+  plain_light (op.CallIndirect t) calm = absurd calm
+  plain_light op.Drop calm =
       top_light (length locals) (length values) values (λ v rest. Goes locals rest) (λ v rest e. (refl, omega (arith, e)))
-  plain_light op.Select no =
+  plain_light op.Select calm =
       three_light (length locals) (length values) values (λ x y v rest. Goes locals ((if v == 0 then y else x) ∷ rest))
       (λ x y v rest e. (refl, omega (arith, e)))
-  plain_light (op.LocalGet n) no =
+  plain_light (op.LocalGet n) calm =
       value_light (length locals) (length values) (slice_get locals n) (λ v. Goes locals (v ∷ values)) (λ v. (refl, omega arith))
-  plain_light (op.LocalSet n) no =
+  plain_light (op.LocalSet n) calm =
       top_light (length locals) (length values) values
       (λ v rest. if nat_lt n (length locals) then Goes (slice_set locals n v) rest else Stuck)
       (λ v rest e. if_light (length locals) (length values) (nat_lt n (length locals)) (Goes (slice_set locals n v) rest) Stuck (length-set locals n v, omega (arith, e)) tt)
-  plain_light (op.LocalTee n) no =
+  plain_light (op.LocalTee n) calm =
       top_light (length locals) (length values) values
       (λ v rest. if nat_lt n (length locals) then Goes (slice_set locals n v) values else Stuck)
       (λ v rest e. if_light (length locals) (length values) (nat_lt n (length locals)) (Goes (slice_set locals n v) values) Stuck (length-set locals n v, omega arith) tt)
-  plain_light (op.GlobalGet n) no =
+  plain_light (op.GlobalGet n) calm =
       value_light (length locals) (length values) (slice_get guest.globals n) (λ v. Goes locals (v ∷ values)) (λ v. (refl, omega arith))
-  plain_light (op.GlobalSet n) no =
+  plain_light (op.GlobalSet n) calm =
       top_light (length locals) (length values) values
       (λ v rest. if nat_lt n (length guest.globals) then Writes (record guest { globals = slice_set guest.globals n v }) rest else Stuck)
       (λ v rest e. if_light (length locals) (length values) (nat_lt n (length guest.globals)) (Writes (record guest { globals = slice_set guest.globals n v }) rest) Stuck tt tt)
-  plain_light (op.Load what align offset) no =
+  plain_light (op.Load what align offset) calm =
       top_light (length locals) (length values) values
       (λ base rest. read (number_in guest.memory.bytes (place_at base offset) (width_of_load what)) (λ v. Goes locals (load_of what v ∷ rest)))
       (λ base rest e. read_light (length locals) (length values) (number_in guest.memory.bytes (place_at base offset) (width_of_load what)) (λ v. Goes locals (load_of what v ∷ rest)) (λ v. (refl, omega (arith, e))))
-  plain_light (op.Store what align offset) no =
+  plain_light (op.Store what align offset) calm =
       two_light (length locals) (length values) values
       (λ base v rest. written guest (number_over guest.memory.bytes (place_at base offset) (width_of_store what) v) rest)
       (λ base v rest e. written_light (length locals) (length values) guest (number_over guest.memory.bytes (place_at base offset) (width_of_store what) v) rest)
-  plain_light op.MemorySize no = (refl, omega arith)
-  plain_light op.MemoryGrow no =
+  plain_light op.MemorySize calm = (refl, omega arith)
+  plain_light op.MemoryGrow calm =
       top_light (length locals) (length values) values (λ v rest. grows guest (grown guest.memory (v % 2 ^ 32)) rest)
       (λ v rest e. grows_light (length locals) (length values) guest (grown guest.memory (v % 2 ^ 32)) rest)
-  plain_light (op.Const32 n) no = (refl, omega arith)
-  plain_light (op.Const64 n) no = (refl, omega arith)
-  plain_light (op.IsZero t) no =
+  plain_light (op.Const32 n) calm = (refl, omega arith)
+  plain_light (op.Const64 n) calm = (refl, omega arith)
+  plain_light (op.IsZero t) calm =
       top_light (length locals) (length values) values (λ v rest. Goes locals (zero_test_of t v ∷ rest)) (λ v rest e. (refl, omega (arith, e)))
-  plain_light (op.Count t how) no =
+  plain_light (op.Count t how) calm =
       top_light (length locals) (length values) values (λ v rest. Goes locals (bit_count_of t how v ∷ rest)) (λ v rest e. (refl, omega (arith, e)))
-  plain_light (op.Compare t how) no =
+  plain_light (op.Compare t how) calm =
       two_light (length locals) (length values) values (λ x y rest. Goes locals (compare_of t how x y ∷ rest)) (λ x y rest e. (refl, omega (arith, e)))
-  plain_light (op.Arith t how) no =
+  plain_light (op.Arith t how) calm =
       two_light (length locals) (length values) values (λ x y rest. computed (arith_of t how x y) (λ v. Goes locals (v ∷ rest)))
       (λ x y rest e. computed_light (length locals) (length values) (arith_of t how x y) (λ v. Goes locals (v ∷ rest)) (λ v. (refl, omega (arith, e))))
-  plain_light (op.Convert how) no =
+  plain_light (op.Convert how) calm =
       top_light (length locals) (length values) values (λ v rest. Goes locals (convert_of how v ∷ rest)) (λ v rest e. (refl, omega (arith, e)))
 
   code_light : (code : Code) → BeginsNoCall code → Light (effect p guest locals values code)
-  code_light End no = tt
-  code_light (Then o rest) no = plain_light o no
-  code_light (Block ty body rest) no = omega arith
-  code_light (Loop ty body rest) no = omega arith
-  code_light (Choice ty first other rest) no =
+  code_light End calm = tt
+  code_light (Then o rest) calm = plain_light o calm
+  code_light (Block ty body rest) calm = omega arith
+  code_light (Loop ty body rest) calm = omega arith
+  code_light (Choice ty first other rest) calm =
       top_light (length locals) (length values) values (λ v below. Opens below (arity_of ty) rest (if v == 0 then other else first))
       (λ v below e. omega (arith, e))
 
 quiet_holds : (p : Program) (guest : Guest) (q r : Place) → BeginsNoCall q.code → next_move p guest q ≡ At r → Within (frames_in q.contexts) (holds q + 1) r
-quiet_holds p guest q r no e =
-    light_leads q.locals (length q.values) (after q.code) q.contexts (effect p guest q.locals q.values q.code) r (code_light p guest q.locals q.values q.code no) e
+quiet_holds p guest q r calm e =
+    light_leads q.locals (length q.values) (after q.code) q.contexts (effect p guest q.locals q.values q.code) r (code_light p guest q.locals q.values q.code calm) e
 
 -- ---- in a row
 -- no more frames than at the start, and no more operands than one for each instruction
@@ -230,8 +230,8 @@ pub keeps_none : (p : Place) → KeepsRoom p 0 p
 keeps_none p = (omega arith, omega arith)
 
 pub keeps_more : (program : Program) (guest : Guest) (p q r : Place) (n : ℕ) → KeepsRoom p n q → BeginsNoCall q.code → next_move program guest q ≡ At r → KeepsRoom p (n + 1) r
-keeps_more program guest p q r n so_far no e =
-    let next = quiet_holds program guest q r no e in
+keeps_more program guest p q r n so_far calm e =
+    let next = quiet_holds program guest q r calm e in
     (omega (arith, so_far.0, next.0), omega (arith, so_far.1, next.1))
 
 not_above : (a b : ℕ) → b ≤ a → nat_lt a b ≡ false
@@ -252,8 +252,8 @@ not_large frames values p q fit n few small lt keeps =
 
 -- ---- no call was run
 pub plain_passed : (o : Option (Result (Unit {0}) Stop)) (code : Code) (i : Instr) (p : Op) → code ≡ put i (after code) → i ≡ instr.Plain p → RanNoCall o p → PassedNoCall o code
-plain_passed None code i p e f no = tt
-plain_passed (Some done) code i p e f no = subst BeginsNoCall (sym (e ∙ put_plain i p (after code) f)) no
+plain_passed None code i p e f calm = tt
+plain_passed (Some done) code i p e f calm = subst BeginsNoCall (sym (e ∙ put_plain i p (after code) f)) calm
 
 pub block_passed : (code : Code) (i : Instr) (ty : Option ValType) (body : Box (Vec Instr Global) Global) → code ≡ put i (after code) → i ≡ instr.Block ty body → BeginsNoCall code
 block_passed code i ty body e f = subst BeginsNoCall (sym (e ∙ put_block i ty body (after code) f)) tt

@@ -9,7 +9,7 @@ use Rattle.nr_wasmexec.proofs.running.row.Given as goal
 abbrev pub invariant-steps : goal.invariant-steps
 invariant-steps g l = record {
   few : l.ran ≤ l.fit;
-  row : IsRow (rules_of g.H.Host.meaning l.program l.limits) l.guest (l.limits.cost * l.ran) l.fn.thread l.thread;
+  row : IsRow (rules_of g.H.Host.meaning l.program l.fn.limits) l.guest (l.fn.limits.cost * l.ran) l.fn.thread l.thread;
   room : KeepsRoom l.fn.thread l.ran l.thread;
 }
 

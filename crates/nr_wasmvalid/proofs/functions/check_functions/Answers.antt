@@ -1,10 +1,10 @@
 -- The goals of `functions::check_functions` that no tactic closes.
-use Rattle.std.proofs.Common.{◌≡◌, ℕ, ◌+◌, ◌<◌, List, length, get_or, Err, Result, ap, subst, arith}
-use Rattle.std.proofs.lemmas.List.{get_or_default}
+use Rattle.std.proofs.Common.{◌≡◌, ℕ, ◌+◌, ◌<◌, List, length, drop, get_or, Ok, Err, Result, sym, ap, subst, arith}
+use Rattle.std.proofs.lemmas.List.{drop_all, get_or_default}
 use Rattle.std.proofs.lemmas.Result.{err_from_is_err_and}
 use Rattle.nr_wasmtypes.specs.Body.{Body}
 use Rattle.nr_wasmtypes.specs.declared.module.Module.{Module}
-use Rattle.nr_wasmvalid.specs.Verdict.{FuncsJudge}
+use Rattle.nr_wasmvalid.specs.Verdict.{AreTyped, FuncsJudge}
 use Rattle.nr_wasmvalid.specs.declared.fault.ValidFault.{ValidFault}
 use Rattle.nr_wasmvalid.proofs.Whole.{has_type, as_many, judged_more, breaks_here}
 use Rattle.nr_wasmvalid.proofs.functions.check_functions.Goals as goal
@@ -61,3 +61,14 @@ returns-in_err-check_function c =
     rw (p.1, p.2)
     (subst (λ (us : List ℕ). FuncsJudge m c.args.first us m.bodies fails) c.inner-numbers.ensures
     (subst (λ (ys : List Body). FuncsJudge m c.args.first ts ys fails) c.inner-bodies.ensures all))
+
+pub returns : goal.returns
+returns c =
+    let m = c.args.module.now in
+    let ts = c.inner-numbers.result.now in
+    let bs = c.inner-bodies.result.now in
+    let k = c.loop-index.index in
+    let none_left : AreTyped m (drop k ts) (drop k bs) =
+        subst (λ (us : List ℕ). AreTyped m us (drop k bs)) (sym (drop_all k ts (omega arith))) tt in
+    subst (λ (us : List ℕ). AreTyped m us m.bodies) c.inner-numbers.ensures
+    (subst (λ (ys : List Body). AreTyped m ts ys) c.inner-bodies.ensures (c.loop-index.invariant (Ok tt) none_left))

@@ -17,8 +17,8 @@ returns-in-Some g c =
     ∙ found keys_column _ _ (c.args.id.now, c.args.key.now) (c.as_slice.ensures ∙ c.in_ok-slot.ensures.text) c.in_ok-slot.ensures.there
     ∙ ap (λ v. map.get v.columns.keys (c.args.id.now, c.args.key.now)) c.self.view_is
 
-pub returns : goal.returns
-returns g c =
+pub returns-in-None : goal.returns-in-None
+returns-in-None g c =
     ap (option_and_then key_read) (sym (sym c.get.ensures ∙ ap option_copied c.in-None.is))
     ∙ found keys_column _ _ (c.args.id.now, c.args.key.now) (c.as_slice.ensures ∙ c.in_ok-slot.ensures.text) c.in_ok-slot.ensures.there
     ∙ ap (λ v. map.get v.columns.keys (c.args.id.now, c.args.key.now)) c.self.view_is
