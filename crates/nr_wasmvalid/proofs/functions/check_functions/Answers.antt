@@ -69,6 +69,6 @@ returns c =
     let bs = c.inner-bodies.result.now in
     let k = c.loop-index.index in
     let none_left : AreTyped m (drop k ts) (drop k bs) =
-        subst (λ (us : List ℕ). AreTyped m us (drop k bs)) (sym (drop_all k ts (omega arith))) tt in
+    subst (λ (us : List ℕ). AreTyped m us (drop k bs)) (sym (drop_all k ts (omega arith))) tt in
     subst (λ (us : List ℕ). AreTyped m us m.bodies) c.inner-numbers.ensures
     (subst (λ (ys : List Body). AreTyped m ts ys) c.inner-bodies.ensures (c.loop-index.invariant (Ok tt) none_left))
