@@ -45,7 +45,7 @@ less Equal e = absurd (let no : false ≡ true = e in cc)
 less Greater e = absurd (let no : false ≡ true = e in cc)
 
 not_same : (x y : List ℕ) → x ≡ y → bytes_eq x y ≡ false → ⊥
-not_same x y e no = let t : true ≡ false = sym (itself y) ∙ ap (λ (z : List ℕ). bytes_eq z y) (sym e) ∙ no in cc
+not_same x y e unlike = let t : true ≡ false = sym (itself y) ∙ ap (λ (z : List ℕ). bytes_eq z y) (sym e) ∙ unlike in cc
 
 not_less : (x y : List ℕ) → x ≡ y → bytes_cmp x y ≡ Less → ⊥
 not_less x y e h =
@@ -82,7 +82,7 @@ tail_is : (a b : ℕ) (xs ys : List ℕ) → a ∷ xs ≡ b ∷ ys → xs ≡ ys
 tail_is a b xs ys e = cc
 
 other_column : (a b : ℕ) (xs ys : List ℕ) → (a == b) ≡ false → a ∷ xs ≡ b ∷ ys → ⊥
-other_column a b xs ys no e = let t : true ≡ false = sym (eq-eqb a b (head_is a b xs ys e)) ∙ no in cc
+other_column a b xs ys unlike e = let t : true ≡ false = sym (eq-eqb a b (head_is a b xs ys e)) ∙ unlike in cc
 
 abbrev AreAlike : GenesisEntry → GenesisEntry → Type 0
 AreAlike b e = (owner b ≡ owner e) × (rank b ≡ rank e)
@@ -117,24 +117,24 @@ alike (kind.Datum i k x) (kind.Datum j l y) v w h =
 -- ---- an owner that is none of the accounts behind an entry, and not its own, owns nothing there
 owner_on : (b e : GenesisEntry) (q : List ℕ) → goes_on b e ≡ true → bytes_eq (owner b) q ≡ false → is_account_of q e ≡ false
     → bytes_eq (owner e) q ≡ false
-owner_on b (kind.Account id account) q g no gone = gone
-owner_on b (kind.Code id code) q g no gone =
+owner_on b (kind.Account id account) q g unlike gone = gone
+owner_on b (kind.Code id code) q g unlike gone =
     let two = and_parts (bytes_eq (owner b) id) (is_behind b (kind.Code id code)) g in
-    ap (λ (o : List ℕ). bytes_eq o q) (sym (same_id (owner b) id two.0)) ∙ no
-owner_on b (kind.Key id key access) q g no gone =
+    ap (λ (o : List ℕ). bytes_eq o q) (sym (same_id (owner b) id two.0)) ∙ unlike
+owner_on b (kind.Key id key access) q g unlike gone =
     let two = and_parts (bytes_eq (owner b) id) (is_behind b (kind.Key id key access)) g in
-    ap (λ (o : List ℕ). bytes_eq o q) (sym (same_id (owner b) id two.0)) ∙ no
-owner_on b (kind.Datum id key value) q g no gone =
+    ap (λ (o : List ℕ). bytes_eq o q) (sym (same_id (owner b) id two.0)) ∙ unlike
+owner_on b (kind.Datum id key value) q g unlike gone =
     let two = and_parts (bytes_eq (owner b) id) (is_behind b (kind.Datum id key value)) g in
-    ap (λ (o : List ℕ). bytes_eq o q) (sym (same_id (owner b) id two.0)) ∙ no
+    ap (λ (o : List ℕ). bytes_eq o q) (sym (same_id (owner b) id two.0)) ∙ unlike
 
 others : (b : GenesisEntry) (es : List GenesisEntry) (q : List ℕ) → all_go_on (b ∷ es) ≡ true → bytes_eq (owner b) q ≡ false → is_account es q ≡ false
     → AllByRecursion (λ e. bytes_eq (owner e) q ≡ false) es
-others b [] q go no gone = tt
-others b (e ∷ es) q go no gone =
+others b [] q go unlike gone = tt
+others b (e ∷ es) q go unlike gone =
     let two = and_parts (goes_on b e) (all_go_on (e ∷ es)) go in
     let parts = or_parts (is_account_of q e) (is_account es q) (account_more e es q ∙ gone) in
-    let here : bytes_eq (owner e) q ≡ false = owner_on b e q two.0 no parts.0 in
+    let here : bytes_eq (owner e) q ≡ false = owner_on b e q two.0 unlike parts.0 in
     (here, others e es q two.1 here parts.1)
 
 -- ---- what an entry's owner has behind it stands above it
@@ -242,8 +242,8 @@ abbrev IsNew : List GenesisEntry → GenesisEntry → Type 0
 IsNew before e = list_any (bytes_eq (trie_key e)) (map trie_key before) ≡ false
 
 new_behind : (before : List GenesisEntry) (x e : GenesisEntry) → IsNew before e → bytes_eq (trie_key x) (trie_key e) ≡ false → IsNew (before ++ x ∷ []) e
-new_behind before x e new no =
-    let other : bytes_eq (trie_key e) (trie_key x) ≡ false = turned (trie_key e) (trie_key x) ∙ no in
+new_behind before x e new unlike =
+    let other : bytes_eq (trie_key e) (trie_key x) ≡ false = turned (trie_key e) (trie_key x) ∙ unlike in
     ap (list_any (bytes_eq (trie_key e))) (map-append trie_key before (x ∷ []))
     ∙ list_any-append (bytes_eq (trie_key e)) (map trie_key before) (trie_key x ∷ [])
     ∙ (λ i. new i || (other i || false))
