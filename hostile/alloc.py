@@ -6,10 +6,10 @@ usage: hostile/alloc.py [--programs FOLDER] [--only WORD] [--most N] [--rooms N]
 
 Build the programs first. faults.c is compiled and loaded before them; it makes each allocation fail in turn, once alone
 and once with all behind it. Each such run is a copy of a run that goes on undisturbed, made where the allocation stands
-(fork); of near_replay, where threads live, a copy that begins before the program's first instruction. With --most N at
-most so many allocations of a command are tried, evenly (0: each). A run has to end with status 7, the line `7` on
-standard error and nothing on standard output; or as it ends undisturbed, with the same text. Counted apart is status 7
-without a line: there was no memory for the line either.
+(fork); of near_replay, from where threads begin until all are joined, a copy that begins before the program's first
+instruction. With --most N at most so many allocations of a command are tried, evenly (0: each). A run has to end with
+status 7, the line `7` on standard error and nothing on standard output; or as it ends undisturbed, with the same text.
+Counted apart is status 7 without a line: there was no memory for the line either.
 
 Then commands on long files run with --rooms sizes of address space (60), from what the program needs to start, to what
 it needs to end: the same answers are right. They have 256 KiB of stack from the start, since the system ends a program
@@ -64,7 +64,7 @@ def here(case, name, status, calls, most):
 
 
 def by_threads(case, name, status, begin, end):
-    """Sweeps over the allocations that threads make. Their count is another one each time."""
+    """Sweeps over the allocations while threads live. Their count is another one each time."""
     end += (end - begin) // 50
     slices = min(SLICES, max(1, (end - begin) // (SLICE // 4)))
     for number in range(slices):
