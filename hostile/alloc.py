@@ -63,13 +63,15 @@ def here(case, name, status, calls, most):
         yield number / slices, f"{case.program} {case.name}: {number} of {slices}, step {step}", sweep
 
 
-def by_threads(case, name, status, begin, end):
+def by_threads(case, name, status, begin, end, most):
     """Sweeps over the allocations while threads live. Their count is another one each time."""
     end += (end - begin) // 50
-    slices = min(SLICES, max(1, (end - begin) // (SLICE // 4)))
+    step = max(1, -(-(end - begin) // most)) if most else 1
+    slices = min(SLICES, max(1, (end - begin) // step // (SLICE // 4)))
     for number in range(slices):
-        sweep = tries.Sweep(case, name, status, "memory", ("ENOMEM",), "whole", begin + number, end, slices)
-        yield number / slices, f"{case.program} {case.name}, by threads: {number} of {slices}", sweep
+        first = begin + step * number
+        sweep = tries.Sweep(case, name, status, "memory", ("ENOMEM",), "whole", first, end, step * slices)
+        yield number / slices, f"{case.program} {case.name}, by threads: {number} of {slices}, step {step}", sweep
 
 
 class Sums:
@@ -111,7 +113,7 @@ def sweep_all(pool, cases, arguments, state, folder):
             for row in here(case, rights[place], counts[place][0], counts[place][1], arguments.most)]
     add_all(pool, rows, state, sums, False)
     rows = [(*row, place) for place, case in enumerate(cases) if sums[place].threaded[0]
-            for row in by_threads(case, rights[place], counts[place][0], *sums[place].threaded)]
+            for row in by_threads(case, rights[place], counts[place][0], *sums[place].threaded, arguments.most)]
     add_all(pool, rows, state, sums, True)
     return sums
 
