@@ -6,10 +6,10 @@ usage: hostile/alloc.py [--programs FOLDER] [--only WORD] [--most N] [--rooms N]
 
 Build the programs first. faults.c is compiled and loaded before them; it makes each allocation fail in turn, once alone
 and once with all behind it. Each such run is a copy of a run that goes on undisturbed, made where the allocation stands
-(fork); of near_replay, where threads live, a copy that begins before the program's first instruction. With --most N at
-most so many allocations of a command are tried, evenly (0: each). A run has to end with status 7, the line `7` on
-standard error and nothing on standard output; or as it ends undisturbed, with the same text. Counted apart is status 7
-without a line: there was no memory for the line either.
+(fork); of near_replay, from where threads begin until all are joined, a copy that begins before the program's first
+instruction. With --most N at most so many allocations of a command are tried, evenly (0: each). A run has to end with
+status 7, the line `7` on standard error and nothing on standard output; or as it ends undisturbed, with the same text.
+Counted apart is status 7 without a line: there was no memory for the line either.
 
 Then commands on long files run with --rooms sizes of address space (60), from what the program needs to start, to what
 it needs to end: the same answers are right. They have 256 KiB of stack from the start, since the system ends a program
@@ -63,13 +63,15 @@ def here(case, name, status, calls, most):
         yield number / slices, f"{case.program} {case.name}: {number} of {slices}, step {step}", sweep
 
 
-def by_threads(case, name, status, begin, end):
-    """Sweeps over the allocations that threads make. Their count is another one each time."""
+def by_threads(case, name, status, begin, end, most):
+    """Sweeps over the allocations while threads live. Their count is another one each time."""
     end += (end - begin) // 50
-    slices = min(SLICES, max(1, (end - begin) // (SLICE // 4)))
+    step = max(1, -(-(end - begin) // most)) if most else 1
+    slices = min(SLICES, max(1, (end - begin) // step // (SLICE // 4)))
     for number in range(slices):
-        sweep = tries.Sweep(case, name, status, "memory", ("ENOMEM",), "whole", begin + number, end, slices)
-        yield number / slices, f"{case.program} {case.name}, by threads: {number} of {slices}", sweep
+        first = begin + step * number
+        sweep = tries.Sweep(case, name, status, "memory", ("ENOMEM",), "whole", first, end, step * slices)
+        yield number / slices, f"{case.program} {case.name}, by threads: {number} of {slices}, step {step}", sweep
 
 
 class Sums:
@@ -111,7 +113,7 @@ def sweep_all(pool, cases, arguments, state, folder):
             for row in here(case, rights[place], counts[place][0], counts[place][1], arguments.most)]
     add_all(pool, rows, state, sums, False)
     rows = [(*row, place) for place, case in enumerate(cases) if sums[place].threaded[0]
-            for row in by_threads(case, rights[place], counts[place][0], *sums[place].threaded)]
+            for row in by_threads(case, rights[place], counts[place][0], *sums[place].threaded, arguments.most)]
     add_all(pool, rows, state, sums, True)
     return sums
 

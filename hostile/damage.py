@@ -23,7 +23,9 @@ byte of the file, and holds at most 64 MiB and 64 times the file's length. And
 
   genesis, blocks, contract,    near_serial and near_replay end alike, with the same texts, and near_audit refuses what
   configuration                 they refuse, with the same line; else its archive has the chunks' lines of their report
-  a file that is cut            genesis and blocks are refused with kind 1, and no proof, part or gathered chunk is read
+  a file that is cut            genesis and blocks are refused with kind 1, and no part or gathered chunk is read, nor a
+                                proof, but where whole lines of its path are gone: that is one that leads to no root,
+                                and `verify` says invalid
   genesis, blocks               what `near_files show` (each other time with --compact) makes of one that it reads is
                                 made into the same bytes
   genesis text, blocks text     what `near_files` makes of it near_serial doesn't refuse as such a file; `near_files
@@ -263,24 +265,25 @@ class Judge:
             self.wrong.append(f"{name}: {ran.processor:.1f} s for {self.size} bytes")
         if ran.memory * 1024 > MEMORY + MEMORY_A_BYTE * self.size:
             self.wrong.append(f"{name}: {ran.memory / 1024:.0f} MiB for {self.size} bytes")
-        if not self.is_told(ran, program):
+        if not self.is_told(ran, program, words):
             self.wrong.append(f"{name}: status {ran.status}, {len(ran.out)} bytes written, {ran.err[-200:]!r}")
         return ran
 
-    def is_told(self, ran, program):
-        """Whether a refusal has no text and one line, that of its status, which can be explained."""
+    def is_told(self, ran, program, words):
+        """Whether a refusal has no text and one line, that of its status, which can be explained. Where `near_files`
+        can't read a file, the line names it as the words do, byte for byte, with any line feeds that its name has."""
         if program == "near_module" and ran.status in (0, shared.FAULTY):
             return ran.err in (b"", b"make 21\n") and ran.out.endswith(b"\n")
         if ran.status == 0:
             return not ran.err
         if program == "near_files" and ran.status == shared.USAGE:
             return not ran.out and ran.err.startswith(USED)
+        if program == "near_files" and ran.status == shared.UNREADABLE:
+            return not ran.out and ran.err in [b"the file %s can't be read\n" % os.fsencode(word) for word in words]
         if ran.out or ran.err.count(b"\n") != 1 or not ran.err.endswith(b"\n"):
             return False
         if program == "near_files" and ran.status >= shared.FAULTY:
             return ran.status == shared.FAULTY or ran.err == b"There is no sentence for these words.\n"
-        if program == "near_files" and ran.status == shared.UNREADABLE:
-            return ran.err.startswith(b"the file ") and ran.err.endswith(b" can't be read\n")
         return ran.err.split()[0] == b"%d" % ran.status and self.is_explained(program, ran.err)
 
     def is_explained(self, program, line):
@@ -504,6 +507,14 @@ def ready(found, folder, limit, library, until):
 CUT = {"genesis": b"3 1 ", "blocks": b"4 1 ", "proof": b"10 1 ", "part": b"13 1 ", "gathered": b"12 1 "}
 
 
+def is_cut_told(kind, data, ran):
+    """Whether a file that is cut is answered as such. A proof says how many items there are and not how many hashes:
+    one that ends with any line from its second on, the item, is whole, and with fewer hashes leads to no root."""
+    if kind == "proof" and data.count(b"\n") >= 2 and data.endswith(b"\n"):
+        return ran[:3] == (shared.DONE, b"invalid\n", b"")
+    return ran.err.startswith(CUT.get(kind, b""))
+
+
 def file_of(kind, source, number):
     """A file of a kind: that of a number under a seed, or a good one up to so many bytes, at its end with one more."""
     if isinstance(source, int):
@@ -530,8 +541,8 @@ def tried(task):
         if ran is None:
             continue
         ends[str(ran.status)] += 1
-        if not isinstance(source, int) and not ran.err.startswith(CUT.get(kind, b"")):
-            judge.wrong.append(f"a file that is cut: status {ran.status}, {ran.err[-200:]!r}")
+        if not isinstance(source, int) and not is_cut_told(kind, data, ran):
+            judge.wrong.append(f"a file that is cut: status {ran.status}, {ran.out[-200:]!r}, {ran.err[-200:]!r}")
         wrong += [(number, what) for what in judge.wrong]
     return key, {"ends": ends, "wrong": wrong, "runs": runs}
 

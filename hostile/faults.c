@@ -16,8 +16,9 @@
  * With FAULTS_TRY one start of the program serves for many runs, each in a copy of the process (fork):
  *
  *   here   The run itself goes on undisturbed. At each call of the kind that is to be tried, copies go on from there,
- *          one after the other, in which this call fails: alone, and with all behind it. A call that is made while
- *          more than one thread lives isn't tried, since a copy has one thread alone: it is told as threaded.
+ *          one after the other, in which this call fails: alone, and with all behind it. A call that is made from
+ *          where a thread was begun until all are joined isn't tried, since a copy has one thread alone, and can't
+ *          join the others, also those that have ended (the C library has freed them): it is told as threaded.
  *   whole  Before the program's first instruction a copy begins for each call that is to be tried, likewise.
  *   serve  Before the program's first instruction a copy begins each time when four bytes come from the file 198, the
  *          seconds that it may take; how it ended is written to the file 199 (struct answer).
@@ -88,6 +89,7 @@ static unsigned long first, many, every = 1, piece, spare, *told = &spare;
 static int error = EIO, is_short;
 static struct timespec pause_time;
 static int (*start_thread)(pthread_t *, const pthread_attr_t *, void *(*)(void *), void *);
+static int (*join_thread)(pthread_t, void **);
 
 /* Of a process whose copies are tried: what is tried, and what was found. */
 static struct found *found;
@@ -317,6 +319,7 @@ static void begin_plain(void) {
 __attribute__((constructor)) static void begin(void) {
     const char *name = getenv("FAULTS_TOLD"), *word = getenv("FAULTS_KIND"), *way = getenv("FAULTS_TRY");
     start_thread = (__typeof__(start_thread))dlsym(RTLD_NEXT, "pthread_create");
+    join_thread = (__typeof__(join_thread))dlsym(RTLD_NEXT, "pthread_join");
     if (name) told = mapped(name, NULL);
     grow_stack(number_of("FAULTS_STACK"));
     begin_plain();
@@ -421,30 +424,17 @@ int statx(int folder, const char *restrict name, int flags, unsigned mask, struc
     return syscall(SYS_statx, folder, name, flags, mask, out);
 }
 
-struct begun {
-    void *(*body)(void *), *with;
-};
-
-/* What a thread does, which counts as living until it is done. */
-static void *counted_body(void *given) {
-    struct begun begun = *(struct begun *)given;
-    free(given);
-    void *end = begun.body(begun.with);
-    __atomic_sub_fetch(&threads, 1, __ATOMIC_SEQ_CST);
-    return end;
-}
-
 int pthread_create(pthread_t *thread, const pthread_attr_t *like, void *(*body)(void *), void *with) {
     if (meets(THREAD)) return error;
-    if (!found) return start_thread(thread, like, body, with);
-    struct begun *begun = __libc_malloc(sizeof *begun);
-    if (!begun) return EAGAIN;
-    *begun = (struct begun){body, with};
     __atomic_add_fetch(&threads, 1, __ATOMIC_SEQ_CST);
-    int failed = start_thread(thread, like, counted_body, begun);
-    if (failed) {
-        __atomic_sub_fetch(&threads, 1, __ATOMIC_SEQ_CST);
-        free(begun);
-    }
+    int failed = start_thread(thread, like, body, with);
+    if (failed) __atomic_sub_fetch(&threads, 1, __ATOMIC_SEQ_CST);
+    return failed;
+}
+
+/* A thread counts as living until it is joined; one that isn't, to the end. */
+int pthread_join(pthread_t thread, void **end) {
+    int failed = join_thread(thread, end);
+    if (!failed) __atomic_sub_fetch(&threads, 1, __ATOMIC_SEQ_CST);
     return failed;
 }

@@ -16,7 +16,8 @@ way (1,000), some of each way in turn, while some processes (4) keep the process
   few threads           by faults.c all threads but the first few fail to start, or one alone fails
   a user without        the limit of processes is reached (for root: by the user nobody, who may have a few threads)
   little room           so little address space that stacks of threads don't fit: status 7 is right too, with nothing
-                        written
+                        written; with 256 KiB of stack from the start, since the system ends a program whose first
+                        thread's stack can't grow
 
 The exit status is 0 where each run wrote what the serial run writes, and ended as it did.
 """
@@ -39,6 +40,7 @@ import programs as shared
 import tries
 
 MIB, STEP = 1 << 20, 10
+STACK = MIB // 4
 # After how many allocations one pauses, and for how many microseconds.
 PAUSES = [(7, 1), (31, 1), (31, 50), (101, 50), (101, 1000), (503, 1000)]
 GENERATED = [(7, 2, 40), (7, 3, 25), (7, 4, 30), (9, 4, 12), (7, 8, 12), (7, 16, 8), (4, 16, 5)]
@@ -171,7 +173,8 @@ def run(way, words):
         return runner.run(words, faults.of("thread", chance.randint(1, 20), chance.randrange(2), errno.EAGAIN))
     if way == "a user without":
         return without(words)
-    return shared.limited(words, {resource.RLIMIT_AS: chance.randint(8, 400) * MIB}, None, seconds)
+    grown = {"LD_PRELOAD": faults.library, "FAULTS_STACK": str(STACK)}
+    return shared.limited(words, {resource.RLIMIT_AS: chance.randint(8, 400) * MIB}, None, seconds, grown)
 
 
 def end_of(way, number, seed):
