@@ -271,7 +271,8 @@ class Judge:
 
     def is_told(self, ran, program, words):
         """Whether a refusal has no text and one line, that of its status, which can be explained. Where `near_files`
-        can't read a file, the line names it as the words do, byte for byte, with any line feeds that its name has."""
+        can't read a file, the line names it as the words do, byte for byte, with any line feeds that its name has.
+        Where it refuses one, the line has visible characters of ASCII and spaces alone, whatever stands in the file."""
         if program == "near_module" and ran.status in (0, shared.FAULTY):
             return ran.err in (b"", b"make 21\n") and ran.out.endswith(b"\n")
         if ran.status == 0:
@@ -282,8 +283,10 @@ class Judge:
             return not ran.out and ran.err in [b"the file %s can't be read\n" % os.fsencode(word) for word in words]
         if ran.out or ran.err.count(b"\n") != 1 or not ran.err.endswith(b"\n"):
             return False
-        if program == "near_files" and ran.status >= shared.FAULTY:
-            return ran.status == shared.FAULTY or ran.err == b"There is no sentence for these words.\n"
+        if program == "near_files" and ran.status == shared.FAULTY:
+            return self.is_words or all(32 <= byte < 127 for byte in ran.err[:-1])
+        if program == "near_files" and ran.status > shared.FAULTY:
+            return ran.err == b"There is no sentence for these words.\n"
         return ran.err.split()[0] == b"%d" % ran.status and self.is_explained(program, ran.err)
 
     def is_explained(self, program, line):

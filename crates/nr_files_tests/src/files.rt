@@ -239,7 +239,7 @@ fn files_are_made_and_shown(rt: HostRuntime) -> Result<(), Fail> {
 }
 
 /// Texts of blocks that are refused, each with its line: by the version, by the prices, and by the path of a member.
-const FAULTY_BLOCKS: [(&str, &str); 20] = [
+const FAULTY_BLOCKS: [(&str, &str); 21] = [
     (
         "{\"blocks\": [], \"reshard\": {\"height\": 2, \"boundaries\": [\"mm\"]}}",
         ".reshard is in no file of version 1 or 2",
@@ -308,6 +308,13 @@ const FAULTY_BLOCKS: [(&str, &str); 20] = [
         "{\"blocks\": [{\"height\": 1, \"timestamp\": 0, \"chunks\": [[{\"signer_id\": \"alice\",\
         \"public_key\": \"ed25519:0101010101010101010101010101010101010101010101010101010101010101\",\
         \"nonce\": 1, \"receiver_id\": \"bob\", \"actions\": [\"Stake\"]}]]}]}",
+        ".blocks[0].chunks[0][0].actions[0] is no action: `CreateAccount`, `DeployContract`, `FunctionCall`, \
+        `Transfer`, `AddKey`, `DeleteKey` or `DeleteAccount`",
+    ),
+    (
+        "{\"blocks\": [{\"height\": 1, \"timestamp\": 0, \"chunks\": [[{\"signer_id\": \"alice\",\
+        \"public_key\": \"ed25519:0101010101010101010101010101010101010101010101010101010101010101\",\
+        \"nonce\": 1, \"receiver_id\": \"bob\", \"actions\": [{\"a\\n\\u001b[31mred\": {}}]}]]}]}",
         ".blocks[0].chunks[0][0].actions[0] is no action: `CreateAccount`, `DeployContract`, `FunctionCall`, \
         `Transfer`, `AddKey`, `DeleteKey` or `DeleteAccount`",
     ),

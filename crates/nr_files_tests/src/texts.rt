@@ -43,7 +43,7 @@ fn a_genesis_is_read_and_written(rt: HostRuntime) -> Result<(), Fail> {
 #[test]
 fn faults_have_the_path_of_the_member(rt: HostRuntime) -> Result<(), Fail> {
     let alloc = rt.alloc();
-    let rows: [(&str, &str); 10] = [
+    let rows: [(&str, &str); 11] = [
         ("[]", " is no object"),
         ("{\"boundaries\": []}", ".entries is missing"),
         (
@@ -71,6 +71,12 @@ fn faults_have_the_path_of_the_member(rt: HostRuntime) -> Result<(), Fail> {
             "{\"boundaries\": [], \"entries\": [{\"kind\": \"key\", \"account_id\": \"ab\", \
             \"public_key\": \"ed25519:0101010101010101010101010101010101010101010101010101010101010101\", \
             \"access_key\": {\"nonce\": 0, \"permission\": \"All\"}}]}",
+            ".entries[0].access_key.permission is no permission: `FullAccess` or `FunctionCall`",
+        ),
+        (
+            "{\"boundaries\": [], \"entries\": [{\"kind\": \"key\", \"account_id\": \"ab\", \
+            \"public_key\": \"ed25519:0101010101010101010101010101010101010101010101010101010101010101\", \
+            \"access_key\": {\"nonce\": 0, \"permission\": {\"a\\n\\u001b[31mred\": {}}}}]}",
             ".entries[0].access_key.permission is no permission: `FullAccess` or `FunctionCall`",
         ),
         (

@@ -41,12 +41,15 @@ call_of d = do
   c ← call_permission_of d
   Ok (Call c)
 
+-- what is wrong under the name is told behind it, and a name that is none is told nowhere
 abbrev pub permission_under : List ℕ → Data → Read Permission
-permission_under name d = cond (bytes_eq name (codes "FunctionCall")) (call_of d) (Err (fault NoPermission))
+permission_under name d =
+    cond (bytes_eq name (codes "FunctionCall")) (in_variant (codes "FunctionCall") (call_of d))
+    (Err (fault NoPermission))
 
 abbrev pub permission_named : List ℕ → Option Data → Read Permission
 permission_named name None = cond (bytes_eq name (codes "FullAccess")) (Ok Full) (Err (fault NoPermission))
-permission_named name (Some d) = in_variant name (permission_under name d)
+permission_named name (Some d) = permission_under name d
 
 abbrev pub permission_in : Option Named → Read Permission
 permission_in None = Err (fault NoPermission)

@@ -90,19 +90,20 @@ delete_account_of d = do
   beneficiary ← member_of (codes "beneficiary_id") id_of d
   Ok (DeleteAccount beneficiary)
 
--- ---- an action by its name
+-- ---- an action by its name: what is wrong under it is told behind it, and a name that is none is told nowhere
 unfoldable pub action_under : List ℕ → Data → Read Action
 action_under name d =
-    cond (bytes_eq name (codes "DeployContract")) (deploy_of d)
-    (cond (bytes_eq name (codes "FunctionCall")) (call_of d)
-    (cond (bytes_eq name (codes "Transfer")) (transfer_of d)
-    (cond (bytes_eq name (codes "AddKey")) (add_key_of d)
-    (cond (bytes_eq name (codes "DeleteKey")) (delete_key_of d)
-    (cond (bytes_eq name (codes "DeleteAccount")) (delete_account_of d) (Err (fault NoAction)))))))
+    cond (bytes_eq name (codes "DeployContract")) (in_variant (codes "DeployContract") (deploy_of d))
+    (cond (bytes_eq name (codes "FunctionCall")) (in_variant (codes "FunctionCall") (call_of d))
+    (cond (bytes_eq name (codes "Transfer")) (in_variant (codes "Transfer") (transfer_of d))
+    (cond (bytes_eq name (codes "AddKey")) (in_variant (codes "AddKey") (add_key_of d))
+    (cond (bytes_eq name (codes "DeleteKey")) (in_variant (codes "DeleteKey") (delete_key_of d))
+    (cond (bytes_eq name (codes "DeleteAccount")) (in_variant (codes "DeleteAccount") (delete_account_of d))
+    (Err (fault NoAction)))))))
 
 abbrev pub action_named : List ℕ → Option Data → Read Action
 action_named name None = cond (bytes_eq name (codes "CreateAccount")) (Ok CreateAccount) (Err (fault NoAction))
-action_named name (Some d) = in_variant name (action_under name d)
+action_named name (Some d) = action_under name d
 
 abbrev pub action_in : Option Named → Read Action
 action_in None = Err (fault NoAction)

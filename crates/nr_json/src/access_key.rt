@@ -46,11 +46,12 @@ fn call_of(alloc: Global, value: &Value) -> Result<Permission, JsonFault>
     Ok(Permission::Call(CallPermission::from_json(alloc, value)?))
 }
 
+/// A permission that has members, by its name.
 fn permission_under(alloc: Global, name: &str, content: &Value) -> Result<Permission, JsonFault>
     ensures { Gives Memory result (permission_under name.now (view content.now)) }
 {
     if name == "FunctionCall" {
-        call_of(alloc, content)
+        in_variant(alloc, "FunctionCall", call_of(alloc, content))
     } else {
         Err(JsonFault::whole(alloc, Wrong::NoPermission))
     }
@@ -66,11 +67,7 @@ impl Form for Permission {
             return Err(JsonFault::whole(alloc, Wrong::NoPermission));
         };
         match found.content {
-            Some(content) => in_variant(
-                alloc,
-                found.name,
-                permission_under(alloc, found.name, content),
-            ),
+            Some(content) => permission_under(alloc, found.name, content),
             None => if found.name == "FullAccess" {
                 Ok(Permission::Full)
             } else {

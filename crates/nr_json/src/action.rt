@@ -148,17 +148,17 @@ fn action_under(alloc: Global, name: &str, content: &Value) -> Result<Action, Js
     ensures { Gives Memory result (action_under name.now (view content.now)) }
 {
     if name == "DeployContract" {
-        deploy_of(alloc, content)
+        in_variant(alloc, "DeployContract", deploy_of(alloc, content))
     } else if name == "FunctionCall" {
-        call_of(alloc, content)
+        in_variant(alloc, "FunctionCall", call_of(alloc, content))
     } else if name == "Transfer" {
-        transfer_of(alloc, content)
+        in_variant(alloc, "Transfer", transfer_of(alloc, content))
     } else if name == "AddKey" {
-        add_key_of(alloc, content)
+        in_variant(alloc, "AddKey", add_key_of(alloc, content))
     } else if name == "DeleteKey" {
-        delete_key_of(alloc, content)
+        in_variant(alloc, "DeleteKey", delete_key_of(alloc, content))
     } else if name == "DeleteAccount" {
-        delete_account_of(alloc, content)
+        in_variant(alloc, "DeleteAccount", delete_account_of(alloc, content))
     } else {
         Err(JsonFault::whole(alloc, Wrong::NoAction))
     }
@@ -212,11 +212,7 @@ impl Form for Action {
             return Err(JsonFault::whole(alloc, Wrong::NoAction));
         };
         match found.content {
-            Some(content) => in_variant(
-                alloc,
-                found.name,
-                action_under(alloc, found.name, content),
-            ),
+            Some(content) => action_under(alloc, found.name, content),
             None => if found.name == "CreateAccount" {
                 Ok(Action::CreateAccount)
             } else {
